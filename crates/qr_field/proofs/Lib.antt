@@ -1,0 +1,5 @@
+mod BitLemmas
+mod ByteLemmas
+mod ListLemmas
+pub mod PolynomialLemmas
+mod ProductLemmas

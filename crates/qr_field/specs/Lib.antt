@@ -1,0 +1,4 @@
+pub mod Bits
+pub mod Polynomials
+pub mod Steps
+pub mod Worked

@@ -1,0 +1,38 @@
+//! The laws of products, generator polynomials and error correction codewords (ISO/IEC 18004:2015, 7.5.2 and
+//! Annex A). Each function does nothing: its contract is the law.
+
+ghost use Rattle.std.specs.Prelude.{◌≡◌, ◌≤◌, ℕ, List, [], ◌∷◌, All, map};
+ghost use Rattle.qr_field.specs.Bits.{IsProduct, product};
+ghost use Rattle.qr_field.specs.Polynomials.{IsByte, power, generator_of, IsCorrection, HasCorrection};
+ghost use Rattle.qr_field.specs.Worked.{lengths_in_use, printed_exponents};
+ghost use Rattle.qr_field.specs.Worked.{eight_digits, eight_digits_correction};
+
+/// Two elements have exactly one product, and `product` names it.
+pub fn product_is_one()
+    ensures named { (a b : ℕ) → IsByte a → IsByte b → IsProduct a b (product a b) }
+    ensures only { (a b p q : ℕ) → IsProduct a b p → IsProduct a b q → p ≡ q }
+{}
+
+/// Data codewords have exactly one list of n error correction codewords, where n is 1 or more.
+pub fn correction_is_one()
+    ensures some { (d : List ℕ) (n : ℕ) → 1 ≤ n → All IsByte d → HasCorrection d n }
+    ensures only { (d e f : List ℕ) (n : ℕ) → IsCorrection d n e → IsCorrection d n f → e ≡ f }
+{}
+
+/// The definition of a product computes one that is reduced, and one by 0.
+pub fn products_compute()
+    ensures reduced { product 0x80 2 ≡ 0x1D }
+    ensures zero { product 0 0xFF ≡ 0 }
+{}
+
+/// The definition of a generator polynomial computes that of degree 7, and all those that Annex A prints for the
+/// versions of QR Code, as powers of 2.
+pub fn generators_compute()
+    ensures seven { generator_of 7 ≡ 1 ∷ 0x7F ∷ 0x7A ∷ 0x9A ∷ 0xA4 ∷ 0x0B ∷ 0x44 ∷ 0x75 ∷ [] }
+    ensures printed { map generator_of lengths_in_use ≡ map (map power) printed_exponents }
+{}
+
+/// The definition of error correction codewords holds of those of `01234567` in version 1-M.
+pub fn correction_computes()
+    ensures { IsCorrection eight_digits 10 eight_digits_correction }
+{}
