@@ -1,0 +1,15 @@
+pub mod RegionLemmas
+pub mod PathLemmas
+pub mod WalkLemmas
+pub mod AlignmentLemmas
+pub mod TableLemmas
+pub mod CountLemmas
+pub mod FastCount
+pub mod ListFacts
+pub mod OrderLemmas
+pub mod BlockLemmas
+pub mod RoleLemmas
+pub mod WordLemmas
+pub mod RoleLaws
+pub mod NumberLemmas
+pub mod CentreLemmas

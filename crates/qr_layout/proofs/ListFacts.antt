@@ -1,0 +1,106 @@
+-- Lists with the same members: how long they are, and that only one of them rises.
+use Rattle.std.proofs.Common.{◌≡◌, ◌≢◌, suc, ◌≤◌, List, [], ◌∷◌, ◌++◌, length, refl, sym, ap, ◌∙◌, subst, inl, inr, ◌⊎◌, arith}
+use Rattle.std.specs.List.{All, AllPairs, AllByRecursion}
+
+-- x stands in the list
+abbrev pub Mem : {X : Type 0} → X → List X → Type 0
+Mem x [] = ⊥
+Mem x (y ∷ ys) = (y ≡ x) ⊎ Mem x ys
+
+-- each item is in the relation to all later ones
+abbrev pub Rises : {X : Type 0} → (X → X → Type 0) → List X → Type 0
+Rises R [] = Unit {0}
+Rises R (x ∷ xs) = AllByRecursion (R x) xs × Rises R xs
+
+-- no item stands twice
+abbrev pub Distinct : {X : Type 0} → List X → Type 0
+Distinct {X} xs = Rises {X = X} (λ x y. x ≢ y) xs
+
+-- what holds of each item holds of one that stands in the list
+pub Mem-at : {X : Type 0} (P : X → Type 0) (xs : List X) (x : X) → AllByRecursion P xs → Mem x xs → P x
+Mem-at P [] x h m = absurd m
+Mem-at P (y ∷ ys) x h (inl e) = subst P e h.0
+Mem-at P (y ∷ ys) x h (inr m) = Mem-at P ys x h.1 m
+
+-- what holds of all that stands in the list holds of each item
+pub All-of-Mem : {X : Type 0} (P : X → Type 0) (xs : List X) → ((x : X) → Mem x xs → P x) → AllByRecursion P xs
+All-of-Mem P [] f = tt
+All-of-Mem P (x ∷ xs) f = (f x (inl refl), All-of-Mem P xs (λ y m. f y (inr m)))
+
+-- ---- lengths
+
+-- what stands in two joined lists stands in one of them
+pub Mem-append : {X : Type 0} (z : X) (xs ys : List X) → Mem z (xs ++ ys) → Mem z xs ⊎ Mem z ys
+Mem-append z [] ys m = inr m
+Mem-append z (x ∷ xs) ys (inl e) = inl (inl e)
+Mem-append z (x ∷ xs) ys (inr m) = elim (Mem-append z xs ys m) [ inl k ↦ inl (inr k) | inr k ↦ inr k ]
+
+-- what stands in the first list stands in both joined
+pub Mem-left : {X : Type 0} (z : X) (xs ys : List X) → Mem z xs → Mem z (xs ++ ys)
+Mem-left z [] ys m = absurd m
+Mem-left z (x ∷ xs) ys (inl e) = inl e
+Mem-left z (x ∷ xs) ys (inr m) = inr (Mem-left z xs ys m)
+
+-- what stands in the second list stands in both joined
+pub Mem-right : {X : Type 0} (z : X) (xs ys : List X) → Mem z ys → Mem z (xs ++ ys)
+Mem-right z [] ys m = m
+Mem-right z (x ∷ xs) ys m = inr (Mem-right z xs ys m)
+
+-- a list cut at one of its items
+abbrev pub Split : {X : Type 0} → X → List X → Type 0
+Split {X} x ys = (front : List X) × (back : List X) × (ys ≡ front ++ x ∷ back)
+
+-- a list with x in it, cut there
+pub split : {X : Type 0} (x : X) (ys : List X) → Mem x ys → Split x ys
+split x [] m = absurd m
+split x (y ∷ ys) (inl e) = ([], ys, ap (λ z. z ∷ ys) e)
+split x (y ∷ ys) (inr m) = let w = split x ys m in (y ∷ w.0, w.1, ap (λ zs. y ∷ zs) w.2)
+
+-- taking x out leaves all that is not x
+Mem-other : {X : Type 0} (x z : X) (front back : List X) → x ≢ z → Mem z (front ++ x ∷ back) → Mem z (front ++ back)
+Mem-other x z front back n m = elim (Mem-append z front (x ∷ back) m) [
+  | inl k ↦ Mem-left z front back k
+  | inr k ↦ elim k [ inl e ↦ absurd (n e) | inr l ↦ Mem-right z front back l ]
+]
+
+-- one item more makes a list longer by one
+pub length-mid : {X : Type 0} (x : X) (front back : List X) → length (front ++ x ∷ back) ≡ suc (length (front ++ back))
+length-mid x [] back = refl
+length-mid x (y ∷ ys) back = ap suc (length-mid x ys back)
+
+-- a list without repeats is no longer than one that has all its items
+pub length-le_members : {X : Type 0} (xs ys : List X) → Distinct xs → ((x : X) → Mem x xs → Mem x ys) → length xs ≤ length ys
+length-le_members [] ys d f = omega arith
+length-le_members (x ∷ xs) ys d f =
+    let w = split x ys (f x (inl refl)) in
+    let g = length-le_members xs (w.0 ++ w.1) d.1 (λ z m. Mem-other x z w.0 w.1 (Mem-at (λ y. x ≢ y) xs z d.0 m) (subst (λ zs. Mem z zs) w.2 (f z (inr m)))) in
+    let e = ap length w.2 in
+    let k = length-mid x w.0 w.1 in
+    omega arith
+
+-- a fact of each item, by recursion on the list
+pub All-rec : {X : Type 0} (P : X → Type 0) (xs : List X) → All P xs → AllByRecursion P xs
+All-rec P [] h = tt
+All-rec P (x ∷ xs) h = (h 0 x (omega arith), All-rec P xs (λ k d l. h (suc k) d (omega arith)))
+
+-- ---- one rising list
+
+-- the relation of all pairs, by recursion on the list
+pub Rises-of-pairs : {X : Type 0} (R : X → X → Type 0) (xs : List X) → AllPairs R xs → Rises R xs
+Rises-of-pairs R [] h = tt
+Rises-of-pairs R (x ∷ xs) h = (All-rec (R x) xs (λ k d l. h 0 (suc k) d (omega arith) (omega arith)), Rises-of-pairs R xs (λ i j d k l. h (suc i) (suc j) d (omega arith) (omega arith)))
+
+-- two rising lists with the same items are one
+pub one_rising : {X : Type 0} (R : X → X → Type 0) → ((x y : X) → R x y → R y x → ⊥) → (xs ys : List X) → Rises R xs → Rises R ys → ((x : X) → Mem x xs → Mem x ys) → ((x : X) → Mem x ys → Mem x xs) → xs ≡ ys
+one_rising R a [] [] r s f g = refl
+one_rising R a [] (y ∷ ys) r s f g = absurd (g y (inl refl))
+one_rising R a (x ∷ xs) [] r s f g = absurd (f x (inl refl))
+one_rising R a (x ∷ xs) (y ∷ ys) r s f g =
+    let e : y ≡ x = elim (f x (inl refl)) [
+      | inl e ↦ e
+      | inr m ↦ elim (g y (inl refl)) [ inl e ↦ sym e | inr n ↦ absurd (a x y (Mem-at (R x) xs y r.0 n) (Mem-at (R y) ys x s.0 m)) ]
+    ] in
+    let t = one_rising R a xs ys r.1 s.1
+    (λ z m. elim (f z (inr m)) [ inl k ↦ absurd (let b = Mem-at (R x) xs z r.0 m in let c = subst (R x) (sym k ∙ e) b in a x x c c) | inr n ↦ n ])
+    (λ z m. elim (g z (inr m)) [ inl k ↦ absurd (let b = Mem-at (R y) ys z s.0 m in let c = subst (R y) (sym k ∙ sym e) b in a y y c c) | inr n ↦ n ]) in
+    λ i. sym e i ∷ t i

@@ -1,0 +1,136 @@
+-- There is one order, and it is as long as the count says.
+use Rattle.std.proofs.Common.{◌≡◌, ◌≢◌, ℕ, zero, suc, ◌+◌, ◌-◌, ◌<◌, ◌≤◌, Bool, true, leb, List, [], ◌∷◌, ◌++◌, ◌&&◌, length, refl, sym, ◌∙◌, subst, inl, inr, arith}
+use Rattle.std.proofs.lemmas.Bool.Decides.{nat_tests}
+use borrow.Author.Tests.{leb-true}
+use Rattle.std.specs.List.{Contains}
+use Rattle.qr_layout.specs.declared.region.Module.{Module}
+use Rattle.qr_layout.specs.Region.{is_in_region, InRegion}
+use Rattle.qr_layout.specs.Versions.{side_of}
+use Rattle.qr_layout.specs.Order.{Key, key_of, IsBefore, is_before, IsOrder, places_passing, number_of}
+use Rattle.qr_layout.specs.Versions.{total_codewords_of, remainder_bits_of, module_count_of}
+use Rattle.qr_layout.proofs.TableLemmas.{below, below-at, eqb-same}
+use Rattle.qr_layout.proofs.ListFacts.{Mem, Rises, Distinct, Mem-at, All-of-Mem, All-rec, Mem-left, Mem-right, Mem-append, Rises-of-pairs, one_rising}
+use Rattle.qr_layout.proofs.CountLemmas.{count-of}
+use Rattle.qr_layout.proofs.FastCount.{region-count, agrees, agrees-40}
+use Rattle.qr_layout.proofs.RegionLemmas.{row-in, col-in, &&-left, &&-right}
+
+-- no two keys are each before the other
+before-asym : (a b : Key) → IsBefore a b → IsBefore b a → ⊥
+unfolding IsBefore
+before-asym a b (inl h) (inl k) = absurd (omega arith)
+before-asym a b (inl h) (inr k) = absurd (let e = k.0 in omega arith)
+before-asym a b (inr h) (inl k) = absurd (let e = h.0 in omega arith)
+before-asym a b (inr h) (inr k) = elim h.1 [
+  | inl x ↦ elim k.1 [ inl y ↦ absurd (omega arith) | inr y ↦ absurd (let e = y.0 in omega arith) ]
+  | inr x ↦ elim k.1 [ inl y ↦ absurd (let e = x.0 in omega arith) | inr y ↦ absurd (let e = x.1 in let f = y.1 in omega arith) ]
+]
+
+-- what a list contains stands in it
+Mem-of-Contains : {X : Type 0} (xs : List X) (x : X) → Contains xs x → Mem x xs
+Mem-of-Contains [] x (k, l, e) = absurd (omega arith)
+Mem-of-Contains (y ∷ ys) x (zero, l, e) = inl e
+Mem-of-Contains (y ∷ ys) x (suc k, l, e) = inr (Mem-of-Contains ys x (k, omega arith, e))
+
+-- a list that rises has no item twice
+Rises-distinct : {X : Type 0} (R : X → X → Type 0) → ((x y : X) → R x y → R y x → ⊥) → (xs : List X) → Rises R xs → Distinct xs
+Rises-distinct R a [] h = tt
+Rises-distinct R a (x ∷ xs) h = (All-of-Mem (λ y. x ≢ y) xs (λ y m e. let b = Mem-at (R x) xs y h.0 m in let c = subst (R x) (sym e) b in a x x c c), Rises-distinct R a xs h.1)
+
+-- the key of the first module is before that of the second
+abbrev Before : ℕ → Module → Module → Type 0
+Before v m n = IsBefore (key_of v m) (key_of v n)
+
+-- no two modules are each before the other
+asym : (v : ℕ) (m n : Module) → Before v m n → Before v n m → ⊥
+asym v m n h k = before-asym (key_of v m) (key_of v n) h k
+
+-- what stands in the order is in the region
+pub order-mem : (v : ℕ) (ms : List Module) → IsOrder v ms → (m : Module) → Mem m ms → InRegion v m
+order-mem v ms o m k = Mem-at (InRegion v) ms m (All-rec (InRegion v) ms o.in_region) k
+
+-- what is in the region stands in the order
+pub order-has : (v : ℕ) (ms : List Module) → IsOrder v ms → (m : Module) → InRegion v m → Mem m ms
+order-has v ms o m h = Mem-of-Contains ms m (o.complete m h)
+
+-- there is only one order
+pub only_order : (v : ℕ) (ms ns : List Module) → IsOrder v ms → IsOrder v ns → ms ≡ ns
+only_order v ms ns o p = one_rising (Before v) (asym v) ms ns (Rises-of-pairs (Before v) ms o.rising) (Rises-of-pairs (Before v) ns p.rising) (λ m k. order-has v ns p m (order-mem v ms o m k)) (λ m k. order-has v ms o m (order-mem v ns p m k))
+
+-- the region of each version has as many places as its codewords and remainder bits want
+count-at : (i : ℕ) → i < 40 → places_passing (side_of (i + 1)) (is_in_region (i + 1)) ≡ module_count_of (i + 1)
+count-at i l = region-count (i + 1) ∙ eqb-same _ _ (below-at 40 agrees agrees-40 i l)
+
+-- the order has that many items
+pub order-length : (v : ℕ) (ms : List Module) → 1 ≤ v → v ≤ 40 → IsOrder v ms → length ms ≡ module_count_of v
+order-length v ms l h o =
+    let e : v - 1 + 1 ≡ v = omega arith in
+    let c = count-at (v - 1) (omega arith) in
+    count-of (side_of v) (is_in_region v) ms (Rises-distinct (Before v) (asym v) ms (Rises-of-pairs (Before v) ms o.rising)) (λ m k. let w = order-mem v ms o m k in (row-in v m w, col-in v m w, w)) (λ m a b k. order-has v ms o m k) ∙ subst (λ k. places_passing (side_of k) (is_in_region k) ≡ module_count_of k) e c
+
+-- the forty counts are at most 29,648, computed
+count-small : below 40 (λ i. leb (module_count_of (i + 1)) 29648) ≡ true
+unfolding total_codewords_of remainder_bits_of
+count-small = refl
+
+-- no version has more than 29,648 modules for its codewords and remainder bits
+pub module-count-small : (v : ℕ) → 1 ≤ v → v ≤ 40 → module_count_of v ≤ 29648
+module-count-small v l h =
+    let e : v - 1 + 1 ≡ v = omega arith in
+    leb-true _ _ (subst (λ (k : ℕ). leb (module_count_of k) 29648 ≡ true) e (below-at 40 (λ i. leb (module_count_of (i + 1)) 29648) count-small (v - 1) (omega arith)))
+
+-- no order has more than 29,648 items
+pub order-small : (v : ℕ) (ms : List Module) → 1 ≤ v → v ≤ 40 → IsOrder v ms → length ms ≤ 29648
+order-small v ms l h o = let d = order-length v ms l h o in let c = module-count-small v l h in omega arith
+
+-- ---- the number of a place
+
+-- keys in order pass the test
+before-test : (a b : Key) → IsBefore a b → is_before a b ≡ true
+unfolding IsBefore is_before
+before-test a b h = grind (arith, nat_tests)
+
+-- keys that pass the test are in order
+test-before : (a b : Key) → is_before a b ≡ true → IsBefore a b
+unfolding IsBefore is_before
+test-before a b h = grind (arith, nat_tests)
+
+-- what stands before m in a rising list is in the relation to it
+Rises-front : {X : Type 0} (R : X → X → Type 0) (front back : List X) (m : X) → Rises R (front ++ m ∷ back) → (x : X) → Mem x front → R x m
+Rises-front R [] back m h x k = absurd k
+Rises-front R (y ∷ ys) back m h x (inl e) = subst (λ z. R z m) e (Mem-at (R y) (ys ++ m ∷ back) m h.0 (Mem-right m ys (m ∷ back) (inl refl)))
+Rises-front R (y ∷ ys) back m h x (inr k) = Rises-front R ys back m h.1 x k
+
+-- the front of a rising list rises
+Rises-first : {X : Type 0} (R : X → X → Type 0) (front back : List X) → Rises R (front ++ back) → Rises R front
+Rises-first R [] back h = tt
+Rises-first R (x ∷ xs) back h = (All-of-Mem (R x) xs (λ y k. Mem-at (R x) (xs ++ back) y h.0 (Mem-left y xs back k)), Rises-first R xs back h.1)
+
+-- m is in the relation to what stands after it in a rising list
+Rises-after : {X : Type 0} (R : X → X → Type 0) (front back : List X) (m : X) → Rises R (front ++ m ∷ back) → (x : X) → Mem x back → R m x
+Rises-after R [] back m h x k = Mem-at (R m) back x h.0 k
+Rises-after R (y ∷ ys) back m h x k = Rises-after R ys back m h.1 x k
+
+-- two tests that pass, passed together
+&&-both : (a b : Bool) → a ≡ true → b ≡ true → (a && b) ≡ true
+&&-both a b e f = rw (e, f) refl
+
+-- a place of the order has the number of places before it
+pub number-at : (v : ℕ) (front back : List Module) (m : Module) → IsOrder v (front ++ m ∷ back) → number_of v m ≡ length front
+unfolding number_of
+number-at v front back m o =
+    let whole = front ++ m ∷ back in
+    let rises = Rises-of-pairs (Before v) whole o.rising in
+    let p = λ (r : ℕ) (c : ℕ). is_in_region v r c && is_before (key_of v (record { row = r; col = c })) (key_of v m) in
+    sym (count-of (side_of v) p front
+    (Rises-distinct (Before v) (asym v) front (Rises-first (Before v) front (m ∷ back) rises))
+    (λ x k. let w = order-mem v whole o x (Mem-left x front (m ∷ back) k) in (row-in v x w, col-in v x w, &&-both _ _ w (before-test (key_of v x) (key_of v m) (Rises-front (Before v) front back m rises x k))))
+    (λ x a b k.
+    let w : is_in_region v x.row x.col ≡ true = &&-left _ (is_before (key_of v x) (key_of v m)) k in
+    let l = test-before (key_of v x) (key_of v m) (&&-right (is_in_region v x.row x.col) _ k) in
+    elim (Mem-append x front (m ∷ back) (order-has v whole o x w)) [
+      | inl j ↦ j
+      | inr j ↦ elim j [
+        | inl e ↦ let z = subst (λ (y : Module). Before v y m) (sym e) l in absurd (asym v m m z z)
+        | inr i ↦ absurd (asym v x m l (Rises-after (Before v) front back m rises x i))
+      ]
+    ]))

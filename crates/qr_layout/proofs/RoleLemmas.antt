@@ -1,0 +1,186 @@
+-- Where the bits of the format and version information stand.
+use Rattle.std.proofs.Common.{◌≡◌, ℕ, zero, suc, ◌+◌, ◌-◌, ◌*◌, ◌<◌, ◌≤◌, Bool, true, false, ◌&&◌, ◌||◌, cond, eqb, ltb, leb, Option, None, Some, refl, sym, ap, ◌∙◌, subst, inl, inr, ◌⊎◌, arith}
+use Rattle.std.proofs.lemmas.Bool.Decides.{nat_tests}
+use Rattle.std.proofs.lemmas.Bool.{cases_lt}
+use Rattle.qr_layout.specs.Versions.{side_of}
+use Rattle.qr_layout.specs.Roles.{first_place, second_place, version_place, transposed, is_at, one_below, format_bit_at, version_bit_at}
+
+-- the search stops at a number that passes
+one-hit : (n : ℕ) (p : ℕ → Bool) → p n ≡ true → one_below (suc n) p ≡ Some n
+one-hit n p e = rw e refl
+
+-- the search goes on at a number that does not pass
+one-miss : (n : ℕ) (p : ℕ → Bool) → p n ≡ false → one_below (suc n) p ≡ one_below n p
+one-miss n p e = rw e refl
+
+-- a test passes or not
+pub decide : (b : Bool) → (b ≡ true) ⊎ (b ≡ false)
+decide true = inl refl
+decide false = inr refl
+
+-- the only number below n that passes the test is the one that is found
+pub one_below-some : (n : ℕ) (p : ℕ → Bool) (i : ℕ) → i < n → p i ≡ true → ((j : ℕ) → j < n → p j ≡ true → j ≡ i) → one_below n p ≡ Some i
+one_below-some zero p i l h f = absurd (omega arith)
+one_below-some (suc n) p i l h f = elim (decide (p n)) [
+  | inl e ↦ let g : n ≡ i = f n (omega arith) e in one-hit n p e ∙ ap (λ k. Some k) g
+  | inr e ↦ elim (cases_lt i n) [
+    | inl k ↦ one-miss n p e ∙ one_below-some n p i k h (λ j m q. f j (omega arith) q)
+    | inr k ↦ let g : n ≡ i = omega arith in let q = subst (λ z. p z ≡ false) g e in cc
+  ]
+]
+
+-- where none passes the test, none is found
+pub one_below-none : (n : ℕ) (p : ℕ → Bool) → ((j : ℕ) → j < n → p j ≡ true → ⊥) → one_below n p ≡ None
+one_below-none zero p f = refl
+one_below-none (suc n) p f = elim (decide (p n)) [
+  | inl e ↦ absurd (f n (omega arith) e)
+  | inr e ↦ one-miss n p e ∙ one_below-none n p (λ j m q. f j (omega arith) q)
+]
+
+-- what is found is below n and passes the test
+pub one_below-at : (n : ℕ) (p : ℕ → Bool) (i : ℕ) → one_below n p ≡ Some i → (i < n) × (p i ≡ true)
+one_below-at zero p i h = cc
+one_below-at (suc n) p i h = elim (decide (p n)) [
+  | inl e ↦ let g : Some n ≡ Some i = sym (one-hit n p e) ∙ h in let k : n ≡ i = cc in (omega arith, subst (λ z. p z ≡ true) k e)
+  | inr e ↦ let w = one_below-at n p i (sym (one-miss n p e) ∙ h) in let l = w.0 in (omega arith, w.1)
+]
+
+-- bit i of the format information stands at (r, c)
+abbrev pub stands : ℕ → ℕ → ℕ → ℕ → Bool
+stands s r c i = is_at (first_place i) r c || is_at (second_place s i) r c
+
+-- the one bit that may stand at a place of row 8 or column 8
+abbrev bit_here : ℕ → ℕ → ℕ → ℕ
+bit_here s r c = cond (eqb c 8) (cond (ltb r 6) r (cond (ltb r 9) (r - 1) (r + 15 - s))) (cond (eqb c 7) 8 (cond (ltb c 6) (14 - c) (s - 1 - c)))
+
+-- a bit at its first place is the one that may stand there
+first-here : (s r c i : ℕ) → 21 ≤ s → i < 15 → is_at (first_place i) r c ≡ true → i ≡ bit_here s r c
+first-here s r c i l a h = grind (arith, nat_tests)
+
+-- a bit at its second place is the one that may stand there
+second-here : (s r c i : ℕ) → 21 ≤ s → i < 15 → is_at (second_place s i) r c ≡ true → i ≡ bit_here s r c
+second-here s r c i l a h = grind (arith, nat_tests)
+
+-- one of two tests passed
+pub either : (a b : Bool) → (a || b) ≡ true → (a ≡ true) ⊎ (b ≡ true)
+either true b h = inl refl
+either false b h = inr h
+
+-- a bit at a place is the one that may stand there
+stands-here : (s r c i : ℕ) → 21 ≤ s → i < 15 → stands s r c i ≡ true → i ≡ bit_here s r c
+stands-here s r c i l a h = elim (either (is_at (first_place i) r c) (is_at (second_place s i) r c) h) [
+  | inl e ↦ first-here s r c i l a e
+  | inr e ↦ second-here s r c i l a e
+]
+
+-- no two bits of the format information stand at one place
+only-format : (s r c i j : ℕ) → 21 ≤ s → i < 15 → j < 15 → stands s r c i ≡ true → stands s r c j ≡ true → j ≡ i
+only-format s r c i j l a b h k = stands-here s r c j l b k ∙ sym (stands-here s r c i l a h)
+
+-- the bit that stands at a place is the one that is found there
+pub format-some : (s r c i : ℕ) → 21 ≤ s → i < 15 → stands s r c i ≡ true → Some i ≡ format_bit_at s r c
+unfolding format_bit_at
+format-some s r c i l a h = sym (one_below-some 15 (stands s r c) i a h (λ j b k. only-format s r c i j l a b h k))
+
+-- where no bit stands none is found
+pub format-none : (s r c : ℕ) → ((j : ℕ) → j < 15 → stands s r c j ≡ true → ⊥) → None ≡ format_bit_at s r c
+unfolding format_bit_at
+format-none s r c f = sym (one_below-none 15 (stands s r c) f)
+
+-- rows 0 to 5 of column 8
+pub format-top : (s r : ℕ) → 21 ≤ s → r < 6 → Some r ≡ format_bit_at s r 8
+format-top s r l h = format-some s r 8 r l (omega arith) (grind (arith, nat_tests))
+
+-- rows 7 and 8 of column 8
+pub format-bend : (s r : ℕ) → 21 ≤ s → 6 < r → r < 9 → Some (r - 1) ≡ format_bit_at s r 8
+format-bend s r l h k = format-some s r 8 (r - 1) l (omega arith) (grind (arith, nat_tests))
+
+-- the last seven rows of column 8
+pub format-foot : (s r : ℕ) → 21 ≤ s → s - 8 < r → r < s → Some (r + 15 - s) ≡ format_bit_at s r 8
+format-foot s r l h k = format-some s r 8 (r + 15 - s) l (omega arith) (grind (arith, nat_tests))
+
+-- columns 0 to 5 of row 8
+pub format-left : (s c : ℕ) → 21 ≤ s → c < 6 → Some (14 - c) ≡ format_bit_at s 8 c
+format-left s c l h = format-some s 8 c (14 - c) l (omega arith) (grind (arith, nat_tests))
+
+-- column 7 of row 8
+pub format-seven : (s c : ℕ) → 21 ≤ s → c ≡ 7 → Some 8 ≡ format_bit_at s 8 c
+format-seven s c l h = format-some s 8 c 8 l (omega arith) (grind (arith, nat_tests))
+
+-- the last eight columns of row 8
+pub format-right : (s c : ℕ) → 21 ≤ s → s - 8 ≤ c → c < s → Some (s - 1 - c) ≡ format_bit_at s 8 c
+format-right s c l h k = format-some s 8 c (s - 1 - c) l (omega arith) (grind (arith, nat_tests))
+
+-- no bit stands where a timing pattern crosses column 8, nor between the finder patterns
+pub format-no_row : (s r : ℕ) → 21 ≤ s → (r ≡ 6) ⊎ ((9 ≤ r) × (r ≤ s - 8)) → None ≡ format_bit_at s r 8
+format-no_row s r l (inl e) = format-none s r 8 (λ j b h. grind (arith, nat_tests))
+format-no_row s r l (inr e) = let a = e.0 in let d = e.1 in format-none s r 8 (λ j b h. grind (arith, nat_tests))
+
+-- no bit stands where a timing pattern crosses row 8, nor between the finder patterns
+pub format-no_column : (s c : ℕ) → 21 ≤ s → (c ≡ 6) ⊎ ((9 ≤ c) × (c < s - 8)) → None ≡ format_bit_at s 8 c
+format-no_column s c l (inl e) = format-none s 8 c (λ j b h. grind (arith, nat_tests))
+format-no_column s c l (inr e) = let a = e.0 in let d = e.1 in format-none s 8 c (λ j b h. grind (arith, nat_tests))
+
+-- no bit stands off row 8 and column 8
+pub format-off : (s r c : ℕ) → 21 ≤ s → (r ≡ 8 → ⊥) → (c ≡ 8 → ⊥) → None ≡ format_bit_at s r c
+format-off s r c l a d = format-none s r c (λ j b h. grind (arith, nat_tests))
+
+-- ---- the version information
+
+-- bit i of the version information stands at (r, c)
+abbrev pub stands_for_version : ℕ → ℕ → ℕ → ℕ → Bool
+stands_for_version s r c i = is_at (version_place s i) r c || is_at (transposed (version_place s i)) r c
+
+-- no two bits of the version information stand at one place
+only-version : (s r c i j : ℕ) → 21 ≤ s → i < 18 → j < 18 → stands_for_version s r c i ≡ true → stands_for_version s r c j ≡ true → j ≡ i
+only-version s r c i j l a b h k = grind (arith, nat_tests)
+
+-- from version 7 on the bit is searched for
+version-found : (v r c : ℕ) (o : Option ℕ) → 7 ≤ v → o ≡ one_below 18 (stands_for_version (side_of v) r c) → o ≡ version_bit_at v r c
+unfolding version_bit_at
+version-found v r c o h e = let t : ltb v 7 ≡ false = grind (arith, nat_tests) in rw t e
+
+-- the bit that stands at a place is the one that is found there
+pub version-some : (v r c i : ℕ) → 7 ≤ v → i < 18 → stands_for_version (side_of v) r c i ≡ true → Some i ≡ version_bit_at v r c
+version-some v r c i l a h = version-found v r c (Some i) l (sym (one_below-some 18 (stands_for_version (side_of v) r c) i a h (λ j b k. only-version (side_of v) r c i j (omega arith) a b h k)))
+
+-- where no bit stands none is found
+pub version-none : (v r c : ℕ) → 7 ≤ v → ((j : ℕ) → j < 18 → stands_for_version (side_of v) r c j ≡ true → ⊥) → None ≡ version_bit_at v r c
+version-none v r c l f = version-found v r c None l (sym (one_below-none 18 (stands_for_version (side_of v) r c) f))
+
+-- versions below 7 have none
+pub version-small : (v r c : ℕ) → v < 7 → None ≡ version_bit_at v r c
+unfolding version_bit_at
+version-small v r c h = let t : ltb v 7 ≡ true = grind (arith, nat_tests) in rw t refl
+
+-- the place is in the block beside the top right finder pattern
+abbrev pub in_block : ℕ → ℕ → ℕ → Bool
+in_block s r c = ltb r 6 && (leb (s - 11) c && ltb c (s - 8))
+
+-- the bit of a place in the block beside the top right finder pattern
+block-right : (s r c : ℕ) → 21 ≤ s → in_block s r c ≡ true → stands_for_version s r c (3 * r + (c + 11 - s)) ≡ true
+block-right s r c l h = grind (arith, nat_tests)
+
+-- the bit of a place in the block beside the bottom left finder pattern
+block-below : (s r c : ℕ) → 21 ≤ s → in_block s c r ≡ true → stands_for_version s r c (3 * c + (r + 11 - s)) ≡ true
+block-below s r c l h = grind (arith, nat_tests)
+
+-- the bits of a block are below 18
+block-small : (s r c : ℕ) → 21 ≤ s → in_block s r c ≡ true → 3 * r + (c + 11 - s) < 18
+block-small s r c l h = grind (arith, nat_tests)
+
+-- a bit stands only in the two blocks
+block-neither : (s r c j : ℕ) → 21 ≤ s → j < 18 → in_block s r c ≡ false → in_block s c r ≡ false → stands_for_version s r c j ≡ true → ⊥
+block-neither s r c j l b h k e = grind (arith, nat_tests)
+
+-- beside the top right finder pattern
+pub version-right : (v s r c : ℕ) (t : Bool) → 7 ≤ v → s ≡ side_of v → t ≡ in_block s r c → t ≡ true → Some (3 * r + (c + 11 - s)) ≡ version_bit_at v r c
+version-right v s r c t l e f h = rw e (let k = rw e at (sym f ∙ h) in version-some v r c (3 * r + (c + 11 - side_of v)) l (block-small (side_of v) r c (omega arith) k) (block-right (side_of v) r c (omega arith) k))
+
+-- beside the bottom left finder pattern
+pub version-below : (v s r c : ℕ) (t : Bool) → 7 ≤ v → s ≡ side_of v → t ≡ in_block s c r → t ≡ true → Some (3 * c + (r + 11 - s)) ≡ version_bit_at v r c
+version-below v s r c t l e f h = rw e (let k = rw e at (sym f ∙ h) in version-some v r c (3 * c + (r + 11 - side_of v)) l (block-small (side_of v) c r (omega arith) k) (block-below (side_of v) r c (omega arith) k))
+
+-- in neither block
+pub version-neither : (v s r c : ℕ) (t u : Bool) → 7 ≤ v → s ≡ side_of v → t ≡ in_block s r c → t ≡ false → u ≡ in_block s c r → u ≡ false → None ≡ version_bit_at v r c
+version-neither v s r c t u l e f h g k = let a = rw e at (sym f ∙ h) in let b = rw e at (sym g ∙ k) in version-none v r c l (λ j m q. block-neither (side_of v) r c j (omega arith) m a b q)

@@ -1,0 +1,67 @@
+-- Tests computed at each number below a bound, and the table of the alignment centres.
+use Rattle.std.proofs.Common.{◌≡◌, ℕ, zero, suc, ◌+◌, ◌-◌, ◌/◌, ◌<◌, ◌≤◌, Bool, true, false, ◌&&◌, cond, eqb, leb, List, [], ◌∷◌, length, take, get_or, refl, sym, ap, ◌∙◌, subst, inl, inr, arith}
+use borrow.Author.Tests.{leb-true}
+use Rattle.std.proofs.lemmas.Bool.Decides.{nat_tests}
+use Rattle.std.proofs.lemmas.Bool.{cases_lt}
+use Rattle.qr_layout.specs.declared.alignment.TheConstants.{CENTRES}
+use Rattle.qr_layout.specs.Alignment.{centres_of, centre_table}
+use Rattle.qr_layout.proofs.RegionLemmas.{&&-left, &&-right}
+
+-- a test at each number below n
+abbrev pub below : ℕ → (ℕ → Bool) → Bool
+below zero p = true
+below (suc n) p = p n && below n p
+
+-- the test at one of the numbers
+pub below-at : (n : ℕ) (p : ℕ → Bool) → below n p ≡ true → (k : ℕ) → k < n → p k ≡ true
+below-at zero p h k l = absurd (omega arith)
+below-at (suc n) p h k l = elim (cases_lt k n) [
+  | inl m ↦ below-at n p (&&-right (p n) _ h) k m
+  | inr m ↦ let e : n ≡ k = omega arith in subst (λ (z : ℕ). p z ≡ true) e (&&-left (p n) _ h)
+]
+
+-- two lists of numbers are the same
+abbrev pub is_same : List ℕ → List ℕ → Bool
+is_same [] [] = true
+is_same [] (y ∷ ys) = false
+is_same (x ∷ xs) [] = false
+is_same (x ∷ xs) (y ∷ ys) = eqb x y && is_same xs ys
+
+-- what the test of two numbers means
+pub eqb-same : (x y : ℕ) → eqb x y ≡ true → x ≡ y
+eqb-same x y h = grind (arith, nat_tests)
+
+-- what the test of two lists means
+pub is_same-same : (xs ys : List ℕ) → is_same xs ys ≡ true → xs ≡ ys
+is_same-same [] [] h = refl
+is_same-same [] (y ∷ ys) h = cc
+is_same-same (x ∷ xs) [] h = cc
+is_same-same (x ∷ xs) (y ∷ ys) h = let e = eqb-same x y (&&-left _ (is_same xs ys) h) in let f = is_same-same xs ys (&&-right (eqb x y) _ h) in cc
+
+-- the two tables have the same centres for one version
+abbrev pub centres_agree : ℕ → Bool
+centres_agree n = is_same (take (cond (eqb n 0) 0 ((n + 1) / 7 + 2)) (get_or CENTRES n [])) (get_or centre_table n [])
+
+-- the two tables are the same, computed
+all_agree : below 40 centres_agree ≡ true
+all_agree = refl
+
+-- the centres of the version at an index
+centre-list-of : (i : ℕ) → centres_of (i + 1) ≡ get_or centre_table i []
+unfolding centres_of
+centre-list-of i = ap (λ k. get_or centre_table k []) (let e : i + 1 - 1 ≡ i = omega arith in e)
+
+-- the centres that the code takes from its table are those of the definition
+pub centres-agree : (v i many : ℕ) → v ≤ 40 → i + 1 ≡ v → many ≡ cond (eqb i 0) 0 ((i + 1) / 7 + 2) → take many (get_or CENTRES i []) ≡ centres_of v
+centres-agree v i many l f e = rw (e, ← f) (is_same-same (take (cond (eqb i 0) 0 ((i + 1) / 7 + 2)) (get_or CENTRES i [])) (get_or centre_table i []) (below-at 40 centres_agree all_agree i (omega arith)) ∙ sym (centre-list-of i))
+
+-- the forty lists are no longer than seven, computed
+few-centres : below 40 (λ i. leb (length (centres_of (i + 1))) 7) ≡ true
+unfolding centres_of
+few-centres = refl
+
+-- a version has at most seven rows of centres
+pub centres-few : (v : ℕ) → 1 ≤ v → v ≤ 40 → length (centres_of v) ≤ 7
+centres-few v h k =
+    let e : v - 1 + 1 ≡ v = omega arith in
+    leb-true _ _ (subst (λ (t : ℕ). leb (length (centres_of t)) 7 ≡ true) e (below-at 40 (λ i. leb (length (centres_of (i + 1))) 7) few-centres (v - 1) (omega arith)))

@@ -1,0 +1,6 @@
+use Rattle.std.proofs.Common.{arith}
+use Rattle.qr_layout.proofs.BlockLemmas.{blocks-sound}
+use Rattle.qr_layout.proofs.laws.blocks_are_whole.Goals as goal
+
+pub returns : goal.returns
+returns c = blocks-sound c.args.level c.args.v (omega arith) (omega arith)

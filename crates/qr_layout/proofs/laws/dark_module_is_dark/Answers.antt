@@ -1,0 +1,6 @@
+use Rattle.std.proofs.Common.{arith}
+use Rattle.qr_layout.proofs.RoleLaws.{dark-module}
+use Rattle.qr_layout.proofs.laws.dark_module_is_dark.Goals as goal
+
+pub returns : goal.returns
+returns c = dark-module c.args.v (omega arith) (omega arith)

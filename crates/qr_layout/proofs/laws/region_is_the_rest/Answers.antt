@@ -1,0 +1,6 @@
+use Rattle.std.proofs.Common.{arith}
+use Rattle.qr_layout.proofs.RoleLaws.{region-role, role-region}
+use Rattle.qr_layout.proofs.laws.region_is_the_rest.Goals as goal
+
+pub returns : goal.returns
+returns c = λ r s h k. (role-region c.args.v r s (omega arith) h k, region-role c.args.v r s (omega arith) h k)

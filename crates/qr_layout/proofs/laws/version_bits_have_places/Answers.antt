@@ -1,0 +1,12 @@
+use Rattle.std.proofs.Common.{arith}
+use Rattle.qr_layout.proofs.RoleLaws.{version-first, version-second, version-only}
+use Rattle.qr_layout.proofs.laws.version_bits_have_places.Goals as goal
+
+pub returns-clause-first : goal.returns-clause-first
+returns-clause-first c = λ i k h. version-first c.args.v i k (omega arith) h
+
+pub returns-clause-second : goal.returns-clause-second
+returns-clause-second c = λ i k h. version-second c.args.v i k (omega arith) h
+
+pub returns-clause-no_other : goal.returns-clause-no_other
+returns-clause-no_other c = version-only c.args.v

@@ -1,0 +1,6 @@
+use Rattle.std.proofs.Common.{arith}
+use Rattle.qr_layout.proofs.WordLemmas.{version-word-remainder}
+use Rattle.qr_layout.proofs.laws.version_words_are_remainders.Goals as goal
+
+pub returns : goal.returns
+returns c = version-word-remainder c.args.v (omega arith)

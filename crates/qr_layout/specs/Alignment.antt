@@ -1,0 +1,38 @@
+-- The alignment patterns: where their centres stand. Public clauses cite this file.
+use Rattle.std.specs.Prelude.{◌≡◌, ℕ, ◌+◌, ◌-◌, ◌*◌, ◌/◌, ◌%◌, ◌<◌, ◌≤◌, Bool, ◌&&◌, ◌||◌, ◌==◌, if◌then◌else◌, List, [], ◌∷◌, length}
+use Rattle.std.specs.List.{flat_map, slice_index_or}
+use Rattle.qr_layout.specs.declared.region.Module.{Module}
+use Rattle.qr_layout.specs.Versions.{side_of}
+
+-- the rows, and columns, of the alignment patterns' centres in the versions 1 to 40, in turn (ISO/IEC 18004:2015, Annex
+-- E)
+abbrev pub centre_table : List (List ℕ)
+centre_table =
+    [] ∷ (6 ∷ 18 ∷ []) ∷ (6 ∷ 22 ∷ []) ∷ (6 ∷ 26 ∷ []) ∷ (6 ∷ 30 ∷ []) ∷ (6 ∷ 34 ∷ []) ∷ (6 ∷ 22 ∷ 38 ∷ []) ∷ (6 ∷ 24 ∷ 42 ∷ []) ∷ (6 ∷ 26 ∷ 46 ∷ []) ∷ (6 ∷ 28 ∷ 50 ∷ [])
+    ∷ (6 ∷ 30 ∷ 54 ∷ []) ∷ (6 ∷ 32 ∷ 58 ∷ []) ∷ (6 ∷ 34 ∷ 62 ∷ []) ∷ (6 ∷ 26 ∷ 46 ∷ 66 ∷ []) ∷ (6 ∷ 26 ∷ 48 ∷ 70 ∷ []) ∷ (6 ∷ 26 ∷ 50 ∷ 74 ∷ []) ∷ (6 ∷ 30 ∷ 54 ∷ 78 ∷ []) ∷ (6 ∷ 30 ∷ 56 ∷ 82 ∷ []) ∷ (6 ∷ 30 ∷ 58 ∷ 86 ∷ []) ∷ (6 ∷ 34 ∷ 62 ∷ 90 ∷ [])
+    ∷ (6 ∷ 28 ∷ 50 ∷ 72 ∷ 94 ∷ []) ∷ (6 ∷ 26 ∷ 50 ∷ 74 ∷ 98 ∷ []) ∷ (6 ∷ 30 ∷ 54 ∷ 78 ∷ 102 ∷ []) ∷ (6 ∷ 28 ∷ 54 ∷ 80 ∷ 106 ∷ []) ∷ (6 ∷ 32 ∷ 58 ∷ 84 ∷ 110 ∷ []) ∷ (6 ∷ 30 ∷ 58 ∷ 86 ∷ 114 ∷ []) ∷ (6 ∷ 34 ∷ 62 ∷ 90 ∷ 118 ∷ [])
+    ∷ (6 ∷ 26 ∷ 50 ∷ 74 ∷ 98 ∷ 122 ∷ []) ∷ (6 ∷ 30 ∷ 54 ∷ 78 ∷ 102 ∷ 126 ∷ []) ∷ (6 ∷ 26 ∷ 52 ∷ 78 ∷ 104 ∷ 130 ∷ []) ∷ (6 ∷ 30 ∷ 56 ∷ 82 ∷ 108 ∷ 134 ∷ []) ∷ (6 ∷ 34 ∷ 60 ∷ 86 ∷ 112 ∷ 138 ∷ []) ∷ (6 ∷ 30 ∷ 58 ∷ 86 ∷ 114 ∷ 142 ∷ []) ∷ (6 ∷ 34 ∷ 62 ∷ 90 ∷ 118 ∷ 146 ∷ [])
+    ∷ (6 ∷ 30 ∷ 54 ∷ 78 ∷ 102 ∷ 126 ∷ 150 ∷ []) ∷ (6 ∷ 24 ∷ 50 ∷ 76 ∷ 102 ∷ 128 ∷ 154 ∷ []) ∷ (6 ∷ 28 ∷ 54 ∷ 80 ∷ 106 ∷ 132 ∷ 158 ∷ []) ∷ (6 ∷ 32 ∷ 58 ∷ 84 ∷ 110 ∷ 136 ∷ 162 ∷ []) ∷ (6 ∷ 26 ∷ 54 ∷ 82 ∷ 110 ∷ 138 ∷ 166 ∷ []) ∷ (6 ∷ 30 ∷ 58 ∷ 86 ∷ 114 ∷ 142 ∷ 170 ∷ []) ∷ []
+
+-- the rows, and columns, of the centres in version v; none in version 1 (ISO/IEC 18004:2015, Annex E)
+unfoldable pub centres_of : ℕ → List ℕ
+centres_of v = slice_index_or centre_table (v - 1) []
+
+-- the centres are regular: v / 7 + 2 even rows from 6 to s - 7, all gaps but the first alike, and with three centres
+-- both gaps alike (ISO/IEC 18004:2015, Annex E)
+pub record AreRegular (v : ℕ) (cs : List ℕ) : Type 0 where
+  pub count : length cs ≡ v / 7 + 2
+  pub first : slice_index_or cs 0 0 ≡ 6
+  pub last : slice_index_or cs (v / 7 + 1) 0 ≡ side_of v - 7
+  pub even : (i : ℕ) → i < length cs → slice_index_or cs i 0 % 2 ≡ 0
+  pub later_gaps : (i : ℕ) → 1 ≤ i → i + 2 < length cs → slice_index_or cs i 0 + slice_index_or cs (i + 2) 0 ≡ 2 * slice_index_or cs (i + 1) 0
+  pub three : length cs ≡ 3 → slice_index_or cs 0 0 + slice_index_or cs 2 0 ≡ 2 * slice_index_or cs 1 0
+
+-- a row and a column that meet in a corner, where a finder pattern stands (ISO/IEC 18004:2015, 6.3.6)
+abbrev pub is_corner_pair : ℕ → ℕ → ℕ → Bool
+is_corner_pair s a b = (a == 6 && b == 6) || (a == 6 && b == s - 7) || (a == s - 7 && b == 6)
+
+-- the centres of the alignment patterns: where the rows and columns meet, but for the three corners (ISO/IEC
+-- 18004:2015, 6.3.6)
+abbrev pub alignment_places : ℕ → List ℕ → List Module
+alignment_places s cs = flat_map (λ a. flat_map (λ b. if is_corner_pair s a b then [] else record { row = a; col = b } ∷ []) cs) cs

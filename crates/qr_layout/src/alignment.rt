@@ -1,0 +1,164 @@
+//! The alignment patterns: the rows and columns of their centres (ISO/IEC 18004:2015, 6.3.6 and Annex E).
+
+ghost use Rattle.std.specs.Prelude.{◌≡◌, ◌≤◌, ◌-◌, ◌+◌, ◌&&◌, not, nat_le, nat_lt};
+ghost use Rattle.std.specs.List.{list_any};
+ghost use Rattle.qr_layout.specs.Alignment.{centres_of, is_corner_pair};
+ghost use Rattle.qr_layout.specs.Region.{is_alignment};
+
+use crate::version::Version;
+use arrayvec::ArrayVec;
+
+// The centres of the versions 1 to 40, filled up with zeros (Annex E, Table E.1).
+static CENTRES: [[u8; 7]; 40] = [
+    [0, 0, 0, 0, 0, 0, 0],
+    [6, 18, 0, 0, 0, 0, 0],
+    [6, 22, 0, 0, 0, 0, 0],
+    [6, 26, 0, 0, 0, 0, 0],
+    [6, 30, 0, 0, 0, 0, 0],
+    [6, 34, 0, 0, 0, 0, 0],
+    [6, 22, 38, 0, 0, 0, 0],
+    [6, 24, 42, 0, 0, 0, 0],
+    [6, 26, 46, 0, 0, 0, 0],
+    [6, 28, 50, 0, 0, 0, 0],
+    [6, 30, 54, 0, 0, 0, 0],
+    [6, 32, 58, 0, 0, 0, 0],
+    [6, 34, 62, 0, 0, 0, 0],
+    [6, 26, 46, 66, 0, 0, 0],
+    [6, 26, 48, 70, 0, 0, 0],
+    [6, 26, 50, 74, 0, 0, 0],
+    [6, 30, 54, 78, 0, 0, 0],
+    [6, 30, 56, 82, 0, 0, 0],
+    [6, 30, 58, 86, 0, 0, 0],
+    [6, 34, 62, 90, 0, 0, 0],
+    [6, 28, 50, 72, 94, 0, 0],
+    [6, 26, 50, 74, 98, 0, 0],
+    [6, 30, 54, 78, 102, 0, 0],
+    [6, 28, 54, 80, 106, 0, 0],
+    [6, 32, 58, 84, 110, 0, 0],
+    [6, 30, 58, 86, 114, 0, 0],
+    [6, 34, 62, 90, 118, 0, 0],
+    [6, 26, 50, 74, 98, 122, 0],
+    [6, 30, 54, 78, 102, 126, 0],
+    [6, 26, 52, 78, 104, 130, 0],
+    [6, 30, 56, 82, 108, 134, 0],
+    [6, 34, 60, 86, 112, 138, 0],
+    [6, 30, 58, 86, 114, 142, 0],
+    [6, 34, 62, 90, 118, 146, 0],
+    [6, 30, 54, 78, 102, 126, 150],
+    [6, 24, 50, 76, 102, 128, 154],
+    [6, 28, 54, 80, 106, 132, 158],
+    [6, 32, 58, 84, 110, 136, 162],
+    [6, 26, 54, 82, 110, 138, 166],
+    [6, 30, 58, 86, 114, 142, 170],
+];
+
+// The centres of a version.
+pub(crate) fn centre_list(v: Version) -> &'static [u8]
+    ensures { result.now ≡ centres_of v }
+{
+    let number = v.number();
+    let many = if number == 1 {
+        0
+    } else {
+        usize::from(number / 7 + 2)
+    };
+    &CENTRES[usize::from(number - 1)][..many]
+}
+
+impl Version {
+    /// The rows of the alignment patterns' centres, which are their columns too, in rising order. Version 1 has none.
+    pub fn centres(self) -> ArrayVec<u8, 7>
+        ensures { result.items ≡ centres_of self }
+    {
+        let mut centres = ArrayVec::new();
+        for centre in centre_list(self) {
+            centres.push(*centre);
+        }
+        centres
+    }
+}
+
+// Whether a row or a column is at most two away from a centre.
+fn is_near(centre: u8, at: u8) -> bool
+    ensures { result ≡ (nat_le (centre - 2) at && nat_lt at (centre + 3)) }
+{
+    if centre <= at {
+        at - centre <= 2
+    } else {
+        centre - at <= 2
+    }
+}
+
+// Whether a row and a column of the centres meet in a corner, where a finder pattern stands.
+pub(crate) fn is_corner_pair(side: u8, a: u8, b: u8) -> bool
+    requires { 21 ≤ side }
+    ensures { result ≡ is_corner_pair side a b }
+{
+    let last = side - 7;
+    a == 6 && b == 6 || a == 6 && b == last || a == last && b == 6
+}
+
+// Whether the place, near row a, is in an alignment pattern round some column of the centres.
+fn is_beside(centres: &[u8], side: u8, a: u8, col: u8) -> bool
+    requires { 21 ≤ side }
+    ensures { result ≡ list_any (λ b. nat_le (b - 2) col && nat_lt col (b + 3)
+        && not (is_corner_pair side a b)) centres.now }
+{
+    centres
+        .iter()
+        .any(|b| is_near(*b, col) && !is_corner_pair(side, a, *b))
+}
+
+// The same for some row of the centres.
+fn is_on_centre(centres: &[u8], side: u8, row: u8, col: u8) -> bool
+    requires { 21 ≤ side }
+    ensures { result ≡ list_any (λ a. nat_le (a - 2) row && nat_lt row (a + 3)
+        && list_any (λ b. nat_le (b - 2) col && nat_lt col (b + 3)
+        && not (is_corner_pair side a b)) centres.now) centres.now }
+{
+    centres
+        .iter()
+        .any(|a| is_near(*a, row) && is_beside(centres, side, *a, col))
+}
+
+// Whether a place is in an alignment pattern.
+#[tactic(auto, using(crate::proofs::AlignmentLemmas::alignment_parts))]
+pub(crate) fn is_in_alignment(v: Version, row: u8, col: u8) -> bool
+    ensures { result ≡ is_alignment v row col }
+{
+    let side = v.side();
+    let centres = centre_list(v);
+    is_on_centre(centres, side, row, col)
+}
+
+#[cfg(test)]
+mod tests {
+    use super::*;
+    use std::test::Fail;
+
+    #[test]
+    fn centres_of_the_standard(rt: HostRuntime) -> Result<(), Fail> {
+        let centres = |number| Version::new(number).map(|version| version.centres());
+        assert_eq!(rt;
+            centres(1).ok_or("version 1")?.as_slice(),
+            [].as_slice(),
+            "version 1"
+        );
+        assert_eq!(rt;
+            centres(2).ok_or("version 2")?.as_slice(),
+            [6, 18].as_slice(),
+            "version 2"
+        );
+        assert_eq!(rt;
+            centres(32).ok_or("version 32")?.as_slice(),
+            [6, 34, 60, 86, 112, 138].as_slice(),
+            "version 32"
+        );
+        assert_eq!(rt;
+            centres(40).ok_or("version 40")?.as_slice(),
+            [6, 30, 58, 86, 114, 142, 170].as_slice(),
+            "version 40"
+        );
+        Ok(())
+    }
+}

@@ -1,0 +1,168 @@
+//! How the codewords of a symbol are cut into blocks for error correction (ISO/IEC 18004:2015, 7.5.1, Table 9).
+
+ghost use Rattle.std.specs.Prelude.{◌≡◌};
+ghost use Rattle.qr_layout.specs.Blocks.{correction_len_of, block_count_of, data_codewords_of, blocks_of};
+
+use crate::level::Level;
+use crate::version::Version;
+
+// The error correction codewords of each block, for L, M, Q and H in the versions 1 to 40.
+static CORRECTION_LENS: [[u8; 40]; 4] = [
+    [
+        7, 10, 15, 20, 26, 18, 20, 24, 30, 18, 20, 24, 26, 30, 22, 24, 28, 30, 28, 28, 28, 28, 30,
+        30, 26, 28, 30, 30, 30, 30, 30, 30, 30, 30, 30, 30, 30, 30, 30, 30,
+    ],
+    [
+        10, 16, 26, 18, 24, 16, 18, 22, 22, 26, 30, 22, 22, 24, 24, 28, 28, 26, 26, 26, 26, 28, 28,
+        28, 28, 28, 28, 28, 28, 28, 28, 28, 28, 28, 28, 28, 28, 28, 28, 28,
+    ],
+    [
+        13, 22, 18, 26, 18, 24, 18, 22, 20, 24, 28, 26, 24, 20, 30, 24, 28, 28, 26, 30, 28, 30, 30,
+        30, 30, 28, 30, 30, 30, 30, 30, 30, 30, 30, 30, 30, 30, 30, 30, 30,
+    ],
+    [
+        17, 28, 22, 16, 22, 28, 26, 26, 24, 28, 24, 28, 22, 24, 24, 30, 28, 28, 26, 28, 30, 24, 30,
+        30, 30, 30, 30, 30, 30, 30, 30, 30, 30, 30, 30, 30, 30, 30, 30, 30,
+    ],
+];
+
+// The number of blocks, for L, M, Q and H in the versions 1 to 40.
+static BLOCK_COUNTS: [[u8; 40]; 4] = [
+    [
+        1, 1, 1, 1, 1, 2, 2, 2, 2, 4, 4, 4, 4, 4, 6, 6, 6, 6, 7, 8, 8, 9, 9, 10, 12, 12, 12, 13,
+        14, 15, 16, 17, 18, 19, 19, 20, 21, 22, 24, 25,
+    ],
+    [
+        1, 1, 1, 2, 2, 4, 4, 4, 5, 5, 5, 8, 9, 9, 10, 10, 11, 13, 14, 16, 17, 17, 18, 20, 21, 23,
+        25, 26, 28, 29, 31, 33, 35, 37, 38, 40, 43, 45, 47, 49,
+    ],
+    [
+        1, 1, 2, 2, 4, 4, 6, 6, 8, 8, 8, 10, 12, 16, 12, 17, 16, 18, 21, 20, 23, 23, 25, 27, 29,
+        34, 34, 35, 38, 40, 43, 45, 48, 51, 53, 56, 59, 62, 65, 68,
+    ],
+    [
+        1, 1, 2, 4, 4, 4, 5, 6, 8, 8, 11, 11, 16, 16, 18, 16, 19, 21, 25, 25, 25, 34, 30, 32, 35,
+        37, 40, 42, 45, 48, 51, 54, 57, 60, 63, 66, 70, 74, 77, 81,
+    ],
+];
+
+/// The blocks of a symbol: `short` blocks of `short_len` data codewords come first, then `long` blocks of one more.
+/// Each has `ec_len` error correction codewords.
+#[derive(Clone, Copy, Debug, PartialEq, Eq)]
+pub struct Blocks {
+    pub short: u8,
+    pub short_len: u8,
+    pub long: u8,
+    pub ec_len: u8,
+}
+
+impl Version {
+    fn correction_len(self, level: Level) -> u8
+        ensures { result ≡ correction_len_of self level }
+    {
+        let lens = match level {
+            Level::L => &CORRECTION_LENS[0],
+            Level::M => &CORRECTION_LENS[1],
+            Level::Q => &CORRECTION_LENS[2],
+            Level::H => &CORRECTION_LENS[3],
+        };
+        lens[usize::from(self.number() - 1)]
+    }
+
+    fn block_count(self, level: Level) -> u8
+        ensures { result ≡ block_count_of self level }
+    {
+        let counts = match level {
+            Level::L => &BLOCK_COUNTS[0],
+            Level::M => &BLOCK_COUNTS[1],
+            Level::Q => &BLOCK_COUNTS[2],
+            Level::H => &BLOCK_COUNTS[3],
+        };
+        counts[usize::from(self.number() - 1)]
+    }
+
+    /// How many data codewords a symbol holds at a level, from 9 to 2,956 (Table 7).
+    pub fn data_codewords(self, level: Level) -> u16
+        ensures { result ≡ data_codewords_of self level }
+    {
+        self.total_codewords()
+            - u16::from(self.block_count(level)) * u16::from(self.correction_len(level))
+    }
+
+    /// The blocks of a symbol at a level.
+    pub fn blocks(self, level: Level) -> Blocks
+        ensures { result ≡ blocks_of self level }
+    {
+        let count = u16::from(self.block_count(level));
+        let data = self.data_codewords(level);
+        let long = data % count;
+        Blocks {
+            short: (count - long) as u8,
+            short_len: (data / count) as u8,
+            long: long as u8,
+            ec_len: self.correction_len(level),
+        }
+    }
+}
+
+#[cfg(test)]
+mod tests {
+    use super::*;
+    use std::test::Fail;
+
+    #[test]
+    fn data_codewords_of_the_standard(rt: HostRuntime) -> Result<(), Fail> {
+        for (number, level, want, name) in [
+            (1, Level::L, 19, "1-L"),
+            (1, Level::M, 16, "1-M"),
+            (1, Level::H, 9, "1-H"),
+            (5, Level::Q, 62, "5-Q"),
+            (40, Level::L, 2956, "40-L"),
+            (40, Level::M, 2334, "40-M"),
+            (40, Level::Q, 1666, "40-Q"),
+            (40, Level::H, 1276, "40-H"),
+        ] {
+            let version = Version::new(number).ok_or("no such version")?;
+            assert_eq!(rt; version.data_codewords(level), want, "{name}");
+        }
+        Ok(())
+    }
+
+    #[test]
+    fn blocks_of_two_lengths(rt: HostRuntime) -> Result<(), Fail> {
+        let blocks = Version::new(5).ok_or("no such version")?.blocks(Level::Q);
+        let want = Blocks {
+            short: 2,
+            short_len: 15,
+            long: 2,
+            ec_len: 18,
+        };
+        assert_eq!(rt; blocks, want, "5-Q");
+        Ok(())
+    }
+
+    #[test]
+    fn sums_over_all_versions(rt: HostRuntime) {
+        for (level, lens, counts, name) in [
+            (Level::L, 1038, 387, "level L"),
+            (Level::M, 1012, 756, "level M"),
+            (Level::Q, 1065, 1050, "level Q"),
+            (Level::H, 1093, 1242, "level H"),
+        ] {
+            let mut len_sum = 0u16;
+            let mut count_sum = 0u16;
+            for version in (1..=40).filter_map(Version::new) {
+                let blocks = version.blocks(level);
+                len_sum = len_sum.saturating_add(u16::from(blocks.ec_len));
+                count_sum = count_sum.saturating_add(u16::from(blocks.short));
+                count_sum = count_sum.saturating_add(u16::from(blocks.long));
+            }
+            assert_eq!(rt;
+                len_sum,
+                lens,
+                "error correction codewords of a block, {name}"
+            );
+            assert_eq!(rt; count_sum, counts, "blocks, {name}");
+        }
+    }
+}

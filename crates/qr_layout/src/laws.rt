@@ -1,0 +1,133 @@
+//! Laws that hold for every version, level and mask. Their statements are the clauses; but for `nth_place`, which
+//! walks, the functions do nothing.
+
+ghost use Rattle.std.specs.Prelude.{◌≡◌, ◌<◌, ◌≤◌, ◌-◌, ◌⊎◌, ◌↔◌, true, ℕ, List, ◌∷◌, ◌++◌, length, slice_get};
+ghost use Rattle.qr_layout.specs.declared.region.Module.{Module};
+ghost use Rattle.qr_layout.specs.declared.role.Role.TheVariants.{Fixed, FormatBit, VersionBit, Region};
+ghost use Rattle.qr_layout.specs.Versions.{side_of, module_count_of};
+ghost use Rattle.qr_layout.specs.Blocks.{data_codewords_of, blocks_of, AreWhole};
+ghost use Rattle.qr_layout.specs.Words.{five_bits, format_word_of, version_word_of, IsFormatWord, IsVersionWord};
+ghost use Rattle.qr_layout.specs.Alignment.{centres_of, AreRegular};
+ghost use Rattle.qr_layout.specs.Region.{is_in_region, InRegion};
+ghost use Rattle.qr_layout.specs.Order.{IsOrder, number_of};
+ghost use Rattle.qr_layout.specs.Roles.{first_place, second_place, version_place, transposed, role_of};
+
+use crate::level::Level;
+use crate::region::Module;
+use crate::steps::walk;
+use crate::version::Version;
+
+/// There is only one order.
+pub fn order_is_one(v: Version)
+    ensures { (ms ns : List Module) → IsOrder v ms → IsOrder v ns → ms ≡ ns }
+{}
+
+/// The order is as long as the codewords and the remainder bits want, at most 29,648 modules.
+pub fn order_is_full(v: Version)
+    ensures count { (ms : List Module) → IsOrder v ms → length ms ≡ module_count_of v }
+    ensures most { module_count_of v ≤ 29648 }
+{}
+
+/// A place's number is how many places stand before it in the order.
+pub fn number_counts(v: Version)
+    ensures { (front back : List Module) (m : Module) → IsOrder v (front ++ m ∷ back)
+        → number_of v m ≡ length front }
+{}
+
+/// The places of the region and the numbers below the count of its modules belong to each other, one to one.
+pub fn numbers_are_places(v: Version)
+    ensures below { (m : Module) → InRegion v m → number_of v m < module_count_of v }
+    ensures one_place { (m n : Module) → InRegion v m → InRegion v n
+        → number_of v m ≡ number_of v n → m ≡ n }
+    ensures each_number { (n : ℕ) → n < module_count_of v
+        → (m : Module) × InRegion v m × (number_of v m ≡ n) }
+{}
+
+/// The place at which the bit of a number stands, found by a walk: none past the last.
+pub fn nth_place(v: Version, number: usize) -> Option<Module>
+    ensures { (ms : List Module) → IsOrder v ms → result ≡ slice_get ms number }
+{
+    walk(v).nth(number)
+}
+
+/// From version 2 on the alignment patterns' centres are regular.
+pub fn centres_are_regular(v: Version)
+    ensures { 2 ≤ v → AreRegular v (centres_of v) }
+{}
+
+/// The blocks hold the codewords of the symbol.
+pub fn blocks_are_whole(v: Version, level: Level)
+    ensures { AreWhole v level (blocks_of v level) }
+{}
+
+/// How many data codewords there are at most, by the versions that share the widths of the character count indicators.
+pub fn data_is_bounded(v: Version, level: Level)
+    ensures small { v ≤ 9 → data_codewords_of v level ≤ 232 }
+    ensures middle { v ≤ 26 → data_codewords_of v level ≤ 1370 }
+    ensures most { data_codewords_of v level ≤ 2956 }
+{}
+
+/// The format information is five bits and their remainder.
+pub fn format_words_are_remainders(level: Level, mask: u8)
+    ensures { mask < 8 → IsFormatWord (five_bits level mask) (format_word_of level mask) }
+{}
+
+/// The version information is six bits and their remainder.
+pub fn version_words_are_remainders(v: Version)
+    ensures { IsVersionWord v (version_word_of v) }
+{}
+
+/// Each bit of the format information stands at its two places and nowhere else.
+pub fn format_bits_have_places(v: Version)
+    ensures first { (i : ℕ) → i < 15
+        → role_of v (first_place i).row (first_place i).col ≡ FormatBit i }
+    ensures second { (i : ℕ) → i < 15
+        → role_of v (second_place (side_of v) i).row (second_place (side_of v) i).col
+        ≡ FormatBit i }
+    ensures no_other { (m : Module) (i : ℕ) → role_of v m.row m.col ≡ FormatBit i
+        → (i < 15) × ((m ≡ first_place i) ⊎ (m ≡ second_place (side_of v) i)) }
+{}
+
+/// From version 7 on each bit of the version information stands at its two places, and it stands nowhere else.
+pub fn version_bits_have_places(v: Version)
+    ensures first { (i : ℕ) → 7 ≤ v → i < 18
+        → role_of v (version_place (side_of v) i).row (version_place (side_of v) i).col
+        ≡ VersionBit i }
+    ensures second { (i : ℕ) → 7 ≤ v → i < 18
+        → role_of v (version_place (side_of v) i).col (version_place (side_of v) i).row
+        ≡ VersionBit i }
+    ensures no_other { (m : Module) (i : ℕ) → role_of v m.row m.col ≡ VersionBit i
+        → (7 ≤ v) × (i < 18)
+        × ((m ≡ version_place (side_of v) i) ⊎ (m ≡ transposed (version_place (side_of v) i))) }
+{}
+
+/// The module beside the bottom left finder pattern is dark.
+pub fn dark_module_is_dark(v: Version)
+    ensures { role_of v (side_of v - 8) 8 ≡ Fixed true }
+{}
+
+/// A module of the square is no pattern and no bit of a word exactly where it is in the encoding region.
+pub fn region_is_the_rest(v: Version)
+    ensures { (r c : ℕ) → r < side_of v → c < side_of v
+        → (role_of v r c ≡ Region) ↔ (is_in_region v r c ≡ true) }
+{}
+
+#[cfg(test)]
+mod tests {
+    use super::*;
+    use std::test::Fail;
+
+    #[test]
+    fn places_by_their_numbers(rt: HostRuntime) -> Result<(), Fail> {
+        let version = Version::new(1).ok_or("no version 1")?;
+        for (number, want) in [
+            (0, Some(Module { row: 20, col: 20 })),
+            (2, Some(Module { row: 19, col: 20 })),
+            (207, Some(Module { row: 12, col: 0 })),
+            (208, None),
+        ] {
+            assert_eq!(rt; nth_place(version, number), want, "number {number}");
+        }
+        Ok(())
+    }
+}

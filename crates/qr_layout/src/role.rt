@@ -1,0 +1,279 @@
+//! What each module of a symbol holds: a colour that is fixed, a bit of the format or version information, or a bit of
+//! the message (ISO/IEC 18004:2015, 6.3 and 7.7.2).
+
+ghost use Rattle.std.specs.Prelude.{◌≡◌, ◌≢◌, ◌<◌, ◌≤◌, ◌==◌, ◌&&◌, not};
+ghost use Rattle.std.specs.List.{list_any};
+ghost use Rattle.qr_layout.specs.Versions.{side_of};
+ghost use Rattle.qr_layout.specs.Alignment.{is_corner_pair};
+ghost use Rattle.qr_layout.specs.Roles.{gap_of, ring_of, finder_ring, is_alignment_light, pattern_colour, format_bit_at, version_bit_at, role_of};
+
+use crate::alignment::{centre_list, is_corner_pair, is_in_alignment};
+use crate::region::is_in_version_block;
+use crate::version::Version;
+
+/// What a module holds.
+#[derive(Clone, Copy, Debug, PartialEq, Eq)]
+pub enum Role {
+    /// A colour that is the same in each symbol of the version: true is dark.
+    Fixed(bool),
+    /// A bit of the format information, 0 being the lowest and 14 the highest.
+    FormatBit(u8),
+    /// A bit of the version information, 0 being the lowest and 17 the highest.
+    VersionBit(u8),
+    /// A bit of a codeword, or a remainder bit: the encoding region.
+    Region,
+}
+
+fn gap(a: u8, b: u8) -> u8
+    ensures { result ≡ gap_of a b }
+{
+    if a < b { b - a } else { a - b }
+}
+
+fn ring(a: u8, b: u8, row: u8, col: u8) -> u8
+    ensures { result ≡ ring_of a b row col }
+{
+    gap(a, row).max(gap(b, col))
+}
+
+fn finder_ring(side: u8, row: u8, col: u8) -> u8
+    requires { 21 ≤ side }
+    ensures { result ≡ finder_ring side row col }
+{
+    let far = side - 4;
+    ring(3, 3, row, col).min(ring(3, far, row, col).min(ring(far, 3, row, col)))
+}
+
+fn is_first_ring(a: u8, b: u8, row: u8, col: u8) -> bool
+    ensures { result ≡ (ring_of a b row col == 1) }
+{
+    ring(a, b, row, col) == 1
+}
+
+// Whether the place is on the light ring round (a, b) for some b.
+fn is_light_beside(centres: &[u8], side: u8, a: u8, row: u8, col: u8) -> bool
+    requires { 21 ≤ side }
+    ensures { result ≡ list_any (λ b. not (is_corner_pair side a b) && ring_of a b row col == 1)
+        centres.now }
+{
+    centres.iter().any(|b| !is_corner_pair(side, a, *b) && is_first_ring(a, *b, row, col))
+}
+
+// The same for some a too.
+fn is_light_among(centres: &[u8], side: u8, row: u8, col: u8) -> bool
+    requires { 21 ≤ side }
+    ensures { result ≡ list_any (λ a. list_any (λ b. not (is_corner_pair side a b)
+        && ring_of a b row col == 1) centres.now) centres.now }
+{
+    centres
+        .iter()
+        .any(|a| is_light_beside(centres, side, *a, row, col))
+}
+
+fn is_alignment_light(v: Version, row: u8, col: u8) -> bool
+    ensures { result ≡ is_alignment_light v row col }
+{
+    let side = v.side();
+    let centres = centre_list(v);
+    is_light_among(centres, side, row, col)
+}
+
+// The colour of a function pattern's module.
+#[tactic(auto, unfolding(crate::specs::Roles::pattern_colour))]
+fn pattern_colour(v: Version, row: u8, col: u8) -> Option<bool>
+    ensures { result ≡ pattern_colour v row col }
+{
+    let ring = finder_ring(v.side(), row, col);
+    if ring < 4 {
+        return Some(ring != 2);
+    }
+    if ring == 4 {
+        return Some(false);
+    }
+    if row == 6 {
+        return Some(col % 2 == 0);
+    }
+    if col == 6 {
+        return Some(row % 2 == 0);
+    }
+    if is_in_alignment(v, row, col) {
+        return Some(!is_alignment_light(v, row, col));
+    }
+    None
+}
+
+// The bit of the format information in column 8.
+fn format_bit_down(side: u8, row: u8) -> Option<u8>
+    requires least { 21 ≤ side }
+    requires most { side ≤ 177 }
+    requires row_in { row < side }
+    ensures { result ≡ format_bit_at side row 8 }
+{
+    if row < 6 {
+        Some(row)
+    } else if row == 6 {
+        None
+    } else if row < 9 {
+        Some(row - 1)
+    } else if row > side - 8 {
+        Some(row + 15 - side)
+    } else {
+        None
+    }
+}
+
+// The bit of the format information in row 8.
+fn format_bit_across(side: u8, col: u8) -> Option<u8>
+    requires least { 21 ≤ side }
+    requires col_in { col < side }
+    requires not_both { col ≢ 8 }
+    ensures { result ≡ format_bit_at side 8 col }
+{
+    if col < 6 {
+        Some(14 - col)
+    } else if col == 6 {
+        None
+    } else if col == 7 {
+        Some(8)
+    } else if col >= side - 8 {
+        Some(side - 1 - col)
+    } else {
+        None
+    }
+}
+
+fn format_bit(side: u8, row: u8, col: u8) -> Option<u8>
+    requires least { 21 ≤ side }
+    requires most { side ≤ 177 }
+    requires row_in { row < side }
+    requires col_in { col < side }
+    ensures { result ≡ format_bit_at side row col }
+{
+    if col == 8 {
+        format_bit_down(side, row)
+    } else if row == 8 {
+        format_bit_across(side, col)
+    } else {
+        None
+    }
+}
+
+fn version_bit(v: Version, row: u8, col: u8) -> Option<u8>
+    requires row_in { row < side_of v }
+    requires col_in { col < side_of v }
+    ensures { result ≡ version_bit_at v row col }
+{
+    if v.number() < 7 {
+        return None;
+    }
+    let side = v.side();
+    if is_in_version_block(side, row, col) {
+        return Some(3 * row + (col + 11 - side));
+    }
+    if is_in_version_block(side, col, row) {
+        return Some(3 * col + (row + 11 - side));
+    }
+    None
+}
+
+/// What the module at a row and a column, both below the side, holds.
+#[tactic(auto, unfolding(crate::specs::Roles::role_of))]
+pub fn cell(v: Version, row: u8, col: u8) -> Role
+    requires row_in { row < side_of v }
+    requires col_in { col < side_of v }
+    ensures { result ≡ role_of v row col }
+{
+    if let Some(dark) = pattern_colour(v, row, col) {
+        return Role::Fixed(dark);
+    }
+    let side = v.side();
+    if row == side - 8 && col == 8 {
+        return Role::Fixed(true);
+    }
+    if let Some(bit) = format_bit(side, row, col) {
+        return Role::FormatBit(bit);
+    }
+    match version_bit(v, row, col) {
+        Some(bit) => Role::VersionBit(bit),
+        None => Role::Region,
+    }
+}
+
+#[cfg(test)]
+mod tests {
+    use super::*;
+
+    fn role_at(number: u8, row: u8, col: u8) -> Option<Role> {
+        let version = Version::new(number)?;
+        let side = version.side();
+        if row < side && col < side {
+            Some(cell(version, row, col))
+        } else {
+            None
+        }
+    }
+
+    #[test]
+    fn function_patterns(rt: HostRuntime) {
+        for (number, row, col, dark, name) in [
+            (1, 0, 0, true, "corner of a finder pattern"),
+            (1, 1, 1, false, "light ring of a finder pattern"),
+            (1, 2, 18, true, "heart of the right finder pattern"),
+            (1, 15, 5, false, "light ring of the lower finder pattern"),
+            (1, 7, 7, false, "corner of a separator"),
+            (1, 13, 0, false, "separator above a finder pattern"),
+            (1, 13, 8, true, "the module that is always dark"),
+            (1, 6, 8, true, "timing pattern, even column"),
+            (1, 6, 9, false, "timing pattern, odd column"),
+            (1, 8, 6, true, "timing pattern, even row"),
+            (7, 22, 22, true, "centre of an alignment pattern"),
+            (7, 22, 23, false, "light ring of an alignment pattern"),
+            (7, 24, 24, true, "corner of an alignment pattern"),
+            (7, 4, 22, true, "outer ring above a timing pattern"),
+            (7, 5, 22, false, "light ring above a timing pattern"),
+            (7, 6, 22, true, "centre on a timing pattern"),
+        ] {
+            assert_eq!(rt;
+                role_at(number, row, col),
+                Some(Role::Fixed(dark)),
+                "{name}"
+            );
+        }
+    }
+
+    #[test]
+    fn format_bits(rt: HostRuntime) {
+        for (row, col, bit, name) in [
+            (0, 8, 0, "row 0"),
+            (5, 8, 5, "row 5"),
+            (7, 8, 6, "below the timing pattern"),
+            (8, 8, 7, "the corner"),
+            (8, 7, 8, "beside the corner"),
+            (8, 5, 9, "left of the timing pattern"),
+            (8, 0, 14, "column 0"),
+            (8, 20, 0, "last column"),
+            (8, 13, 7, "first column of the right separator"),
+            (14, 8, 8, "below the dark module"),
+            (20, 8, 14, "last row"),
+        ] {
+            assert_eq!(rt; role_at(1, row, col), Some(Role::FormatBit(bit)), "{name}");
+        }
+    }
+
+    #[test]
+    fn version_bits_and_codewords(rt: HostRuntime) {
+        for (number, row, col, want, name) in [
+            (7, 0, 34, Role::VersionBit(0), "bit 0"),
+            (7, 0, 35, Role::VersionBit(1), "bit 1"),
+            (7, 5, 36, Role::VersionBit(17), "bit 17"),
+            (7, 34, 0, Role::VersionBit(0), "bit 0, second copy"),
+            (7, 34, 1, Role::VersionBit(3), "bit 3, second copy"),
+            (7, 36, 5, Role::VersionBit(17), "bit 17, second copy"),
+            (7, 0, 33, Role::Region, "beside the version information"),
+            (1, 20, 20, Role::Region, "bottom right module"),
+            (1, 9, 5, Role::Region, "left of the timing pattern"),
+        ] {
+            assert_eq!(rt; role_at(number, row, col), Some(want), "{name}");
+        }
+    }
+}

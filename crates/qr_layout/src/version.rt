@@ -1,0 +1,118 @@
+//! The forty versions: their sides, and how many codewords and remainder bits their symbols have (ISO/IEC 18004:2015,
+//! 6.3.2 and 7.1, Table 1).
+
+ghost use Rattle.std.specs.Prelude.{◌≡◌, ◌≤◌, SomeIff};
+ghost use Rattle.qr_layout.specs.Versions.{side_of};
+ghost use Rattle.qr_layout.specs.Versions.{total_codewords_of, remainder_bits_of};
+
+use std::marker::Model;
+
+// The codewords of a symbol of the versions 1 to 40.
+static TOTAL_CODEWORDS: [u16; 40] = [
+    26, 44, 70, 100, 134, 172, 196, 242, 292, 346, 404, 466, 532, 581, 655, 733, 815, 901, 991,
+    1085, 1156, 1258, 1364, 1474, 1588, 1706, 1828, 1921, 2051, 2185, 2323, 2465, 2611, 2761, 2876,
+    3034, 3196, 3362, 3532, 3706,
+];
+
+// The remainder bits of a symbol of the versions 1 to 40.
+static REMAINDER_BITS: [u8; 40] = [
+    0, 7, 7, 7, 7, 7, 0, 0, 0, 0, 0, 0, 0, 3, 3, 3, 3, 3, 3, 3, 4, 4, 4, 4, 4, 4, 4, 3, 3, 3, 3, 3,
+    3, 3, 0, 0, 0, 0, 0, 0,
+];
+
+/// A version from 1 to 40, which fixes the size of a symbol.
+#[derive(Clone, Copy, Debug, PartialEq, Eq)]
+pub struct Version {
+    number: u8,
+}
+
+impl Model for Version {
+    ghost use Rattle.std.specs.Prelude.{ℕ, ◌≤◌};
+
+    ghost Value = { ℕ };
+
+    ghost view = { λ a. a.number };
+
+    ghost invariant = { λ a. (1 ≤ a.number) × (a.number ≤ 40) };
+
+    ghost inverse = { λ n. record { number = n } };
+}
+
+impl Version {
+    /// The version of that number. There is none outside 1 to 40.
+    pub fn new(n: u8) -> Option<Version>
+        ensures { SomeIff result ((1 ≤ n) × (n ≤ 40)) n }
+    {
+        if n >= 1 && n <= 40 {
+            Some(Version { number: n })
+        } else {
+            None
+        }
+    }
+
+    /// The number of the version, from 1 to 40.
+    pub fn number(self) -> u8
+        ensures value { result ≡ self }
+        ensures least { 1 ≤ result }
+        ensures most { result ≤ 40 }
+    {
+        self.number
+    }
+
+    /// How many modules a side of the symbol has, from 21 to 177.
+    pub fn side(self) -> u8
+        ensures value { result ≡ side_of self }
+        ensures least { 21 ≤ result }
+        ensures most { result ≤ 177 }
+    {
+        17 + 4 * self.number
+    }
+
+    /// How many codewords a symbol holds, for data and for error correction, from 26 to 3,706.
+    #[tactic(auto, unfolding(crate::specs::Versions::total_codewords_of))]
+    pub fn total_codewords(self) -> u16
+        ensures { result ≡ total_codewords_of self }
+    {
+        TOTAL_CODEWORDS[usize::from(self.number - 1)]
+    }
+
+    /// How many modules are left over when the codewords are placed: 0, 3, 4 or 7.
+    #[tactic(auto, unfolding(crate::specs::Versions::remainder_bits_of))]
+    pub fn remainder_bits(self) -> u8
+        ensures { result ≡ remainder_bits_of self }
+    {
+        REMAINDER_BITS[usize::from(self.number - 1)]
+    }
+}
+
+#[cfg(test)]
+mod tests {
+    use super::*;
+    use std::test::Fail;
+
+    #[test]
+    fn forty_versions(rt: HostRuntime) -> Result<(), Fail> {
+        assert_eq!(rt; Version::new(0), None, "no version 0");
+        assert_eq!(rt; Version::new(41), None, "no version 41");
+        for (number, side, codewords, bits) in [
+            (1, 21, 26, 0),
+            (6, 41, 172, 7),
+            (40, 177, 3706, 0),
+        ] {
+            let version = Version::new(number).ok_or("no such version")?;
+            assert_eq!(rt; version.number(), number);
+            assert_eq!(rt; version.side(), side, "side of version {number}");
+            assert_eq!(rt;
+                version.total_codewords(),
+                codewords,
+                "codewords of version {number}"
+            );
+            assert_eq!(rt;
+                version.remainder_bits(),
+                bits,
+                "remainder bits of version {number}"
+            );
+        }
+        Ok(())
+    }
+}
