@@ -1,0 +1,78 @@
+-- The best rest of a lettering is the best letter and the best rest after it.
+use Rattle.std.proofs.Common.{◌≡◌, ℕ, ◌+◌, ◌<◌, ◌≤◌, ◌⊎◌, Bool, true, false, ◌&&◌, List, [], ◌∷◌, IsTrue, refl, sym, subst, inl, inr, ⊎_elim, arith}
+use Rattle.qr_bits.specs.declared.segment.Mode.{Mode}
+use Rattle.qr_bits.specs.declared.segment.Mode.TheVariants.{Numeric, Alphanumeric, Byte}
+use Rattle.qr_bits.specs.declared.place.Place.{Place}
+use Rattle.qr_bits.specs.Letters.{rank, NotAfter}
+use Rattle.qr_bits.specs.Places.{place_after, step_bits, may_take, allowed, walk, IsBestRest, IsChoice}
+
+-- two letters of one rank are one
+pub same_rank : (m k : Mode) → rank m ≡ rank k → m ≡ k
+same_rank Numeric Numeric h = refl
+same_rank Alphanumeric Alphanumeric h = refl
+same_rank Byte Byte h = refl
+same_rank _ _ h = cc
+
+pub and_left : (a b : Bool) → IsTrue (a && b) → IsTrue a
+and_left true b h = refl
+and_left false b h = h
+
+pub and_right : (a b : Bool) → IsTrue (a && b) → IsTrue b
+and_right true b h = h
+and_right false b h = cc
+
+pub and_both : (a b : Bool) → IsTrue a → IsTrue b → IsTrue (a && b)
+and_both true b _ h = h
+and_both false b h _ = h
+
+lower_or_same : (m k : Mode) → rank m ≤ rank k → (rank m < rank k) ⊎ (m ≡ k)
+lower_or_same m k h =
+    let cases : (rank m < rank k) ⊎ (rank m ≡ rank k) = grind arith in
+    ⊎_elim (λ (l : rank m < rank k). inl l) (λ (e : rank m ≡ rank k). inr (same_rank m k e)) cases
+
+-- what the rests after each letter are, if there are any
+abbrev pub BestBelow : ℕ → Bool → List ℕ → (Place → List Mode) → (Place → ℕ) → Type 0
+BestBelow v bytes_only xs f cost = (q : Place) (ks : List Mode) → IsTrue (allowed bytes_only q xs ks) → IsBestRest v bytes_only q xs (f q) (cost q)
+
+-- By whatever letter a rest begins, it has no fewer bits.
+step_least : (v : ℕ) (bytes_only : Bool) (p : Place) (x : ℕ) (xs : List ℕ) (f : Place → List Mode) (cost : Place → ℕ) (m : Mode) (n : ℕ)
+    → BestBelow v bytes_only xs f cost → IsChoice v bytes_only p (x ∷ xs) cost m n
+    → (ks : List Mode) → IsTrue (allowed bytes_only p (x ∷ xs) ks) → n ≤ walk v p ks
+unfolding allowed walk
+step_least v bytes_only p x xs f cost m n below choice [] h = cc
+step_least v bytes_only p x xs f cost m n below choice (k ∷ ks) h =
+    let takes = and_left (may_take bytes_only p (x ∷ xs) k) (allowed bytes_only (place_after p k) xs ks) h in
+    let rest = and_right (may_take bytes_only p (x ∷ xs) k) (allowed bytes_only (place_after p k) xs ks) h in
+    let best = below (place_after p k) ks rest in
+    omega (arith, choice.least k takes, best.least ks rest)
+
+step_first : (v : ℕ) (bytes_only : Bool) (p : Place) (x : ℕ) (xs : List ℕ) (f : Place → List Mode) (cost : Place → ℕ) (m : Mode) (n : ℕ)
+    → BestBelow v bytes_only xs f cost → IsChoice v bytes_only p (x ∷ xs) cost m n
+    → (ks : List Mode) → IsTrue (allowed bytes_only p (x ∷ xs) ks) → walk v p ks ≡ n → NotAfter (m ∷ f (place_after p m)) ks
+unfolding allowed walk
+step_first v bytes_only p x xs f cost m n below choice [] h e = cc
+step_first v bytes_only p x xs f cost m n below choice (k ∷ ks) h e =
+    let takes = and_left (may_take bytes_only p (x ∷ xs) k) (allowed bytes_only (place_after p k) xs ks) h in
+    let rest = and_right (may_take bytes_only p (x ∷ xs) k) (allowed bytes_only (place_after p k) xs ks) h in
+    let best = below (place_after p k) ks rest in
+    let at_k : step_bits v p k + cost (place_after p k) ≡ n = omega (arith, choice.least k takes, best.least ks rest) in
+    let low : rank m ≤ rank k = choice.first k takes at_k in
+    let tail : NotAfter (f (place_after p k)) ks = best.first ks rest (omega arith) in
+    ⊎_elim (λ (l : rank m < rank k). inl l)
+    (λ (same : m ≡ k). inr (same, subst (λ (c : Mode). NotAfter (f (place_after p c)) ks) (sym same) tail))
+    (lower_or_same m k low)
+
+-- the best rest: the best letter, and the best rest after it
+pub best_step : (v : ℕ) (bytes_only : Bool) (p : Place) (x : ℕ) (xs : List ℕ) (f : Place → List Mode) (cost : Place → ℕ) (m : Mode) (n : ℕ)
+    → BestBelow v bytes_only xs f cost → IsChoice v bytes_only p (x ∷ xs) cost m n
+    → ((ks : List Mode) × IsTrue (allowed bytes_only (place_after p m) xs ks))
+    → IsBestRest v bytes_only p (x ∷ xs) (m ∷ f (place_after p m)) n
+unfolding allowed walk
+best_step v bytes_only p x xs f cost m n below choice some =
+    let best = below (place_after p m) some.0 some.1 in
+    record {
+      is_allowed = and_both _ _ choice.is_allowed best.is_allowed;
+      has_bits = omega (arith, choice.has_bits, best.has_bits);
+      least = step_least v bytes_only p x xs f cost m n below choice;
+      first = step_first v bytes_only p x xs f cost m n below choice;
+    }

@@ -1,0 +1,154 @@
+-- A parse, segment by segment.
+use Rattle.std.proofs.Common.{◌≡◌, ℕ, zero, suc, ◌+◌, ◌≤◌, Bool, true, false, cond, ◌==◌, nat_lt, nat_le, List, [], ◌∷◌, ◌++◌, length, take, drop, Result, Ok, Err, refl, sym, ◌∙◌, ap, ⊎_elim, arith}
+use Rattle.std.proofs.lemmas.Bool.{lt-ltb, le-ltb, ltb-false, or_parts, or_left, and_parts, cases_Bool}
+use Rattle.std.proofs.lemmas.List.{append-nil, append_assoc, length-drop}
+use Rattle.qr_bits.specs.declared.segment.Mode.{Mode}
+use Rattle.qr_bits.specs.declared.segment.Segment.{Segment}
+use Rattle.qr_bits.specs.declared.fault.ParseFault.{ParseFault}
+use Rattle.qr_bits.specs.declared.fault.ParseFault.TheVariants.{Memory, BadMode, Cut, BadValue}
+use Rattle.qr_bits.specs.Bits.{value}
+use Rattle.qr_bits.specs.Letters.{payload_bits, count_width}
+use Rattle.qr_bits.specs.Parse.{◌>>=◌, Fails, values_of, mode_of, ends, number_at, payload_at, segment_at, segments_at, segments_of, begins_header, header_at}
+use borrow.Author.Tests.{leb-true}
+
+pub bind_ok : {A B : Type 0} (r : Result A ParseFault) (f : A → Result B ParseFault) (y : B) → (r >>= f) ≡ Ok y → (x : A) × (r ≡ Ok x) × (f x ≡ Ok y)
+bind_ok (Ok x) f y h = (x, refl, h)
+bind_ok (Err e) f y h = cc
+
+pub guard_ok : {A : Type 0} (b : Bool) (e : ParseFault) (r : Result A ParseFault) (y : A) → cond b (Err e) r ≡ Ok y → (b ≡ false) × (r ≡ Ok y)
+guard_ok true e r y h = cc
+guard_ok false e r y h = (refl, h)
+
+number_shorter : (w : ℕ) (bits : List Bool) (n : ℕ × List Bool) → number_at w bits ≡ Ok n → length n.1 ≤ length bits
+unfolding number_at
+number_shorter w bits n h =
+    let g = guard_ok (nat_lt (length bits) w) Cut (Ok (value (take w bits), drop w bits)) n h in
+    let e : drop w bits ≡ n.1 = cc in
+    omega (arith, length-drop w bits, ap length e)
+
+payload_shorter : (m : Mode) (n : ℕ) (bits : List Bool) (p : List ℕ × List Bool) → payload_at m n bits ≡ Ok p → length p.1 ≤ length bits
+unfolding payload_at
+payload_shorter m n bits p h =
+    let g = guard_ok (nat_lt (length bits) (payload_bits m n)) Cut (values_of m n bits >>= λ xs. Ok (xs, drop (payload_bits m n) bits)) p h in
+    let b = bind_ok (values_of m n bits) (λ xs. Ok (xs, drop (payload_bits m n) bits)) p g.1 in
+    let e : drop (payload_bits m n) bits ≡ p.1 = cc in
+    omega (arith, length-drop (payload_bits m n) bits, ap length e)
+
+-- what holds after each step that succeeds holds of the whole
+pub bind_all : {A B : Type 0} (r : Result A ParseFault) (f : A → Result B ParseFault) (P : B → Type 0)
+    → ((x : A) → r ≡ Ok x → (y : B) → f x ≡ Ok y → P y) → (y : B) → (r >>= f) ≡ Ok y → P y
+bind_all (Ok x) f P k y h = k x refl y h
+bind_all (Err e) f P k y h = cc
+
+abbrev pub ok : {A : Type 0} → A → Result A ParseFault
+ok a = Ok a
+
+pub same_ok : {A : Type 0} (a b : A) → ok a ≡ ok b → a ≡ b
+same_ok a b h = cc
+
+-- a segment takes at least its indicator
+pub segment_shorter : (v : ℕ) (bits : List Bool) (s : Segment × List ℕ × List Bool) → 4 ≤ length bits → segment_at v bits ≡ Ok s → length s.2 + 4 ≤ length bits
+unfolding segment_at
+segment_shorter v bits s four h =
+    let P : Segment × List ℕ × List Bool → Type 0 = λ t. length t.2 + 4 ≤ length bits in
+    bind_all (mode_of (value (take 4 bits))) _ P (λ m em t ht.
+    bind_all (number_at (count_width v m) (drop 4 bits)) _ P (λ n en t ht.
+    bind_all (payload_at m n.0 n.1) _ P (λ p ep t ht.
+    let e : p.1 ≡ t.2 = ap (λ (u : Segment × List ℕ × List Bool). u.2) (same_ok (record { mode = m; len = n.0 }, p.0, p.1) t ht) in
+    omega (arith, number_shorter (count_width v m) (drop 4 bits) n en, payload_shorter m n.0 n.1 p ep, length-drop 4 bits, ap length e)) t ht) t ht) s h
+
+pub not_ended : (bits : List Bool) → ends bits ≡ false → 4 ≤ length bits
+unfolding ends
+not_ended bits h = ltb-false (length bits) 4 (or_parts (nat_lt (length bits) 4) (value (take 4 bits) == 0) h).0
+
+pub ended_empty : (bits : List Bool) → length bits ≤ 0 → ends bits ≡ true
+unfolding ends
+ended_empty bits h = or_left (nat_lt (length bits) 4) _ (lt-ltb (length bits) 4 (omega arith))
+
+-- a segment, and then the rest
+abbrev pub step : Result (Segment × List ℕ × List Bool) ParseFault → (List Bool → Result (List Segment × List ℕ) ParseFault) → Result (List Segment × List ℕ) ParseFault
+step read next = read >>= λ s. next s.2 >>= λ r. Ok (s.0 ∷ r.0, s.1 ++ r.1)
+
+same_rest : (read : Result (Segment × List ℕ × List Bool) ParseFault) (n m v : ℕ)
+    → ((s : Segment × List ℕ × List Bool) → read ≡ Ok s → segments_at n v s.2 ≡ segments_at m v s.2)
+    → step read (segments_at n v) ≡ step read (segments_at m v)
+same_rest (Ok s) n m v h = ap (λ (q : Result (List Segment × List ℕ) ParseFault). q >>= λ r. Ok (s.0 ∷ r.0, s.1 ++ r.1)) (h s refl)
+same_rest (Err e) n m v h = refl
+
+each_rest : (read : Result (Segment × List ℕ × List Bool) ParseFault) (n v : ℕ)
+    → ((s : Segment × List ℕ × List Bool) → read ≡ Ok s → segments_at n v s.2 ≡ segments_at (length s.2) v s.2)
+    → step read (segments_at n v) ≡ step read (λ b. segments_at (length b) v b)
+each_rest (Ok s) n v h = ap (λ (q : Result (List Segment × List ℕ) ParseFault). q >>= λ r. Ok (s.0 ∷ r.0, s.1 ++ r.1)) (h s refl)
+each_rest (Err e) n v h = refl
+
+-- more segments than there can be make no difference
+enough : (n m v : ℕ) (bits : List Bool) → length bits ≤ n → length bits ≤ m → segments_at n v bits ≡ segments_at m v bits
+unfolding segments_at
+enough zero zero v bits h k = refl
+enough zero (suc m) v bits h k = rw (ended_empty bits h) refl
+enough (suc n) zero v bits h k = rw (ended_empty bits k) refl
+enough (suc n) (suc m) v bits h k =
+    ⊎_elim
+    (λ (e : ends bits ≡ true). rw e refl)
+    (λ (e : ends bits ≡ false). rw e (same_rest (segment_at v bits) n m v
+    (λ s q. enough n m v s.2 (omega (arith, segment_shorter v bits s (not_ended bits e) q)) (omega (arith, segment_shorter v bits s (not_ended bits e) q)))))
+    (cases_Bool (ends bits))
+
+pub segments_end : (v : ℕ) (bits : List Bool) → ends bits ≡ true → segments_of v bits ≡ Ok ([], [])
+unfolding segments_of segments_at
+segments_end v bits h = enough (length bits) (suc (length bits)) v bits (omega arith) (omega arith) ∙ rw h refl
+
+pub segments_step : (v : ℕ) (bits : List Bool) → ends bits ≡ false
+    → segments_of v bits ≡ step (segment_at v bits) (segments_of v)
+unfolding segments_of segments_at
+segments_step v bits h =
+    enough (length bits) (suc (length bits)) v bits (omega arith) (omega arith)
+    ∙ rw h (each_rest (segment_at v bits) (length bits) v
+    (λ s q. enough (length bits) (length s.2) v s.2 (omega (arith, segment_shorter v bits s (not_ended bits h) q)) (omega arith)))
+
+-- what is read, behind what was read before
+abbrev pub behind : List Segment → List ℕ → Result (List Segment × List ℕ) ParseFault → Result (List Segment × List ℕ) ParseFault
+behind segs xs read = read >>= λ r. Ok (segs ++ r.0, xs ++ r.1)
+
+pub behind_none : (read : Result (List Segment × List ℕ) ParseFault) → behind [] [] read ≡ read
+behind_none (Ok r) = refl
+behind_none (Err e) = refl
+
+behind_one : (segs : List Segment) (xs ys : List ℕ) (s : Segment) (read : Result (List Segment × List ℕ) ParseFault)
+    → behind segs xs (read >>= λ r. Ok (s ∷ r.0, ys ++ r.1)) ≡ behind (segs ++ s ∷ []) (xs ++ ys) read
+behind_one segs xs ys s (Ok r) = rw (append_assoc segs (s ∷ []) r.0, append_assoc xs ys r.1) refl
+behind_one segs xs ys s (Err e) = refl
+
+-- one more segment
+pub behind_more : (v : ℕ) (bits rest : List Bool) (segs : List Segment) (xs ys : List ℕ) (s : Segment) → ends bits ≡ false → segment_at v bits ≡ Ok (s, ys, rest)
+    → behind segs xs (segments_of v bits) ≡ behind (segs ++ s ∷ []) (xs ++ ys) (segments_of v rest)
+behind_more v bits rest segs xs ys s e h = rw (segments_step v bits e, h) (behind_one segs xs ys s (segments_of v rest))
+
+pub behind_fault : (v : ℕ) (bits : List Bool) (segs : List Segment) (xs : List ℕ) (f : ParseFault) → ends bits ≡ false → segment_at v bits ≡ Err f
+    → behind segs xs (segments_of v bits) ≡ Err f
+behind_fault v bits segs xs f e h = rw (segments_step v bits e, h) refl
+
+-- a fault of the next segment is that of the whole
+pub fault_all : (v : ℕ) (bits start : List Bool) (segs : List Segment) (xs : List ℕ) (f : ParseFault) → ends bits ≡ false → Fails f (segment_at v bits)
+    → behind segs xs (segments_of v bits) ≡ segments_of v start → Fails f (segments_of v start)
+fault_all v bits start segs xs Memory e h i = tt
+fault_all v bits start segs xs BadMode e h i = sym i ∙ behind_fault v bits segs xs BadMode e h
+fault_all v bits start segs xs Cut e h i = sym i ∙ behind_fault v bits segs xs Cut e h
+fault_all v bits start segs xs BadValue e h i = sym i ∙ behind_fault v bits segs xs BadValue e h
+
+pub end_all : (v : ℕ) (bits start : List Bool) (segs : List Segment) (xs : List ℕ) → ends bits ≡ true
+    → behind segs xs (segments_of v bits) ≡ segments_of v start → segments_of v start ≡ Ok (segs, xs)
+end_all v bits start segs xs e i =
+    let j : behind segs xs (Ok ([], [])) ≡ segments_of v start = rw (segments_end v bits e) at i in
+    sym j ∙ rw (append-nil segs, append-nil xs) refl
+
+-- a header that is there
+pub header_whole : (bits : List Bool) → 16 ≤ length bits
+    → header_at bits ≡ Ok (record { position = value (take 4 bits); last = value (take 4 (drop 4 bits)); parity = value (take 8 (drop 8 bits)) }, drop 16 bits)
+unfolding header_at
+header_whole bits h = rw (le-ltb (length bits) 16 h) refl
+
+-- a header's indicator is there
+pub begun : (bits : List Bool) → begins_header bits ≡ true → 4 ≤ length bits
+unfolding begins_header
+begun bits h = leb-true 4 (length bits) (and_parts (nat_le 4 (length bits)) (value (take 4 bits) == 3) h).0

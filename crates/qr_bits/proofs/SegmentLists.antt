@@ -1,0 +1,101 @@
+-- Lists of segments: their bits, their lengths, and what they cover.
+use Rattle.std.proofs.Common.{◌≡◌, ℕ, zero, suc, ◌+◌, ◌-◌, ◌*◌, ◌/◌, ◌%◌, ◌<◌, ◌≤◌, ◌↔◌, Bool, true, false, cond, ◌==◌, List, [], ◌∷◌, length, get_or, take, drop, refl, sym, ◌∙◌, ap, arith, lit≤, IsTrue, All}
+use Rattle.std.specs.List.{sum_by}
+use Rattle.std.proofs.lemmas.Bool.{cond_both, eqb-true}
+use Rattle.std.proofs.lemmas.List.{length-drop, drop_all}
+use Rattle.std.proofs.lemmas.List.Sums.{sum_by-cons}
+use Rattle.std.proofs.lemmas.List.Elements.{All-cons, All-nil, All-head, All-tail}
+use Rattle.std.proofs.Math.Seq.{drop-cons}
+use Rattle.qr_bits.specs.declared.segment.Mode.{Mode}
+use Rattle.qr_bits.specs.declared.segment.Mode.TheVariants.{Numeric, Alphanumeric, Byte}
+use Rattle.qr_bits.specs.declared.segment.Segment.{Segment}
+use Rattle.qr_bits.specs.Letters.{count_width, payload_bits, segment_bits, bits, suits, Covers, runs_of, IsLeastSegmentation, HasFit}
+use Rattle.qr_bits.specs.Stream.{Suits}
+
+below16 : (b : Bool) (x y : ℕ) → x ≤ 16 → y ≤ 16 → cond b x y ≤ 16
+below16 true x y h k = h
+below16 false x y h k = k
+
+-- a count field has at most 16 bits
+pub count_width_bound : (v : ℕ) (m : Mode) → count_width v m ≤ 16
+count_width_bound v Numeric = below16 _ 10 _ (lit≤ tt) (below16 _ 12 14 (lit≤ tt) (lit≤ tt))
+count_width_bound v Alphanumeric = below16 _ 9 _ (lit≤ tt) (below16 _ 11 13 (lit≤ tt) (lit≤ tt))
+count_width_bound v Byte = below16 _ 8 16 (lit≤ tt) (lit≤ tt)
+
+-- left-over digits need at most 7 bits
+left_over : (n : ℕ) → cond (n % 3 == 0) 0 (cond (n % 3 == 1) 4 7) ≤ 7
+left_over n = grind arith
+
+digits_least : (n : ℕ) → 10 * n ≤ 3 * payload_bits Numeric n
+digits_least n =
+    cond_both (n % 3 == 0) _ _ (λ (r : ℕ). 10 * n ≤ 3 * (10 * (n / 3) + r))
+    (λ e. let z = eqb-true (n % 3) 0 e in omega arith)
+    (λ e. cond_both (n % 3 == 1) _ _ (λ (r : ℕ). 10 * n ≤ 3 * (10 * (n / 3) + r)) (λ f. let o = eqb-true (n % 3) 1 f in omega arith) (λ f. omega arith))
+
+payload_most : (m : Mode) (n : ℕ) → payload_bits m n ≤ 8 * n + 7
+payload_most Numeric n = omega (arith, left_over n)
+payload_most Alphanumeric n = omega arith
+payload_most Byte n = omega arith
+
+segment_most : (v : ℕ) (s : Segment) → 0 < s.len → segment_bits v s ≤ 35 * s.len
+segment_most v s h = omega (arith, payload_most s.mode s.len, count_width_bound v s.mode)
+
+-- the bits from the segment i on
+pub bits-drop : (v : ℕ) (segs : List Segment) (i : ℕ) (d : Segment) → i < length segs → bits v (drop i segs) ≡ segment_bits v (get_or segs i d) + bits v (drop (i + 1) segs)
+bits-drop v segs i d h = let one : i + 1 ≡ suc i = omega arith in rw (one, drop-cons segs i d) refl
+
+-- segments that are not empty have no more than 35 bits for each byte
+pub bits_most : (v : ℕ) (segs : List Segment) → All (λ s. 0 < s.len) segs → bits v segs ≤ 35 * sum_by (λ s. s.len) segs
+bits_most v [] h = omega arith
+bits_most v (s ∷ ss) h =
+    omega (arith, segment_most v s (All-head (λ (t : Segment). 0 < t.len) s ss h), bits_most v ss (All-tail (λ (t : Segment). 0 < t.len) s ss h), sum_by-cons (λ (t : Segment). t.len) s ss)
+
+-- what covers has no empty segment, and the bytes' length
+pub covers_all : (xs : List ℕ) (segs : List Segment) → Covers xs segs → All (λ s. 0 < s.len) segs × (sum_by (λ s. s.len) segs ≡ length xs)
+unfolding Covers
+covers_all xs [] h = (All-nil (λ (t : Segment). 0 < t.len), ap length (sym h))
+covers_all xs (s ∷ ss) h =
+    let rest = covers_all (drop s.len xs) ss h.3 in
+    (All-cons (λ (t : Segment). 0 < t.len) s ss h.0 rest.0, omega (arith, sum_by-cons (λ (t : Segment). t.len) s ss, rest.1, length-drop s.len xs, h.1))
+
+-- the segments from one on cover: the one takes its part, and the others cover what is left
+pub covers_next : (xs : List ℕ) (segs : List Segment) (i : ℕ) (d : Segment) → i < length segs → Covers xs (drop i segs)
+    → (0 < (get_or segs i d).len) × ((get_or segs i d).len ≤ length xs) × IsTrue (suits (get_or segs i d).mode (take (get_or segs i d).len xs)) × Covers (drop (get_or segs i d).len xs) (drop (i + 1) segs)
+unfolding Covers
+covers_next xs segs i d h c = let one : i + 1 ≡ suc i = omega arith in rw one (rw (drop-cons segs i d) at c)
+
+pub next_covers : (xs : List ℕ) (segs : List Segment) (i : ℕ) (d : Segment) → i < length segs
+    → 0 < (get_or segs i d).len → (get_or segs i d).len ≤ length xs → IsTrue (suits (get_or segs i d).mode (take (get_or segs i d).len xs)) → Covers (drop (get_or segs i d).len xs) (drop (i + 1) segs)
+    → Covers xs (drop i segs)
+unfolding Covers
+next_covers xs segs i d h a b c e = let one : i + 1 ≡ suc i = omega arith in rw (drop-cons segs i d) (a, b, c, rw one at e)
+
+-- no segment is left
+pub covers_end : (xs : List ℕ) (segs : List Segment) (i : ℕ) → length segs ≤ i → (Covers xs (drop i segs) → xs ≡ []) × (xs ≡ [] → Covers xs (drop i segs))
+unfolding Covers
+covers_end xs segs i h = let none = drop_all i segs h in rw none ((λ c. c), (λ c. c))
+
+-- each byte has at least ten bits in three
+payload_least : (m : Mode) (n : ℕ) → 10 * n ≤ 3 * payload_bits m n
+payload_least Numeric n = digits_least n
+payload_least Alphanumeric n = omega arith
+payload_least Byte n = omega arith
+
+pub segment_least : (v : ℕ) (s : Segment) → 10 * s.len + 3 * (4 + count_width v s.mode) ≤ 3 * segment_bits v s
+segment_least v s = omega (arith, payload_least s.mode s.len)
+
+pub bits_least : (v : ℕ) (xs : List ℕ) (segs : List Segment) → Suits xs segs → 10 * length xs ≤ 3 * bits v segs
+unfolding Suits
+bits_least v xs [] h = omega (arith, ap length h)
+bits_least v xs (s ∷ ss) h = omega (arith, segment_least v s, bits_least v (drop s.len xs) ss h.2, length-drop s.len xs, h.0)
+
+-- The least segmentation covers the bytes, and fits where some lettering does.
+pub least_fits : (v : ℕ) (bytes_only : Bool) (xs : List ℕ) (segs : List Segment) → IsLeastSegmentation v bytes_only xs segs
+    → Covers xs segs × ((n : ℕ) → HasFit v bytes_only xs n ↔ (bits v segs ≤ n))
+least_fits v bytes_only xs segs h =
+    let ms = h.0 in
+    let is = h.1 in
+    let same : bits v segs ≡ bits v (runs_of ms) = ap (bits v) h.2 in (
+      rw h.2 is.lettering.1,
+      λ n. (λ fit. omega (arith, same, is.least fit.0 fit.1, fit.2), λ small. (ms, is.lettering, omega (arith, same))),
+    )

@@ -1,0 +1,145 @@
+-- Writing the data of a segment, group by group, and the length of what is written.
+use Rattle.std.proofs.Common.{◌≡◌, ℕ, zero, suc, ◌+◌, ◌-◌, ◌*◌, ◌/◌, ◌%◌, ◌<◌, ◌≤◌, ◌==◌, Bool, true, false, cond, List, [], ◌∷◌, ◌++◌, length, get_or, take, drop, refl, sym, ◌∙◌, ap, arith, IsTrue, length-append, append-nil, append_assoc}
+use Rattle.std.specs.List.{list_all}
+use Rattle.std.proofs.lemmas.Bool.{and_parts, le-leb}
+use Rattle.std.proofs.lemmas.List.{length-take-le, drop_all}
+use Rattle.std.proofs.Math.Seq.{drop-cons}
+use Rattle.qr_bits.specs.declared.segment.Mode.{Mode}
+use Rattle.qr_bits.specs.declared.segment.Mode.TheVariants.{Numeric, Alphanumeric, Byte}
+use Rattle.qr_bits.specs.declared.segment.Segment.{Segment}
+use Rattle.qr_bits.specs.Bits.{field, bits_of}
+use Rattle.qr_bits.specs.Letters.{count_width, payload_bits, segment_bits, bits, suits, Covers}
+use Rattle.qr_bits.specs.Stream.{digit_bits, character_value, character_bits, payload, segment_stream, segments_stream, Suits}
+use Rattle.qr_bits.proofs.BitLists.{length-field, length-bits_of}
+
+-- each of the first bytes passes where all do, and so does the rest
+pub all_rest : (p : ℕ → Bool) (xs : List ℕ) (n : ℕ) → list_all p xs ≡ true → list_all p (drop n xs) ≡ true
+all_rest p xs zero h = h
+all_rest p [] (suc n) h = h
+all_rest p (x ∷ xs) (suc n) h = all_rest p xs n (and_parts (p x) _ h).1
+
+pub all_at : (p : ℕ → Bool) (xs : List ℕ) (i : ℕ) → list_all p xs ≡ true → i < length xs → p (get_or xs i 0) ≡ true
+all_at p [] i h l = absurd (omega arith)
+all_at p (x ∷ xs) zero h l = (and_parts (p x) _ h).0
+all_at p (x ∷ xs) (suc i) h l = all_at p xs i (and_parts (p x) _ h).1 (omega arith)
+
+-- ---- digits
+
+pub digits_three : (xs : List ℕ) → 3 ≤ length xs
+    → digit_bits xs ≡ field 10 (100 * (get_or xs 0 0 - 48) + 10 * (get_or xs 1 0 - 48) + (get_or xs 2 0 - 48)) ++ digit_bits (drop 3 xs)
+unfolding digit_bits
+digits_three [] h = absurd (omega arith)
+digits_three (a ∷ []) h = absurd (omega arith)
+digits_three (a ∷ b ∷ []) h = absurd (omega arith)
+digits_three (a ∷ b ∷ c ∷ xs) h = refl
+
+pub digits_two_left : (xs : List ℕ) → length xs ≡ 2 → digit_bits xs ≡ field 7 (10 * (get_or xs 0 0 - 48) + (get_or xs 1 0 - 48))
+unfolding digit_bits
+digits_two_left [] h = absurd (omega arith)
+digits_two_left (a ∷ []) h = absurd (omega arith)
+digits_two_left (a ∷ b ∷ []) h = refl
+digits_two_left (a ∷ b ∷ c ∷ xs) h = absurd (omega arith)
+
+pub digits_one_left : (xs : List ℕ) → length xs ≡ 1 → digit_bits xs ≡ field 4 (get_or xs 0 0 - 48)
+unfolding digit_bits
+digits_one_left [] h = absurd (omega arith)
+digits_one_left (a ∷ []) h = refl
+digits_one_left (a ∷ b ∷ xs) h = absurd (omega arith)
+
+pub digits_none_left : (xs : List ℕ) → length xs ≡ 0 → digit_bits xs ≡ []
+unfolding digit_bits
+digits_none_left [] h = refl
+digits_none_left (a ∷ xs) h = absurd (omega arith)
+
+-- ---- characters
+
+pub characters_two : (xs : List ℕ) → 2 ≤ length xs
+    → character_bits xs ≡ field 11 (45 * character_value (get_or xs 0 0) + character_value (get_or xs 1 0)) ++ character_bits (drop 2 xs)
+unfolding character_bits
+characters_two [] h = absurd (omega arith)
+characters_two (a ∷ []) h = absurd (omega arith)
+characters_two (a ∷ b ∷ xs) h = refl
+
+pub characters_one_left : (xs : List ℕ) → length xs ≡ 1 → character_bits xs ≡ field 6 (character_value (get_or xs 0 0))
+unfolding character_bits
+characters_one_left [] h = absurd (omega arith)
+characters_one_left (a ∷ []) h = refl
+characters_one_left (a ∷ b ∷ xs) h = absurd (omega arith)
+
+pub characters_none_left : (xs : List ℕ) → length xs ≡ 0 → character_bits xs ≡ []
+unfolding character_bits
+characters_none_left [] h = refl
+characters_none_left (a ∷ xs) h = absurd (omega arith)
+
+-- ---- lengths
+
+pub three_more : (n : ℕ) → payload_bits Numeric (3 + n) ≡ 10 + payload_bits Numeric n
+three_more n =
+    let q : (3 + n) / 3 ≡ 1 + n / 3 = omega arith in
+    let r : (3 + n) % 3 ≡ n % 3 = omega arith in
+    rw (q, r) (omega arith)
+
+pub two_more : (n : ℕ) → payload_bits Alphanumeric (2 + n) ≡ 11 + payload_bits Alphanumeric n
+two_more n = omega arith
+
+length-digit_bits : (xs : List ℕ) → length (digit_bits xs) ≡ payload_bits Numeric (length xs)
+unfolding digit_bits
+length-digit_bits [] = refl
+length-digit_bits (a ∷ []) = length-field 4 (a - 48)
+length-digit_bits (a ∷ b ∷ []) = length-field 7 (10 * (a - 48) + (b - 48))
+length-digit_bits (a ∷ b ∷ c ∷ xs) =
+    let g = 100 * (a - 48) + 10 * (b - 48) + (c - 48) in
+    let e : suc (suc (suc (length xs))) ≡ 3 + length xs = omega arith in
+    omega (arith, length-append (field 10 g) (digit_bits xs), length-field 10 g, length-digit_bits xs, three_more (length xs), ap (payload_bits Numeric) e)
+
+length-character_bits : (xs : List ℕ) → length (character_bits xs) ≡ payload_bits Alphanumeric (length xs)
+unfolding character_bits
+length-character_bits [] = refl
+length-character_bits (a ∷ []) = length-field 6 (character_value a)
+length-character_bits (a ∷ b ∷ xs) =
+    let g = 45 * character_value a + character_value b in
+    let e : suc (suc (length xs)) ≡ 2 + length xs = omega arith in
+    omega (arith, length-append (field 11 g) (character_bits xs), length-field 11 g, length-character_bits xs, two_more (length xs), ap (payload_bits Alphanumeric) e)
+
+pub length-payload : (m : Mode) (xs : List ℕ) → length (payload m xs) ≡ payload_bits m (length xs)
+unfolding payload
+length-payload Numeric xs = length-digit_bits xs
+length-payload Alphanumeric xs = length-character_bits xs
+length-payload Byte xs = length-bits_of xs
+
+-- the stream of a segment has its bits
+pub length-segment_stream : (v n : ℕ) (m : Mode) (xs : List ℕ) → length xs ≡ n → length (segment_stream v m xs) ≡ segment_bits v (record { mode = m; len = n })
+unfolding segment_stream
+length-segment_stream v n m xs e =
+    let count = field (count_width v m) (length xs) in
+    let id = Rattle.qr_bits.specs.Stream.indicator m in
+    omega (arith, length-append (field 4 id) (count ++ payload m xs), length-append count (payload m xs), length-field 4 id, length-field (count_width v m) (length xs), length-payload m xs, ap (payload_bits m) e)
+
+-- the stream of segments has their bits
+pub length-segments_stream : (v : ℕ) (xs : List ℕ) (segs : List Segment) → Suits xs segs → length (segments_stream v xs segs) ≡ bits v segs
+unfolding segments_stream Suits
+length-segments_stream v xs [] h = refl
+length-segments_stream v xs (s ∷ ss) h =
+    let one = length-segment_stream v s.len s.mode (take s.len xs) (length-take-le s.len xs h.0) in
+    omega (arith, length-append (segment_stream v s.mode (take s.len xs)) (segments_stream v (drop s.len xs) ss), one, length-segments_stream v (drop s.len xs) ss h.2)
+
+-- what covers suits
+pub covers_suits : (xs : List ℕ) (segs : List Segment) → Covers xs segs → Suits xs segs
+unfolding Covers Suits
+covers_suits xs [] h = h
+covers_suits xs (s ∷ ss) h = (h.1, h.2, covers_suits (drop s.len xs) ss h.3)
+
+-- ---- segments, one after the other
+
+pub stream_next : (v : ℕ) (xs : List ℕ) (segs : List Segment) (i : ℕ) (d : Segment) → i < length segs
+    → segments_stream v xs (drop i segs) ≡ segment_stream v (get_or segs i d).mode (take (get_or segs i d).len xs) ++ segments_stream v (drop (get_or segs i d).len xs) (drop (i + 1) segs)
+unfolding segments_stream
+stream_next v xs segs i d h = let one : i + 1 ≡ suc i = omega arith in rw (one, drop-cons segs i d) refl
+
+pub stream_end : (v : ℕ) (xs : List ℕ) (segs : List Segment) (i : ℕ) → length segs ≤ i → segments_stream v xs (drop i segs) ≡ []
+unfolding segments_stream
+stream_end v xs segs i h = rw (drop_all i segs h) refl
+
+-- one more part behind what is written, and then the rest
+pub append_next : (front part rest whole next : List Bool) → whole ≡ front ++ (part ++ rest) → next ≡ front ++ part → next ++ rest ≡ whole
+append_next front part rest whole next e f = rw f (append_assoc front part rest ∙ sym e)

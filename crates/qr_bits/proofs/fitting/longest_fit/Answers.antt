@@ -1,0 +1,67 @@
+use Rattle.std.proofs.Common.{◌≡◌, ◌+◌, ◌-◌, ◌≤◌, ◌<◌, ℕ, List, [], ◌∷◌, ◌++◌, reverse, take, drop, length, get_or, arith, ◌∙◌, sym, ap, subst, ⊎_elim}
+use Rattle.std.proofs.lemmas.Bool.{cases_lt}
+use Rattle.qr_bits.specs.declared.place.Place.{Place}
+use Rattle.qr_bits.specs.declared.place.Place.TheVariants.{Start}
+use Rattle.qr_bits.specs.Letters.{HasFit}
+use Rattle.qr_bits.specs.ByPlaces.{at_place, follow}
+use Rattle.qr_bits.proofs.Tables.{best_none, small_more, zeros}
+use Rattle.qr_bits.proofs.Mirror.{empty_fits, front_more, front_fits, front_least}
+use Rattle.qr_bits.proofs.fitting.longest_fit.Goals as goal
+use Rattle.qr_bits.proofs.fitting.longest_fit.Goals.{then-from-room, else-from-room}
+
+pub loop-i-init : goal.loop-i-init
+loop-i-init c = record {
+  inside = omega arith;
+  fits = empty_fits c.args.version c.args.bytes_only _;
+  longest = λ k h fit. h;
+  small = λ p. omega (arith, zeros p);
+  best = ([], best_none c.args.version c.args.bytes_only _ zeros);
+}
+
+pub row-requires-clause-small : goal.row-requires-clause-small
+row-requires-clause-small c = λ p. omega (arith, c.loop-i.invariant.small p)
+
+pub loop-i-preserved : goal.loop-i-preserved
+unfolding at_place
+loop-i-preserved c =
+    let v = c.args.version in
+    let only = c.args.bytes_only in
+    let xs = c.args.input.now in
+    let i = c.loop-i.i in
+    let inv = c.loop-i.invariant in
+    let below = front_more v only xs i inv.best.0 c.row.result.0 c.loop-i.rest c.row.result.1 (omega arith) inv.best.1 c.row.ensures in
+    let room = c.capacity-room.result - 20 in
+    elim c.if-from-room.branch [
+      | then-from-room w ↦
+          let fit : HasFit v only (take (i + 1) xs) room = front_fits v only (take (i + 1) xs) _ (at_place c.row.result.1) room below (omega (arith, w.if-from-room.true, c.from.ensures)) in
+          rw w.longest-is (record {
+            inside = omega arith;
+            fits = fit;
+            longest = λ k h _. h;
+            small = small_more v only _ c.row.result.0 c.loop-i.rest c.row.result.1 i inv.small c.row.ensures;
+            best = (c.row.result.0 ∷ inv.best.0, below);
+          })
+      | else-from-room w ↦
+          rw w.longest-is (record {
+            inside = omega (arith, inv.inside);
+            fits = inv.fits;
+            longest = λ k h fit. ⊎_elim
+                (λ (l : i < k).
+                let e : k ≡ i + 1 = omega arith in
+                let q : HasFit v only (take (i + 1) xs) room = subst (λ (n : ℕ). HasFit v only (take n xs) room) e fit in
+                absurd (omega (arith, front_least v only (take (i + 1) xs) _ (at_place c.row.result.1) room below q, w.if-from-room.false, c.from.ensures)))
+                (λ (l : k ≤ i). inv.longest k l fit)
+                (cases_lt i k);
+            small = small_more v only _ c.row.result.0 c.loop-i.rest c.row.result.1 i inv.small c.row.ensures;
+            best = (c.row.result.0 ∷ inv.best.0, below);
+          })
+    ]
+
+pub returns : goal.returns
+returns c =
+    let all : c.loop-i.i ≡ length c.args.input.now = omega arith in
+    rw (← c.capacity-room.ensures.value) (record {
+      inside = omega (arith, c.loop-i.invariant.inside);
+      fits = c.loop-i.invariant.fits;
+      longest = λ k h fit. c.loop-i.invariant.longest k (omega arith) fit;
+    })

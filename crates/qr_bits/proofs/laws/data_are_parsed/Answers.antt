@@ -1,0 +1,5 @@
+use Rattle.qr_bits.proofs.DataLaws.{data_again}
+use Rattle.qr_bits.proofs.laws.data_are_parsed.Goals as goal
+
+pub returns : goal.returns
+returns c = data_again

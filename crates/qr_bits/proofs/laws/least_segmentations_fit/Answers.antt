@@ -1,0 +1,6 @@
+use Rattle.std.proofs.Common.{◌∙◌, sym, ap, arith, subst}
+use Rattle.qr_bits.proofs.SegmentLists.{least_fits}
+use Rattle.qr_bits.proofs.laws.least_segmentations_fit.Goals as goal
+
+pub returns : goal.returns
+returns c = least_fits

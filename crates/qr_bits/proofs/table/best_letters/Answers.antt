@@ -1,0 +1,37 @@
+use Rattle.std.proofs.Common.{◌≡◌, ◌-◌, suc, [], ◌∷◌, length, reverse, get_or, take, drop, refl, ◌∙◌, ap, arith}
+use Rattle.std.proofs.Math.Seq.{drop-length, drop-cons}
+use Rattle.std.proofs.lemmas.List.{reverse-append, take_all, length-drop}
+use Rattle.qr_bits.specs.ByPlaces.{at_place}
+use Rattle.qr_bits.proofs.Tables.{best_none, best_more, small_more, zeros}
+use Rattle.qr_bits.proofs.table.best_letters.Goals as goal
+
+pub loop-i-init : goal.loop-i-init
+loop-i-init c = record {
+  len = omega (arith, c.in_ok-table.ensures.len);
+  small = λ p. omega (arith, zeros p);
+  best = rw (drop-length c.args.input.now, c.in_ok-table.ensures.items) (best_none c.args.version c.args.bytes_only _ zeros);
+}
+
+pub row-requires-clause-small : goal.row-requires-clause-small
+row-requires-clause-small c = λ p. omega (arith, c.loop-i.invariant.small p)
+
+pub loop-i-preserved : goal.loop-i-preserved
+loop-i-preserved c =
+    let i = c.loop-i.i in
+    let xs = c.args.input.now in
+    let up : suc (i - 1) ≡ i = omega arith in
+    let d : drop (i - 1) xs ≡ get_or xs (i - 1) 0 ∷ drop i xs = rw (drop-cons xs (i - 1) 0 (omega arith), up) refl in
+    let w : take (length xs - (i - 1)) (drop (i - 1) xs) ≡ drop (i - 1) xs = take_all _ (drop (i - 1) xs) (omega (arith, length-drop (i - 1) xs)) in
+    let e : reverse c.push.new.self.items ≡ c.row.result.0 ∷ reverse c.loop-i.table.items =
+    ap reverse c.in_ok-push.ensures.items ∙ reverse-append c.loop-i.table.items (c.row.result.0 ∷ []) in
+    record {
+      len = omega (arith, c.in_ok-push.ensures.len);
+      small = λ p. rw c.in_ok-push.ensures.len (small_more c.args.version c.args.bytes_only _ _ c.loop-i.rest _ _ c.loop-i.invariant.small c.row.ensures p);
+      best = rw (d, e) (best_more c.args.version c.args.bytes_only (get_or xs (i - 1) 0) (drop i xs) (reverse c.loop-i.table.items) c.row.result.0 c.loop-i.rest c.row.result.1 c.loop-i.invariant.best (rw (w, d) at c.row.ensures));
+    }
+
+pub returns-clause-best : goal.returns-clause-best
+returns-clause-best c =
+    let none : c.loop-i.i ≡ 0 = omega arith in
+    let best = rw none at c.loop-i.invariant.best in
+    λ p ks h. (at_place c.loop-i.rest p, best p ks h)

@@ -1,0 +1,9 @@
+pub mod Bits
+pub mod Letters
+pub mod Stream
+pub mod Data
+pub mod Parse
+pub mod Places
+pub mod ByPlaces
+pub mod Growing
+pub mod Laws

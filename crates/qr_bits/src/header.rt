@@ -1,0 +1,33 @@
+//! The header of structured append: ISO/IEC 18004:2015, 8.
+
+ghost use Rattle.std.specs.Prelude.{◌≡◌, bit_xor};
+ghost use Rattle.qr_bits.specs.Stream.{parity_of};
+
+/// What a symbol of a series says before its segments (8.1).
+#[derive(Clone, Copy, Debug, PartialEq, Eq)]
+pub struct Header {
+    /// Which symbol of the series it is, from 0 to 15 (8.2).
+    pub position: u8,
+    /// The number of symbols less 1, from 0 to 15 (8.2).
+    pub last: u8,
+    /// The parity of the whole input (8.3).
+    pub parity: u8,
+}
+
+/// The exclusive or of all bytes (8.3).
+pub fn parity(input: &[u8]) -> u8
+    ensures { result ≡ parity_of input.now }
+{
+    input.iter().fold(0, |parity, byte| parity ^ *byte)
+}
+
+#[cfg(test)]
+mod tests {
+    use super::*;
+
+    #[test]
+    fn parity_of_eight_letters(rt: HostRuntime) {
+        assert_eq!(rt; parity(b"ABCDEFGH"), 0x08);
+        assert_eq!(rt; parity(b""), 0);
+    }
+}

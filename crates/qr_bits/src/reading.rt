@@ -1,0 +1,118 @@
+//! Reading the data of a segment: ISO/IEC 18004:2015, 7.4.3 to 7.4.5.
+
+ghost use Rattle.std.specs.Prelude.{◌≡◌, ℕ, ◌+◌, ◌%◌, ◌<◌, ◌≤◌, ◌++◌, List, drop, length, OnOk, IfErr};
+ghost use Rattle.qr_bits.specs.Letters.{payload_bits};
+ghost use Rattle.qr_bits.specs.Parse.{Fails, bytes_of, character, characters_of, digits_of, values_of};
+
+use crate::fault::ParseFault;
+use crate::reader::BitReader;
+use crate::segment::{CHARACTERS, Mode, Segment};
+
+// Two characters are a number below this (7.4.4).
+const PAIRS: u16 = 45 * 45;
+
+/// Reads the data of a segment, which is there in full, and adds its bytes to `out`.
+#[tactic(auto, unfolding(crate::specs::Parse::values_of))]
+pub(crate) fn values(
+    reader: &mut BitReader,
+    segment: Segment,
+    out: &mut Vec<u8>,
+) -> Result<(), ParseFault>
+    requires { payload_bits segment.mode segment.len ≤ length reader.old }
+    ensures ok { OnOk result ((xs : List ℕ) × (values_of segment.mode segment.len reader.old ≡ Ok xs)
+        × (out.new.items ≡ out.old.items ++ xs)
+        × (reader.new ≡ drop (payload_bits segment.mode segment.len) reader.old)) }
+    ensures err { IfErr result (λ e. Fails e (values_of segment.mode segment.len reader.old)) }
+{
+    match segment.mode {
+        Mode::Numeric => digits(reader, segment.len, out),
+        Mode::Alphanumeric => characters(reader, segment.len, out),
+        Mode::Byte => bytes(reader, segment.len, out),
+    }
+}
+
+fn digits(reader: &mut BitReader, count: usize, out: &mut Vec<u8>) -> Result<(), ParseFault>
+    requires { payload_bits Mode.Numeric count ≤ length reader.old }
+    ensures ok { OnOk result ((xs : List ℕ) × (digits_of count reader.old ≡ Ok xs)
+        × (out.new.items ≡ out.old.items ++ xs)
+        × (reader.new ≡ drop (payload_bits Mode.Numeric count) reader.old)) }
+    ensures err { IfErr result (λ e. Fails e (digits_of count reader.old)) }
+{
+    let mut left = count;
+    while left >= 3 {
+        let group = reader.take(10);
+        if group >= 1000 {
+            return Err(ParseFault::BadValue);
+        }
+        out.extend_from_slice(&[digit(group / 100), digit(group / 10), digit(group)])?;
+        left -= 3;
+    }
+    if left == 2 {
+        let group = reader.take(7);
+        if group >= 100 {
+            return Err(ParseFault::BadValue);
+        }
+        out.extend_from_slice(&[digit(group / 10), digit(group)])?;
+    } else if left == 1 {
+        let group = reader.take(4);
+        if group >= 10 {
+            return Err(ParseFault::BadValue);
+        }
+        out.push(digit(group))?;
+    }
+    Ok(())
+}
+
+// The last digit of a number, as its byte.
+fn digit(number: u16) -> u8
+    ensures { result ≡ 48 + number % 10 }
+{
+    b'0' + (number % 10) as u8
+}
+
+fn characters(reader: &mut BitReader, count: usize, out: &mut Vec<u8>) -> Result<(), ParseFault>
+    requires { payload_bits Mode.Alphanumeric count ≤ length reader.old }
+    ensures ok { OnOk result ((xs : List ℕ) × (characters_of count reader.old ≡ Ok xs)
+        × (out.new.items ≡ out.old.items ++ xs)
+        × (reader.new ≡ drop (payload_bits Mode.Alphanumeric count) reader.old)) }
+    ensures err { IfErr result (λ e. Fails e (characters_of count reader.old)) }
+{
+    let mut left = count;
+    while left >= 2 {
+        let pair = reader.take(11);
+        if pair >= PAIRS {
+            return Err(ParseFault::BadValue);
+        }
+        out.extend_from_slice(&[character(pair / 45), character(pair % 45)])?;
+        left -= 2;
+    }
+    if left == 1 {
+        let single = reader.take(6);
+        if single >= 45 {
+            return Err(ParseFault::BadValue);
+        }
+        out.push(character(single))?;
+    }
+    Ok(())
+}
+
+// The character of a value (7.3.4, Table 5).
+#[tactic(auto, unfolding(crate::specs::Letters::characters, crate::specs::Parse::character))]
+fn character(value: u16) -> u8
+    requires { value < 45 }
+    ensures { result ≡ character value }
+{
+    CHARACTERS[usize::from(value)]
+}
+
+fn bytes(reader: &mut BitReader, count: usize, out: &mut Vec<u8>) -> Result<(), ParseFault>
+    requires { payload_bits Mode.Byte count ≤ length reader.old }
+    ensures ok { OnOk result ((out.new.items ≡ out.old.items ++ bytes_of count reader.old)
+        × (reader.new ≡ drop (payload_bits Mode.Byte count) reader.old)) }
+    ensures err { IfErr result (λ e. e ≡ ParseFault.Memory) }
+{
+    for _ in 0..count {
+        out.push(reader.take(8) as u8)?;
+    }
+    Ok(())
+}
