@@ -1,0 +1,14 @@
+use Rattle.std.proofs.Common.{◌∙◌, ap}
+use Rattle.qr_layout.specs.Versions.{side_of}
+use Rattle.qr_layout.specs.Words.{format_word_of}
+use Rattle.qr_symbol.specs.Grid.{Grid, colour}
+use Rattle.qr_symbol.specs.Penalty.{penalty_of}
+use Rattle.qr_symbol.specs.Drawing.{masked_colour}
+use Rattle.qr_symbol.proofs.DrawingLemmas.{square-is}
+use Rattle.qr_symbol.proofs.choice.mask_penalty.Goals as goal
+
+pub returns : goal.returns
+returns c = record {
+  square = square-is (side_of c.args.v) (masked_colour c.args.v (format_word_of c.args.level c.args.mask) c.args.mask c.args.region.now c.args.plain.now) c.draw_masked.new.matrix c.draw_masked.ensures;
+  value = c.penalty.ensures ∙ ap (λ (g : Grid). penalty_of g.side (colour g)) c.draw_masked.ensures;
+}

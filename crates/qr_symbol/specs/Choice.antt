@@ -1,0 +1,21 @@
+-- The choice of the mask. Public clauses cite IsMask.
+use Rattle.std.specs.Prelude.{◌≡◌, ℕ, ◌<◌, ◌≤◌, ◌⊎◌, List}
+use Rattle.qr_layout.specs.declared.level.Level.{Level}
+use Rattle.qr_layout.specs.Versions.{side_of}
+use Rattle.qr_symbol.specs.Grid.{colour}
+use Rattle.qr_symbol.specs.Colour.{grid_of}
+use Rattle.qr_symbol.specs.Penalty.{penalty_of}
+
+-- of the numbers below n, m has the least measure f, and it is the smallest among equals [own]
+pub record IsFirstLeast (n : ℕ) (f : ℕ → ℕ) (m : ℕ) : Type 0 where
+  pub in_range : m < n
+  pub least : (k : ℕ) → k < n → (f m < f k) ⊎ ((f m ≡ f k) × (m ≤ k))
+
+-- the penalty of the whole symbol under a mask (ISO/IEC 18004:2015, 7.8.3)
+abbrev pub mask_penalty : ℕ → Level → List ℕ → ℕ → ℕ
+mask_penalty v l cw mask = penalty_of (side_of v) (colour (grid_of v l mask cw))
+
+-- the mask is the one of the least penalty, and among equals the one of the smallest number
+-- (ISO/IEC 18004:2015, 7.8.3; among equals [own])
+abbrev pub IsMask : ℕ → Level → List ℕ → ℕ → Type 0
+IsMask v l cw mask = IsFirstLeast 8 (mask_penalty v l cw) mask

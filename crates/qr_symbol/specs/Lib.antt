@@ -1,0 +1,10 @@
+pub mod Grid
+pub mod Masks
+pub mod Worked
+pub mod Colour
+pub mod Drawing
+pub mod Penalty
+pub mod Lines
+pub mod Choice
+pub mod Interleaving
+pub mod Sending

@@ -1,0 +1,19 @@
+//! Symbols: how codewords are interleaved, placed and masked, and how a symbol's mask is chosen.
+#![tactic(auto)]
+
+mod choice;
+mod drawing;
+mod fault;
+pub mod laws;
+mod mask;
+mod matrix;
+mod message;
+mod penalties;
+mod symbol;
+
+pub use choice::build;
+pub use fault::EncodeFault;
+pub use matrix::Matrix;
+pub use message::interleave;
+pub use penalties::penalty;
+pub use symbol::{Symbol, build_masked};
