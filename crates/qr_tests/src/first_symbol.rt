@@ -1,0 +1,91 @@
+//! The drawing of `A` in version 1-L under mask 0, as another encoder draws it.
+
+use crate::runs::{DRAW, Devices, run_with};
+use std::alloc::{AllocError, Global};
+use std::test::Fail;
+
+// The modules, row by row from the top, 1 being dark.
+static ROWS: [u32; 21] = [
+    0b111111100101101111111,
+    0b100000100111001000001,
+    0b101110101101101011101,
+    0b101110100101001011101,
+    0b101110100010101011101,
+    0b100000100000101000001,
+    0b111111101010101111111,
+    0b000000001101100000000,
+    0b111011111111011000100,
+    0b101100001000001000110,
+    0b010111100110100010001,
+    0b010110001100001000100,
+    0b001101101000101010101,
+    0b000000001001010101010,
+    0b111111101011011101111,
+    0b100000101111110111000,
+    0b101110101101011101101,
+    0b101110100110001000110,
+    0b101110101100100010001,
+    0b100000101000001000110,
+    0b111111101110101010111,
+];
+
+// A line of the drawing: four modules of margin, 21 modules, and the margin again.
+fn push_line(text: &mut Vec<u8>, modules: u32) -> Result<(), AllocError> {
+    text.extend_from_slice(b"        ")?;
+    for col in 0..21u32 {
+        let module = if modules >> (20 - col) & 1 == 1 {
+            b"##"
+        } else {
+            b"  "
+        };
+        text.extend_from_slice(module)?;
+    }
+    text.extend_from_slice(b"        \n")
+}
+
+/// The whole drawing: 29 lines of 58 characters.
+pub fn drawing(alloc: Global) -> Result<Vec<u8>, AllocError> {
+    let mut text = Vec::new(alloc);
+    for _ in 0..4u8 {
+        push_line(&mut text, 0)?;
+    }
+    for row in ROWS {
+        push_line(&mut text, row)?;
+    }
+    for _ in 0..4u8 {
+        push_line(&mut text, 0)?;
+    }
+    Ok(text)
+}
+
+#[test]
+fn is_drawn(rt: HostRuntime) -> Result<(), Fail> {
+    let want = drawing(rt.alloc())?;
+    assert_eq!(rt; want.len(), 29 * 59);
+    let spellings = [
+        DRAW.as_slice(),
+        ["-t", "ascii"].as_slice(),
+        ["-v0", "-tAscii"].as_slice(),
+    ];
+    for words in spellings {
+        let r = run_with(rt.alloc(), words, b"A", Devices::WELL)?;
+        assert_eq!(rt; r.status, 0);
+        assert_eq!(rt; r.out.bytes(), want.as_slice());
+        assert!(rt; r.err.bytes().is_empty());
+    }
+    Ok(())
+}
+
+// The fifth line from below ends so.
+#[test]
+fn ends_in_three_lone_modules(rt: HostRuntime) -> Result<(), Fail> {
+    let r = run_with(rt.alloc(), &DRAW, b"A", Devices::WELL)?;
+    let text = r.out.bytes();
+    assert!(rt; text.len() == 29 * 59);
+    let end = 25 * 59;
+    assert_eq!(rt;
+        &text[end - 29..end],
+        b"  ##  ##  ##  ######        \n".as_slice()
+    );
+    Ok(())
+}

@@ -1,0 +1,13 @@
+//! Tests that need several layers: runs of the whole command over devices in memory.
+#![tactic(auto)]
+
+#[cfg(test)]
+mod counting;
+#[cfg(test)]
+mod faults;
+#[cfg(test)]
+mod first_symbol;
+#[cfg(test)]
+mod runs;
+#[cfg(test)]
+mod troubles;

@@ -1,0 +1,61 @@
+//! Runs of the command over devices in memory.
+
+use qrencode_cli::{Manner, Trial, run};
+use std::alloc::{AllocError, Global};
+
+/// The words that draw one symbol of version 1, the program's name left aside.
+pub const DRAW: [&str; 5] = ["-8", "-v", "1", "-t", "ASCII"];
+
+/// What a run answered, and its devices after it.
+#[derive(Drop)]
+pub struct Run {
+    pub status: u8,
+    pub input: Trial,
+    pub out: Trial,
+    pub err: Trial,
+}
+
+/// How the three devices of a run behave, and how many bytes the two writers take.
+#[derive(Clone, Copy)]
+pub struct Devices {
+    pub input: Manner,
+    pub out: Manner,
+    pub out_room: usize,
+    pub err: Manner,
+    pub err_room: usize,
+}
+
+impl Devices {
+    /// Devices with no fault, and room enough.
+    pub const WELL: Devices = Devices {
+        input: Manner::WELL,
+        out: Manner::WELL,
+        out_room: 4000,
+        err: Manner::WELL,
+        err_room: 4000,
+    };
+}
+
+/// Runs the command with these words, behind the program's name, on this input.
+pub fn run_with(
+    alloc: Global,
+    words: &[&str],
+    input: &[u8],
+    devices: Devices,
+) -> Result<Run, AllocError> {
+    let mut list = Vec::new(alloc);
+    list.push(String::from_str(alloc, "qrencode")?)?;
+    for word in words {
+        list.push(String::from_str(alloc, word)?)?;
+    }
+    let mut input = Trial::reader(alloc, input, devices.input)?;
+    let mut out = Trial::writer(alloc, devices.out_room, devices.out)?;
+    let mut err = Trial::writer(alloc, devices.err_room, devices.err)?;
+    let status = run(alloc, list.as_slice(), &mut input, &mut out, &mut err);
+    Ok(Run {
+        status,
+        input,
+        out,
+        err,
+    })
+}

@@ -1,0 +1,149 @@
+//! Readers and writers that are slow, interrupted, failing or full.
+
+use crate::first_symbol::drawing;
+use crate::runs::{DRAW, Devices, run_with};
+use qrencode_cli::Manner;
+use std::test::Fail;
+
+// Devices that move one byte a call, after as many interruptions as are tried again.
+#[test]
+fn slow_devices_do(rt: HostRuntime) -> Result<(), Fail> {
+    let slow = Manner {
+        at_most: 1,
+        interruptions: 999,
+        ..Manner::WELL
+    };
+    let devices = Devices {
+        input: slow,
+        out: slow,
+        ..Devices::WELL
+    };
+    let r = run_with(rt.alloc(), &DRAW, b"A", devices)?;
+    assert_eq!(rt; r.status, 0);
+    assert_eq!(rt; r.out.bytes(), drawing(rt.alloc())?.as_slice());
+    assert!(rt; r.err.bytes().is_empty());
+    let writes = r.out.writes();
+    assert!(rt; writes.flushes == 1 && writes.settled);
+    Ok(())
+}
+
+// One interruption more is a fault, of the reader or of the writer.
+#[test]
+fn interrupted_too_often(rt: HostRuntime) -> Result<(), Fail> {
+    let tired = Manner {
+        interruptions: 1000,
+        ..Manner::WELL
+    };
+    let reading = Devices {
+        input: tired,
+        ..Devices::WELL
+    };
+    let r = run_with(rt.alloc(), &DRAW, b"A", reading)?;
+    assert_eq!(rt; r.status, 1);
+    assert_eq!(rt; r.err.bytes(), b"qrencode: read error\n".as_slice());
+    assert!(rt; r.out.bytes().is_empty());
+    let writing = Devices {
+        out: tired,
+        ..Devices::WELL
+    };
+    let r = run_with(rt.alloc(), &DRAW, b"A", writing)?;
+    assert_eq!(rt; r.status, 1);
+    assert_eq!(rt; r.err.bytes(), b"qrencode: write error\n".as_slice());
+    assert!(rt; r.out.bytes().is_empty());
+    Ok(())
+}
+
+// A reader of one byte a call that fails at each call in turn: at the first, in the middle, and where the end would be.
+#[test]
+fn readers_fail_in_turn(rt: HostRuntime) -> Result<(), Fail> {
+    for call in 0..3u64 {
+        let devices = Devices {
+            input: Manner {
+                at_most: 1,
+                fails_from: call,
+                ..Manner::WELL
+            },
+            ..Devices::WELL
+        };
+        let r = run_with(rt.alloc(), &DRAW, b"AB", devices)?;
+        assert_eq!(rt; r.status, 1, "call {call}");
+        assert_eq!(rt;
+            r.err.bytes(),
+            b"qrencode: read error\n".as_slice(),
+            "call {call}"
+        );
+        assert!(rt; r.out.bytes().is_empty());
+    }
+    Ok(())
+}
+
+// A writer of 100 bytes a call that fails, or answers 0, at each call in turn until none does.
+#[test]
+fn writers_fail_in_turn(rt: HostRuntime) -> Result<(), Fail> {
+    let want = drawing(rt.alloc())?;
+    let whole = 29 * 59u64;
+    for call in 0..40u64 {
+        let well = Manner {
+            at_most: 100,
+            ..Manner::WELL
+        };
+        let failing = Manner {
+            fails_from: call,
+            ..well
+        };
+        let stopping = Manner {
+            stops_from: call,
+            ..well
+        };
+        for out in [failing, stopping] {
+            let devices = Devices {
+                out,
+                ..Devices::WELL
+            };
+            let r = run_with(rt.alloc(), &DRAW, b"A", devices)?;
+            assert!(rt; want.as_slice().starts_with(r.out.bytes()), "call {call}");
+            let taken = r.out.writes().taken;
+            assert_eq!(rt; r.status == 0, taken == whole, "call {call}");
+            if taken < whole {
+                assert_eq!(rt; r.err.bytes(), b"qrencode: write error\n".as_slice());
+                assert_eq!(rt; r.out.writes().flushes, 0);
+            }
+        }
+    }
+    Ok(())
+}
+
+#[test]
+fn no_room_for_all(rt: HostRuntime) -> Result<(), Fail> {
+    let devices = Devices {
+        out_room: 100,
+        ..Devices::WELL
+    };
+    let r = run_with(rt.alloc(), &DRAW, b"A", devices)?;
+    assert_eq!(rt; r.status, 1);
+    assert_eq!(rt; r.err.bytes(), b"qrencode: write error\n".as_slice());
+    let text = r.out.bytes();
+    assert_eq!(rt; text.len(), 100);
+    for (at, byte) in text.iter().enumerate() {
+        let want = if at == 58 { b'\n' } else { b' ' };
+        assert_eq!(rt; *byte, want, "byte {at}");
+    }
+    Ok(())
+}
+
+#[test]
+fn a_flush_that_fails(rt: HostRuntime) -> Result<(), Fail> {
+    let devices = Devices {
+        out: Manner {
+            flush_fails: true,
+            ..Manner::WELL
+        },
+        ..Devices::WELL
+    };
+    let r = run_with(rt.alloc(), &DRAW, b"A", devices)?;
+    assert_eq!(rt; r.status, 1);
+    assert_eq!(rt; r.err.bytes(), b"qrencode: write error\n".as_slice());
+    assert_eq!(rt; r.out.bytes(), drawing(rt.alloc())?.as_slice());
+    assert_eq!(rt; r.out.writes().flushes, 1);
+    Ok(())
+}

@@ -1,0 +1,9 @@
+mod Asking
+mod FirstSymbol
+mod Lines
+mod Matching
+mod NumberIn
+mod Reading
+mod Running
+mod Sending
+mod Writing

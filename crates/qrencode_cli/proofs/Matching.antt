@@ -1,0 +1,28 @@
+-- From what clap states to the matches of this command.
+use Rattle.std.proofs.Common.{◌≡◌, ◌∙◌, List, [], true, refl, ap, inl, inr}
+use Rattle.clap.specs.Words.{HasKind, IsAmong, Kinds, fault_of, found_of, is_simple_and_free, kind_of}
+use Rattle.clap.specs.Walk.{Text, rows_of}
+use Rattle.clap.specs.Simple.{App, HasMatchesOf, is_simple, matches_of}
+use Rattle.clap.specs.declared.error.Error.{Error}
+use Rattle.clap.specs.declared.error.kind.ErrorKind.TheVariants as kind
+use Rattle.clap.specs.declared.parser.matches.ArgMatches.{ArgMatches}
+use Rattle.qrencode_cli.specs.Arguments.{command, faults_for, rows_for}
+
+pub is_simple-command : is_simple command ≡ true
+unfolding command
+is_simple-command = refl
+
+pub is_free-command : is_simple_and_free command ≡ true
+unfolding command
+is_free-command = refl
+
+pub faults_are : (a : App) (words : List Text) → a ≡ command → fault_of a words ≡ faults_for words
+unfolding faults_for
+faults_are a words e = ap (λ x. fault_of x words) e
+
+pub rows_are : (a : App) (words : List Text) (m : ArgMatches) → a ≡ command → HasMatchesOf a words m → rows_of (found_of m) ≡ rows_for words
+unfolding rows_for
+rows_are a words m e h = (h (ap is_simple e ∙ is_simple-command)).0 ∙ ap (λ x. matches_of x words) e
+
+pub kinds_not_empty : (kinds : Kinds) (e : Error) → (kind_of e ≡ kind.OutOfMemory → ⊥) → HasKind kinds e → kinds ≡ [] → ⊥
+kinds_not_empty kinds e other h none = elim h [ inl memory ↦ other memory | inr among ↦ let no : IsAmong (kind_of e) [] = rw none at among in no ]

@@ -1,0 +1,12 @@
+use Rattle.std.proofs.Common.{ap₂, ◌∙◌}
+use Rattle.std.proofs.lemmas.Result.{IfOk-weaker}
+use Rattle.clap.specs.Simple.{with_rule}
+use Rattle.qrencode_cli.specs.Arguments.{command}
+use Rattle.qrencode_cli.proofs.arguments.described.Goals as goal
+
+pub returns : goal.returns
+unfolding command
+returns c =
+    let a1 = c.in_ok-with_version.ensures.shape c.number.ensures.local ∙ ap₂ with_rule c.bare.ensures c.number.ensures.rule in
+    let a2 = c.in_ok-with_type.ensures.shape c.required.ensures.local ∙ ap₂ with_rule a1 c.required.ensures.rule in
+    IfOk-weaker c.arg-3.result _ _ (λ r h. h.shape c.flag.ensures.local ∙ ap₂ with_rule a2 c.flag.ensures.rule) c.arg-3.ensures

@@ -1,0 +1,30 @@
+use Rattle.std.proofs.Common.{refl}
+use Rattle.clap.proofs.OnLiterals.{clap_on_literals}
+use Rattle.qrencode_cli.specs.Arguments.{command, faults_for, rows_for}
+use Rattle.qrencode_cli.proofs.laws.rows_of_words.Goals as goal
+
+pub returns : goal.returns
+unfolding clap_on_literals command faults_for rows_for
+returns c = record {
+  plain = refl;
+  in_bytes = refl;
+  automatic = refl;
+  no_words = refl;
+  name_alone = refl;
+  no_type = refl;
+  other_type = refl;
+  drawing_to_come = refl;
+  empty_type = refl;
+  past_versions = refl;
+  type_twice = refl;
+  flag_twice = refl;
+  string = refl;
+  level = refl;
+  margin = refl;
+  structured = refl;
+  kanji = refl;
+  folding = refl;
+  long_name = refl;
+  help = refl;
+  long_help = refl;
+}

@@ -1,0 +1,9 @@
+-- The input that a device gives. Public clauses cite this file.
+use Rattle.std.specs.Prelude.{◌≡◌, ℕ, List, take, Option, Some, None, ⊤}
+use Rattle.qr_bits.specs.declared.segment.TheConstants.{INPUT_MAX}
+
+-- the input is what the device gives up to its end, no more of it than is read; of a device whose bytes are
+-- unknown this claims nothing [own]
+abbrev pub IsInputOf : Option (List ℕ) → List ℕ → Type 0
+IsInputOf None input = ⊤
+IsInputOf (Some bytes) input = input ≡ take INPUT_MAX bytes

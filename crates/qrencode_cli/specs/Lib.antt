@@ -1,0 +1,13 @@
+pub mod Answer
+pub mod Arguments
+pub mod Device
+pub mod Drawings
+pub mod Input
+pub mod Pens
+pub mod Rows
+pub mod Settings
+pub mod Steps
+pub mod Symbols
+pub mod Trial
+pub mod Usage
+pub mod Writing

@@ -1,0 +1,79 @@
+-- What the words ask for. Public clauses cite this file.
+use Rattle.std.specs.Prelude.{◌&&◌, ℕ, Bool, false, nat_le, List, [], ◌∷◌, Option, Some, None, Result, Ok, Err, codes, if◌then◌else◌}
+use Rattle.std.specs.Option.{option_map_or}
+use Rattle.std.specs.Str.{bytes_eq, str_eq_ignore_ascii_case}
+use Rattle.clap.specs.Words.{Kinds, first_of, one_of}
+use Rattle.clap.specs.Walk.{Row, Text, byte_or_zero}
+use Rattle.qr_layout.specs.declared.level.Level.{Level}
+use Rattle.qr_layout.specs.declared.level.Level.TheVariants as level
+use Rattle.qrencode_cli.specs.Arguments.{faults_for, rows_for}
+use Rattle.qrencode_cli.specs.declared.drawing.Drawing.{Drawing}
+use Rattle.qrencode_cli.specs.declared.drawing.Drawing.TheVariants as drawing
+
+-- why the words ask for nothing that can be drawn [own]
+pub data Refusal : Type 0 where
+  no_matches : Refusal
+  unknown_level : Refusal
+  unknown_type : Refusal
+  needs_version : Refusal
+
+-- the settings, as contracts see them [own]
+pub record Seen : Type 0 where
+  pub level : Level
+  pub smallest : Option ℕ
+  pub kind : Drawing
+  pub margin : ℕ
+  pub bytes_only : Bool
+  pub structured : Bool
+  pub string : Option Text
+
+-- the type of drawing that a word names, in either case of its ASCII letters [own]
+abbrev pub drawing_named : Text → Option Drawing
+drawing_named t = if str_eq_ignore_ascii_case t (codes "ascii") then Some drawing.Ascii else None
+
+-- the type of drawing that is asked for [own]
+abbrev pub drawing_at : Option Text → Option Drawing
+drawing_at None = None
+drawing_at (Some t) = drawing_named t
+
+-- the number that is asked for, 0 where none stands [own]
+abbrev pub number_at : Option Text → ℕ
+number_at o = option_map_or byte_or_zero o 0
+
+-- the version of a number, none for 0 [own]
+abbrev pub version_numbered : ℕ → Option ℕ
+version_numbered n = if nat_le 1 n && nat_le n 40 then Some n else None
+
+-- the version that is asked for [own]
+abbrev pub version_at : Option Text → Option ℕ
+version_at o = version_numbered (number_at o)
+
+-- the flag stands [own]
+abbrev pub flag_at : Option Text → Bool
+flag_at o = option_map_or (λ t. bytes_eq t (codes "true")) o false
+
+-- the settings, where the type is known: level L, margin 4 and one symbol are not to be chosen yet [own]
+abbrev pub drawn_as : List Row → Option Drawing → Result Seen Refusal
+drawn_as rows None = Err unknown_type
+drawn_as rows (Some kind) = Ok (record {
+  level = level.L;
+  smallest = version_at (one_of (codes "version") rows);
+  kind = kind;
+  margin = 4;
+  bytes_only = flag_at (first_of (codes "bytes-only") rows);
+  structured = false;
+  string = None;
+})
+
+-- the settings that the matches give [own]
+abbrev pub settings_of : List Row → Result Seen Refusal
+settings_of rows = drawn_as rows (drawing_at (first_of (codes "type") rows))
+
+-- the settings of the matches, where clap states no fault [own]
+abbrev pub taken_settings : Kinds → List Row → Result Seen Refusal
+taken_settings [] rows = settings_of rows
+taken_settings (k ∷ kinds) rows = Err no_matches
+
+-- the settings that the words give: those of the matches that clap states for them, where it states no fault [own]
+abbrev pub settings_for : List Text → Result Seen Refusal
+settings_for words = taken_settings (faults_for words) (rows_for words)

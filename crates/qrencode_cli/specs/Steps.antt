@@ -1,0 +1,50 @@
+-- What the parts of a run come to. Only private clauses cite this file.
+use Rattle.std.specs.Prelude.{◌≡◌, ℕ, List, [], IfErr, Result, MatchResult}
+use Rattle.clap.specs.Walk.{Text}
+use Rattle.qr_layout.specs.declared.level.Level.{Level}
+use Rattle.qrencode_cli.specs.Answer.{Asks, IsFault, ReadsFor, Shows}
+use Rattle.qrencode_cli.specs.Device.{Reader, Writer}
+use Rattle.qrencode_cli.specs.Drawings.{ascii_drawing}
+use Rattle.qrencode_cli.specs.Input.{IsInputOf}
+use Rattle.qrencode_cli.specs.Settings.{settings_for}
+use Rattle.qrencode_cli.specs.Symbols.{IsTooLong}
+use Rattle.qrencode_cli.specs.declared.command.Fault.{Fault}
+use Rattle.qrencode_cli.specs.declared.command.Fault.TheVariants.{Usage, Read, Empty, TooLong, Memory, Write}
+use Rattle.qrencode_cli.specs.declared.command.Picture.{Picture}
+
+-- the drawing of a picture
+abbrev pub drawing_of : Picture → List ℕ
+drawing_of p = ascii_drawing p.margin p.matrix
+
+-- why an input has no symbol of a version and a level
+abbrev pub IsSymbolFault : ℕ → Level → List ℕ → Fault → Type 0
+IsSymbolFault v l input (Usage u) = ⊥
+IsSymbolFault v l input Read = ⊥
+IsSymbolFault v l input Empty = input ≡ []
+IsSymbolFault v l input TooLong = IsTooLong v l input
+IsSymbolFault v l input Memory = Unit {0}
+IsSymbolFault v l input Write = ⊥
+
+-- the fault comes before any byte is written
+abbrev pub IsEarly : Fault → Type 0
+IsEarly (Usage u) = Unit {0}
+IsEarly Read = Unit {0}
+IsEarly Empty = Unit {0}
+IsEarly TooLong = Unit {0}
+IsEarly Memory = Unit {0}
+IsEarly Write = ⊥
+
+-- the picture that the words and the input ask for, or why there is none
+pub record Prepares (words : List Text) (old new : Reader) (result : Result Picture Fault) : Type 0 where
+  pub given : List ℕ
+  pub is_input : IsInputOf old.remaining given
+  pub reads : ReadsFor (settings_for words) old new given result
+  pub answer : MatchResult result (λ p. Asks words given (drawing_of p)) (λ f. IsFault words given f × IsEarly f)
+
+-- what a run came to before standard error was told of it
+pub record Attempts (words : List Text) (in0 in1 : Reader) (out0 out1 : Writer) (result : Result (Unit {0}) Fault) : Type 0 where
+  pub given : List ℕ
+  pub is_input : IsInputOf in0.remaining given
+  pub is_fault : IfErr result (IsFault words given)
+  pub shows : Shows words given out0 out1 result
+  pub reads : ReadsFor (settings_for words) in0 in1 given result

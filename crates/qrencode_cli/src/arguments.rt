@@ -1,0 +1,130 @@
+//! The command's arguments as `clap` reads them.
+
+ghost use Rattle.std.specs.Prelude.{Err, ◌≡◌, ◌≢◌, [], IfOk, map, false, codes};
+ghost use Rattle.std.specs.String.{string_bytes};
+ghost use Rattle.clap.specs.Words.{app_of, found_of};
+ghost use Rattle.clap.specs.Walk.{rows_of, rule_of};
+ghost use Rattle.clap.specs.Simple.{new_app};
+ghost use Rattle.qrencode_cli.specs.Arguments.{command, faults_for, flag_rule, number_rule, required_rule, rows_for};
+
+use clap::builder::ValueParser;
+use clap::error::ErrorKind;
+use clap::{Arg, ArgAction, ArgMatches, Command};
+use std::alloc::{AllocError, Global};
+
+// What an argument is called: by the command, by the words, in help, and in its line of help.
+#[derive(Clone, Copy)]
+struct Name<'a> {
+    id: &'a str,
+    short: char,
+    value: &'a str,
+    help: &'a str,
+}
+
+// An option that takes a number from 0 to `most`.
+fn number<'a>(alloc: Global, name: Name<'a>, most: i64) -> Arg<'a>
+    ensures rule { rule_of result ≡ number_rule name.entry.id.now name.entry.short most }
+    ensures local { result.global ≡ false }
+{
+    Arg::new(alloc, name.id)
+        .short(name.short)
+        .value_name(name.value)
+        .help(name.help)
+        .value_parser(ValueParser::Signed(0, most))
+}
+
+// An option that has to be given, and takes a text.
+fn required<'a>(alloc: Global, name: Name<'a>) -> Arg<'a>
+    ensures rule { rule_of result ≡ required_rule name.entry.id.now name.entry.short }
+    ensures local { result.global ≡ false }
+{
+    Arg::new(alloc, name.id)
+        .short(name.short)
+        .value_name(name.value)
+        .help(name.help)
+        .required(true)
+}
+
+// An option that takes no value.
+fn flag<'a>(alloc: Global, name: Name<'a>) -> Arg<'a>
+    ensures rule { rule_of result ≡ flag_rule name.entry.id.now name.entry.short }
+    ensures local { result.global ≡ false }
+{
+    Arg::new(alloc, name.id)
+        .short(name.short)
+        .help(name.help)
+        .action(ArgAction::SetTrue)
+}
+
+// The command without its arguments.
+fn bare<'a>(alloc: Global) -> Command<'a>
+    ensures { app_of result ≡ new_app (codes "qrencode") }
+{
+    Command::new(alloc, "qrencode").about(
+        "Draws standard input as a QR Code symbol on standard output",
+    )
+}
+
+// The command with its arguments.
+fn described<'a>(alloc: Global) -> Result<Command<'a>, AllocError>
+    ensures { IfOk result (λ c. app_of c ≡ command) }
+{
+    let with_version = bare(alloc).arg(number(
+        alloc,
+        Name {
+            id: "version",
+            short: 'v',
+            value: "N",
+            help: "Version of the symbol, 1, or 0 for any that fits [default: 0]",
+        },
+        1,
+    ))?;
+    let with_type = with_version.arg(required(
+        alloc,
+        Name {
+            id: "type",
+            short: 't',
+            value: "TYPE",
+            help: "Type of the drawing: ASCII, in either case of letters",
+        },
+    ))?;
+    with_type.arg(flag(
+        alloc,
+        Name {
+            id: "bytes-only",
+            short: '8',
+            value: "",
+            help: "Encode the whole input in byte mode",
+        },
+    ))
+}
+
+/// Why the words have no matches.
+#[derive(Debug, Drop)]
+pub(crate) enum MatchFault {
+    /// The words are not such as the command takes; the text says why, or is the help asked for.
+    Words(String),
+    Memory,
+}
+
+/// The matches of the words, of which the first is the program's name.
+pub(crate) fn matches<'a>(alloc: Global, words: &'a [String]) -> Result<ArgMatches<'a>, MatchFault>
+    ensures taken { IfOk result (λ m. faults_for (map string_bytes words.entry.now) ≡ []) }
+    ensures rows { IfOk result (λ m. rows_of (found_of m) ≡ rows_for (map string_bytes words.entry.now)) }
+    ensures words { (text : _) → result ≡ Err (MatchFault.Words text)
+        → faults_for (map string_bytes words.entry.now) ≢ [] }
+{
+    let Ok(command) = described(alloc) else {
+        return Err(MatchFault::Memory);
+    };
+    match command.try_get_matches_from(words) {
+        Ok(matches) => Ok(matches),
+        Err(error) => match error.kind() {
+            ErrorKind::OutOfMemory => Err(MatchFault::Memory),
+            _ => match format!(in alloc; "{error}") {
+                Ok(text) => Err(MatchFault::Words(text)),
+                Err(_) => Err(MatchFault::Memory),
+            },
+        },
+    }
+}

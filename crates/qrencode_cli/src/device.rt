@@ -1,0 +1,156 @@
+//! What the command reads from and writes to: two traits, and the counts of how their calls went.
+//!
+//! A device tells its bytes to contracts where it knows them. Its counts are always known, so a
+//! contract can say exactly when a fault was the device's.
+
+ghost use Rattle.std.specs.Prelude.{◌≡◌, ◌≤◌, ℕ, List, Option, IfOk, length};
+ghost use Rattle.std.specs.Io.KnownBytes.{Keeps, ReadConsumes, WriteAppends};
+ghost use Rattle.qrencode_cli.specs.Device.{flush_counted, no_reads, no_writes, read_counted, write_counted};
+ghost use Rattle.qrencode_cli.specs.declared.device.ReadCounts.{ReadCounts};
+ghost use Rattle.qrencode_cli.specs.declared.device.WriteCounts.{WriteCounts};
+
+/// Why a call of a device gave or took nothing.
+#[derive(Clone, Copy, Debug, PartialEq, Eq)]
+pub enum Trouble {
+    /// The call may be tried again.
+    Interrupted,
+    Failed,
+}
+
+/// How the reads of a device went. Each count stops at `u64::MAX`.
+#[derive(Clone, Copy, Debug, PartialEq, Eq)]
+pub struct ReadCounts {
+    pub calls: u64,
+    pub failed: u64,
+    pub interrupted: u64,
+    /// The bytes given.
+    pub given: u64,
+    /// The reads into some bytes that gave none.
+    pub ends: u64,
+}
+
+impl ReadCounts {
+    /// The counts of a device that was not read yet.
+    pub const NONE: ReadCounts = ReadCounts {
+        calls: 0,
+        failed: 0,
+        interrupted: 0,
+        given: 0,
+        ends: 0,
+    };
+
+    /// Counts a read into `room` bytes.
+    pub fn add(&mut self, room: usize, answer: Result<usize, Trouble>)
+        ensures { self.new ≡ read_counted room answer self.old }
+    {
+        self.calls = self.calls.saturating_add(1);
+        match answer {
+            Ok(given) => {
+                self.given = self.given.saturating_add(given as u64);
+                if given == 0 && room > 0 {
+                    self.ends = self.ends.saturating_add(1);
+                }
+            }
+            Err(Trouble::Interrupted) => self.interrupted = self.interrupted.saturating_add(1),
+            Err(Trouble::Failed) => self.failed = self.failed.saturating_add(1),
+        }
+    }
+}
+
+/// How the writes and flushes of a device went. Each count stops at `u64::MAX`.
+#[derive(Clone, Copy, Debug, PartialEq, Eq)]
+pub struct WriteCounts {
+    pub calls: u64,
+    pub failed: u64,
+    pub interrupted: u64,
+    /// The writes of some bytes of which none was taken.
+    pub zeros: u64,
+    /// The bytes taken.
+    pub taken: u64,
+    /// The greatest length of a write.
+    pub offered: usize,
+    pub flushes: u64,
+    /// Whether the last call was a flush that went well.
+    pub settled: bool,
+}
+
+impl WriteCounts {
+    /// The counts of a device that was not written to yet.
+    pub const NONE: WriteCounts = WriteCounts {
+        calls: 0,
+        failed: 0,
+        interrupted: 0,
+        zeros: 0,
+        taken: 0,
+        offered: 0,
+        flushes: 0,
+        settled: false,
+    };
+
+    /// Counts a write of `len` bytes.
+    pub fn add(&mut self, len: usize, answer: Result<usize, Trouble>)
+        ensures { self.new ≡ write_counted len answer self.old }
+    {
+        self.calls = self.calls.saturating_add(1);
+        self.offered = self.offered.max(len);
+        self.settled = false;
+        match answer {
+            Ok(taken) => {
+                self.taken = self.taken.saturating_add(taken as u64);
+                if taken == 0 && len > 0 {
+                    self.zeros = self.zeros.saturating_add(1);
+                }
+            }
+            Err(Trouble::Interrupted) => self.interrupted = self.interrupted.saturating_add(1),
+            Err(Trouble::Failed) => self.failed = self.failed.saturating_add(1),
+        }
+    }
+
+    /// Counts a flush. An interrupted one counts as failed.
+    pub fn add_flush(&mut self, answer: Result<(), Trouble>)
+        ensures { self.new ≡ flush_counted answer self.old }
+    {
+        self.calls = self.calls.saturating_add(1);
+        self.flushes = self.flushes.saturating_add(1);
+        self.settled = answer.is_ok();
+        if answer.is_err() {
+            self.failed = self.failed.saturating_add(1);
+        }
+    }
+}
+
+/// Bytes that can be read.
+pub trait Source {
+    // The bytes that reads will give from here on, where they are known.
+    ghost remaining: { Self → Option (List ℕ) };
+
+    // How the reads so far went.
+    ghost counts: { Self → ReadCounts };
+
+    /// Gives some bytes to the front of `buf`, and answers how many: none only at the end of the
+    /// input, or where `buf` is empty.
+    fn read(&mut self, buf: &mut [u8]) -> Result<usize, Trouble>
+        ensures bound { IfOk result (λ n. n ≤ length buf.new) }
+        ensures bytes { ReadConsumes (remaining self.old) (remaining self.new) result buf.new }
+        ensures counted { counts self.new ≡ read_counted (length buf.new) result (counts self.old) };
+}
+
+/// A place that takes bytes.
+pub trait Sink {
+    // The bytes taken so far, where they are known.
+    ghost taken: { Self → Option (List ℕ) };
+
+    // How the writes and flushes so far went.
+    ghost counts: { Self → WriteCounts };
+
+    /// Takes some bytes from the front of `buf`, and answers how many.
+    fn write(&mut self, buf: &[u8]) -> Result<usize, Trouble>
+        ensures bound { IfOk result (λ n. n ≤ length buf.now) }
+        ensures bytes { WriteAppends (taken self.old) (taken self.new) result buf.now }
+        ensures counted { counts self.new ≡ write_counted (length buf.now) result (counts self.old) };
+
+    /// Passes on what was taken.
+    fn flush(&mut self) -> Result<(), Trouble>
+        ensures bytes { Keeps (taken self.old) (taken self.new) }
+        ensures counted { counts self.new ≡ flush_counted result (counts self.old) };
+}

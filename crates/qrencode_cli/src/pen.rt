@@ -1,0 +1,127 @@
+//! Writing a text in pieces of at most 1,200 bytes, with no memory taken.
+
+ghost use Rattle.std.specs.Prelude.{◌≡◌, ◌+◌, ◌<◌, ◌≤◌, ◌++◌, ◌∷◌, [], max, is_err, length, MatchResult, OnOk, OnErr};
+ghost use Rattle.std.specs.Io.KnownBytes.{Appends};
+ghost use Rattle.qrencode_cli.specs.Device.{AppendsBeginning, IsWrittenWithin, counted, is_write_fault, no_writes, writer};
+ghost use Rattle.qrencode_cli.specs.Writing.{Stops, Writes};
+
+use crate::device::{Sink, Trouble};
+use crate::input::INTERRUPTIONS_MAX;
+use arrayvec::ArrayVec;
+use thiserror::Error;
+
+/// The most bytes that one write offers.
+pub(crate) const PIECE: usize = 1200;
+
+/// Why a drawing stopped.
+#[derive(Clone, Copy, Debug, PartialEq, Eq, Error)]
+pub enum DrawFault {
+    /// The writer failed, took none of some bytes, or was interrupted for the 1,000th time.
+    #[error("write error")]
+    Write,
+}
+
+/// The piece of a text that is not written yet, and how many writes were interrupted so far.
+#[derive(Drop)]
+pub(crate) struct Pen {
+    piece: ArrayVec<u8, 1200>,
+    interrupted: u16,
+    ghost few: { interrupted < 1000 },
+}
+
+// Offers the bytes until all are taken, and answers how many writes were interrupted by then.
+fn send<W: Sink>(out: &mut W, bytes: &[u8], interrupted: u16) -> Result<u16, DrawFault>
+    requires few { interrupted < 1000 }
+    requires short { length bytes.now ≤ 1200 }
+    ensures writes { MatchResult result
+        (λ tries. Writes (writer (W.taken out.old) (W.counts out.old)) (writer (W.taken out.new) (W.counts out.new))
+        interrupted tries bytes.now [])
+        (λ _. Stops (writer (W.taken out.old) (W.counts out.old)) (writer (W.taken out.new) (W.counts out.new))
+        interrupted bytes.now) }
+    ensures few { MatchResult result (λ tries. tries < 1000) (λ _. Unit {0}) }
+{
+    let mut at: usize = 0;
+    let mut tries = interrupted;
+    'offers: while at < bytes.len() {
+        match out.write(&bytes[at..]) {
+            Ok(taken) => {
+                if taken == 0 {
+                    return Err(DrawFault::Write);
+                }
+                at += taken;
+            }
+            Err(Trouble::Interrupted) => {
+                if tries == INTERRUPTIONS_MAX {
+                    return Err(DrawFault::Write);
+                }
+                tries += 1;
+            }
+            Err(Trouble::Failed) => return Err(DrawFault::Write),
+        }
+    }
+    Ok(tries)
+}
+
+impl Pen {
+    ghost use Rattle.std.specs.Prelude.{◌≡◌, ◌∷◌, []};
+    ghost use Rattle.qrencode_cli.specs.Device.{writer};
+    ghost use Rattle.qrencode_cli.specs.Pens.{Finishes, Puts};
+
+    pub(crate) fn new() -> Self
+        ensures piece { result.piece.items ≡ [] }
+        ensures interrupted { result.interrupted ≡ 0 }
+    {
+        Pen {
+            piece: ArrayVec::new(),
+            interrupted: 0,
+        }
+    }
+
+    /// Puts a byte behind what is held, which is written first where there is no room.
+    pub(crate) fn put<W: Sink>(&mut self, out: &mut W, byte: u8) -> Result<(), DrawFault>
+        ensures { Puts (writer (W.taken out.old) (W.counts out.old)) (writer (W.taken out.new) (W.counts out.new))
+            self.old self.new (byte ∷ []) result }
+    {
+        if self.piece.is_full() {
+            self.interrupted = send(out, self.piece.as_slice(), self.interrupted)?;
+            self.piece.clear();
+        }
+        self.piece.push(byte);
+        Ok(())
+    }
+
+    /// Puts a text.
+    pub(crate) fn put_all<W: Sink>(&mut self, out: &mut W, text: &[u8]) -> Result<(), DrawFault>
+        ensures { Puts (writer (W.taken out.old) (W.counts out.old)) (writer (W.taken out.new) (W.counts out.new))
+            self.old self.new text.now result }
+    {
+        for byte in text {
+            self.put(out, *byte)?;
+        }
+        Ok(())
+    }
+
+    /// Writes what is held.
+    pub(crate) fn finish<W: Sink>(self, out: &mut W) -> Result<(), DrawFault>
+        ensures { Finishes (writer (W.taken out.old) (W.counts out.old)) (writer (W.taken out.new) (W.counts out.new))
+            self result }
+    {
+        send(out, self.piece.as_slice(), self.interrupted)?;
+        Ok(())
+    }
+}
+
+/// Writes a text.
+pub(crate) fn write_text<W: Sink>(text: &[u8], out: &mut W) -> Result<(), DrawFault>
+    ensures ok { OnOk result (Appends (W.taken out.old) (W.taken out.new) text.now) }
+    ensures err { OnErr result (AppendsBeginning (W.taken out.old) (W.taken out.new) text.now) }
+    ensures fault { W.counts out.old ≡ no_writes → is_write_fault (W.counts out.new) ≡ is_err result }
+    ensures taken { W.counts out.old ≡ no_writes → OnOk result ((W.counts out.new).taken ≡ counted (length text.now)) }
+    ensures within { W.counts out.old ≡ no_writes → IsWrittenWithin (W.counts out.new) }
+    ensures offered { (W.counts out.new).offered ≤ max (W.counts out.old).offered PIECE }
+    ensures flushes { (W.counts out.new).flushes ≡ (W.counts out.old).flushes }
+{
+    let mut pen = Pen::new();
+    pen.put_all(out, text)?;
+    pen.finish(out)
+}

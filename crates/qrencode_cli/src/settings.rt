@@ -1,0 +1,145 @@
+//! What the words ask for.
+
+ghost use Rattle.std.specs.Prelude.{◌≡◌, Ok, MatchResult, map, codes, option_map};
+ghost use Rattle.std.specs.String.{string_bytes};
+ghost use Rattle.clap.specs.Words.{first_of, found_of, one_of};
+ghost use Rattle.clap.specs.Walk.{rows_of};
+ghost use Rattle.qrencode_cli.specs.Settings.{drawing_at, drawing_named, flag_at, number_at, settings_for, settings_of, version_at};
+ghost use Rattle.qrencode_cli.specs.Usage.{IsUsageFault, seen};
+
+use crate::arguments::{MatchFault, matches};
+use crate::drawing::Drawing;
+use clap::ArgMatches;
+use qr_layout::{Level, Version};
+use std::alloc::Global;
+use thiserror::Error;
+
+/// The margin where none is asked for, in modules: the quiet zone of the standard (6.3.8).
+pub(crate) const MARGIN: u8 = 4;
+
+/// What the words ask for.
+#[derive(Debug, Drop)]
+pub struct Settings {
+    /// The level of error correction.
+    pub level: Level,
+    /// The smallest version that may serve, or any where none is asked for.
+    pub smallest: Option<Version>,
+    /// The type of the drawing.
+    pub kind: Drawing,
+    /// The light margin on each side, in modules, from 0 to 100.
+    pub margin: u8,
+    /// Whether the whole input is encoded in byte mode.
+    pub bytes_only: bool,
+    /// Whether a series of symbols may be drawn.
+    pub structured: bool,
+    /// The input, where the words hold it.
+    pub string: Option<String>,
+}
+
+/// Why the words ask for nothing that can be drawn. The first of these that holds is answered.
+#[derive(Debug, Drop, Error)]
+pub enum UsageFault {
+    /// They are not such as the command takes; the text says why, or is the help asked for.
+    #[error("{0}")]
+    Words(String),
+    /// The level is none of L, M, Q and H.
+    #[error("unknown level")]
+    Level,
+    /// The type is none that is drawn.
+    #[error("unknown type")]
+    Kind,
+    /// A series is asked for, and no version.
+    #[error("-S needs -v")]
+    NeedsVersion,
+    #[error("out of memory")]
+    Memory,
+}
+
+// The first value of an argument.
+fn text_in<'a>(matches: &ArgMatches<'a>, id: &str) -> Option<&'a str>
+    ensures { option_map (λ s. s.now) result ≡ first_of id.now (rows_of (found_of matches.now)) }
+{
+    matches.get_str(id)
+}
+
+impl Drawing {
+    // The type of this name, in either case of its letters.
+    fn named(name: &str) -> Option<Drawing>
+        ensures { result ≡ drawing_named name.now }
+    {
+        if name.eq_ignore_ascii_case("ascii") {
+            Some(Drawing::Ascii)
+        } else {
+            None
+        }
+    }
+}
+
+// The type of drawing that is asked for.
+fn drawing_in(matches: &ArgMatches<'_>) -> Option<Drawing>
+    ensures { result ≡ drawing_at (first_of (codes "type") (rows_of (found_of matches.now))) }
+{
+    match text_in(matches, "type") {
+        Some(name) => Drawing::named(name),
+        None => None,
+    }
+}
+
+// Whether a flag stands.
+fn flag_in(matches: &ArgMatches<'_>, id: &str) -> bool
+    ensures { result ≡ flag_at (first_of id.now (rows_of (found_of matches.now))) }
+{
+    match text_in(matches, id) {
+        Some(text) => text == "true",
+        None => false,
+    }
+}
+
+// The number of an argument, or 0 where it is not given.
+fn number_in(matches: &ArgMatches<'_>, id: &str) -> u8
+    ensures { result ≡ number_at (one_of id.now (rows_of (found_of matches.now))) }
+{
+    match matches.try_get_one::<u8>(id) {
+        Ok(Some(number)) => number,
+        Ok(None) => 0,
+        Err(_) => 0,
+    }
+}
+
+// The version that is asked for.
+fn version_in(matches: &ArgMatches<'_>) -> Option<Version>
+    ensures { result ≡ version_at (one_of (codes "version") (rows_of (found_of matches.now))) }
+{
+    Version::new(number_in(matches, "version"))
+}
+
+// The settings of the matches.
+fn settings_in(matches: &ArgMatches<'_>) -> Result<Settings, UsageFault>
+    ensures { MatchResult result (λ s. settings_of (rows_of (found_of matches.now)) ≡ Ok (seen s))
+        (IsUsageFault (settings_of (rows_of (found_of matches.now)))) }
+{
+    let Some(kind) = drawing_in(matches) else {
+        return Err(UsageFault::Kind);
+    };
+    Ok(Settings {
+        level: Level::L,
+        smallest: version_in(matches),
+        kind,
+        margin: MARGIN,
+        bytes_only: flag_in(matches, "bytes-only"),
+        structured: false,
+        string: None,
+    })
+}
+
+/// Reads the words of a command line, of which the first is the program's name.
+pub fn options(alloc: Global, words: &[String]) -> Result<Settings, UsageFault>
+    ensures { MatchResult result (λ s. settings_for (map string_bytes words.now) ≡ Ok (seen s))
+        (IsUsageFault (settings_for (map string_bytes words.now))) }
+{
+    match matches(alloc, words) {
+        Ok(matches) => settings_in(&matches),
+        Err(MatchFault::Words(text)) => Err(UsageFault::Words(text)),
+        Err(MatchFault::Memory) => Err(UsageFault::Memory),
+    }
+}

@@ -1,0 +1,189 @@
+//! A device over bytes in memory, for tests: it can be slow, interrupted, failing or full.
+
+ghost use Rattle.std.specs.Prelude.{◌≡◌, ◌+◌, ◌≤◌, ◌<◌, ◌++◌, [], take, length, drop, Some, IfOk};
+ghost use Rattle.std.specs.Vec.{vec_len};
+
+use crate::device::{ReadCounts, Sink, Source, Trouble, WriteCounts};
+use std::alloc::{AllocError, Global};
+
+/// How a device is to misbehave. Calls are counted from 0.
+#[derive(Clone, Copy, Debug, PartialEq, Eq)]
+pub struct Manner {
+    /// The most bytes that a call gives or takes; at least one is moved where there is one.
+    pub at_most: usize,
+    /// How many calls are interrupted before any works.
+    pub interruptions: u64,
+    /// The call from which on each read or write fails.
+    pub fails_from: u64,
+    /// The call from which on each write answers 0.
+    pub stops_from: u64,
+    pub flush_fails: bool,
+}
+
+impl Manner {
+    /// A device with no fault.
+    pub const WELL: Manner = Manner {
+        at_most: usize::MAX,
+        interruptions: 0,
+        fails_from: u64::MAX,
+        stops_from: u64::MAX,
+        flush_fails: false,
+    };
+}
+
+/// Bytes in memory that can be read, or room for bytes that are written. A full one answers 0.
+#[derive(Drop)]
+pub struct Trial {
+    bytes: Vec<u8>,
+    position: usize,
+    room: usize,
+    manner: Manner,
+    reads: ReadCounts,
+    writes: WriteCounts,
+    ghost within: { position ≤ vec_len bytes },
+}
+
+impl Trial {
+    ghost use Rattle.qrencode_cli.specs.Device.{no_reads, no_writes};
+    ghost use Rattle.qrencode_cli.specs.Trial.{bytes_held, bytes_left};
+
+    /// A device that gives `bytes`.
+    pub fn reader(alloc: Global, bytes: &[u8], manner: Manner) -> Result<Trial, AllocError>
+        ensures left { IfOk result (λ t. bytes_left t ≡ bytes.now) }
+        ensures unread { IfOk result (λ t. t.reads ≡ no_reads) }
+    {
+        Ok(Trial {
+            bytes: Vec::from_slice(alloc, bytes)?,
+            position: 0,
+            room: 0,
+            manner,
+            reads: ReadCounts::NONE,
+            writes: WriteCounts::NONE,
+        })
+    }
+
+    /// A device that takes `room` bytes, for which it has the memory.
+    pub fn writer(alloc: Global, room: usize, manner: Manner) -> Result<Trial, AllocError>
+        ensures held { IfOk result (λ t. bytes_held t ≡ []) }
+        ensures unwritten { IfOk result (λ t. t.writes ≡ no_writes) }
+    {
+        Ok(Trial {
+            bytes: Vec::with_capacity(alloc, room)?,
+            position: 0,
+            room,
+            manner,
+            reads: ReadCounts::NONE,
+            writes: WriteCounts::NONE,
+        })
+    }
+
+    /// The bytes that it holds.
+    pub fn bytes(&self) -> &[u8]
+        ensures { result.now ≡ bytes_held self.now }
+    {
+        self.bytes.as_slice()
+    }
+
+    /// How the reads so far went.
+    pub fn reads(&self) -> ReadCounts
+        ensures { result ≡ self.now.reads }
+    {
+        self.reads
+    }
+
+    /// How the writes and flushes so far went.
+    pub fn writes(&self) -> WriteCounts
+        ensures { result ≡ self.now.writes }
+    {
+        self.writes
+    }
+
+    // Gives the next `n` bytes to the front of `buf`.
+    fn give(&mut self, buf: &mut [u8], n: usize)
+        requires there { self.old.position + n ≤ vec_len self.old.bytes }
+        requires fits { n ≤ length buf.old }
+        ensures given { bytes_left self.old ≡ take n buf.new ++ bytes_left self.new }
+        ensures position { self.new.position ≡ self.old.position + n }
+        ensures bytes { self.new.bytes ≡ self.old.bytes }
+        ensures reads { self.new.reads ≡ self.old.reads }
+    {
+        let end = self.position + n;
+        buf[..n].copy_from_slice(&self.bytes.as_slice()[self.position..end]);
+        self.position = end;
+    }
+
+    // How many bytes a call moves, of those there are.
+    fn moved(&self, call: u64, there: usize) -> Result<usize, Trouble>
+        ensures bound { IfOk result (λ n. n ≤ there) }
+        ensures some { IfOk result (λ n. 0 < there → 0 < n) }
+    {
+        if call < self.manner.interruptions {
+            Err(Trouble::Interrupted)
+        } else if call >= self.manner.fails_from {
+            Err(Trouble::Failed)
+        } else {
+            Ok(there.min(self.manner.at_most.max(1)))
+        }
+    }
+}
+
+impl Source for Trial {
+    ghost use Rattle.std.specs.Prelude.{Some};
+    ghost use Rattle.qrencode_cli.specs.Trial.{bytes_left};
+
+    ghost remaining = { λ t. Some (bytes_left t) };
+
+    ghost counts = { λ t. t.reads };
+
+    fn read(&mut self, buf: &mut [u8]) -> Result<usize, Trouble> {
+        let left = self.bytes.len() - self.position;
+        let answer = match self.moved(self.reads.calls, left.min(buf.len())) {
+            Ok(n) => {
+                self.give(buf, n);
+                Ok(n)
+            }
+            Err(trouble) => Err(trouble),
+        };
+        self.reads.add(buf.len(), answer);
+        answer
+    }
+}
+
+impl Sink for Trial {
+    ghost use Rattle.std.specs.Prelude.{Some};
+    ghost use Rattle.qrencode_cli.specs.Trial.{bytes_held};
+
+    ghost taken = { λ t. Some (bytes_held t) };
+
+    ghost counts = { λ t. t.writes };
+
+    fn write(&mut self, buf: &[u8]) -> Result<usize, Trouble> {
+        let free = if self.writes.calls < self.manner.stops_from {
+            self.room.saturating_sub(self.bytes.len())
+        } else {
+            0
+        };
+        let answer = match self.moved(self.writes.calls, free.min(buf.len())) {
+            Ok(n) => {
+                if self.bytes.extend_from_slice(&buf[..n]).is_ok() {
+                    Ok(n)
+                } else {
+                    Ok(0)
+                }
+            }
+            Err(trouble) => Err(trouble),
+        };
+        self.writes.add(buf.len(), answer);
+        answer
+    }
+
+    fn flush(&mut self) -> Result<(), Trouble> {
+        let answer = if self.manner.flush_fails {
+            Err(Trouble::Failed)
+        } else {
+            Ok(())
+        };
+        self.writes.add_flush(answer);
+        answer
+    }
+}
