@@ -12,9 +12,11 @@ use Rattle.std.specs.List.{sum_by}
 use Rattle.std.proofs.lemmas.List.Sums.{sum_by-cons}
 use Rattle.qr_bits.proofs.Best.{same_rank}
 
+-- a rank is itself
 same_rank_test : (m : Mode) → (rank m == rank m) ≡ true
 same_rank_test m = eq-eqb (rank m) (rank m) refl
 
+-- a function of a choice is a choice of its values
 push_cond : {A B : Type 0} (f : A → B) (b : Bool) (x y : A) → f (cond b x y) ≡ cond b (f x) (f y)
 push_cond f true x y = refl
 push_cond f false x y = refl
@@ -41,6 +43,7 @@ both_ends k (s ∷ []) m =
 both_ends k (s ∷ t ∷ ss) m =
     sym (push_cond (λ (r : List Segment). with_back r m) (rank k == rank s.mode) (record { mode = k; len = 1 + s.len } ∷ t ∷ ss) (record { mode = k; len = 1 } ∷ s ∷ t ∷ ss))
 
+-- the runs of letters with one more behind them
 pub runs_of-push : (ms : List Mode) (m : Mode) → runs_of (ms ++ m ∷ []) ≡ with_back (runs_of ms) m
 unfolding runs_of with_back
 runs_of-push [] m = refl
@@ -74,21 +77,25 @@ sum_by-with_front m (s ∷ ss) =
     (λ e. omega (arith, sum_by-cons (λ (t : Segment). t.len) (record { mode = m; len = 1 + s.len }) ss, sum_by-cons (λ (t : Segment). t.len) s ss))
     (λ e. omega (arith, sum_by-cons (λ (t : Segment). t.len) (record { mode = m; len = 1 }) (s ∷ ss)))
 
+-- the runs are as long as the letters
 pub sum_by-runs_of : (ms : List Mode) → sum_by (λ s. s.len) (runs_of ms) ≡ length ms
 unfolding runs_of
 sum_by-runs_of [] = refl
 sum_by-runs_of (m ∷ ms) = omega (arith, sum_by-with_front m (runs_of ms), sum_by-runs_of ms)
 
+-- a mode is equal to itself
 pub sameb_self : (m : Mode) → sameb the_type m m ≡ true
 sameb_self Numeric = refl
 sameb_self Alphanumeric = refl
 sameb_self Byte = refl
 
+-- behind no segment a new one begins
 pub with_back-empty : (segs : List Segment) (m : Mode) → length segs ≡ 0 → with_back segs m ≡ segs ++ record { mode = m; len = 1 } ∷ []
 unfolding with_back
 with_back-empty [] m h = refl
 with_back-empty (s ∷ ss) m h = absurd (omega arith)
 
+-- the segment read at the end, one longer, is the last that grows
 pub with_back-grown : (segs : List Segment) (m : Mode) (s : Segment) (i : ℕ) → i ≡ length segs - 1 → 0 < length segs → s ≡ get_or segs i s → s.mode ≡ m
     → set segs i (record { mode = s.mode; len = s.len + 1 }) ≡ with_back segs m
 with_back-grown segs m s i last some read same =

@@ -13,18 +13,22 @@ same_rank Alphanumeric Alphanumeric h = refl
 same_rank Byte Byte h = refl
 same_rank _ _ h = cc
 
+-- where both are so, the first is
 pub and_left : (a b : Bool) → IsTrue (a && b) → IsTrue a
 and_left true b h = refl
 and_left false b h = h
 
+-- where both are so, the second is
 pub and_right : (a b : Bool) → IsTrue (a && b) → IsTrue b
 and_right true b h = h
 and_right false b h = cc
 
+-- where each is so, both are
 pub and_both : (a b : Bool) → IsTrue a → IsTrue b → IsTrue (a && b)
 and_both true b _ h = h
 and_both false b h _ = h
 
+-- a letter of no higher rank is lower or the same
 lower_or_same : (m k : Mode) → rank m ≤ rank k → (rank m < rank k) ⊎ (m ≡ k)
 lower_or_same m k h =
     let cases : (rank m < rank k) ⊎ (rank m ≡ rank k) = grind arith in
@@ -46,6 +50,7 @@ step_least v bytes_only p x xs f cost m n below choice (k ∷ ks) h =
     let best = below (place_after p k) ks rest in
     omega (arith, choice.least k takes, best.least ks rest)
 
+-- By whatever letter a rest of the same bits begins, it is not before.
 step_first : (v : ℕ) (bytes_only : Bool) (p : Place) (x : ℕ) (xs : List ℕ) (f : Place → List Mode) (cost : Place → ℕ) (m : Mode) (n : ℕ)
     → BestBelow v bytes_only xs f cost → IsChoice v bytes_only p (x ∷ xs) cost m n
     → (ks : List Mode) → IsTrue (allowed bytes_only p (x ∷ xs) ks) → walk v p ks ≡ n → NotAfter (m ∷ f (place_after p m)) ks

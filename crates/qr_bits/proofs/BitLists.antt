@@ -2,7 +2,7 @@
 use Rattle.std.proofs.Common.{◌≡◌, ℕ, zero, suc, ◌+◌, ◌-◌, ◌*◌, ◌/◌, ◌%◌, ◌^◌, ◌<◌, ◌≤◌, Bool, true, false, cond, ◌==◌, List, [], ◌∷◌, ◌++◌, length, get_or, take, drop, replicate, refl, sym, ◌∙◌, ap, ⊎_elim, arith, lit<, lit≤, length-append, append_assoc, bit_and}
 use mir.Val.{bool_byte}
 use Rattle.std.proofs.lemmas.Bool.{cases_lt}
-use Rattle.std.proofs.lemmas.List.{get_or_append_left, get_or-append_right, length-drop, take_more, drop_more, append-nil, length-replicate}
+use Rattle.std.proofs.lemmas.List.{get_or_append_left, get_or-append_right, length-drop, take_more, drop_more, append-nil}
 use Rattle.std.proofs.lemmas.Nat.{and_mask}
 use Rattle.std.proofs.Math.Seq.{drop-cons}
 use Rattle.std.proofs.Math.Nat.{pow-suc, div-div-eq-div-mul, zero-div}
@@ -32,12 +32,14 @@ pub bits_of-one : (b : ℕ) → bits_of (b ∷ []) ≡ field 8 b
 unfolding bits_of
 bits_of-one b = append-nil (field 8 b)
 
+-- a bit of a field
 field_at : (w n i : ℕ) → i < w → get_or (field w n) i false ≡ (n / 2 ^ (w - 1 - i) % 2 == 1)
 unfolding field
 field_at zero n i h = absurd (omega arith)
 field_at (suc w) n zero h = let e : suc w - 1 - 0 ≡ w = omega arith in rw e refl
 field_at (suc w) n (suc i) h = let e : suc w - 1 - suc i ≡ w - 1 - i = omega arith in rw e (field_at w n i (omega arith))
 
+-- a bit of the first codeword
 in_first : (b : ℕ) (bs : List ℕ) (i : ℕ) → i < 8 → get_or (field 8 b ++ bits_of bs) i false ≡ codeword_bit (b ∷ bs) i
 in_first b bs i l =
     let q : i / 8 ≡ 0 = omega arith in
@@ -136,10 +138,6 @@ filled-none bytes w n bits none e =
     let left : (8 - length bits % 8) % 8 ≡ 0 = omega (arith, length-behind bytes w n bits (omega arith) e) in
     rw left (sym (append-nil bits))
 
--- whole bytes
-pub length-filled : (bits : List Bool) → length (filled bits) % 8 ≡ 0
-length-filled bits = omega (arith, length-append bits (replicate ((8 - length bits % 8) % 8) false), length-replicate ((8 - length bits % 8) % 8) false)
-
 -- one more byte
 pub bits_of-take : (bytes : List ℕ) (i : ℕ) → i < length bytes → bits_of (take (i + 1) bytes) ≡ bits_of (take i bytes) ++ field 8 (get_or bytes i 0)
 bits_of-take bytes i h =
@@ -153,20 +151,24 @@ drop_bit bs i h =
     let mask : bit_and (get_or bs (i / 8) 0 / 2 ^ (7 - i % 8)) 1 ≡ get_or bs (i / 8) 0 / 2 ^ (7 - i % 8) % 2 = and_mask _ 1 in
     rw (one, mask, drop-cons (bits_of bs) i false (omega (arith, length-bits_of bs)), bits_at bs i h) refl
 
+-- one bit more behind a number
 pub value_from-push : (a : ℕ) (bs : List Bool) (b : Bool) → value_from a (bs ++ b ∷ []) ≡ 2 * value_from a bs + cond b 1 0
 value_from-push a [] true = refl
 value_from-push a [] false = omega arith
 value_from-push a (true ∷ bs) b = value_from-push (2 * a + 1) bs b
 value_from-push a (false ∷ bs) b = value_from-push (2 * a) bs b
 
+-- bits behind a number make a number that is not too large
 pub value_from_below : (a : ℕ) (bs : List Bool) → value_from a bs < (a + 1) * 2 ^ length bs
 value_from_below a [] = omega arith
 value_from_below a (true ∷ bs) = rw (pow-suc 2 (length bs)) (omega (arith, value_from_below (2 * a + 1) bs))
 value_from_below a (false ∷ bs) = rw (pow-suc 2 (length bs)) (omega (arith, value_from_below (2 * a) bs))
 
+-- bits make a number below the power of their length
 pub value_below : (bs : List Bool) → value bs < 2 ^ length bs
 value_below bs = omega (arith, value_from_below 0 bs)
 
+-- how many bits are left
 pub left_at : (bs : List ℕ) (i : ℕ) → length (drop i (bits_of bs)) ≡ 8 * length bs - i
 left_at bs i = omega (arith, length-drop i (bits_of bs), length-bits_of bs)
 

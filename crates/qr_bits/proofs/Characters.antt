@@ -1,5 +1,5 @@
 -- The 45 characters: each has a place.
-use Rattle.std.proofs.Common.{◌≡◌, ℕ, ◌+◌, ◌<◌, ◌≤◌, ◌==◌, Bool, true, false, not, nat_lt, List, length, get_or, Option, Some, None, refl, sym, ◌∙◌, ⊎_elim, arith}
+use Rattle.std.proofs.Common.{◌≡◌, ℕ, ◌<◌, ◌≤◌, ◌==◌, Bool, true, false, not, nat_lt, List, length, get_or, Option, Some, refl, sym, ◌∙◌, ⊎_elim, arith}
 use Rattle.std.specs.List.{list_any, position, position_or_len}
 use Rattle.std.proofs.lemmas.Bool.{cases_lt, false≢true, lt-ltb, ltb-true, eqb-true, eq-eqb}
 use Rattle.std.proofs.lemmas.List.Folds.{list_any_none, list_any_at}
@@ -19,6 +19,7 @@ found p xs h =
     absurd (false≢true (sym (list_any_none p xs (All-from_get_or (λ x. p x ≡ false) xs 0 (λ i k. fails_before_first p xs i 0 (omega arith)))) ∙ h)))
     (cases_lt (position_or_len p xs) (length xs))
 
+-- a character has a value below 45
 pub character_found : (b : ℕ) → is_alphanumeric b ≡ true → character_value b < 45
 unfolding is_alphanumeric character_value characters
 character_found b h = found (λ c. c == b) characters h
@@ -28,6 +29,7 @@ pub character_place : (b : ℕ) → is_alphanumeric b ≡ true → position (λ 
 unfolding is_alphanumeric character_value
 character_place b h = rw (lt-ltb _ _ (found (λ c. c == b) characters h)) refl
 
+-- an option that holds a number
 abbrev pub some : ℕ → Option ℕ
 some n = Some n
 
@@ -40,10 +42,12 @@ pub character_again : (b : ℕ) → is_alphanumeric b ≡ true → character (ch
 unfolding is_alphanumeric character_value character
 character_again b h = eqb-true _ _ (passes_at_first (λ c. c == b) characters 0 (found (λ c. c == b) characters h))
 
+-- a character stands at its place
 at_place : (n : ℕ) → get_or characters n 0 ≡ character n
 unfolding character
 at_place n = refl
 
+-- what is not so is false
 not_true : (b : Bool) → not b ≡ true → b ≡ false
 not_true true h = cc
 not_true false h = refl
@@ -52,17 +56,21 @@ not_true false h = refl
 differs : ℕ → ℕ → Bool
 differs i k = not (character k == character i)
 
+-- no two of the 45 characters are one
 all_differ : below 45 (λ i. below i (differs i)) ≡ true
 unfolding differs character characters
 all_differ = refl
 
+-- the character is a byte
 small : ℕ → Bool
 small i = nat_lt (character i) 256
 
+-- each of the 45 characters is a byte
 all_small : below 45 small ≡ true
 unfolding small character characters
 all_small = refl
 
+-- there are 45 characters
 many : length characters ≡ 45
 unfolding characters
 many = refl

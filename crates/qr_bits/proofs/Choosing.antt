@@ -1,5 +1,5 @@
 -- The choice among the letters, one after the other.
-use Rattle.std.proofs.Common.{◌≡◌, ℕ, zero, suc, ◌+◌, ◌<◌, ◌≤◌, ◌⊎◌, Bool, true, false, cond, List, [], ◌∷◌, length, get_or, refl, sym, ◌∙◌, ap, inl, inr, ⊎_elim, arith, lit<, lit≤}
+use Rattle.std.proofs.Common.{◌≡◌, ℕ, zero, suc, ◌+◌, ◌<◌, ◌≤◌, ◌⊎◌, Bool, true, false, List, [], ◌∷◌, length, get_or, refl, sym, ◌∙◌, ap, inl, inr, ⊎_elim, arith, lit<, lit≤}
 use Rattle.std.proofs.lemmas.Bool.{false≢true, cases_eq}
 use Rattle.qr_bits.specs.declared.segment.Mode.{Mode}
 use Rattle.qr_bits.specs.declared.segment.Mode.TheVariants.{Numeric, Alphanumeric, Byte}
@@ -16,9 +16,11 @@ pub record IsChosen (may : Mode → Bool) (cost : Mode → ℕ) (limit n : ℕ) 
   pub least : (k : Mode) → rank k < n → may k ≡ true → b ≤ cost k
   pub first : (k : Mode) → rank k < n → may k ≡ true → cost k ≡ b → rank m ≤ rank k
 
+-- before any letter none is chosen
 pub chosen_none : (may : Mode → Bool) (cost : Mode → ℕ) (limit : ℕ) (m : Mode) → IsChosen may cost limit 0 m limit
 chosen_none may cost limit m = record { stands = inl refl; least = λ k h t. absurd (omega arith); first = λ k h t e. absurd (omega arith) }
 
+-- a letter below the next rank is below this one, or of it
 below_or_same : (n : ℕ) (j k : Mode) → rank j ≡ n → rank k < n + 1 → (rank k < n) ⊎ (k ≡ j)
 below_or_same n j k e h =
     ⊎_elim (λ (s : rank k ≡ rank j). inr (same_rank k j s)) (λ (d : rank k ≡ rank j → ⊥). inl (omega (arith, d))) (cases_eq (rank k) (rank j))

@@ -1,7 +1,7 @@
 -- Where the bits of segments fit a symbol, each count fits its field.
-use Rattle.std.proofs.Common.{◌≡◌, ℕ, zero, suc, ◌+◌, ◌-◌, ◌*◌, ◌/◌, ◌%◌, ◌^◌, ◌<◌, ◌≤◌, ◌⊎◌, ◌==◌, Bool, true, false, ◌&&◌, cond, leb, List, [], ◌∷◌, length, drop, refl, sym, ap, ⊎_elim, arith, subst, lit≤}
+use Rattle.std.proofs.Common.{◌≡◌, ℕ, ◌+◌, ◌-◌, ◌*◌, ◌^◌, ◌<◌, ◌≤◌, Bool, true, false, cond, leb, List, [], ◌∷◌, length, drop, refl, ap, ⊎_elim, arith, subst, lit≤}
 use borrow.Author.Tests.{leb-true}
-use Rattle.std.proofs.lemmas.Bool.{le-leb, lt-leb, cases_lt, and_parts}
+use Rattle.std.proofs.lemmas.Bool.{le-leb, lt-leb, cases_lt}
 use Rattle.qr_layout.specs.declared.level.Level.{Level}
 use Rattle.qr_layout.specs.declared.level.Level.TheVariants.{L, M, Q, H}
 use Rattle.qr_layout.specs.Versions.{total_codewords_of}
@@ -21,9 +21,11 @@ use Rattle.std.proofs.lemmas.List.{length-drop}
 abbrev most_data : ℕ → ℕ
 most_data v = cond (leb v 9) 232 (cond (leb v 26) 1370 2956)
 
+-- a test of the most data codewords
 t-most : Level → ℕ → Bool
 t-most l i = leb (data_codewords_of (i + 1) l) (most_data (i + 1))
 
+-- the test passes at each version and level
 all-most : (l : Level) → below 40 (t-most l) ≡ true
 unfolding t-most data_codewords_of total_codewords_of block_count_of correction_len_of
 all-most L = refl
@@ -31,15 +33,18 @@ all-most M = refl
 all-most Q = refl
 all-most H = refl
 
+-- a symbol has no more data codewords than its group allows
 data_most : (v : ℕ) (l : Level) → 1 ≤ v → v ≤ 40 → data_codewords_of v l ≤ most_data v
 unfolding t-most
 data_most v l a b =
     let e : v - 1 + 1 ≡ v = omega arith in
     subst (λ (n : ℕ). data_codewords_of n l ≤ most_data n) e (leb-true _ _ (below-at 40 (t-most l) (all-most l) (v - 1) (omega arith)))
 
+-- a test of the least data codewords
 t-least : Level → ℕ → Bool
 t-least l i = leb 9 (data_codewords_of (i + 1) l)
 
+-- the test passes at each version and level
 all-least : (l : Level) → below 40 (t-least l) ≡ true
 unfolding t-least data_codewords_of total_codewords_of block_count_of correction_len_of
 all-least L = refl
@@ -72,6 +77,7 @@ capacity_most v l a b =
     let most : most_data v ≤ 2956 = groups v (λ s m. cond s 232 (cond m 1370 2956) ≤ 2956) (λ _. lit≤ tt) (λ _ _. lit≤ tt) (λ _. lit≤ tt) in
     omega (arith, data_most v l a b)
 
+-- a segment whose bits fit has a count that fits
 count_fits : (v n : ℕ) (m : Mode) → segment_bits v (record { mode = m; len = n }) ≤ 8 * most_data v → n < 2 ^ count_width v m
 count_fits v n Numeric h =
     groups v (λ s m. 4 + cond s 10 (cond m 12 14) + payload_bits Numeric n ≤ 8 * cond s 232 (cond m 1370 2956) → n < 2 ^ cond s 10 (cond m 12 14))
@@ -83,6 +89,7 @@ count_fits v n Byte h =
     groups v (λ s m. 4 + cond s 8 16 + payload_bits Byte n ≤ 8 * cond s 232 (cond m 1370 2956) → n < 2 ^ cond s 8 16)
     (λ _ k. omega arith) (λ _ _ k. omega arith) (λ _ k. omega arith) h
 
+-- Where the bits of segments fit, each count fits its field.
 pub counts_fit : (v : ℕ) (l : Level) (segs : List Segment) → 1 ≤ v → v ≤ 40 → bits v segs ≤ capacity_of v l → CountsFit v segs
 unfolding CountsFit
 counts_fit v l [] a b h = tt

@@ -1,15 +1,15 @@
 -- Data codewords: there is one list of them where the stream fits, and a parse gives back what they were made of.
-use Rattle.std.proofs.Common.{◌≡◌, ℕ, zero, suc, ◌+◌, ◌-◌, ◌*◌, ◌/◌, ◌%◌, ◌<◌, ◌≤◌, min, Bool, true, false, ◌||◌, ◌==◌, nat_lt, All, List, [], ◌∷◌, ◌++◌, length, replicate, take, drop, Ok, Option, Some, None, refl, sym, ◌∙◌, ap, ⊎_elim, arith, append_assoc, length-append, append-nil}
-use Rattle.std.proofs.lemmas.Bool.{lt-ltb, cases_lt, or_left, or_right}
+use Rattle.std.proofs.Common.{◌≡◌, ℕ, zero, suc, ◌+◌, ◌-◌, ◌*◌, ◌/◌, ◌%◌, ◌<◌, ◌≤◌, min, Bool, true, false, All, List, [], ◌++◌, length, replicate, drop, Ok, Option, refl, sym, ◌∙◌, ap, ⊎_elim, arith, append_assoc, length-append, append-nil}
+use Rattle.std.proofs.lemmas.Bool.{lt-ltb, cases_lt, or_right}
 use Rattle.std.proofs.lemmas.List.{length-replicate, drop_all}
 use Rattle.qr_layout.specs.declared.level.Level.{Level}
 use Rattle.qr_layout.specs.Blocks.{data_codewords_of}
 use Rattle.qr_bits.specs.declared.segment.Segment.{Segment}
 use Rattle.qr_bits.specs.declared.header.Header.{Header}
-use Rattle.qr_bits.specs.Bits.{value, bits_of}
+use Rattle.qr_bits.specs.Bits.{bits_of}
 use Rattle.qr_bits.specs.Letters.{bits}
 use Rattle.qr_bits.specs.Stream.{header_stream, segments_stream, IsStream}
-use Rattle.qr_bits.specs.Parse.{ends, bytes_of, Content, parse}
+use Rattle.qr_bits.specs.Parse.{ends, bytes_of, parse}
 use Rattle.qr_bits.specs.Data.{capacity_of, header_bits, terminated, filled, pads, padded, IsData}
 use Rattle.qr_bits.proofs.BitLists.{length-bits_of}
 use Rattle.qr_bits.proofs.Padding.{length-header_stream}
@@ -22,6 +22,7 @@ pub length-stream : (v : ℕ) (xs : List ℕ) (segs : List Segment) (h : Option 
 length-stream v xs segs h stream is =
     omega (arith, ap length is.whole, length-append (header_stream h) (segments_stream v xs segs), length-header_stream h, length-segments_stream v xs segs is.suit)
 
+-- pad codewords are as many as are asked for
 length-pads : (n : ℕ) → length (pads n) ≡ n
 unfolding pads
 length-pads zero = refl
@@ -32,17 +33,21 @@ length-pads (suc (suc n)) = ap (λ (k : ℕ). suc (suc k)) (length-pads n)
 abbrev terminator : ℕ → List Bool → List Bool
 terminator n stream = replicate (min 4 (8 * n - length stream)) false
 
+-- the zero bits to the end of a codeword
 abbrev filling : List Bool → List Bool
 filling bits = replicate ((8 - length bits % 8) % 8) false
 
+-- the whole codewords are no more than there are, and pad codewords are the others
 whole_length : (n s : ℕ) → s ≤ 8 * n → (k : ℕ) → k ≡ s + min 4 (8 * n - s) → (w : ℕ) → w ≡ k + (8 - k % 8) % 8 → (w ≤ 8 * n) × (w / 8 + (n - w / 8) ≡ n) × (8 * (w / 8) ≡ w)
 whole_length n s h k ek w ew = (omega arith, omega arith, omega arith)
 
+-- the length of the stream up to the end of a codeword
 length-filled_terminated : (n : ℕ) (stream : List Bool) → length (filled (terminated (8 * n) stream)) ≡ length (terminated (8 * n) stream) + (8 - length (terminated (8 * n) stream) % 8) % 8
 length-filled_terminated n stream =
     let t = terminated (8 * n) stream in
     omega (arith, length-append t (filling t), length-replicate ((8 - length t % 8) % 8) false)
 
+-- the length of the stream with its terminator
 length-terminated : (n : ℕ) (stream : List Bool) → length (terminated (8 * n) stream) ≡ length stream + min 4 (8 * n - length stream)
 length-terminated n stream = omega (arith, length-append stream (terminator n stream), length-replicate (min 4 (8 * n - length stream)) false)
 
@@ -92,6 +97,7 @@ data_found v l xs segs h stream is fits =
     let none : drop (8 * n) all ≡ [] = drop_all (8 * n) all (omega arith) in
     (bytes_of n all, record { stream = stream; is_stream = is; fits = fits; bytes = w.1; codewords = sym (w.2 ∙ ap (λ (t : List Bool). bits_of (bytes_of n all) ++ t) none ∙ append-nil (bits_of (bytes_of n all))) })
 
+-- bytes of the same bits are the same
 same_bytes : (xs ys : List ℕ) → All (λ b. b < 256) xs → All (λ b. b < 256) ys → bits_of xs ≡ bits_of ys → xs ≡ ys
 same_bytes xs ys a b e =
     let len : length xs ≡ length ys = omega (arith, ap length e, length-bits_of xs, length-bits_of ys) in

@@ -1,5 +1,5 @@
 -- The bits of a lettering are a sum over its letters.
-use Rattle.std.proofs.Common.{◌≡◌, ℕ, ◌+◌, ◌/◌, ◌%◌, Bool, true, false, cond, ◌==◌, List, [], ◌∷◌, replicate, refl, sym, ◌∙◌, ap, subst, arith, suc, zero}
+use Rattle.std.proofs.Common.{◌≡◌, ℕ, ◌+◌, Bool, true, false, cond, ◌==◌, List, [], ◌∷◌, replicate, refl, sym, ◌∙◌, ap, subst, arith, suc, zero}
 use Rattle.std.proofs.lemmas.Bool.{false_from_ne_true, cond_both, cond-true, cond-false, false≢true, true≢false, eqb-true, eq-eqb}
 use Rattle.qr_bits.specs.declared.segment.Mode.{Mode}
 use Rattle.qr_bits.specs.declared.segment.Mode.TheVariants.{Numeric, Alphanumeric, Byte}
@@ -35,6 +35,7 @@ place_rank InBytes = 2
 abbrev goes_on : Place → Mode → Bool
 goes_on p m = place_rank p == rank m
 
+-- after a letter the run is of its rank
 place_rank-after : (p : Place) (m : Mode) → place_rank (place_after p m) ≡ rank m
 unfolding place_after
 place_rank-after Digit1 Numeric = refl
@@ -44,6 +45,7 @@ place_rank-after Character1 Alphanumeric = refl
 place_rank-after _ Alphanumeric = refl
 place_rank-after _ Byte = refl
 
+-- no letter goes on at the start
 at_start : (m : Mode) → goes_on Start m ≡ true → ⊥
 at_start Numeric h = false≢true h
 at_start Alphanumeric h = false≢true h
@@ -92,6 +94,7 @@ abbrev rest_bits : ℕ → Place → List Segment → ℕ
 rest_bits v p [] = 0
 rest_bits v p (s ∷ ss) = cond (goes_on p s.mode) (walk v p (replicate s.len s.mode)) (segment_bits v s) + bits v ss
 
+-- a letter, and then letters that go on with its run
 one_run : (v : ℕ) (p : Place) (m : Mode) (n : ℕ)
     → step_bits v p m + walk v (place_after p m) (replicate n m) ≡ cond (goes_on p m) (walk v p (replicate (1 + n) m)) (segment_bits v (record { mode = m; len = 1 + n }))
 unfolding walk
@@ -113,6 +116,7 @@ front_same v p m n ss =
     let f = cond-true (goes_on (place_after p m) m) (walk v (place_after p m) (replicate n m)) (segment_bits v (record { mode = m; len = n })) e in
     omega (arith, one_run v p m n, f)
 
+-- one more letter before the runs
 front : (v : ℕ) (p : Place) (m : Mode) (segs : List Segment)
     → step_bits v p m + rest_bits v (place_after p m) segs ≡ rest_bits v p (with_front m segs)
 unfolding walk
@@ -135,9 +139,11 @@ unfolding walk runs_of
 rest_bits-runs_of v p [] = refl
 rest_bits-runs_of v p (m ∷ ms) = ap (λ (n : ℕ). step_bits v p m + n) (rest_bits-runs_of v (place_after p m) ms) ∙ front v p m (runs_of ms)
 
+-- at the start no run goes on
 rest_bits-start : (v : ℕ) (segs : List Segment) → rest_bits v Start segs ≡ bits v segs
 rest_bits-start v [] = refl
 rest_bits-start v (s ∷ ss) = let e = false_from_ne_true (goes_on Start s.mode) (at_start s.mode) in rw e refl
 
+-- the bits of the runs of letters are the sum over the letters
 pub bits-runs_of : (v : ℕ) (ms : List Mode) → bits v (runs_of ms) ≡ walk v Start ms
 bits-runs_of v ms = sym (rest_bits-runs_of v Start ms ∙ rest_bits-start v (runs_of ms))

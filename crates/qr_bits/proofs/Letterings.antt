@@ -1,5 +1,5 @@
 -- The letterings of a text are what can be taken letter by letter.
-use Rattle.std.proofs.Common.{◌≡◌, ℕ, suc, ◌+◌, ◌<◌, Bool, true, false, ◌==◌, ◌&&◌, List, [], ◌∷◌, take, drop, refl, sym, ◌∙◌, subst, arith, lit<}
+use Rattle.std.proofs.Common.{◌≡◌, ℕ, suc, ◌+◌, ◌<◌, Bool, true, ◌==◌, List, [], ◌∷◌, take, drop, refl, arith, lit<}
 use Rattle.std.specs.List.{list_all}
 use Rattle.std.proofs.lemmas.Bool.{cond_both, and_parts, and_from, false≢true, eqb-true}
 use Rattle.qr_bits.specs.declared.segment.Mode.{Mode}
@@ -15,10 +15,12 @@ abbrev Positive : List Segment → Type 0
 Positive [] = Unit {0}
 Positive (s ∷ ss) = (0 < s.len) × Positive ss
 
+-- one more letter leaves no segment empty
 Positive-with_front : (m : Mode) (segs : List Segment) → Positive segs → Positive (with_front m segs)
 Positive-with_front m [] h = (lit< tt, tt)
 Positive-with_front m (s ∷ ss) h = cond_both (rank m == rank s.mode) _ _ (λ (r : List Segment). Positive r) (λ _. (omega arith, h.1)) (λ _. (lit< tt, h))
 
+-- no run is empty
 Positive-runs_of : (ms : List Mode) → Positive (runs_of ms)
 unfolding runs_of
 Positive-runs_of [] = tt
@@ -30,6 +32,7 @@ suits_cons Numeric x xs h t = and_from (is_digit x) _ (and_parts (is_digit x) tr
 suits_cons Alphanumeric x xs h t = and_from (is_alphanumeric x) _ (and_parts (is_alphanumeric x) true h).0 t
 suits_cons Byte x xs h t = refl
 
+-- where letters suit, the first does and the others do
 suits_uncons : (m : Mode) (x : ℕ) (xs : List ℕ) → suits m (x ∷ xs) ≡ true → (suits m (x ∷ []) ≡ true) × (suits m xs ≡ true)
 suits_uncons Numeric x xs h = let p = and_parts (is_digit x) _ h in (and_from (is_digit x) true p.0 refl, p.1)
 suits_uncons Alphanumeric x xs h = let p = and_parts (is_alphanumeric x) _ h in (and_from (is_alphanumeric x) true p.0 refl, p.1)
@@ -48,6 +51,7 @@ add_one m x xs (s ∷ ss) h c =
     (omega arith, omega arith, rw one (suits_cons m x (take s.len xs) h t), rw one c.3))
     (λ e. (lit< tt, omega arith, h, c))
 
+-- without its first letter a lettering covers the other bytes
 drop_one : (m : Mode) (x : ℕ) (xs : List ℕ) (segs : List Segment) → Positive segs → Covers (x ∷ xs) (with_front m segs) → (suits m (x ∷ []) ≡ true) × Covers xs segs
 unfolding Covers
 drop_one m x xs [] p c = (c.2, c.3)
@@ -77,6 +81,7 @@ take_one bytes_only p Numeric x xs h = let t = and_parts (may_use bytes_only Num
 take_one bytes_only p Alphanumeric x xs h = let t = and_parts (may_use bytes_only Alphanumeric) _ h in (t.0, and_from (is_alphanumeric x) true t.1 refl)
 take_one bytes_only p Byte x xs h = (h, refl)
 
+-- a letter that may be used and suits can be taken
 one_taken : (bytes_only : Bool) (p : Place) (m : Mode) (x : ℕ) (xs : List ℕ) → may_use bytes_only m ≡ true → suits m (x ∷ []) ≡ true → may_take bytes_only p (x ∷ xs) m ≡ true
 unfolding may_take
 one_taken bytes_only p Numeric x xs u h = and_from (may_use bytes_only Numeric) _ u (and_parts (is_digit x) true h).0

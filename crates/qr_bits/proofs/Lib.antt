@@ -17,3 +17,4 @@ pub mod Streams
 pub mod Values
 pub mod StreamReading
 pub mod DataLaws
+pub mod Pieces

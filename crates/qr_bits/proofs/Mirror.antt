@@ -1,5 +1,5 @@
 -- A text read backwards: its letterings are those of the text, backwards, with the same bits.
-use Rattle.std.proofs.Common.{◌≡◌, ℕ, suc, ◌+◌, ◌≤◌, Bool, true, false, cond, ◌==◌, List, [], ◌∷◌, ◌++◌, reverse, length, take, drop, get_or, ◌-◌, ◌<◌, refl, sym, ◌∙◌, ap, arith, append_assoc, IsTrue}
+use Rattle.std.proofs.Common.{◌≡◌, ℕ, ◌+◌, ◌≤◌, Bool, true, false, ◌==◌, List, [], ◌∷◌, ◌++◌, reverse, length, take, drop, get_or, ◌-◌, ◌<◌, refl, sym, ◌∙◌, ap, arith}
 use Rattle.std.proofs.lemmas.Bool.{cond_both, and_parts, and_from, false≢true, eqb-true, eq-eqb, ne_eqb}
 use Rattle.std.proofs.lemmas.List.{reverse-append, reverse-reverse, take_more}
 use Rattle.qr_bits.specs.declared.segment.Mode.{Mode}
@@ -7,9 +7,9 @@ use Rattle.qr_bits.specs.declared.segment.Mode.TheVariants.{Numeric, Alphanumeri
 use Rattle.qr_bits.specs.declared.segment.Segment.{Segment}
 use Rattle.qr_bits.specs.declared.place.Place.{Place}
 use Rattle.qr_bits.specs.declared.place.Place.TheVariants.{Start}
-use Rattle.qr_bits.specs.Letters.{rank, segment_bits, bits, with_front, runs_of, Covers, IsLettering, HasFit}
+use Rattle.qr_bits.specs.Letters.{rank, bits, with_front, runs_of, Covers, IsLettering, HasFit}
 use Rattle.qr_bits.specs.Growing.{with_back}
-use Rattle.qr_bits.specs.Places.{place_after, may_take, allowed, walk, IsChoice}
+use Rattle.qr_bits.specs.Places.{place_after, may_take, allowed, IsChoice}
 use Rattle.qr_bits.proofs.Best.{BestBelow, same_rank}
 use Rattle.qr_bits.proofs.Backs.{runs_of-push}
 use Rattle.qr_bits.proofs.LetterBits.{bits-runs_of}
@@ -33,6 +33,7 @@ same_take bytes_only p q x xs ys Numeric = refl
 same_take bytes_only p q x xs ys Alphanumeric = refl
 same_take bytes_only p q x xs ys Byte = refl
 
+-- what can be taken suits letter by letter
 each_allowed : (bytes_only : Bool) (p : Place) (xs : List ℕ) (ms : List Mode) → allowed bytes_only p xs ms ≡ true → Each bytes_only xs ms
 unfolding allowed
 each_allowed bytes_only p [] [] h = tt
@@ -42,6 +43,7 @@ each_allowed bytes_only p (x ∷ xs) (m ∷ ms) h =
     let parts = and_parts (may_take bytes_only p (x ∷ xs) m) _ h in
     (same_take bytes_only Start p x [] xs m ∙ parts.0, each_allowed bytes_only (place_after p m) xs ms parts.1)
 
+-- what suits letter by letter can be taken
 allowed_each : (bytes_only : Bool) (p : Place) (xs : List ℕ) (ms : List Mode) → Each bytes_only xs ms → allowed bytes_only p xs ms ≡ true
 unfolding allowed
 allowed_each bytes_only p [] [] h = refl
@@ -50,12 +52,14 @@ allowed_each bytes_only p (x ∷ xs) [] h = absurd h
 allowed_each bytes_only p (x ∷ xs) (m ∷ ms) h =
     and_from _ _ (same_take bytes_only p Start x xs [] m ∙ h.0) (allowed_each bytes_only (place_after p m) xs ms h.1)
 
+-- one more letter behind
 each_push : (bytes_only : Bool) (xs : List ℕ) (ms : List Mode) (x : ℕ) (m : Mode) → Each bytes_only xs ms → may_take bytes_only Start (x ∷ []) m ≡ true → Each bytes_only (xs ++ x ∷ []) (ms ++ m ∷ [])
 each_push bytes_only [] [] x m h t = (t, tt)
 each_push bytes_only [] (k ∷ ms) x m h t = absurd h
 each_push bytes_only (y ∷ xs) [] x m h t = absurd h
 each_push bytes_only (y ∷ xs) (k ∷ ms) x m h t = (h.0, each_push bytes_only xs ms x m h.1 t)
 
+-- letters suit read backwards too
 each_reverse : (bytes_only : Bool) (xs : List ℕ) (ms : List Mode) → Each bytes_only xs ms → Each bytes_only (reverse xs) (reverse ms)
 each_reverse bytes_only [] [] h = tt
 each_reverse bytes_only [] (m ∷ ms) h = absurd h
@@ -86,16 +90,19 @@ with_front-reverse m (s ∷ ss) =
     let t : (rank s.mode == rank m) ≡ false = ne_eqb _ _ (λ q. false≢true (sym e ∙ eq-eqb _ _ (sym q))) in
     rw t (sym (reverse-append (record { mode = m; len = 1 } ∷ s ∷ []) ss))))
 
+-- the runs of letters read backwards are their runs, backwards
 runs_of-reverse : (ms : List Mode) → runs_of (reverse ms) ≡ reverse (runs_of ms)
 unfolding runs_of
 runs_of-reverse [] = refl
 runs_of-reverse (m ∷ ms) =
     rw (reverse-append (m ∷ []) ms) (runs_of-push (reverse ms) m ∙ ap (λ (r : List Segment). with_back r m) (runs_of-reverse ms) ∙ with_front-reverse m (runs_of ms))
 
+-- the bits of segments behind others
 bits-append : (v : ℕ) (ss ts : List Segment) → bits v (ss ++ ts) ≡ bits v ss + bits v ts
 bits-append v [] ts = omega arith
 bits-append v (s ∷ ss) ts = omega (arith, bits-append v ss ts)
 
+-- segments read backwards have the same bits
 bits-reverse : (v : ℕ) (ss : List Segment) → bits v (reverse ss) ≡ bits v ss
 bits-reverse v [] = refl
 bits-reverse v (s ∷ ss) = rw (reverse-append (s ∷ []) ss) (omega (arith, bits-append v (reverse ss) (s ∷ []), bits-reverse v ss))
@@ -115,6 +122,7 @@ front_fits v bytes_only xs f cost n below small =
     let back = mirror v bytes_only (reverse xs) (f Start) (is_lettering bytes_only (reverse xs) (f Start) Start best.is_allowed) in
     (reverse (f Start), rw (reverse-reverse xs) at back.0, omega (arith, back.1, bits-runs_of v (f Start), best.has_bits))
 
+-- a front that fits has at least the bits of the best rest of the front read backwards
 pub front_least : (v : ℕ) (bytes_only : Bool) (xs : List ℕ) (f : Place → List Mode) (cost : Place → ℕ) (n : ℕ) → BestBelow v bytes_only (reverse xs) f cost → HasFit v bytes_only xs n → cost Start ≤ n
 front_least v bytes_only xs f cost n below fit =
     let ms = fit.0 in

@@ -1,5 +1,5 @@
 -- The terminator and the pad codewords.
-use Rattle.std.proofs.Common.{◌≡◌, ℕ, zero, suc, ◌+◌, ◌-◌, ◌*◌, ◌/◌, ◌%◌, ◌<◌, ◌≤◌, min, lit≤, ◌==◌, Bool, true, false, cond, List, [], ◌∷◌, ◌++◌, length, replicate, length-append, refl, sym, ◌∙◌, ap, arith, All}
+use Rattle.std.proofs.Common.{◌≡◌, ℕ, zero, suc, ◌+◌, ◌-◌, ◌*◌, ◌/◌, ◌%◌, ◌<◌, ◌≤◌, min, lit≤, ◌==◌, Bool, cond, List, [], ◌∷◌, ◌++◌, length, length-append, refl, sym, ◌∙◌, ap, arith, All}
 use Rattle.std.specs.Option.{ForSome}
 use Rattle.qr_layout.specs.declared.level.Level.{Level}
 use Rattle.qr_layout.specs.Blocks.{data_codewords_of}
@@ -21,12 +21,15 @@ pads-push (suc (suc n)) =
     let even : suc (suc n) % 2 ≡ n % 2 = omega arith in
     rw (one, even) (ap (λ (t : List ℕ). 0xEC ∷ 0x11 ∷ t) (pads-push n))
 
+-- behind an even number of pad codewords stands EC
 pub pads-even : (n : ℕ) → n % 2 ≡ 0 → pads (n + 1) ≡ pads n ++ 0xEC ∷ []
 pads-even n h = rw h at (pads-push n)
 
+-- behind an odd number of pad codewords stands 11
 pub pads-odd : (n : ℕ) → (n % 2 ≡ 0 → ⊥) → pads (n + 1) ≡ pads n ++ 0x11 ∷ []
 pads-odd n h = let one : n % 2 ≡ 1 = omega arith in rw one at (pads-push n)
 
+-- no pad codeword
 pub pads-none : (n : ℕ) → n ≡ 0 → pads n ≡ []
 unfolding pads
 pads-none zero h = refl
@@ -73,6 +76,7 @@ pub header_fits : (h : Option Header) → ForSome h (λ k. (k.position < 16) × 
 header_fits None a b = tt
 header_fits (Some h) a b = let r = a h refl in (r.0, r.1, b h refl)
 
+-- a header has at most 20 bits
 pub header_most : (h : Option Header) → header_bits h ≤ 20
 header_most None = lit≤ tt
 header_most (Some h) = lit≤ tt

@@ -11,14 +11,17 @@ use Rattle.qr_bits.specs.Letters.{payload_bits, count_width}
 use Rattle.qr_bits.specs.Parse.{◌>>=◌, Fails, values_of, mode_of, ends, number_at, payload_at, segment_at, segments_at, segments_of, begins_header, header_at}
 use borrow.Author.Tests.{leb-true}
 
+-- where two readings succeed, the first does, and the second of what it gave
 pub bind_ok : {A B : Type 0} (r : Result A ParseFault) (f : A → Result B ParseFault) (y : B) → (r >>= f) ≡ Ok y → (x : A) × (r ≡ Ok x) × (f x ≡ Ok y)
 bind_ok (Ok x) f y h = (x, refl, h)
 bind_ok (Err e) f y h = cc
 
+-- a reading behind a test that succeeds: the test was passed
 pub guard_ok : {A : Type 0} (b : Bool) (e : ParseFault) (r : Result A ParseFault) (y : A) → cond b (Err e) r ≡ Ok y → (b ≡ false) × (r ≡ Ok y)
 guard_ok true e r y h = cc
 guard_ok false e r y h = (refl, h)
 
+-- a number leaves no more bits
 number_shorter : (w : ℕ) (bits : List Bool) (n : ℕ × List Bool) → number_at w bits ≡ Ok n → length n.1 ≤ length bits
 unfolding number_at
 number_shorter w bits n h =
@@ -26,6 +29,7 @@ number_shorter w bits n h =
     let e : drop w bits ≡ n.1 = cc in
     omega (arith, length-drop w bits, ap length e)
 
+-- data leaves no more bits
 payload_shorter : (m : Mode) (n : ℕ) (bits : List Bool) (p : List ℕ × List Bool) → payload_at m n bits ≡ Ok p → length p.1 ≤ length bits
 unfolding payload_at
 payload_shorter m n bits p h =
@@ -40,9 +44,11 @@ pub bind_all : {A B : Type 0} (r : Result A ParseFault) (f : A → Result B Pars
 bind_all (Ok x) f P k y h = k x refl y h
 bind_all (Err e) f P k y h = cc
 
+-- a reading that succeeds
 abbrev pub ok : {A : Type 0} → A → Result A ParseFault
 ok a = Ok a
 
+-- what is read is one
 pub same_ok : {A : Type 0} (a b : A) → ok a ≡ ok b → a ≡ b
 same_ok a b h = cc
 
@@ -57,10 +63,12 @@ segment_shorter v bits s four h =
     let e : p.1 ≡ t.2 = ap (λ (u : Segment × List ℕ × List Bool). u.2) (same_ok (record { mode = m; len = n.0 }, p.0, p.1) t ht) in
     omega (arith, number_shorter (count_width v m) (drop 4 bits) n en, payload_shorter m n.0 n.1 p ep, length-drop 4 bits, ap length e)) t ht) t ht) s h
 
+-- where no end stands, there are four bits
 pub not_ended : (bits : List Bool) → ends bits ≡ false → 4 ≤ length bits
 unfolding ends
 not_ended bits h = ltb-false (length bits) 4 (or_parts (nat_lt (length bits) 4) (value (take 4 bits) == 0) h).0
 
+-- no bits are an end
 pub ended_empty : (bits : List Bool) → length bits ≤ 0 → ends bits ≡ true
 unfolding ends
 ended_empty bits h = or_left (nat_lt (length bits) 4) _ (lt-ltb (length bits) 4 (omega arith))
@@ -69,12 +77,14 @@ ended_empty bits h = or_left (nat_lt (length bits) 4) _ (lt-ltb (length bits) 4 
 abbrev pub step : Result (Segment × List ℕ × List Bool) ParseFault → (List Bool → Result (List Segment × List ℕ) ParseFault) → Result (List Segment × List ℕ) ParseFault
 step read next = read >>= λ s. next s.2 >>= λ r. Ok (s.0 ∷ r.0, s.1 ++ r.1)
 
+-- the rest may be read with another bound
 same_rest : (read : Result (Segment × List ℕ × List Bool) ParseFault) (n m v : ℕ)
     → ((s : Segment × List ℕ × List Bool) → read ≡ Ok s → segments_at n v s.2 ≡ segments_at m v s.2)
     → step read (segments_at n v) ≡ step read (segments_at m v)
 same_rest (Ok s) n m v h = ap (λ (q : Result (List Segment × List ℕ) ParseFault). q >>= λ r. Ok (s.0 ∷ r.0, s.1 ++ r.1)) (h s refl)
 same_rest (Err e) n m v h = refl
 
+-- the rest may be read with its own length as the bound
 each_rest : (read : Result (Segment × List ℕ × List Bool) ParseFault) (n v : ℕ)
     → ((s : Segment × List ℕ × List Bool) → read ≡ Ok s → segments_at n v s.2 ≡ segments_at (length s.2) v s.2)
     → step read (segments_at n v) ≡ step read (λ b. segments_at (length b) v b)
@@ -94,10 +104,12 @@ enough (suc n) (suc m) v bits h k =
     (λ s q. enough n m v s.2 (omega (arith, segment_shorter v bits s (not_ended bits e) q)) (omega (arith, segment_shorter v bits s (not_ended bits e) q)))))
     (cases_Bool (ends bits))
 
+-- at an end no segment is read
 pub segments_end : (v : ℕ) (bits : List Bool) → ends bits ≡ true → segments_of v bits ≡ Ok ([], [])
 unfolding segments_of segments_at
 segments_end v bits h = enough (length bits) (suc (length bits)) v bits (omega arith) (omega arith) ∙ rw h refl
 
+-- elsewhere a segment is read, and then the rest
 pub segments_step : (v : ℕ) (bits : List Bool) → ends bits ≡ false
     → segments_of v bits ≡ step (segment_at v bits) (segments_of v)
 unfolding segments_of segments_at
@@ -110,10 +122,7 @@ segments_step v bits h =
 abbrev pub behind : List Segment → List ℕ → Result (List Segment × List ℕ) ParseFault → Result (List Segment × List ℕ) ParseFault
 behind segs xs read = read >>= λ r. Ok (segs ++ r.0, xs ++ r.1)
 
-pub behind_none : (read : Result (List Segment × List ℕ) ParseFault) → behind [] [] read ≡ read
-behind_none (Ok r) = refl
-behind_none (Err e) = refl
-
+-- one segment more before the rest
 behind_one : (segs : List Segment) (xs ys : List ℕ) (s : Segment) (read : Result (List Segment × List ℕ) ParseFault)
     → behind segs xs (read >>= λ r. Ok (s ∷ r.0, ys ++ r.1)) ≡ behind (segs ++ s ∷ []) (xs ++ ys) read
 behind_one segs xs ys s (Ok r) = rw (append_assoc segs (s ∷ []) r.0, append_assoc xs ys r.1) refl
@@ -124,6 +133,7 @@ pub behind_more : (v : ℕ) (bits rest : List Bool) (segs : List Segment) (xs ys
     → behind segs xs (segments_of v bits) ≡ behind (segs ++ s ∷ []) (xs ++ ys) (segments_of v rest)
 behind_more v bits rest segs xs ys s e h = rw (segments_step v bits e, h) (behind_one segs xs ys s (segments_of v rest))
 
+-- a fault of the next segment is that of all
 pub behind_fault : (v : ℕ) (bits : List Bool) (segs : List Segment) (xs : List ℕ) (f : ParseFault) → ends bits ≡ false → segment_at v bits ≡ Err f
     → behind segs xs (segments_of v bits) ≡ Err f
 behind_fault v bits segs xs f e h = rw (segments_step v bits e, h) refl
@@ -136,6 +146,7 @@ fault_all v bits start segs xs BadMode e h i = sym i ∙ behind_fault v bits seg
 fault_all v bits start segs xs Cut e h i = sym i ∙ behind_fault v bits segs xs Cut e h
 fault_all v bits start segs xs BadValue e h i = sym i ∙ behind_fault v bits segs xs BadValue e h
 
+-- at an end all segments are read
 pub end_all : (v : ℕ) (bits start : List Bool) (segs : List Segment) (xs : List ℕ) → ends bits ≡ true
     → behind segs xs (segments_of v bits) ≡ segments_of v start → segments_of v start ≡ Ok (segs, xs)
 end_all v bits start segs xs e i =

@@ -1,5 +1,5 @@
 -- Lists of segments: their bits, their lengths, and what they cover.
-use Rattle.std.proofs.Common.{◌≡◌, ℕ, zero, suc, ◌+◌, ◌-◌, ◌*◌, ◌/◌, ◌%◌, ◌<◌, ◌≤◌, ◌↔◌, Bool, true, false, cond, ◌==◌, List, [], ◌∷◌, length, get_or, take, drop, refl, sym, ◌∙◌, ap, arith, lit≤, IsTrue, All}
+use Rattle.std.proofs.Common.{◌≡◌, ℕ, suc, ◌+◌, ◌*◌, ◌/◌, ◌%◌, ◌<◌, ◌≤◌, ◌↔◌, Bool, true, false, cond, ◌==◌, List, [], ◌∷◌, length, get_or, take, drop, refl, sym, ap, arith, lit≤, IsTrue, All}
 use Rattle.std.specs.List.{sum_by}
 use Rattle.std.proofs.lemmas.Bool.{cond_both, eqb-true}
 use Rattle.std.proofs.lemmas.List.{length-drop, drop_all}
@@ -12,6 +12,7 @@ use Rattle.qr_bits.specs.declared.segment.Segment.{Segment}
 use Rattle.qr_bits.specs.Letters.{count_width, payload_bits, segment_bits, bits, suits, Covers, runs_of, IsLeastSegmentation, HasFit}
 use Rattle.qr_bits.specs.Stream.{Suits}
 
+-- a choice between small numbers is small
 below16 : (b : Bool) (x y : ℕ) → x ≤ 16 → y ≤ 16 → cond b x y ≤ 16
 below16 true x y h k = h
 below16 false x y h k = k
@@ -26,17 +27,20 @@ count_width_bound v Byte = below16 _ 8 16 (lit≤ tt) (lit≤ tt)
 left_over : (n : ℕ) → cond (n % 3 == 0) 0 (cond (n % 3 == 1) 4 7) ≤ 7
 left_over n = grind arith
 
+-- a digit has at least ten bits in three
 digits_least : (n : ℕ) → 10 * n ≤ 3 * payload_bits Numeric n
 digits_least n =
     cond_both (n % 3 == 0) _ _ (λ (r : ℕ). 10 * n ≤ 3 * (10 * (n / 3) + r))
     (λ e. let z = eqb-true (n % 3) 0 e in omega arith)
     (λ e. cond_both (n % 3 == 1) _ _ (λ (r : ℕ). 10 * n ≤ 3 * (10 * (n / 3) + r)) (λ f. let o = eqb-true (n % 3) 1 f in omega arith) (λ f. omega arith))
 
+-- data has at most eight bits for each byte, and seven
 payload_most : (m : Mode) (n : ℕ) → payload_bits m n ≤ 8 * n + 7
 payload_most Numeric n = omega (arith, left_over n)
 payload_most Alphanumeric n = omega arith
 payload_most Byte n = omega arith
 
+-- a segment that is not empty has at most 35 bits for each byte
 segment_most : (v : ℕ) (s : Segment) → 0 < s.len → segment_bits v s ≤ 35 * s.len
 segment_most v s h = omega (arith, payload_most s.mode s.len, count_width_bound v s.mode)
 
@@ -64,6 +68,7 @@ pub covers_next : (xs : List ℕ) (segs : List Segment) (i : ℕ) (d : Segment) 
 unfolding Covers
 covers_next xs segs i d h c = let one : i + 1 ≡ suc i = omega arith in rw one (rw (drop-cons segs i d) at c)
 
+-- a segment that takes its part, and others that cover what is left, cover the whole
 pub next_covers : (xs : List ℕ) (segs : List Segment) (i : ℕ) (d : Segment) → i < length segs
     → 0 < (get_or segs i d).len → (get_or segs i d).len ≤ length xs → IsTrue (suits (get_or segs i d).mode (take (get_or segs i d).len xs)) → Covers (drop (get_or segs i d).len xs) (drop (i + 1) segs)
     → Covers xs (drop i segs)
@@ -81,9 +86,11 @@ payload_least Numeric n = digits_least n
 payload_least Alphanumeric n = omega arith
 payload_least Byte n = omega arith
 
+-- a segment has at least its head, and ten bits in three for each byte
 pub segment_least : (v : ℕ) (s : Segment) → 10 * s.len + 3 * (4 + count_width v s.mode) ≤ 3 * segment_bits v s
 segment_least v s = omega (arith, payload_least s.mode s.len)
 
+-- segments have at least ten bits in three for each byte
 pub bits_least : (v : ℕ) (xs : List ℕ) (segs : List Segment) → Suits xs segs → 10 * length xs ≤ 3 * bits v segs
 unfolding Suits
 bits_least v xs [] h = omega (arith, ap length h)

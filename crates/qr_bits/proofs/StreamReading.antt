@@ -1,7 +1,7 @@
 -- A parse reads streams, and what it reads is a stream.
-use Rattle.std.proofs.Common.{◌≡◌, ℕ, zero, suc, ◌+◌, ◌-◌, ◌*◌, ◌^◌, ◌<◌, ◌≤◌, Bool, true, false, cond, ◌==◌, ◌||◌, ◌&&◌, nat_lt, nat_le, All, List, [], ◌∷◌, ◌++◌, length, take, drop, Result, Ok, Err, Option, Some, None, refl, sym, ◌∙◌, ap, subst, ⊎_elim, arith, lit<, append_assoc, length-append, append-nil}
-use Rattle.std.proofs.lemmas.Bool.{lt-ltb, le-ltb, lt-leb, le-leb, ltb-false, ltb-true, cases_Bool, cases_lt, false≢true, eqb-true, eqb-false, ne_eqb, eq-eqb, or_parts, or_left, and_parts, and_from}
-use Rattle.std.proofs.lemmas.List.{length-take-le, length-drop, drop-drop, take-append-drop, drop_all}
+use Rattle.std.proofs.Common.{◌≡◌, ℕ, zero, suc, ◌^◌, ◌<◌, ◌≤◌, Bool, true, false, cond, ◌==◌, nat_lt, nat_le, All, List, [], ◌∷◌, ◌++◌, length, take, drop, Ok, Err, Option, Some, None, refl, sym, ◌∙◌, ap, subst, ⊎_elim, arith, lit<, append_assoc, length-append}
+use Rattle.std.proofs.lemmas.Bool.{le-ltb, lt-leb, le-leb, ltb-false, cases_Bool, cases_lt, eqb-true, and_parts}
+use Rattle.std.proofs.lemmas.List.{length-take-le, length-drop, drop-drop, take-append-drop}
 use Rattle.std.proofs.lemmas.List.Elements.{All-nil, All-append, All-take, All-drop}
 use Rattle.std.proofs.Math.Seq.{take-append_seam, drop-append_seam}
 use borrow.Author.Tests.{leb-true}
@@ -9,7 +9,6 @@ use Rattle.qr_bits.specs.declared.segment.Mode.{Mode}
 use Rattle.qr_bits.specs.declared.segment.Mode.TheVariants.{Numeric, Alphanumeric, Byte}
 use Rattle.qr_bits.specs.declared.segment.Segment.{Segment}
 use Rattle.qr_bits.specs.declared.header.Header.{Header}
-use Rattle.qr_bits.specs.declared.fault.ParseFault.{ParseFault}
 use Rattle.qr_bits.specs.declared.fault.ParseFault.TheVariants.{BadMode, Cut}
 use Rattle.qr_bits.specs.Bits.{field, value}
 use Rattle.qr_bits.specs.Letters.{count_width, payload_bits, suits}
@@ -18,18 +17,20 @@ use Rattle.qr_bits.specs.Parse.{◌>>=◌, values_of, mode_of, ends, number_at, 
 use Rattle.qr_bits.proofs.BitLists.{length-field}
 use Rattle.qr_bits.proofs.Payloads.{value_take_below}
 use Rattle.qr_bits.proofs.Parses.{bind_ok, bind_all, guard_ok, same_ok, not_ended, ended_empty, segment_shorter, segments_end, segments_step, header_whole}
-use Rattle.qr_bits.proofs.Streams.{take-field, drop-field, read_field, field_read}
+use Rattle.qr_bits.proofs.Streams.{drop-field, read_field, field_read}
 use Rattle.qr_bits.proofs.Values.{IsWritten, values_again, values_takes}
 use Rattle.qr_bits.proofs.Writing.{length-payload}
 
 -- ---- a number
 
+-- a field is read as its number
 number_again : (w n : ℕ) (rest : List Bool) → n < 2 ^ w → number_at w (field w n ++ rest) ≡ Ok (n, rest)
 unfolding number_at
 number_again w n rest h =
     let there : w ≤ length (field w n ++ rest) = omega (arith, length-append (field w n) rest, length-field w n) in
     rw (le-ltb (length (field w n ++ rest)) w there, read_field w n rest h, drop-field w n rest) refl
 
+-- what is read as a number is its field
 number_takes : (w : ℕ) (bits : List Bool) (n : ℕ × List Bool) → number_at w bits ≡ Ok n → (n.0 < 2 ^ w) × (bits ≡ field w n.0 ++ n.1)
 unfolding number_at
 number_takes w bits n h =
@@ -40,6 +41,7 @@ number_takes w bits n h =
 
 -- ---- the data
 
+-- data is read again as it was written
 payload_again : (m : Mode) (xs : List ℕ) (rest : List Bool) → All (λ b. b < 256) xs → suits m xs ≡ true → payload_at m (length xs) (payload m xs ++ rest) ≡ Ok (xs, rest)
 unfolding payload_at
 payload_again m xs rest bytes h =
@@ -48,6 +50,7 @@ payload_again m xs rest bytes h =
     let behind : drop (payload_bits m (length xs)) (payload m xs ++ rest) ≡ rest = rw len at (drop-append_seam (payload m xs) rest) in
     rw (le-ltb (length (payload m xs ++ rest)) (payload_bits m (length xs)) there, values_again m xs rest bytes h, behind) refl
 
+-- what is read as data is written so
 payload_takes : (m : Mode) (n : ℕ) (bits : List Bool) (p : List ℕ × List Bool) → payload_at m n bits ≡ Ok p → IsWritten m n bits p.0 × (p.1 ≡ drop (payload_bits m n) bits)
 unfolding payload_at
 payload_takes m n bits p h =
@@ -58,6 +61,7 @@ payload_takes m n bits p h =
 
 -- ---- a segment
 
+-- the indicator of a mode is read as the mode
 mode_again : (m : Mode) → mode_of (indicator m) ≡ Ok m
 unfolding mode_of
 mode_again Numeric = refl
@@ -71,6 +75,7 @@ mode_cases n m false true c e f g h = eqb-true n 2 f ∙ ap indicator (same_ok A
 mode_cases n m false false true e f g h = eqb-true n 4 g ∙ ap indicator (same_ok Byte m h)
 mode_cases n m false false false e f g h = cc
 
+-- what is read as a mode is its indicator
 mode_takes : (n : ℕ) (m : Mode) → mode_of n ≡ Ok m → n ≡ indicator m
 unfolding mode_of
 mode_takes n m h = mode_cases n m (n == 1) (n == 2) (n == 4) refl refl refl h
@@ -81,16 +86,19 @@ indicator_most Numeric = lit< tt
 indicator_most Alphanumeric = lit< tt
 indicator_most Byte = lit< tt
 
+-- an indicator of a mode is no terminator
 indicator_open : (m : Mode) → (indicator m == 0) ≡ false
 indicator_open Numeric = refl
 indicator_open Alphanumeric = refl
 indicator_open Byte = refl
 
+-- an indicator of a mode is not that of a header
 indicator_plain : (m : Mode) → (indicator m == 3) ≡ false
 indicator_plain Numeric = refl
 indicator_plain Alphanumeric = refl
 indicator_plain Byte = refl
 
+-- a segment begins with its indicator
 first_four : (v : ℕ) (m : Mode) (xs : List ℕ) (rest : List Bool) → (value (take 4 (segment_stream v m xs ++ rest)) ≡ indicator m) × (4 ≤ length (segment_stream v m xs ++ rest))
 unfolding segment_stream
 first_four v m xs rest =
@@ -98,6 +106,7 @@ first_four v m xs rest =
     rw (append_assoc (field 4 (indicator m)) behind rest)
     (read_field 4 (indicator m) (behind ++ rest) (indicator_most m), omega (arith, length-append (field 4 (indicator m)) (behind ++ rest), length-field 4 (indicator m)))
 
+-- a segment is read again as it was written
 segment_again : (v : ℕ) (m : Mode) (xs : List ℕ) (rest : List Bool) → All (λ b. b < 256) xs → suits m xs ≡ true → length xs < 2 ^ count_width v m
     → segment_at v (segment_stream v m xs ++ rest) ≡ Ok (record { mode = m; len = length xs }, xs, rest)
 unfolding segment_at segment_stream
@@ -122,6 +131,7 @@ record IsSegment (v : ℕ) (bits : List Bool) (s : Segment) (xs : List ℕ) (res
   fits : s.len < 2 ^ count_width v s.mode
   whole : bits ≡ segment_stream v s.mode xs ++ rest
 
+-- a segment of parts that were read
 segment_from : (v : ℕ) (m : Mode) (bits : List Bool) (n : ℕ × List Bool) (p : List ℕ × List Bool) → 4 ≤ length bits → value (take 4 bits) ≡ indicator m
     → (n.0 < 2 ^ count_width v m) × (drop 4 bits ≡ field (count_width v m) n.0 ++ n.1) → IsWritten m n.0 n.1 p.0 × (p.1 ≡ drop (payload_bits m n.0) n.1)
     → IsSegment v bits (record { mode = m; len = n.0 }) p.0 p.1
@@ -140,6 +150,7 @@ segment_from v m bits n p four e number said =
       whole = rw (w.long, append_assoc (field 4 (indicator m)) (count ++ payload m p.0) p.1, append_assoc count (payload m p.0) p.1, ← tail, ← head) (sym (take-append-drop 4 bits));
     }
 
+-- what is read as a segment is its stream
 segment_takes : (v : ℕ) (bits : List Bool) (s : Segment × List ℕ × List Bool) → 4 ≤ length bits → segment_at v bits ≡ Ok s → IsSegment v bits s.0 s.1 s.2
 unfolding segment_at segment_stream
 segment_takes v bits s four h =
@@ -162,6 +173,7 @@ opens v m xs rest =
 all_take : (n : ℕ) (xs : List ℕ) → All (λ b. b < 256) xs → All (λ b. b < 256) (take n xs) × All (λ b. b < 256) (drop n xs)
 all_take n xs h = (All-take (λ b. b < 256) n xs h, All-drop (λ b. b < 256) n xs h)
 
+-- Segments are read again as they were written, where an end stands behind them.
 pub segments_again : (v : ℕ) (xs : List ℕ) (segs : List Segment) (tail : List Bool) → All (λ b. b < 256) xs → Suits xs segs → CountsFit v segs → ends tail ≡ true
     → segments_of v (segments_stream v xs segs ++ tail) ≡ Ok (segs, xs)
 unfolding segments_stream Suits CountsFit
@@ -185,10 +197,12 @@ pub record IsSegments (v : ℕ) (bits : List Bool) (segs : List Segment) (xs : L
   pub whole : bits ≡ segments_stream v xs segs ++ tail
   pub end : ends tail ≡ true
 
+-- at an end stands the stream of no segment
 segments_none : (v : ℕ) (bits : List Bool) → ends bits ≡ true → IsSegments v bits [] []
 unfolding segments_stream Suits CountsFit
 segments_none v bits e = record { tail = bits; bytes = All-nil (λ b. b < 256); suit = refl; fits = tt; whole = refl; end = e }
 
+-- one segment before the stream of others
 segments_more : (v : ℕ) (bits rest : List Bool) (s : Segment) (ss : List Segment) (ys zs : List ℕ) → IsSegment v bits s ys rest → IsSegments v rest ss zs → IsSegments v bits (s ∷ ss) (ys ++ zs)
 unfolding segments_stream Suits CountsFit
 segments_more v bits rest s ss ys zs one others =
@@ -203,6 +217,7 @@ segments_more v bits rest s ss ys zs one others =
       end = others.end;
     }
 
+-- What is read as segments is their stream, and then an end.
 pub segments_takes : (n v : ℕ) (bits : List Bool) (r : List Segment × List ℕ) → length bits ≤ n → segments_at n v bits ≡ Ok r → IsSegments v bits r.0 r.1
 unfolding segments_at
 segments_takes zero v bits r few h =
@@ -229,6 +244,7 @@ starts rest =
     let there : 4 ≤ length (field 4 header_indicator ++ rest) = omega (arith, length-append (field 4 header_indicator) rest, length-field 4 header_indicator) in
     rw (le-leb 4 (length (field 4 header_indicator ++ rest)) there, read_field 4 header_indicator rest (lit< tt)) refl
 
+-- where a header begins, its indicator stands
 started : (bits : List Bool) → begins_header bits ≡ true → bits ≡ field 4 header_indicator ++ drop 4 bits
 unfolding begins_header
 started bits h =
@@ -249,6 +265,7 @@ header_parts bits long =
     rw (a, b, c, append_assoc (take 4 bits) (take 4 (drop 4 bits) ++ take 8 (drop 8 bits)) (drop 16 bits), append_assoc (take 4 (drop 4 bits)) (take 8 (drop 8 bits)) (drop 16 bits), last, middle)
     (sym (take-append-drop 4 bits))
 
+-- a header is read again as it was written
 header_again : (h : Header) (rest : List Bool) → HeaderFits (Some h) → first_header (header_stream (Some h) ++ rest) ≡ Ok (Some h, rest)
 unfolding first_header header_stream
 header_again h rest fits =
@@ -291,12 +308,14 @@ none_begins v xs (s ∷ ss) tail e =
     let four = first_four v s.mode part (rest ++ tail) in
     rw (append_assoc (segment_stream v s.mode part) rest tail, le-leb 4 (length (segment_stream v s.mode part ++ (rest ++ tail))) four.1, four.0, indicator_plain s.mode) refl
 
+-- a header or none is read again as it was written
 first_again : (v : ℕ) (h : Option Header) (xs : List ℕ) (segs : List Segment) (tail : List Bool) → HeaderFits h → ends tail ≡ true
     → first_header ((header_stream h ++ segments_stream v xs segs) ++ tail) ≡ Ok (h, segments_stream v xs segs ++ tail)
 unfolding first_header header_stream
 first_again v None xs segs tail fits e = rw (none_begins v xs segs tail e) refl
 first_again v (Some h) xs segs tail fits e = rw (append_assoc (header_stream (Some h)) (segments_stream v xs segs) tail) (header_again h (segments_stream v xs segs ++ tail) fits)
 
+-- what is read as a header is its fields
 header_takes : (bits : List Bool) (r : Header × List Bool) → header_at bits ≡ Ok r → HeaderFits (Some r.0) × (bits ≡ (field 4 r.0.position ++ (field 4 r.0.last ++ field 8 r.0.parity)) ++ r.1)
 unfolding header_at
 header_takes bits r h =
@@ -306,6 +325,7 @@ header_takes bits r h =
     subst P (same_ok (record { position = value (take 4 bits); last = value (take 4 (drop 4 bits)); parity = value (take 8 (drop 8 bits)) }, drop 16 bits) r g.1)
     ((value_take_below 4 bits, value_take_below 4 (drop 4 bits), value_take_below 8 (drop 8 bits)), header_parts bits long)
 
+-- what is read as a header or none is its bits
 first_takes : (bits : List Bool) (r : Option Header × List Bool) → first_header bits ≡ Ok r → HeaderFits r.0 × (bits ≡ header_stream r.0 ++ r.1)
 unfolding first_header header_stream
 first_takes bits r h =

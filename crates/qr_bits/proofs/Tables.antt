@@ -1,8 +1,8 @@
 -- A table of best letters, filled from the back.
-use Rattle.std.proofs.Common.{◌≡◌, ℕ, ◌+◌, ◌*◌, ◌≤◌, Bool, true, List, [], ◌∷◌, length, replicate, IsTrue, refl, sym, ◌∙◌, arith, lit<}
+use Rattle.std.proofs.Common.{◌≡◌, ℕ, ◌+◌, ◌*◌, ◌≤◌, Bool, true, List, [], ◌∷◌, length, replicate, IsTrue, refl, sym, arith}
 use Rattle.std.proofs.lemmas.Bool.{false≢true, and_from}
 use Rattle.qr_bits.specs.declared.segment.Mode.{Mode}
-use Rattle.qr_bits.specs.declared.segment.Mode.TheVariants.{Numeric, Alphanumeric, Byte}
+use Rattle.qr_bits.specs.declared.segment.Mode.TheVariants.{Byte}
 use Rattle.qr_bits.specs.declared.place.Place.{Place}
 use Rattle.qr_bits.specs.declared.place.Place.TheVariants.{Start, Digit1, Digit2, Digit3, Character1, Character2, InBytes}
 use Rattle.qr_bits.specs.declared.place.ByPlace.{ByPlace}
@@ -20,6 +20,7 @@ unfolding allowed may_take
 bytes_rest bytes_only p [] = refl
 bytes_rest bytes_only p (x ∷ xs) = and_from _ _ refl (bytes_rest bytes_only (place_after p Byte) xs)
 
+-- where no byte is left, no letter is the best rest
 none_best : (v : ℕ) (bytes_only : Bool) (p : Place) (ks : List Mode) (n : ℕ) → n ≡ 0 → IsTrue (allowed bytes_only p [] ks) → IsBestRest v bytes_only p [] [] n
 unfolding allowed walk
 none_best v bytes_only p [] n e h = record { is_allowed = h; has_bits = sym e; least = λ ks t. omega arith; first = λ ks t q. tt }
@@ -49,6 +50,7 @@ small_more v bytes_only xs modes rest bits n small choice p =
     let m = at_place modes p in
     omega (arith, (choice p).has_bits, step_bits_bound v p m, small (place_after p m))
 
+-- a row of zeros has zero at each place
 pub zeros : (p : Place) → at_place {T = ℕ} (record { start = 0; digit1 = 0; digit2 = 0; digit3 = 0; character1 = 0; character2 = 0; in_bytes = 0 }) p ≡ 0
 unfolding at_place
 zeros Start = refl
@@ -86,15 +88,18 @@ letters_from_best v bytes_only xs ms n best = record {
   first = λ ks h e. best.first ks (can_take bytes_only xs ks h Start) (omega (arith, bits-runs_of v ms, bits-runs_of v ks, best.has_bits));
 }
 
+-- the letters to which a table leads are the letters of least bits
 pub letters_from_table : (v : ℕ) (bytes_only : Bool) (xs : List ℕ) (rows : List (ByPlace Mode)) → IsBestTable v bytes_only xs rows → IsLetters v bytes_only xs (follow Start rows)
 letters_from_table v bytes_only xs rows table =
     let some = table Start (replicate (length xs) Byte) (bytes_rest bytes_only Start xs) in
     letters_from_best v bytes_only xs (follow Start rows) some.0 some.1
 
+-- a table leads first to the letter of its first row
 pub follow-cons : (p : Place) (row : ByPlace Mode) (rows : List (ByPlace Mode)) → follow p (row ∷ rows) ≡ at_place row p ∷ follow (place_after p (at_place row p)) rows
 unfolding follow
 follow-cons p row rows = refl
 
+-- no row leads to no letter
 pub follow-nil : (p : Place) → follow p [] ≡ []
 unfolding follow
 follow-nil p = refl

@@ -1,12 +1,11 @@
 -- The data of a segment, read again as it was written, and what is read is written so.
-use Rattle.std.proofs.Common.{◌≡◌, ℕ, zero, suc, ◌+◌, ◌-◌, ◌*◌, ◌/◌, ◌%◌, ◌^◌, ◌<◌, ◌≤◌, Bool, true, false, cond, ◌==◌, nat_lt, All, List, [], ◌∷◌, ◌++◌, length, take, drop, Result, Ok, Err, refl, sym, ◌∙◌, ap, subst, arith, append_assoc}
+use Rattle.std.proofs.Common.{◌≡◌, ℕ, zero, suc, ◌+◌, ◌*◌, ◌/◌, ◌%◌, ◌<◌, ◌≤◌, Bool, true, nat_lt, All, List, [], ◌∷◌, ◌++◌, length, take, drop, Ok, refl, sym, ◌∙◌, ap, subst, arith, append_assoc}
 use Rattle.std.specs.List.{list_all}
 use Rattle.std.proofs.lemmas.Bool.{lt-ltb, ltb-true, and_parts, and_from}
-use Rattle.std.proofs.lemmas.List.{length-take-le, length-drop, drop-drop, take-append-drop}
+use Rattle.std.proofs.lemmas.List.{length-drop, drop-drop, take-append-drop}
 use Rattle.std.proofs.lemmas.List.Elements.{All-nil, All-cons, All-head, All-tail}
 use Rattle.qr_bits.specs.declared.segment.Mode.{Mode}
 use Rattle.qr_bits.specs.declared.segment.Mode.TheVariants.{Numeric, Alphanumeric, Byte}
-use Rattle.qr_bits.specs.declared.fault.ParseFault.{ParseFault}
 use Rattle.qr_bits.specs.declared.fault.ParseFault.TheVariants.{BadValue}
 use Rattle.qr_bits.specs.Bits.{field, value, bits_of}
 use Rattle.qr_bits.specs.Letters.{is_alphanumeric, payload_bits, suits}
@@ -15,7 +14,7 @@ use Rattle.qr_bits.specs.Parse.{◌>>=◌, character, characters_of, bytes_of, v
 use Rattle.qr_bits.proofs.Characters.{character_found, character_again, character_taken}
 use Rattle.qr_bits.proofs.Payloads.{value_take_below}
 use Rattle.qr_bits.proofs.Parses.{bind_ok, same_ok}
-use Rattle.qr_bits.proofs.Streams.{take-field, drop-field, read_field, field_read, digits_again, digits_takes, are_digits, digits_suit, digits_bytes, chosen_ok}
+use Rattle.qr_bits.proofs.Streams.{drop-field, read_field, field_read, digits_again, digits_takes, are_digits, digits_suit, digits_bytes, chosen_ok}
 use Rattle.qr_bits.proofs.Writing.{two_more}
 
 -- what was read of n bytes is written so
@@ -27,6 +26,7 @@ pub record IsWritten (m : Mode) (n : ℕ) (bits : List Bool) (xs : List ℕ) : T
 
 -- ---- characters
 
+-- what is written as characters is read again
 characters_again : (xs : List ℕ) (rest : List Bool) → list_all is_alphanumeric xs ≡ true → characters_of (length xs) (character_bits xs ++ rest) ≡ Ok xs
 unfolding characters_of character_bits
 characters_again [] rest h = refl
@@ -53,12 +53,14 @@ characters_again (a ∷ b ∷ xs) rest h =
 abbrev WrittenOut : ℕ → List Bool → List ℕ → Type 0
 WrittenOut n bits xs = (length xs ≡ n) × All (λ b. b < 256) xs × (list_all is_alphanumeric xs ≡ true) × (bits ≡ character_bits xs ++ drop (payload_bits Alphanumeric n) bits)
 
+-- one character that was read
 out_one : (bits : List Bool) → 6 ≤ length bits → value (take 6 bits) < 45 → WrittenOut 1 bits (character (value (take 6 bits)) ∷ [])
 unfolding character_bits
 out_one bits h low =
     let t = character_taken (value (take 6 bits)) low in
     (refl, All-cons (λ b. b < 256) _ [] t.2 (All-nil (λ b. b < 256)), and_from _ true t.0 refl, sym (take-append-drop 6 bits) ∙ ap (λ (r : List Bool). r ++ drop 6 bits) (sym (rw t.1 (field_read 6 bits h))))
 
+-- two characters that were read before others
 out_two : (n : ℕ) (bits : List Bool) (cs : List ℕ) → 11 ≤ length bits → value (take 11 bits) < 2025 → WrittenOut n (drop 11 bits) cs
     → WrittenOut (2 + n) bits (character (value (take 11 bits) / 45) ∷ character (value (take 11 bits) % 45) ∷ cs)
 unfolding character_bits
@@ -74,6 +76,7 @@ out_two n bits cs h low w =
       rw (a.1, b.1, back, field_read 11 bits h, two_more n, append_assoc (take 11 bits) (character_bits cs) (drop (11 + payload_bits Alphanumeric n) bits), ← rest) (sym (take-append-drop 11 bits)),
     )
 
+-- what is read as characters is written so
 characters_takes : (n : ℕ) (xs : List ℕ) (bits : List Bool) → payload_bits Alphanumeric n ≤ length bits → characters_of n bits ≡ Ok xs → WrittenOut n bits xs
 unfolding characters_of character_bits
 characters_takes zero [] bits h e = (refl, All-nil (λ b. b < 256), refl, refl)

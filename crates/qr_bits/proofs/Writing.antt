@@ -1,14 +1,14 @@
 -- Writing the data of a segment, group by group, and the length of what is written.
-use Rattle.std.proofs.Common.{◌≡◌, ℕ, zero, suc, ◌+◌, ◌-◌, ◌*◌, ◌/◌, ◌%◌, ◌<◌, ◌≤◌, ◌==◌, Bool, true, false, cond, List, [], ◌∷◌, ◌++◌, length, get_or, take, drop, refl, sym, ◌∙◌, ap, arith, IsTrue, length-append, append-nil, append_assoc}
+use Rattle.std.proofs.Common.{◌≡◌, ℕ, zero, suc, ◌+◌, ◌-◌, ◌*◌, ◌/◌, ◌%◌, ◌<◌, ◌≤◌, Bool, true, List, [], ◌∷◌, ◌++◌, length, get_or, take, drop, refl, sym, ◌∙◌, ap, arith, length-append, append_assoc}
 use Rattle.std.specs.List.{list_all}
-use Rattle.std.proofs.lemmas.Bool.{and_parts, le-leb}
+use Rattle.std.proofs.lemmas.Bool.{and_parts}
 use Rattle.std.proofs.lemmas.List.{length-take-le, drop_all}
 use Rattle.std.proofs.Math.Seq.{drop-cons}
 use Rattle.qr_bits.specs.declared.segment.Mode.{Mode}
 use Rattle.qr_bits.specs.declared.segment.Mode.TheVariants.{Numeric, Alphanumeric, Byte}
 use Rattle.qr_bits.specs.declared.segment.Segment.{Segment}
-use Rattle.qr_bits.specs.Bits.{field, bits_of}
-use Rattle.qr_bits.specs.Letters.{count_width, payload_bits, segment_bits, bits, suits, Covers}
+use Rattle.qr_bits.specs.Bits.{field}
+use Rattle.qr_bits.specs.Letters.{count_width, payload_bits, segment_bits, bits, Covers}
 use Rattle.qr_bits.specs.Stream.{digit_bits, character_value, character_bits, payload, segment_stream, segments_stream, Suits}
 use Rattle.qr_bits.proofs.BitLists.{length-field, length-bits_of}
 
@@ -18,6 +18,7 @@ all_rest p xs zero h = h
 all_rest p [] (suc n) h = h
 all_rest p (x ∷ xs) (suc n) h = all_rest p xs n (and_parts (p x) _ h).1
 
+-- where all bytes pass, each does
 pub all_at : (p : ℕ → Bool) (xs : List ℕ) (i : ℕ) → list_all p xs ≡ true → i < length xs → p (get_or xs i 0) ≡ true
 all_at p [] i h l = absurd (omega arith)
 all_at p (x ∷ xs) zero h l = (and_parts (p x) _ h).0
@@ -25,6 +26,7 @@ all_at p (x ∷ xs) (suc i) h l = all_at p xs i (and_parts (p x) _ h).1 (omega a
 
 -- ---- digits
 
+-- a group of three digits, and the digits behind it
 pub digits_three : (xs : List ℕ) → 3 ≤ length xs
     → digit_bits xs ≡ field 10 (100 * (get_or xs 0 0 - 48) + 10 * (get_or xs 1 0 - 48) + (get_or xs 2 0 - 48)) ++ digit_bits (drop 3 xs)
 unfolding digit_bits
@@ -33,6 +35,7 @@ digits_three (a ∷ []) h = absurd (omega arith)
 digits_three (a ∷ b ∷ []) h = absurd (omega arith)
 digits_three (a ∷ b ∷ c ∷ xs) h = refl
 
+-- two digits left over
 pub digits_two_left : (xs : List ℕ) → length xs ≡ 2 → digit_bits xs ≡ field 7 (10 * (get_or xs 0 0 - 48) + (get_or xs 1 0 - 48))
 unfolding digit_bits
 digits_two_left [] h = absurd (omega arith)
@@ -40,12 +43,14 @@ digits_two_left (a ∷ []) h = absurd (omega arith)
 digits_two_left (a ∷ b ∷ []) h = refl
 digits_two_left (a ∷ b ∷ c ∷ xs) h = absurd (omega arith)
 
+-- one digit left over
 pub digits_one_left : (xs : List ℕ) → length xs ≡ 1 → digit_bits xs ≡ field 4 (get_or xs 0 0 - 48)
 unfolding digit_bits
 digits_one_left [] h = absurd (omega arith)
 digits_one_left (a ∷ []) h = refl
 digits_one_left (a ∷ b ∷ xs) h = absurd (omega arith)
 
+-- no digit left over
 pub digits_none_left : (xs : List ℕ) → length xs ≡ 0 → digit_bits xs ≡ []
 unfolding digit_bits
 digits_none_left [] h = refl
@@ -53,6 +58,7 @@ digits_none_left (a ∷ xs) h = absurd (omega arith)
 
 -- ---- characters
 
+-- a pair of characters, and the characters behind it
 pub characters_two : (xs : List ℕ) → 2 ≤ length xs
     → character_bits xs ≡ field 11 (45 * character_value (get_or xs 0 0) + character_value (get_or xs 1 0)) ++ character_bits (drop 2 xs)
 unfolding character_bits
@@ -60,12 +66,14 @@ characters_two [] h = absurd (omega arith)
 characters_two (a ∷ []) h = absurd (omega arith)
 characters_two (a ∷ b ∷ xs) h = refl
 
+-- one character left over
 pub characters_one_left : (xs : List ℕ) → length xs ≡ 1 → character_bits xs ≡ field 6 (character_value (get_or xs 0 0))
 unfolding character_bits
 characters_one_left [] h = absurd (omega arith)
 characters_one_left (a ∷ []) h = refl
 characters_one_left (a ∷ b ∷ xs) h = absurd (omega arith)
 
+-- no character left over
 pub characters_none_left : (xs : List ℕ) → length xs ≡ 0 → character_bits xs ≡ []
 unfolding character_bits
 characters_none_left [] h = refl
@@ -73,15 +81,18 @@ characters_none_left (a ∷ xs) h = absurd (omega arith)
 
 -- ---- lengths
 
+-- three digits more have ten bits more
 pub three_more : (n : ℕ) → payload_bits Numeric (3 + n) ≡ 10 + payload_bits Numeric n
 three_more n =
     let q : (3 + n) / 3 ≡ 1 + n / 3 = omega arith in
     let r : (3 + n) % 3 ≡ n % 3 = omega arith in
     rw (q, r) (omega arith)
 
+-- two characters more have eleven bits more
 pub two_more : (n : ℕ) → payload_bits Alphanumeric (2 + n) ≡ 11 + payload_bits Alphanumeric n
 two_more n = omega arith
 
+-- digits have their bits
 length-digit_bits : (xs : List ℕ) → length (digit_bits xs) ≡ payload_bits Numeric (length xs)
 unfolding digit_bits
 length-digit_bits [] = refl
@@ -92,6 +103,7 @@ length-digit_bits (a ∷ b ∷ c ∷ xs) =
     let e : suc (suc (suc (length xs))) ≡ 3 + length xs = omega arith in
     omega (arith, length-append (field 10 g) (digit_bits xs), length-field 10 g, length-digit_bits xs, three_more (length xs), ap (payload_bits Numeric) e)
 
+-- characters have their bits
 length-character_bits : (xs : List ℕ) → length (character_bits xs) ≡ payload_bits Alphanumeric (length xs)
 unfolding character_bits
 length-character_bits [] = refl
@@ -101,6 +113,7 @@ length-character_bits (a ∷ b ∷ xs) =
     let e : suc (suc (length xs)) ≡ 2 + length xs = omega arith in
     omega (arith, length-append (field 11 g) (character_bits xs), length-field 11 g, length-character_bits xs, two_more (length xs), ap (payload_bits Alphanumeric) e)
 
+-- data has its bits
 pub length-payload : (m : Mode) (xs : List ℕ) → length (payload m xs) ≡ payload_bits m (length xs)
 unfolding payload
 length-payload Numeric xs = length-digit_bits xs
@@ -131,11 +144,13 @@ covers_suits xs (s ∷ ss) h = (h.1, h.2, covers_suits (drop s.len xs) ss h.3)
 
 -- ---- segments, one after the other
 
+-- the stream of segments from one on
 pub stream_next : (v : ℕ) (xs : List ℕ) (segs : List Segment) (i : ℕ) (d : Segment) → i < length segs
     → segments_stream v xs (drop i segs) ≡ segment_stream v (get_or segs i d).mode (take (get_or segs i d).len xs) ++ segments_stream v (drop (get_or segs i d).len xs) (drop (i + 1) segs)
 unfolding segments_stream
 stream_next v xs segs i d h = let one : i + 1 ≡ suc i = omega arith in rw (one, drop-cons segs i d) refl
 
+-- no segment has no bits
 pub stream_end : (v : ℕ) (xs : List ℕ) (segs : List Segment) (i : ℕ) → length segs ≤ i → segments_stream v xs (drop i segs) ≡ []
 unfolding segments_stream
 stream_end v xs segs i h = rw (drop_all i segs h) refl

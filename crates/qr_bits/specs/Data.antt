@@ -1,11 +1,10 @@
 -- The data codewords of a symbol: the stream, the terminator and the padding. Public clauses cite these.
-use Rattle.std.specs.Prelude.{◌≡◌, ℕ, zero, suc, ◌+◌, ◌-◌, ◌*◌, ◌/◌, ◌%◌, ◌<◌, ◌≤◌, min, Bool, false, List, [], ◌∷◌, ◌++◌, length, replicate, All, Option, Some, None}
+use Rattle.std.specs.Prelude.{◌≡◌, ℕ, zero, suc, ◌-◌, ◌*◌, ◌/◌, ◌%◌, ◌<◌, ◌≤◌, min, Bool, false, List, [], ◌∷◌, ◌++◌, length, replicate, All, Option, Some, None}
 use Rattle.qr_layout.specs.declared.level.Level.{Level}
 use Rattle.qr_layout.specs.Blocks.{data_codewords_of}
 use Rattle.qr_bits.specs.declared.segment.Segment.{Segment}
 use Rattle.qr_bits.specs.declared.header.Header.{Header}
 use Rattle.qr_bits.specs.Bits.{bits_of}
-use Rattle.qr_bits.specs.Letters.{bits}
 use Rattle.qr_bits.specs.Stream.{IsStream}
 
 -- the bits that the data codewords of a symbol hold (ISO/IEC 18004:2015, 7.4.10, Table 7)

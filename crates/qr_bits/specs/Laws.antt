@@ -14,50 +14,85 @@ use Rattle.qr_bits.specs.Parse.{ends, parse}
 -- A parse gives a header, segments and bytes exactly where the bits are their stream and then an end: fewer than four
 -- bits, or the terminator and anything (ISO/IEC 18004:2015, 7.4.1, 7.4.9, 8.1).
 abbrev pub StreamsAreParsed : Type 0
-StreamsAreParsed = (v : ℕ) (bits : List Bool) (h : Option Header) (segs : List Segment) (xs : List ℕ)
+StreamsAreParsed =
+    (v : ℕ) (bits : List Bool) (h : Option Header) (segs : List Segment) (xs : List ℕ)
     → (parse v bits ≡ Ok (record { header = h; segments = segs; bytes = xs }))
-    ↔ ((front : List Bool) × (tail : List Bool) × IsStream v xs segs h front × (bits ≡ front ++ tail) × (ends tail ≡ true))
+    ↔ ((front : List Bool) × (tail : List Bool)
+    × IsStream v xs segs h front × (bits ≡ front ++ tail) × (ends tail ≡ true))
 
 -- A parse of data codewords gives back the header, the segments and the bytes that they were made of [own].
 abbrev pub DataAreParsed : Type 0
-DataAreParsed = (v : ℕ) (l : Level) (xs : List ℕ) (segs : List Segment) (h : Option Header) (cw : List ℕ) → IsData v l xs segs h cw
+DataAreParsed =
+    (v : ℕ) (l : Level) (xs : List ℕ) (segs : List Segment) (h : Option Header) (cw : List ℕ)
+    → IsData v l xs segs h cw
     → parse v (bits_of cw) ≡ Ok (record { header = h; segments = segs; bytes = xs })
 
 -- A stream has the bits of its header and its segments [own].
 abbrev pub StreamsHaveTheirBits : Type 0
-StreamsHaveTheirBits = (v : ℕ) (xs : List ℕ) (segs : List Segment) (h : Option Header) (stream : List Bool) → IsStream v xs segs h stream
+StreamsHaveTheirBits =
+    (v : ℕ) (xs : List ℕ) (segs : List Segment) (h : Option Header) (stream : List Bool)
+    → IsStream v xs segs h stream
     → length stream ≡ header_bits h + bits v segs
 
 -- Where there is a stream that fits, there are data codewords [own].
 abbrev pub DataAreThere : Type 0
-DataAreThere = (v : ℕ) (l : Level) (xs : List ℕ) (segs : List Segment) (h : Option Header) (stream : List Bool) → IsStream v xs segs h stream
-    → length stream ≤ capacity_of v l → (cw : List ℕ) × IsData v l xs segs h cw
+DataAreThere =
+    (v : ℕ) (l : Level) (xs : List ℕ) (segs : List Segment) (h : Option Header) (stream : List Bool)
+    → IsStream v xs segs h stream
+    → length stream ≤ capacity_of v l
+    → (cw : List ℕ) × IsData v l xs segs h cw
 
 -- There is only one list of data codewords [own].
 abbrev pub DataAreOne : Type 0
-DataAreOne = (v : ℕ) (l : Level) (xs : List ℕ) (segs : List Segment) (h : Option Header) (cw dw : List ℕ) → IsData v l xs segs h cw → IsData v l xs segs h dw
+DataAreOne =
+    (v : ℕ) (l : Level) (xs : List ℕ) (segs : List Segment) (h : Option Header) (cw dw : List ℕ)
+    → IsData v l xs segs h cw
+    → IsData v l xs segs h dw
     → cw ≡ dw
 
 -- The data codewords are as many as the symbol holds (ISO/IEC 18004:2015, 7.4.10).
 abbrev pub DataFillTheSymbol : Type 0
-DataFillTheSymbol = (v : ℕ) (l : Level) (xs : List ℕ) (segs : List Segment) (h : Option Header) (cw : List ℕ) → IsData v l xs segs h cw
+DataFillTheSymbol =
+    (v : ℕ) (l : Level) (xs : List ℕ) (segs : List Segment) (h : Option Header) (cw : List ℕ)
+    → IsData v l xs segs h cw
     → length cw ≡ data_codewords_of v l
 
 -- Where the bits of segments that take the bytes fit the symbol, each count fits its field [own].
 abbrev pub CountsFitWhereBitsFit : Type 0
-CountsFitWhereBitsFit = (v : ℕ) (l : Level) (xs : List ℕ) (segs : List Segment) → 1 ≤ v → v ≤ 40 → Suits xs segs → bits v segs ≤ capacity_of v l
+CountsFitWhereBitsFit =
+    (v : ℕ) (l : Level) (xs : List ℕ) (segs : List Segment)
+    → 1 ≤ v
+    → v ≤ 40
+    → Suits xs segs
+    → bits v segs ≤ capacity_of v l
     → CountsFit v segs
 
 -- Where some lettering of the bytes fits a symbol, there are at most 7,089 bytes [own].
 abbrev pub FittingInputsAreShort : Type 0
-FittingInputsAreShort = (v : ℕ) (l : Level) (bytes_only : Bool) (xs : List ℕ) → 1 ≤ v → v ≤ 40 → HasFit v bytes_only xs (capacity_of v l)
+FittingInputsAreShort =
+    (v : ℕ) (l : Level) (bytes_only : Bool) (xs : List ℕ)
+    → 1 ≤ v
+    → v ≤ 40
+    → HasFit v bytes_only xs (capacity_of v l)
     → length xs ≤ 7089
 
 -- The least segmentation covers the bytes, and fits exactly where some lettering does [own].
 abbrev pub LeastSegmentationsFit : Type 0
-LeastSegmentationsFit = (v : ℕ) (bytes_only : Bool) (xs : List ℕ) (segs : List Segment) → IsLeastSegmentation v bytes_only xs segs
+LeastSegmentationsFit =
+    (v : ℕ) (bytes_only : Bool) (xs : List ℕ) (segs : List Segment)
+    → IsLeastSegmentation v bytes_only xs segs
     → Covers xs segs × ((n : ℕ) → HasFit v bytes_only xs n ↔ (bits v segs ≤ n))
 
--- Item k of the bits of codewords is bit k in closed form [own].
+-- Where some lettering of a text has at most n bits, some lettering of each piece of it has [own].
+abbrev pub PiecesNeedNoMore : Type 0
+PiecesNeedNoMore =
+    (v : ℕ) (bytes_only : Bool) (xs ys zs : List ℕ) (n : ℕ)
+    → HasFit v bytes_only (xs ++ (ys ++ zs)) n
+    → HasFit v bytes_only ys n
+
+-- Item k of the bits of codewords is bit k in closed form (ISO/IEC 18004:2015, 7.7.3).
 abbrev pub BitsAreCodewordBits : Type 0
-BitsAreCodewordBits = (cw : List ℕ) (k : ℕ) → k < 8 * length cw → slice_index_or (bits_of cw) k false ≡ codeword_bit cw k
+BitsAreCodewordBits =
+    (cw : List ℕ) (k : ℕ)
+    → k < 8 * length cw
+    → slice_index_or (bits_of cw) k false ≡ codeword_bit cw k

@@ -10,8 +10,8 @@ use Rattle.qr_bits.specs.declared.fault.ParseFault.TheVariants.{Memory, BadMode,
 use Rattle.qr_bits.specs.Bits.{value}
 use Rattle.qr_bits.specs.Letters.{characters, count_width, payload_bits}
 
--- a reading, and then another of what it gave; the first fault stands
 infixl 10 ◌>>=◌
+-- a reading, and then another of what it gave; the first fault stands
 abbrev pub ◌>>=◌ : {A B : Type 0} → Result A ParseFault → (A → Result B ParseFault) → Result B ParseFault
 (Ok x) >>= f = f x
 (Err e) >>= f = Err e

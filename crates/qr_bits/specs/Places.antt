@@ -3,7 +3,7 @@ use Rattle.std.specs.Prelude.{◌≡◌, ℕ, ◌+◌, ◌≤◌, Bool, true, fa
 use Rattle.qr_bits.specs.declared.segment.Mode.{Mode}
 use Rattle.qr_bits.specs.declared.segment.Mode.TheVariants.{Numeric, Alphanumeric, Byte}
 use Rattle.qr_bits.specs.declared.place.Place.{Place}
-use Rattle.qr_bits.specs.declared.place.Place.TheVariants.{Start, Digit1, Digit2, Digit3, Character1, Character2, InBytes}
+use Rattle.qr_bits.specs.declared.place.Place.TheVariants.{Digit1, Digit2, Digit3, Character1, Character2, InBytes}
 use Rattle.qr_bits.specs.Letters.{count_width, is_digit, is_alphanumeric, may_use, rank, NotAfter}
 
 -- where a lettering stands after one more letter

@@ -103,7 +103,11 @@ mod tests {
         assert_eq!(rt; bits(1, &two)?, 52, "two letters and three digits");
         assert_eq!(rt; bits(10, &two)?, 62, "the same at version 10");
         assert_eq!(rt; bits(1, &[segment(Mode::Byte, 5)])?, 52, "five bytes");
-        assert_eq!(rt; bits(10, &[segment(Mode::Byte, 5)])?, 60, "five bytes at version 10");
+        assert_eq!(rt;
+            bits(10, &[segment(Mode::Byte, 5)])?,
+            60,
+            "five bytes at version 10"
+        );
         Ok(())
     }
 
@@ -117,6 +121,9 @@ mod tests {
         assert!(rt; !covers(b"1", &[digit, digit]), "a byte too many");
         assert!(rt; !covers(b"A", &[digit]), "a letter as a digit");
         assert!(rt; !covers(b"a", &[letter]), "a small letter");
-        assert!(rt; !covers(b"1", &[segment(Mode::Byte, 0), digit]), "an empty segment");
+        assert!(rt;
+            !covers(b"1", &[segment(Mode::Byte, 0), digit]),
+            "an empty segment"
+        );
     }
 }

@@ -78,7 +78,8 @@ fn put_segments(
 ) -> Result<(), AllocError>
     requires short { length input.now < 2 ^ 16 }
     requires covered { Covers input.now segs.now }
-    ensures { OnOk result (writer.new ≡ writer.old ++ segments_stream version input.now segs.now) }
+    ensures { OnOk result (writer.new
+        ≡ writer.old ++ segments_stream version input.now segs.now) }
 {
     let mut rest = input;
     for segment in segs {
@@ -261,7 +262,11 @@ mod tests {
             0x20, 0x5B, 0x0B, 0x78, 0xD1, 0x72, 0xDC, 0x4D, 0x43, 0x40, 0xEC, 0x11, 0xEC, 0x11,
             0xEC, 0x11,
         ];
-        assert_eq!(rt; data.as_slice(), wanted.as_slice(), "eleven characters at 1-M");
+        assert_eq!(rt;
+            data.as_slice(),
+            wanted.as_slice(),
+            "eleven characters at 1-M"
+        );
         let bytes = Segment {
             mode: Mode::Byte,
             len: 1,
@@ -288,7 +293,11 @@ mod tests {
         };
         let data = encode(&rt, b"ABCDE", bytes, Some(first), Level::H)?;
         let wanted = [0x30, 0x10, 0x84, 0x05, 0x41, 0x42, 0x43, 0x44, 0x45];
-        assert_eq!(rt; data.as_slice(), wanted.as_slice(), "no room for a terminator");
+        assert_eq!(rt;
+            data.as_slice(),
+            wanted.as_slice(),
+            "no room for a terminator"
+        );
         let second = Header {
             position: 1,
             last: 1,
@@ -300,7 +309,11 @@ mod tests {
         };
         let data = encode(&rt, b"FGH", bytes, Some(second), Level::H)?;
         let wanted = [0x31, 0x10, 0x84, 0x03, 0x46, 0x47, 0x48, 0x00, 0xEC];
-        assert_eq!(rt; data.as_slice(), wanted.as_slice(), "a terminator and a pad");
+        assert_eq!(rt;
+            data.as_slice(),
+            wanted.as_slice(),
+            "a terminator and a pad"
+        );
         Ok(())
     }
 

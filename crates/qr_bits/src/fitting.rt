@@ -22,6 +22,7 @@ pub(crate) fn capacity(version: Version, level: Level) -> u64
     ensures last { version ≤ 40 }
     ensures least { 72 ≤ result }
 {
+    // Its clauses say that the version is from 1 to 40.
     let _ = version.number();
     8 * u64::from(version.data_codewords(level))
 }
@@ -90,7 +91,11 @@ mod tests {
         assert_eq!(rt; fit(&rt, b"abcdefgh", true)?, 5, "eight letters");
         assert_eq!(rt; fit(&rt, b"012345678901", false)?, 11, "twelve digits");
         assert_eq!(rt; fit(&rt, b"", false)?, 0, "no byte");
-        assert_eq!(rt; fit(&rt, &[b'7'; INPUT_MAX], false)?, 11, "the longest input");
+        assert_eq!(rt;
+            fit(&rt, &[b'7'; INPUT_MAX], false)?,
+            11,
+            "the longest input"
+        );
         Ok(())
     }
 }

@@ -1,6 +1,6 @@
 //! Laws of the definitions, which hold for every input.
 
-ghost use Rattle.qr_bits.specs.Laws.{BitsAreCodewordBits, CountsFitWhereBitsFit, DataAreOne, DataAreParsed, DataAreThere, DataFillTheSymbol, FittingInputsAreShort, LeastSegmentationsFit, StreamsAreParsed, StreamsHaveTheirBits};
+ghost use Rattle.qr_bits.specs.Laws.{BitsAreCodewordBits, CountsFitWhereBitsFit, DataAreOne, DataAreParsed, DataAreThere, DataFillTheSymbol, FittingInputsAreShort, LeastSegmentationsFit, PiecesNeedNoMore, StreamsAreParsed, StreamsHaveTheirBits};
 
 /// A parse reads streams, and only streams: any segmentation, empty segments and any padding.
 pub fn streams_are_parsed()
@@ -37,6 +37,11 @@ pub fn fitting_inputs_are_short()
 /// The least segmentation covers its input, and fits where any lettering does.
 pub fn least_segmentations_fit()
     ensures { LeastSegmentationsFit }
+{}
+
+/// A piece of a text needs no more bits than the text.
+pub fn pieces_need_no_more()
+    ensures { PiecesNeedNoMore }
 {}
 
 /// The bits of codewords, one by one, highest bit first.

@@ -26,7 +26,11 @@ impl Model for Parsed {
 
     ghost Value = { Content };
 
-    ghost view = { λ p. record { header = p.header; segments = p.segments.items; bytes = p.bytes.items } };
+    ghost view = { λ p. record {
+      header = p.header;
+      segments = p.segments.items;
+      bytes = p.bytes.items;
+    } };
 }
 
 /// Reads data codewords up to the terminator, or until fewer than four bits are left; what follows
@@ -106,7 +110,8 @@ fn segment(
     out: &mut Vec<u8>,
 ) -> Result<Segment, ParseFault>
     requires { 4 ≤ length reader.old }
-    ensures ok { IfOk result (λ s. (xs : List ℕ) × (segment_at version reader.old ≡ Ok (s, xs, reader.new))
+    ensures ok { IfOk result (λ s. (xs : List ℕ)
+        × (segment_at version reader.old ≡ Ok (s, xs, reader.new))
         × (out.new.items ≡ out.old.items ++ xs)) }
     ensures err { IfErr result (λ e. Fails e (segment_at version reader.old)) }
 {
@@ -155,10 +160,12 @@ mod tests {
     {
         let version = Version::new(1).ok_or("version")?;
         let parsed = parse(rt.alloc(), codewords, version)?;
-        Ok(parsed.header == header
-            && parsed.segments.len() == usize::from(segment.is_some())
-            && parsed.segments.first().copied() == segment
-            && parsed.bytes.as_slice() == bytes)
+        Ok(
+            parsed.header == header
+                && parsed.segments.len() == usize::from(segment.is_some())
+                && parsed.segments.first().copied() == segment
+                && parsed.bytes.as_slice() == bytes,
+        )
     }
 
     fn fault(rt: &HostRuntime, codewords: &[u8]) -> Result<Option<ParseFault>, Fail>
@@ -179,9 +186,15 @@ mod tests {
         let bytes = [0x40, 0x56, 0x16, 0x23, 0x03, 0x13, 0x20];
         assert!(rt; says(&rt, &bytes, None, five, b"ab012")?, "digits as bytes");
         let none = segment(Mode::Numeric, 0);
-        assert!(rt; says(&rt, &[0x10, 0x00, 0x00], None, none, b"")?, "an empty segment");
+        assert!(rt;
+            says(&rt, &[0x10, 0x00, 0x00], None, none, b"")?,
+            "an empty segment"
+        );
         let two = segment(Mode::Alphanumeric, 2);
-        assert!(rt; says(&rt, &[0x20, 0x17, 0xE8], None, two, b"::")?, "the last pair");
+        assert!(rt;
+            says(&rt, &[0x20, 0x17, 0xE8], None, two, b"::")?,
+            "the last pair"
+        );
         let header = Some(Header {
             position: 1,
             last: 1,
@@ -189,23 +202,58 @@ mod tests {
         });
         let three = segment(Mode::Byte, 3);
         let symbol = [0x31, 0x10, 0x84, 0x03, 0x46, 0x47, 0x48, 0x00, 0xEC];
-        assert!(rt; says(&rt, &symbol, header, three, b"FGH")?, "a symbol of a series");
+        assert!(rt;
+            says(&rt, &symbol, header, three, b"FGH")?,
+            "a symbol of a series"
+        );
         Ok(())
     }
 
     #[test]
     fn faults(rt: HostRuntime) -> Result<(), Fail> {
         let bad_value = Some(ParseFault::BadValue);
-        assert_eq!(rt; fault(&rt, &[0x10, 0x0F, 0xE8])?, bad_value, "a group of 1000");
-        assert_eq!(rt; fault(&rt, &[0x10, 0x0B, 0x20])?, bad_value, "two digits of 100");
-        assert_eq!(rt; fault(&rt, &[0x20, 0x17, 0xE9])?, bad_value, "a pair of 2025");
-        assert_eq!(rt; fault(&rt, &[0x20, 0x0D, 0xA0])?, bad_value, "a single of 45");
-        assert_eq!(rt; fault(&rt, &[0x40, 0x20, 0x41])?, Some(ParseFault::Cut), "a byte missing");
-        assert_eq!(rt; fault(&rt, &[0x30])?, Some(ParseFault::Cut), "half a header");
+        assert_eq!(rt;
+            fault(&rt, &[0x10, 0x0F, 0xE8])?,
+            bad_value,
+            "a group of 1000"
+        );
+        assert_eq!(rt;
+            fault(&rt, &[0x10, 0x0B, 0x20])?,
+            bad_value,
+            "two digits of 100"
+        );
+        assert_eq!(rt;
+            fault(&rt, &[0x20, 0x17, 0xE9])?,
+            bad_value,
+            "a pair of 2025"
+        );
+        assert_eq!(rt;
+            fault(&rt, &[0x20, 0x0D, 0xA0])?,
+            bad_value,
+            "a single of 45"
+        );
+        assert_eq!(rt;
+            fault(&rt, &[0x40, 0x20, 0x41])?,
+            Some(ParseFault::Cut),
+            "a byte missing"
+        );
+        assert_eq!(rt;
+            fault(&rt, &[0x30])?,
+            Some(ParseFault::Cut),
+            "half a header"
+        );
         let bad_mode = Some(ParseFault::BadMode);
         assert_eq!(rt; fault(&rt, &[0x70])?, bad_mode, "an indicator of no mode");
-        assert_eq!(rt; fault(&rt, &[0x30, 0x10, 0x83])?, bad_mode, "a second header");
-        assert_eq!(rt; fault(&rt, &[0x80])?, bad_mode, "the indicator of kanji mode");
+        assert_eq!(rt;
+            fault(&rt, &[0x30, 0x10, 0x83])?,
+            bad_mode,
+            "a second header"
+        );
+        assert_eq!(rt;
+            fault(&rt, &[0x80])?,
+            bad_mode,
+            "the indicator of kanji mode"
+        );
         Ok(())
     }
 }

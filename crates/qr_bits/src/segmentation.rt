@@ -84,17 +84,35 @@ mod tests {
     #[test]
     fn least_segments(rt: HostRuntime) -> Result<(), Fail> {
         let mixed = [(Mode::Byte, 2), (Mode::Numeric, 3)];
-        assert!(rt; are_segments(&rt, b"ab012", 1, false, &mixed)?, "the first of equals");
+        assert!(rt;
+            are_segments(&rt, b"ab012", 1, false, &mixed)?,
+            "the first of equals"
+        );
         let whole = [(Mode::Byte, 5)];
-        assert!(rt; are_segments(&rt, b"ab012", 10, false, &whole)?, "a longer head");
+        assert!(rt;
+            are_segments(&rt, b"ab012", 10, false, &whole)?,
+            "a longer head"
+        );
         assert!(rt; are_segments(&rt, b"ab012", 1, true, &whole)?, "bytes only");
         let mixed = [(Mode::Numeric, 8), (Mode::Alphanumeric, 1)];
-        assert!(rt; are_segments(&rt, b"12345678A", 1, false, &mixed)?, "digits, a letter");
-        assert!(rt; are_segments(&rt, b"12345678A", 10, false, &mixed)?, "at version 10");
+        assert!(rt;
+            are_segments(&rt, b"12345678A", 1, false, &mixed)?,
+            "digits, a letter"
+        );
+        assert!(rt;
+            are_segments(&rt, b"12345678A", 10, false, &mixed)?,
+            "at version 10"
+        );
         let whole = [(Mode::Alphanumeric, 9)];
-        assert!(rt; are_segments(&rt, b"12345678A", 27, false, &whole)?, "at version 27");
+        assert!(rt;
+            are_segments(&rt, b"12345678A", 27, false, &whole)?,
+            "at version 27"
+        );
         let whole = [(Mode::Alphanumeric, 11)];
-        assert!(rt; are_segments(&rt, b"HELLO WORLD", 1, false, &whole)?, "eleven characters");
+        assert!(rt;
+            are_segments(&rt, b"HELLO WORLD", 1, false, &whole)?,
+            "eleven characters"
+        );
         assert!(rt; are_segments(&rt, b"", 1, false, &[])?, "no byte");
         Ok(())
     }
@@ -102,7 +120,10 @@ mod tests {
     #[test]
     fn longest_input(rt: HostRuntime) -> Result<(), Fail> {
         let whole = [(Mode::Numeric, INPUT_MAX)];
-        assert!(rt; are_segments(&rt, &[b'7'; INPUT_MAX], 40, false, &whole)?, "all digits");
+        assert!(rt;
+            are_segments(&rt, &[b'7'; INPUT_MAX], 40, false, &whole)?,
+            "all digits"
+        );
         Ok(())
     }
 }

@@ -1,7 +1,8 @@
 //! The best letter for each byte and each place before it: a table filled from the back.
 //!
 //! The bits of a rest depend only on the place before it, so for each place the best letter is the
-//! one with the fewest bits for itself and the best rest behind it.
+//! one with the fewest bits for itself and the best rest behind it. A row of the table takes seven
+//! bytes.
 
 ghost use Rattle.std.specs.Prelude.{◌≡◌, ◌+◌, ◌*◌, ◌<◌, ◌≤◌, length, reverse, IfOk, vec_len};
 ghost use Rattle.qr_bits.specs.declared.segment.Mode.{Mode};

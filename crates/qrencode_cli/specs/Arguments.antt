@@ -1,35 +1,43 @@
 -- The command's arguments in clap's words, and what clap states of the words given to it. Public clauses cite this file.
-use Rattle.std.specs.Prelude.{ℕ, true, List, codes, Some, pos, ℤ}
+use Rattle.std.specs.Prelude.{ℕ, true, List, codes, Some, pos, slice_index, ℤ}
 use Rattle.clap.specs.Words.{Kinds, fault_of}
 use Rattle.clap.specs.Walk.{Row, Rule, Text}
 use Rattle.clap.specs.Simple.{App, matches_of, new_app, new_rule, with_rule}
 use Rattle.clap.specs.declared.builder.action.ArgAction.TheVariants.{SetTrue}
 use Rattle.clap.specs.declared.builder.value_parser.ValueParser.TheVariants as parser
 
--- an option that takes a number from 0 to the given one
+-- an option that takes a text [own]
+abbrev pub text_rule : Text → ℕ → Rule
+text_rule id letter = record (new_rule id) { short = Some letter; value_names = 1 }
+
+-- an option that takes a number from 0 to the given one [own]
 abbrev pub number_rule : Text → ℕ → ℤ → Rule
-number_rule id short most =
-    record (new_rule id) { short = Some short; value_names = 1; parser = Some (parser.Signed (pos 0) most) }
+number_rule id letter most = record (text_rule id letter) { parser = Some (parser.Signed (pos 0) most) }
 
--- an option that has to be given, and takes a text
+-- an option that takes a text and has to be given [own]
 abbrev pub required_rule : Text → ℕ → Rule
-required_rule id short = record (new_rule id) { short = Some short; value_names = 1; required = true }
+required_rule id letter = record (text_rule id letter) { required = true }
 
--- an option that takes no value
+-- an option that takes no value [own]
 abbrev pub flag_rule : Text → ℕ → Rule
-flag_rule id short = record (new_rule id) { short = Some short; action = Some SetTrue }
+flag_rule id letter = record (new_rule id) { short = Some letter; action = Some SetTrue }
 
--- the command: -v with 0 or 1, -t, which has to be given, and -8 [own]
+-- the letter of a text of one [own]
+abbrev pub letter_of : Text → ℕ
+letter_of text = slice_index text 0
+
+-- the command: -l, -v with 0 to 40, -t, which has to be given, and -8 [own]
 unfoldable pub command : App
-command = with_rule (with_rule (with_rule (new_app (codes "qrencode"))
-    (number_rule (codes "version") 118 (pos 1)))
-    (required_rule (codes "type") 116))
-    (flag_rule (codes "bytes-only") 56)
+command = with_rule (with_rule (with_rule (with_rule (new_app (codes "qrencode"))
+    (text_rule (codes "level") (letter_of (codes "l"))))
+    (number_rule (codes "version") (letter_of (codes "v")) (pos 40)))
+    (required_rule (codes "type") (letter_of (codes "t"))))
+    (flag_rule (codes "bytes-only") (letter_of (codes "8")))
 
--- the matches that clap states for the words
+-- the matches that clap states for the words [own]
 unfoldable pub rows_for : List Text → List Row
 rows_for words = matches_of command words
 
--- the kinds of fault that clap states for the words: none where it takes them
+-- the kinds of fault that clap states for the words: none where it takes them [own]
 unfoldable pub faults_for : List Text → Kinds
 faults_for words = fault_of command words

@@ -1,8 +1,8 @@
 -- What some command lines ask for. A public law cites this file.
 use Rattle.std.specs.Prelude.{◌≡◌, List, [], ◌∷◌, codes, Some, None, Ok, Err, true, false}
 use Rattle.clap.specs.Walk.{Text}
-use Rattle.qr_layout.specs.declared.level.Level.TheVariants.{L}
-use Rattle.qrencode_cli.specs.Settings.{Refusal, no_matches, settings_for, unknown_type}
+use Rattle.qr_layout.specs.declared.level.Level.TheVariants.{H, L}
+use Rattle.qrencode_cli.specs.Settings.{Refusal, no_matches, settings_for, unknown_level, unknown_type}
 use Rattle.qrencode_cli.specs.declared.drawing.Drawing.TheVariants.{Ascii}
 
 -- the words are refused, the program's name left aside
@@ -38,17 +38,28 @@ pub record RowsOfWords : Type 0 where
     structured = false;
     string = None;
   })
+  pub highest : settings_for (codes "qrencode" ∷ codes "-t" ∷ codes "ascii" ∷ codes "-l" ∷ codes "h" ∷ codes "-v" ∷ codes "40" ∷ []) ≡ Ok (record {
+    level = H;
+    smallest = Some 40;
+    kind = Ascii;
+    margin = 4;
+    bytes_only = false;
+    structured = false;
+    string = None;
+  })
   pub no_words : settings_for [] ≡ Err no_matches
   pub name_alone : Refused [] no_matches
   pub no_type : Refused (codes "-8" ∷ []) no_matches
   pub other_type : Refused (codes "-t" ∷ codes "PNG" ∷ []) unknown_type
   pub drawing_to_come : Refused (codes "-t" ∷ codes "SVG" ∷ []) unknown_type
   pub empty_type : Refused (codes "-t" ∷ codes "" ∷ []) unknown_type
-  pub past_versions : Refused (codes "-v" ∷ codes "2" ∷ codes "-t" ∷ codes "ASCII" ∷ []) no_matches
+  pub other_level : Refused (codes "-l" ∷ codes "X" ∷ codes "-t" ∷ codes "PNG" ∷ []) unknown_level
+  pub empty_level : Refused (codes "-l" ∷ codes "" ∷ codes "-t" ∷ codes "ASCII" ∷ []) unknown_level
+  pub level_twice : Refused (codes "-l" ∷ codes "L" ∷ codes "-l" ∷ codes "L" ∷ codes "-t" ∷ codes "ASCII" ∷ []) no_matches
+  pub past_versions : Refused (codes "-v" ∷ codes "41" ∷ codes "-t" ∷ codes "ASCII" ∷ []) no_matches
   pub type_twice : Refused (codes "-t" ∷ codes "ASCII" ∷ codes "-t" ∷ codes "ASCII" ∷ []) no_matches
   pub flag_twice : Refused (codes "-8" ∷ codes "-8" ∷ codes "-t" ∷ codes "ASCII" ∷ []) no_matches
   pub string : Refused (codes "-t" ∷ codes "ASCII" ∷ codes "A" ∷ []) no_matches
-  pub level : Refused (codes "-l" ∷ codes "L" ∷ codes "-t" ∷ codes "ASCII" ∷ []) no_matches
   pub margin : Refused (codes "-m" ∷ codes "0" ∷ codes "-t" ∷ codes "ASCII" ∷ []) no_matches
   pub structured : Refused (codes "-S" ∷ codes "-t" ∷ codes "ASCII" ∷ []) no_matches
   pub kanji : Refused (codes "-k" ∷ codes "-t" ∷ codes "ASCII" ∷ []) no_matches

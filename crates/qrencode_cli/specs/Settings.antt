@@ -27,6 +27,19 @@ pub record Seen : Type 0 where
   pub structured : Bool
   pub string : Option Text
 
+-- the level that a word names, in either case of its letter (ISO/IEC 18004:2015, 7.5.1)
+abbrev pub level_named : Text → Option Level
+level_named t =
+    if str_eq_ignore_ascii_case t (codes "l") then Some level.L else
+    (if str_eq_ignore_ascii_case t (codes "m") then Some level.M else
+    (if str_eq_ignore_ascii_case t (codes "q") then Some level.Q else
+    (if str_eq_ignore_ascii_case t (codes "h") then Some level.H else None)))
+
+-- the level that is asked for, L where none is [own]
+abbrev pub level_at : Option Text → Option Level
+level_at None = Some level.L
+level_at (Some t) = level_named t
+
 -- the type of drawing that a word names, in either case of its ASCII letters [own]
 abbrev pub drawing_named : Text → Option Drawing
 drawing_named t = if str_eq_ignore_ascii_case t (codes "ascii") then Some drawing.Ascii else None
@@ -52,22 +65,32 @@ version_at o = version_numbered (number_at o)
 abbrev pub flag_at : Option Text → Bool
 flag_at o = option_map_or (λ t. bytes_eq t (codes "true")) o false
 
--- the settings, where the type is known: level L, margin 4 and one symbol are not to be chosen yet [own]
-abbrev pub drawn_as : List Row → Option Drawing → Result Seen Refusal
-drawn_as rows None = Err unknown_type
-drawn_as rows (Some kind) = Ok (record {
-  level = level.L;
+-- the settings, once level and type are known; margin 4 and one symbol are not to be chosen yet [own]
+abbrev pub settings_with : List Row → Level → Drawing → Seen
+settings_with rows level kind = record {
+  level = level;
   smallest = version_at (one_of (codes "version") rows);
   kind = kind;
   margin = 4;
   bytes_only = flag_at (first_of (codes "bytes-only") rows);
   structured = false;
   string = None;
-})
+}
+
+-- the type is looked at [own]
+abbrev pub checked_kind : Option Drawing → (Drawing → Seen) → Result Seen Refusal
+checked_kind None settings = Err unknown_type
+checked_kind (Some kind) settings = Ok (settings kind)
+
+-- the level is looked at before the type [own]
+abbrev pub checked_level : Option Level → Option Drawing → (Level → Drawing → Seen) → Result Seen Refusal
+checked_level None kind settings = Err unknown_level
+checked_level (Some level) kind settings = checked_kind kind (settings level)
 
 -- the settings that the matches give [own]
 abbrev pub settings_of : List Row → Result Seen Refusal
-settings_of rows = drawn_as rows (drawing_at (first_of (codes "type") rows))
+settings_of rows =
+    checked_level (level_at (first_of (codes "level") rows)) (drawing_at (first_of (codes "type") rows)) (settings_with rows)
 
 -- the settings of the matches, where clap states no fault [own]
 abbrev pub taken_settings : Kinds → List Row → Result Seen Refusal

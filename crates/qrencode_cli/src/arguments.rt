@@ -5,7 +5,7 @@ ghost use Rattle.std.specs.String.{string_bytes};
 ghost use Rattle.clap.specs.Words.{app_of, found_of};
 ghost use Rattle.clap.specs.Walk.{rows_of, rule_of};
 ghost use Rattle.clap.specs.Simple.{new_app};
-ghost use Rattle.qrencode_cli.specs.Arguments.{command, faults_for, flag_rule, number_rule, required_rule, rows_for};
+ghost use Rattle.qrencode_cli.specs.Arguments.{command, faults_for, flag_rule, number_rule, required_rule, rows_for, text_rule};
 
 use clap::builder::ValueParser;
 use clap::error::ErrorKind;
@@ -21,28 +21,31 @@ struct Name<'a> {
     help: &'a str,
 }
 
+// An option that takes a text.
+fn text<'a>(alloc: Global, name: Name<'a>) -> Arg<'a>
+    ensures rule { rule_of result ≡ text_rule name.entry.id.now name.entry.short }
+    ensures local { result.global ≡ false }
+{
+    Arg::new(alloc, name.id)
+        .short(name.short)
+        .value_name(name.value)
+        .help(name.help)
+}
+
 // An option that takes a number from 0 to `most`.
 fn number<'a>(alloc: Global, name: Name<'a>, most: i64) -> Arg<'a>
     ensures rule { rule_of result ≡ number_rule name.entry.id.now name.entry.short most }
     ensures local { result.global ≡ false }
 {
-    Arg::new(alloc, name.id)
-        .short(name.short)
-        .value_name(name.value)
-        .help(name.help)
-        .value_parser(ValueParser::Signed(0, most))
+    text(alloc, name).value_parser(ValueParser::Signed(0, most))
 }
 
-// An option that has to be given, and takes a text.
+// An option that takes a text and has to be given.
 fn required<'a>(alloc: Global, name: Name<'a>) -> Arg<'a>
     ensures rule { rule_of result ≡ required_rule name.entry.id.now name.entry.short }
     ensures local { result.global ≡ false }
 {
-    Arg::new(alloc, name.id)
-        .short(name.short)
-        .value_name(name.value)
-        .help(name.help)
-        .required(true)
+    text(alloc, name).required(true)
 }
 
 // An option that takes no value.
@@ -65,38 +68,42 @@ fn bare<'a>(alloc: Global) -> Command<'a>
     )
 }
 
+const LEVEL: Name<'static> = Name {
+    id: "level",
+    short: 'l',
+    value: "LEVEL",
+    help: "Level of error correction, from the lowest to the highest: L, M, Q or H [default: L]",
+};
+
+const VERSION: Name<'static> = Name {
+    id: "version",
+    short: 'v',
+    value: "N",
+    help: "Smallest version of the symbol, 1 to 40, or 0 for any that fits [default: 0]",
+};
+
+const TYPE: Name<'static> = Name {
+    id: "type",
+    short: 't',
+    value: "TYPE",
+    help: "Type of the drawing: ASCII",
+};
+
+const BYTES_ONLY: Name<'static> = Name {
+    id: "bytes-only",
+    short: '8',
+    value: "",
+    help: "Encode the whole input in byte mode",
+};
+
 // The command with its arguments.
 fn described<'a>(alloc: Global) -> Result<Command<'a>, AllocError>
     ensures { IfOk result (λ c. app_of c ≡ command) }
 {
-    let with_version = bare(alloc).arg(number(
-        alloc,
-        Name {
-            id: "version",
-            short: 'v',
-            value: "N",
-            help: "Version of the symbol, 1, or 0 for any that fits [default: 0]",
-        },
-        1,
-    ))?;
-    let with_type = with_version.arg(required(
-        alloc,
-        Name {
-            id: "type",
-            short: 't',
-            value: "TYPE",
-            help: "Type of the drawing: ASCII, in either case of letters",
-        },
-    ))?;
-    with_type.arg(flag(
-        alloc,
-        Name {
-            id: "bytes-only",
-            short: '8',
-            value: "",
-            help: "Encode the whole input in byte mode",
-        },
-    ))
+    let with_level = bare(alloc).arg(text(alloc, LEVEL))?;
+    let with_version = with_level.arg(number(alloc, VERSION, 40))?;
+    let with_type = with_version.arg(required(alloc, TYPE))?;
+    with_type.arg(flag(alloc, BYTES_ONLY))
 }
 
 /// Why the words have no matches.

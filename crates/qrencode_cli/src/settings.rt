@@ -4,7 +4,7 @@ ghost use Rattle.std.specs.Prelude.{◌≡◌, Ok, MatchResult, map, codes, opti
 ghost use Rattle.std.specs.String.{string_bytes};
 ghost use Rattle.clap.specs.Words.{first_of, found_of, one_of};
 ghost use Rattle.clap.specs.Walk.{rows_of};
-ghost use Rattle.qrencode_cli.specs.Settings.{drawing_at, drawing_named, flag_at, number_at, settings_for, settings_of, version_at};
+ghost use Rattle.qrencode_cli.specs.Settings.{drawing_at, drawing_named, flag_at, level_at, level_named, number_at, settings_for, settings_of, version_at};
 ghost use Rattle.qrencode_cli.specs.Usage.{IsUsageFault, seen};
 
 use crate::arguments::{MatchFault, matches};
@@ -62,16 +62,41 @@ fn text_in<'a>(matches: &ArgMatches<'a>, id: &str) -> Option<&'a str>
     matches.get_str(id)
 }
 
-impl Drawing {
-    // The type of this name, in either case of its letters.
-    fn named(name: &str) -> Option<Drawing>
-        ensures { result ≡ drawing_named name.now }
-    {
-        if name.eq_ignore_ascii_case("ascii") {
-            Some(Drawing::Ascii)
-        } else {
-            None
-        }
+// The type of drawing of this name, in either case of its letters.
+fn drawing_named(name: &str) -> Option<Drawing>
+    ensures { result ≡ drawing_named name.now }
+{
+    if name.eq_ignore_ascii_case("ascii") {
+        Some(Drawing::Ascii)
+    } else {
+        None
+    }
+}
+
+// The level that is asked for, L where none is.
+fn level_in(matches: &ArgMatches<'_>) -> Option<Level>
+    ensures { result ≡ level_at (first_of (codes "level") (rows_of (found_of matches.now))) }
+{
+    match text_in(matches, "level") {
+        Some(name) => level_named(name),
+        None => Some(Level::L),
+    }
+}
+
+// The level of this name, in either case of its letter.
+fn level_named(name: &str) -> Option<Level>
+    ensures { result ≡ level_named name.now }
+{
+    if name.eq_ignore_ascii_case("l") {
+        Some(Level::L)
+    } else if name.eq_ignore_ascii_case("m") {
+        Some(Level::M)
+    } else if name.eq_ignore_ascii_case("q") {
+        Some(Level::Q)
+    } else if name.eq_ignore_ascii_case("h") {
+        Some(Level::H)
+    } else {
+        None
     }
 }
 
@@ -80,7 +105,7 @@ fn drawing_in(matches: &ArgMatches<'_>) -> Option<Drawing>
     ensures { result ≡ drawing_at (first_of (codes "type") (rows_of (found_of matches.now))) }
 {
     match text_in(matches, "type") {
-        Some(name) => Drawing::named(name),
+        Some(name) => drawing_named(name),
         None => None,
     }
 }
@@ -118,11 +143,14 @@ fn settings_in(matches: &ArgMatches<'_>) -> Result<Settings, UsageFault>
     ensures { MatchResult result (λ s. settings_of (rows_of (found_of matches.now)) ≡ Ok (seen s))
         (IsUsageFault (settings_of (rows_of (found_of matches.now)))) }
 {
+    let Some(level) = level_in(matches) else {
+        return Err(UsageFault::Level);
+    };
     let Some(kind) = drawing_in(matches) else {
         return Err(UsageFault::Kind);
     };
     Ok(Settings {
-        level: Level::L,
+        level,
         smallest: version_in(matches),
         kind,
         margin: MARGIN,

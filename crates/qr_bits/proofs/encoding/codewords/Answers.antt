@@ -1,14 +1,12 @@
 use Rattle.std.proofs.Common.{◌≡◌, ℕ, vec_len, ◌+◌, ◌-◌, ◌<◌, ◌≤◌, min, List, Bool, ◌++◌, length, refl, ◌∙◌, ap, arith, length-append}
 use Rattle.qr_bits.specs.Bits.{field}
-use Rattle.qr_bits.specs.Letters.{bits}
 use Rattle.qr_bits.specs.Stream.{header_stream, segments_stream, IsStream}
-use Rattle.qr_bits.specs.Data.{capacity_of, header_bits, filled, pads}
+use Rattle.qr_bits.specs.Data.{capacity_of, filled, pads}
 use Rattle.qr_layout.specs.Blocks.{data_codewords_of}
 use Rattle.std.proofs.lemmas.List.Elements.{All-from_get_or}
 use Rattle.qr_bits.proofs.SegmentLists.{covers_all, bits_most, bits_least}
 use Rattle.qr_bits.proofs.Writing.{covers_suits, length-segments_stream}
 use Rattle.qr_bits.proofs.Padding.{is_data, length-header_stream, header_fits, header_most}
-use Rattle.qr_bits.proofs.BitLists.{length-filled}
 use Rattle.qr_bits.proofs.Counts.{capacity_most, counts_fit}
 use Rattle.qr_bits.proofs.encoding.codewords.Goals as goal
 

@@ -1,4 +1,4 @@
-use Rattle.std.proofs.Common.{◌≡◌, ℕ, ◌+◌, ◌-◌, ◌++◌, List, sym, ◌∙◌, ap, arith, append-nil, append_assoc}
+use Rattle.std.proofs.Common.{◌≡◌, ◌+◌, ◌-◌, sym, arith, append-nil, append_assoc}
 use Rattle.qr_bits.specs.Data.{pads}
 use Rattle.qr_bits.proofs.Padding.{pads-none, pads-even, pads-odd}
 use Rattle.qr_bits.proofs.encoding.pad.Goals as goal

@@ -1,5 +1,5 @@
-use Rattle.std.proofs.Common.{◌≡◌, sym, append-nil, append_assoc, take}
-use Rattle.qr_bits.specs.Bits.{bits_of, field}
+use Rattle.std.proofs.Common.{sym, append-nil, append_assoc, take}
+use Rattle.qr_bits.specs.Bits.{bits_of}
 use Rattle.qr_bits.proofs.BitLists.{bits_of-take}
 use Rattle.qr_bits.proofs.encoding.put_bytes.Goals as goal
 

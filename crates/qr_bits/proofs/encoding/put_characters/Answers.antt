@@ -1,4 +1,4 @@
-use Rattle.std.proofs.Common.{◌≡◌, List, Bool, ◌++◌, drop, sym, ◌∙◌, ap, arith, append-nil, append_assoc}
+use Rattle.std.proofs.Common.{List, Bool, ◌++◌, drop, sym, ◌∙◌, ap, arith, append-nil, append_assoc}
 use Rattle.qr_bits.specs.Letters.{is_alphanumeric}
 use Rattle.qr_bits.specs.Stream.{character_bits}
 use Rattle.qr_bits.proofs.Writing.{all_rest, characters_two, characters_one_left, characters_none_left}

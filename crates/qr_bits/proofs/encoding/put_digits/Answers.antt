@@ -1,4 +1,4 @@
-use Rattle.std.proofs.Common.{◌≡◌, List, Bool, ◌++◌, drop, sym, ◌∙◌, ap, arith, append-nil, append_assoc}
+use Rattle.std.proofs.Common.{List, Bool, ◌++◌, drop, sym, ◌∙◌, ap, arith, append-nil, append_assoc}
 use Rattle.qr_bits.specs.Letters.{is_digit}
 use Rattle.qr_bits.specs.Stream.{digit_bits}
 use Rattle.qr_bits.proofs.Writing.{all_rest, digits_three, digits_two_left, digits_one_left, digits_none_left}

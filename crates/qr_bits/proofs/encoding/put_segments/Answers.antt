@@ -1,5 +1,4 @@
-use Rattle.std.proofs.Common.{◌≡◌, List, Bool, ◌++◌, ap, sym, ◌∙◌, arith, append-nil}
-use Rattle.std.proofs.lemmas.List.{length-drop}
+use Rattle.std.proofs.Common.{List, Bool, ◌++◌, ap, sym, ◌∙◌, arith, append-nil}
 use Rattle.qr_bits.specs.declared.segment.Mode.TheVariants.{Numeric}
 use Rattle.qr_bits.specs.declared.segment.Segment.{Segment}
 use Rattle.qr_bits.proofs.SegmentLists.{covers_next}

@@ -1,9 +1,7 @@
-use Rattle.std.proofs.Common.{◌≡◌, ◌+◌, ◌-◌, ◌≤◌, ◌<◌, ℕ, List, [], ◌∷◌, ◌++◌, reverse, take, drop, length, get_or, arith, ◌∙◌, sym, ap, subst, ⊎_elim}
+use Rattle.std.proofs.Common.{◌≡◌, ◌+◌, ◌-◌, ◌≤◌, ◌<◌, ℕ, [], ◌∷◌, take, length, arith, subst, ⊎_elim}
 use Rattle.std.proofs.lemmas.Bool.{cases_lt}
-use Rattle.qr_bits.specs.declared.place.Place.{Place}
-use Rattle.qr_bits.specs.declared.place.Place.TheVariants.{Start}
 use Rattle.qr_bits.specs.Letters.{HasFit}
-use Rattle.qr_bits.specs.ByPlaces.{at_place, follow}
+use Rattle.qr_bits.specs.ByPlaces.{at_place}
 use Rattle.qr_bits.proofs.Tables.{best_none, small_more, zeros}
 use Rattle.qr_bits.proofs.Mirror.{empty_fits, front_more, front_fits, front_least}
 use Rattle.qr_bits.proofs.fitting.longest_fit.Goals as goal

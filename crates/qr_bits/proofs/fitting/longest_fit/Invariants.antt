@@ -1,4 +1,4 @@
-use Rattle.std.proofs.Common.{ℕ, ◌*◌, ◌≤◌, ◌-◌, List, reverse, take}
+use Rattle.std.proofs.Common.{ℕ, ◌*◌, ◌≤◌, List, reverse, take}
 use Rattle.qr_bits.specs.declared.segment.Mode.{Mode}
 use Rattle.qr_bits.specs.declared.place.Place.{Place}
 use Rattle.qr_bits.specs.declared.place.ByPlace.{ByPlace}

@@ -1,4 +1,3 @@
-use Rattle.std.proofs.Common.{◌∙◌, sym, ap, arith, subst}
 use Rattle.qr_bits.proofs.SegmentLists.{least_fits}
 use Rattle.qr_bits.proofs.laws.least_segmentations_fit.Goals as goal
 

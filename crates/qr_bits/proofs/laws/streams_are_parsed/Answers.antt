@@ -1,4 +1,4 @@
-use Rattle.std.proofs.Common.{sym, ◌∙◌, ap}
+use Rattle.std.proofs.Common.{◌∙◌, ap}
 use Rattle.qr_bits.specs.Parse.{parse}
 use Rattle.qr_bits.proofs.StreamReading.{parse_again, parse_takes}
 use Rattle.qr_bits.proofs.laws.streams_are_parsed.Goals as goal

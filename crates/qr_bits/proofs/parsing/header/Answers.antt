@@ -1,6 +1,5 @@
-use Rattle.std.proofs.Common.{◌≡◌, ◌≤◌, List, Bool, length, take, drop, sym, ◌∙◌, ap, arith, refl}
+use Rattle.std.proofs.Common.{◌≡◌, ◌≤◌, List, Bool, length, drop, ◌∙◌, ap, arith}
 use Rattle.std.proofs.lemmas.List.{drop-drop}
-use Rattle.qr_bits.specs.Bits.{value}
 use Rattle.qr_bits.proofs.Payloads.{value_take_below}
 use Rattle.qr_bits.proofs.Parses.{header_whole}
 use Rattle.qr_bits.proofs.parsing.header.Goals as goal

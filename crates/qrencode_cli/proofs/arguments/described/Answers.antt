@@ -7,6 +7,7 @@ use Rattle.qrencode_cli.proofs.arguments.described.Goals as goal
 pub returns : goal.returns
 unfolding command
 returns c =
-    let a1 = c.in_ok-with_version.ensures.shape c.number.ensures.local ∙ ap₂ with_rule c.bare.ensures c.number.ensures.rule in
-    let a2 = c.in_ok-with_type.ensures.shape c.required.ensures.local ∙ ap₂ with_rule a1 c.required.ensures.rule in
-    IfOk-weaker c.arg-3.result _ _ (λ r h. h.shape c.flag.ensures.local ∙ ap₂ with_rule a2 c.flag.ensures.rule) c.arg-3.ensures
+    let a1 = c.in_ok-with_level.ensures.shape c.text.ensures.local ∙ ap₂ with_rule c.bare.ensures c.text.ensures.rule in
+    let a2 = c.in_ok-with_version.ensures.shape c.number.ensures.local ∙ ap₂ with_rule a1 c.number.ensures.rule in
+    let a3 = c.in_ok-with_type.ensures.shape c.required.ensures.local ∙ ap₂ with_rule a2 c.required.ensures.rule in
+    IfOk-weaker c.arg-4.result _ _ (λ r h. h.shape c.flag.ensures.local ∙ ap₂ with_rule a3 c.flag.ensures.rule) c.arg-4.ensures

@@ -1,4 +1,4 @@
-use Rattle.std.proofs.Common.{◌≡◌, ◌∙◌, sym, ap, arith, ◌++◌, List, Bool, append-nil, ◌∷◌, []}
+use Rattle.std.proofs.Common.{◌≡◌, arith, append-nil}
 use Rattle.qr_bits.specs.Bits.{field, bits_of}
 use Rattle.qr_bits.proofs.BitLists.{field-more, bits_of-more}
 use Rattle.qr_bits.proofs.writer.BitWriter.push.Goals as goal

@@ -1,4 +1,4 @@
-use Rattle.std.proofs.Common.{◌≡◌, ◌-◌, ◌++◌, List, Bool, ◌∷◌, [], sym, ◌∙◌, ap, arith, append-nil, append_assoc}
+use Rattle.std.proofs.Common.{◌≡◌, ◌-◌, sym, arith, append-nil, append_assoc}
 use Rattle.qr_bits.specs.Bits.{field}
 use Rattle.qr_bits.proofs.BitLists.{field-shift, shifted-bit}
 use Rattle.qr_bits.proofs.writer.BitWriter.put.Goals as goal
