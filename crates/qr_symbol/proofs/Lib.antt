@@ -11,3 +11,8 @@ pub mod WindowLemmas
 pub mod LineLemmas
 pub mod SquareLemmas
 pub mod ChoiceLemmas
+pub mod GatherLemmas
+pub mod FitLemmas
+pub mod ReadLemmas
+pub mod FormatLemmas
+pub mod RoundTrip

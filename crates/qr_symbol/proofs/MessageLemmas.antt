@@ -1,5 +1,5 @@
 -- The final message of a version and a level: how long it is, and that it is one.
-use Rattle.std.proofs.Common.{◌≡◌, ℕ, ◌+◌, ◌-◌, ◌*◌, ◌<◌, ◌≤◌, List, [], ◌∷◌, ◌++◌, map, length, length-append, get_or, refl, sym, ◌∙◌, ap, arith}
+use Rattle.std.proofs.Common.{◌≡◌, ℕ, ◌+◌, ◌-◌, ◌*◌, ◌<◌, ◌≤◌, List, [], ◌∷◌, ◌++◌, map, length, length-append, get_or, refl, sym, ◌∙◌, ap, subst, arith}
 use Rattle.std.specs.Prelude.{Result, Ok, Err, IfOk}
 use Rattle.std.proofs.lemmas.List.{length-map, ext_get_or}
 use Rattle.qr_field.specs.Polynomials.{IsCorrection}
@@ -7,9 +7,9 @@ use Rattle.qr_field.proofs.PolynomialLemmas.{correction-one}
 use Rattle.qr_layout.specs.declared.blocks.Blocks.{Blocks}
 use Rattle.qr_layout.specs.declared.level.Level.{Level}
 use Rattle.qr_layout.specs.Versions.{total_codewords_of}
-use Rattle.qr_layout.specs.Blocks.{data_codewords_of, blocks_of, AreWhole}
+use Rattle.qr_layout.specs.Blocks.{data_codewords_of, blocks_of}
 use Rattle.qr_layout.proofs.BlockLemmas.{blocks-sound}
-use Rattle.qr_symbol.specs.Interleaving.{Tag, count_of, cut_len, codeword_at, data_cut, correction_cut, block_of, check_at, IsFinalMessage}
+use Rattle.qr_symbol.specs.Interleaving.{Tag, count_of, start_of, cut_len, codeword_at, data_cut, correction_cut, block_of, check_at, IsFinalMessage}
 use Rattle.qr_symbol.proofs.RankLemmas.{tags-one, tags-many, tag-of, map-at, Mem-of-Contains}
 
 -- ---- one final message
@@ -53,7 +53,10 @@ data-one b d e cw n m h k =
     ext_get_or 0 d e (n ∙ sym m) (λ j l.
     let t = tag-of c (count_of c) j (omega arith) (omega arith) in
     let q = map-at (codeword_at c d) (codeword_at c e) h.data_tags t.0 w.0 (Mem-of-Contains h.data_tags t.0 (h.data_order.complete t.0 t.1)) in
-    ap (λ (z : ℕ). get_or d z 0) (sym t.2) ∙ (q ∙ ap (λ (z : ℕ). get_or e z 0) t.2))
+    same-place d e (start_of c t.0.block + t.0.place) j t.2 q)
+  where
+    same-place : (d e : List ℕ) (i j : ℕ) → i ≡ j → get_or d i 0 ≡ get_or e i 0 → get_or d j 0 ≡ get_or e j 0
+    same-place d e i j f q = subst (λ (z : ℕ). get_or d z 0 ≡ get_or e z 0) f q
 
 -- ---- how long it is
 

@@ -1,12 +1,10 @@
 -- The rows, the columns and the blocks of a square that is listed row by row.
-use Rattle.std.proofs.Common.{◌≡◌, ℕ, zero, suc, ◌+◌, ◌-◌, ◌*◌, ◌/◌, ◌<◌, ◌≤◌, ◌⊎◌, eqb, ltb, leb, Bool, true, false, ◌&&◌, cond, List, [], length, get_or, inl, inr, refl, sym, ap, ◌∙◌, arith}
+use Rattle.std.proofs.Common.{◌≡◌, ℕ, suc, ◌+◌, ◌-◌, ◌*◌, ◌/◌, ◌<◌, ◌≤◌, ltb, Bool, true, false, ◌&&◌, cond, List, length, get_or, inl, inr, refl, sym, ap, ◌∙◌, arith}
 use mathlib.Core.Bool.{beq}
 use mir.Val.{bool_byte}
 use mathlib.Core.Path.{fun_ext}
 use Rattle.std.proofs.lemmas.Bool.{cases_lt}
 use Rattle.std.proofs.lemmas.Bool.Decides.{nat_tests}
-use Rattle.std.proofs.lemmas.Nat.{mul-add-lt}
-use Rattle.std.proofs.Math.Nat.{mul_comm}
 use Rattle.qr_layout.specs.Order.{sum_below}
 use Rattle.qr_layout.proofs.CountLemmas.{sum_below-same}
 use Rattle.qr_symbol.specs.Penalty.{is_same, is_block, run_cost, window_count, over_lines, block_count, dark_count, dark_cost, penalty_of, count_below}

@@ -6,5 +6,8 @@ pub mod Drawing
 pub mod Penalty
 pub mod Lines
 pub mod Choice
+pub mod Symbols
+pub mod Reading
+pub mod Faults
 pub mod Interleaving
 pub mod Sending

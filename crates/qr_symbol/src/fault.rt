@@ -1,5 +1,6 @@
-//! Why no symbol is made.
+//! Why no symbol is made, and why a symbol is not read.
 
+use qr_bits::{BitFault, ParseFault};
 use std::alloc::AllocError;
 use thiserror::Error;
 
@@ -28,5 +29,53 @@ impl From<AllocError> for EncodeFault {
 
     fn from(_: AllocError) -> Self {
         EncodeFault::Memory
+    }
+}
+
+impl From<BitFault> for EncodeFault {
+    ghost use Rattle.std.specs.Prelude.{◌≡◌};
+    ghost use Rattle.qr_symbol.specs.Faults.{fault_of};
+
+    ghost from_gives = { λ b e. e ≡ fault_of b };
+
+    fn from(fault: BitFault) -> Self {
+        match fault {
+            BitFault::Memory => EncodeFault::Memory,
+            BitFault::TooLong => EncodeFault::TooLong,
+        }
+    }
+}
+
+/// Why symbols are not read, in the order in which the causes are looked for.
+#[derive(Clone, Copy, Debug, PartialEq, Eq, Error)]
+pub enum ReadFault {
+    /// Memory was refused.
+    #[error("out of memory")]
+    Memory,
+    /// The side is that of no version.
+    #[error("the side is that of no version")]
+    Side,
+    /// The format information beside the top left finder pattern is that of no level and mask.
+    #[error("the format information is damaged")]
+    Format,
+    /// A block's error correction codewords are not those of its data codewords.
+    #[error("a codeword is damaged")]
+    Check,
+    /// The data codewords cannot be parsed. The fault is never `Memory`.
+    #[error("the data codewords cannot be parsed: {0}")]
+    Segments(ParseFault),
+    /// The symbols are no series.
+    #[error("the symbols are no series")]
+    Series,
+}
+
+impl From<AllocError> for ReadFault {
+    ghost use Rattle.std.specs.Prelude.{◌≡◌};
+    ghost use Rattle.qr_symbol.specs.declared.fault.ReadFault.{ReadFault};
+
+    ghost from_gives = { λ _ e. e ≡ ReadFault.Memory };
+
+    fn from(_: AllocError) -> Self {
+        ReadFault::Memory
     }
 }

@@ -1,9 +1,19 @@
-//! The laws of masks and of interleaving. Each function does nothing: its contract is the law.
+//! The laws of masks, of interleaving and of reading. Each function does nothing: its contract is the law.
 
-ghost use Rattle.std.specs.Prelude.{◌≡◌, ◌<◌, ◌+◌, ℕ, List, length, map};
+ghost use Rattle.std.specs.Prelude.{◌≡◌, ◌<◌, ◌+◌, ℕ, Bool, List, length, map, None};
+ghost use Rattle.qr_layout.specs.declared.level.Level.{Level};
+ghost use Rattle.qr_layout.specs.declared.region.Module.{Module};
+ghost use Rattle.qr_layout.specs.Order.{IsOrder};
+ghost use Rattle.qr_bits.specs.Bits.{bits_of};
+ghost use Rattle.qr_bits.specs.Parse.{Content};
+ghost use Rattle.qr_symbol.specs.Grid.{Grid};
+ghost use Rattle.qr_symbol.specs.Colour.{grid_of};
+ghost use Rattle.qr_symbol.specs.Reading.{read_bits, IsRead, IsMessage, IsFormat, IsReading};
+ghost use Rattle.qr_symbol.specs.Symbols.{IsSymbol};
 ghost use Rattle.qr_layout.specs.Versions.{total_codewords_of};
 ghost use Rattle.qr_layout.specs.Blocks.{data_codewords_of, blocks_of};
 ghost use Rattle.qr_symbol.specs.Interleaving.{count_of, len_of, start_of, cut_len, data_cut, IsInterleaved};
+ghost use Rattle.qr_symbol.specs.Symbols.{SymbolsAreOne};
 ghost use Rattle.qr_symbol.specs.Worked.{all_masks, first_rows, computed_rows};
 
 use qr_layout::{Level, Version};
@@ -11,6 +21,11 @@ use qr_layout::{Level, Version};
 /// The definition of the masks computes the first places of each mask pattern.
 pub fn masks_compute()
     ensures { map first_rows all_masks ≡ computed_rows }
+{}
+
+/// An input has only one symbol.
+pub fn symbols_are_one()
+    ensures { SymbolsAreOne }
 {}
 
 /// The blocks of the data codewords stand one after another, from the first codeword to the last.
@@ -33,4 +48,38 @@ pub fn interleaving_is_one(version: Version, level: Level)
     ensures message { (d e xs : List ℕ) → length d ≡ data_codewords_of version level
         → length e ≡ data_codewords_of version level
         → IsInterleaved version level d xs → IsInterleaved version level e xs → d ≡ e }
+{}
+
+/// The square of codewords is read as their bits.
+pub fn squares_give_their_bits(version: Version)
+    ensures { (l : Level) (mask : ℕ) (cw : List ℕ) (ms : List Module) → IsOrder version ms
+        → length cw ≡ total_codewords_of version
+        → read_bits version mask (grid_of version l mask cw) ms ≡ bits_of cw }
+{}
+
+/// Every square of a version's side holds one list of codewords under a mask, and at most one message.
+pub fn reading_is_one(version: Version, level: Level)
+    ensures some { (mask : ℕ) (g : Grid) → (cw : List ℕ) × IsRead version mask g cw }
+    ensures codewords { (mask : ℕ) (g : Grid) (cw ds : List ℕ) → IsRead version mask g cw
+        → IsRead version mask g ds → cw ≡ ds }
+    ensures message { (mask : ℕ) (g : Grid) (d e : List ℕ) → IsMessage version level mask g d
+        → IsMessage version level mask g e → d ≡ e }
+{}
+
+/// The format information of a square is that of one level and one mask at most.
+pub fn format_is_one()
+    ensures { (g : Grid) (l k : Level) (m n : ℕ) → IsFormat g l m → IsFormat g k n
+        → (l ≡ k) × (m ≡ n) }
+{}
+
+/// A square is read as one content at most.
+pub fn contents_are_one()
+    ensures { (g : Grid) (p q : Content) → IsReading g p → IsReading g q → p ≡ q }
+{}
+
+/// The symbol of an input is read as the input, in the segments of least bits and without a header.
+pub fn symbols_are_read(smallest: Version)
+    ensures { (x : List ℕ) (l : Level) (bytes_only : Bool) (v mask : ℕ) (g : Grid)
+        → (s : IsSymbol x l smallest bytes_only v mask g)
+        → IsReading g (record { header = None; segments = s.segments; bytes = x }) }
 {}

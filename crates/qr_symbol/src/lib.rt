@@ -3,7 +3,9 @@
 
 mod choice;
 mod drawing;
+mod encoding;
 mod fault;
+mod fitting;
 pub mod laws;
 mod mask;
 mod matrix;
@@ -12,8 +14,9 @@ mod penalties;
 mod symbol;
 
 pub use choice::build;
-pub use fault::EncodeFault;
+pub use encoding::encode;
+pub use fault::{EncodeFault, ReadFault};
 pub use matrix::Matrix;
-pub use message::interleave;
+pub use message::{deinterleave, interleave};
 pub use penalties::penalty;
 pub use symbol::{Symbol, build_masked};

@@ -1,11 +1,14 @@
-//! The final sequence of codewords: data and error correction codewords, interleaved (ISO/IEC 18004:2015, 7.5.2 and 7.6).
+//! The final sequence of codewords: data and error correction codewords, interleaved (ISO/IEC 18004:2015, 7.5.2 and 7.6),
+//! and back.
 
-ghost use Rattle.std.specs.Prelude.{◌≡◌, ◌+◌, ◌≤◌, length, IfOk};
+ghost use Rattle.std.specs.Prelude.{◌≡◌, ℕ, ◌+◌, ◌≤◌, ◌⊎◌, List, length, Err, IfOk, IfErr};
 ghost use Rattle.qr_layout.specs.Blocks.{data_codewords_of};
 ghost use Rattle.qr_layout.specs.Versions.{total_codewords_of};
+ghost use Rattle.qr_symbol.specs.declared.fault.ReadFault.{ReadFault};
 ghost use Rattle.qr_symbol.specs.Interleaving.{count_of, len_of, start_of, cut_len, data_cut, correction_cut, IsFinalMessage, IsInterleaved};
-ghost use Rattle.qr_symbol.specs.Sending.{IsSent, IsChecks};
+ghost use Rattle.qr_symbol.specs.Sending.{IsSent, IsChecks, IsGathered};
 
+use crate::fault::ReadFault;
 use qr_field::remainder;
 use qr_layout::{Blocks, Level, Version};
 use std::alloc::{AllocError, Global};
@@ -123,6 +126,69 @@ pub fn interleave(
     ensures many { IfOk result (λ cw. length cw.items ≡ total_codewords_of version) }
 {
     interleave_blocks(alloc, version.blocks(level), message)
+}
+
+// Puts codewords that were sent by rising tags back into their blocks.
+fn gather(message: &mut Vec<u8>, cut: Cut, codewords: &[u8])
+    requires room { length message.old.items ≡ cut_len cut }
+    requires sent { cut_len cut ≤ length codewords.now }
+    ensures { IsGathered cut codewords.now message.new.items }
+{
+    let blocks = cut.count();
+    let mut next = 0;
+    for place in 0..usize::from(cut.short_len) + 1 {
+        for block in 0..blocks {
+            if place < cut.len(block) {
+                message[cut.start(block) + place] = codewords[next];
+                next += 1;
+            }
+        }
+    }
+}
+
+// The data codewords of a final sequence, if it is one.
+fn deinterleave_blocks(
+    alloc: Global,
+    blocks: Blocks,
+    codewords: &[u8],
+) -> Result<Vec<u8>, ReadFault>
+    requires whole { length codewords.now ≡ cut_len (data_cut blocks) + cut_len (correction_cut blocks) }
+    requires least { 1 ≤ blocks.ec_len }
+    requires most { blocks.ec_len ≤ 30 }
+    ensures len { IfOk result (λ d. length d.items ≡ cut_len (data_cut blocks)) }
+    ensures read { IfOk result (λ d. IsFinalMessage blocks d.items codewords.now) }
+    ensures check { result ≡ Err ReadFault.Check → (d : List ℕ)
+        → length d ≡ cut_len (data_cut blocks) → IsFinalMessage blocks d codewords.now → ⊥ }
+    ensures fault { IfErr result (λ e. (e ≡ ReadFault.Memory) ⊎ (e ≡ ReadFault.Check)) }
+{
+    let cut = Cut::of_data(blocks);
+    let mut message = vec![in alloc; 0u8; cut.start(cut.count())]?;
+    gather(&mut message, cut, codewords);
+    let again = interleave_blocks(alloc, blocks, &message)?;
+    if again.as_slice() == codewords {
+        Ok(message)
+    } else {
+        Err(ReadFault::Check)
+    }
+}
+
+/// The data codewords of a final sequence of codewords (ISO/IEC 18004:2015, 7.6 and 12). `Check` where it is that of no
+/// data codewords, since a block's error correction codewords are not those of its data codewords.
+pub fn deinterleave(
+    alloc: Global,
+    version: Version,
+    level: Level,
+    codewords: &[u8],
+) -> Result<Vec<u8>, ReadFault>
+    requires whole { length codewords.now ≡ total_codewords_of version }
+    ensures many { IfOk result (λ d. length d.items ≡ data_codewords_of version level) }
+    ensures read { IfOk result (λ d. IsInterleaved version level d.items codewords.now) }
+    ensures check { result ≡ Err ReadFault.Check → (d : List ℕ)
+        → length d ≡ data_codewords_of version level
+        → IsInterleaved version level d codewords.now → ⊥ }
+    ensures fault { IfErr result (λ e. (e ≡ ReadFault.Memory) ⊎ (e ≡ ReadFault.Check)) }
+{
+    deinterleave_blocks(alloc, version.blocks(level), codewords)
 }
 
 #[cfg(test)]

@@ -1,4 +1,4 @@
-use Rattle.std.proofs.Common.{◌≡◌, ◌<◌}
+use Rattle.std.proofs.Common.{◌≡◌}
 use Rattle.qr_layout.specs.Versions.{side_of}
 use Rattle.qr_symbol.specs.Grid.{IsSquare}
 use Rattle.qr_symbol.specs.Choice.{IsFirstLeast}

@@ -1,4 +1,4 @@
-use Rattle.std.proofs.Common.{◌≡◌, ◌≤◌, false}
+use Rattle.std.proofs.Common.{◌≡◌, false}
 use Rattle.qr_layout.specs.Versions.{side_of}
 use Rattle.qr_layout.specs.Region.{is_in_region}
 use Rattle.qr_symbol.proofs.GridLemmas.{filled}

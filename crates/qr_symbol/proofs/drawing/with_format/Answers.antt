@@ -1,6 +1,5 @@
-use Rattle.std.proofs.Common.{◌≡◌, ℕ, ◌∙◌, sym, ap}
+use Rattle.std.proofs.Common.{◌∙◌, sym, ap}
 use Rattle.qr_layout.specs.declared.role.Role.{Role}
-use Rattle.qr_layout.specs.declared.role.Role.TheVariants.{FormatBit}
 use Rattle.qr_symbol.specs.Drawing.{format_or}
 use Rattle.qr_symbol.proofs.DrawingLemmas.{format-line, format-other}
 use Rattle.qr_symbol.proofs.drawing.with_format.Goals as goal

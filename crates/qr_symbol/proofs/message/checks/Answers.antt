@@ -1,4 +1,4 @@
-use Rattle.std.proofs.Common.{◌≡◌, ℕ, List, ◌+◌, ◌-◌, length, take, drop, ap, ◌∙◌, sym, subst, arith}
+use Rattle.std.proofs.Common.{◌≡◌, ℕ, List, ◌+◌, ◌-◌, length, take, drop, sym, subst, arith}
 use Rattle.qr_field.specs.Polynomials.{IsCorrection}
 use Rattle.qr_symbol.specs.Interleaving.{data_cut}
 use Rattle.qr_symbol.proofs.CheckLemmas.{slice-in, push-checks}

@@ -1,4 +1,4 @@
-use Rattle.std.proofs.Common.{◌≡◌, ◌≤◌, ◌∙◌, List, ℕ, length, sym, ap, subst, arith}
+use Rattle.std.proofs.Common.{◌≡◌, ◌≤◌, ◌∙◌, length, sym, ap, subst, arith}
 use Rattle.std.specs.Prelude.{IfOk}
 use Rattle.qr_layout.specs.declared.blocks.Blocks.{Blocks}
 use Rattle.qr_layout.specs.Versions.{total_codewords_of}

@@ -1,7 +1,7 @@
 use Rattle.std.proofs.Common.{◌≡◌, ◌+◌, ◌*◌, ◌%◌, ℕ, Bool, false, get_or, cond, ◌∙◌, sym, ap, refl, arith}
 use mathlib.Core.Bool.{beq}
 use Rattle.qr_symbol.specs.Lines.{line_at}
-use Rattle.qr_symbol.proofs.LineLemmas.{in-line, swept-start, swept-more, swept-all}
+use Rattle.qr_symbol.proofs.LineLemmas.{in-line, swept-more, swept-all}
 use Rattle.qr_symbol.proofs.SquareLemmas.{byte-bit}
 use Rattle.qr_symbol.proofs.penalties.line_cost.Goals as goal
 use Rattle.qr_symbol.proofs.penalties.line_cost.Goals.{then-dark-last, else-dark-last}

@@ -1,4 +1,4 @@
-use Rattle.std.proofs.Common.{◌≡◌, ◌≤◌, ◌+◌, ◌*◌}
+use Rattle.std.proofs.Common.{◌≡◌, ◌≤◌}
 use Rattle.qr_symbol.specs.Penalty.{count_below, is_block}
 use Rattle.qr_symbol.specs.Lines.{cell_at}
 use Rattle.qr_symbol.proofs.penalties.row_blocks.Given as goal

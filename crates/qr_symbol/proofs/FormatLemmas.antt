@@ -1,0 +1,99 @@
+-- The format information of a square is that of one level and one mask.
+use Rattle.std.proofs.Common.{◌≡◌, ℕ, ◌/◌, ◌^◌, ◌<◌, ◌≤◌, Bool, true, eqb, ltb, nat_eq, List, refl, sym, ◌∙◌, ap, inl, inr, arith}
+use Rattle.std.specs.Prelude.{bit_xor}
+use Rattle.std.specs.Int.{bit_at}
+use Rattle.std.proofs.lemmas.Bool.{cases_lt}
+use Rattle.std.proofs.lemmas.Bool.Decides.{nat_tests}
+use Rattle.std.proofs.lemmas.Nat.Bits.{same_from_bits_below, bit_at-lt}
+use borrow.Author.Tests.{ltb-true}
+use Rattle.qr_layout.specs.declared.level.Level.{Level}
+use Rattle.qr_layout.specs.declared.level.Level.TheVariants.{L, M, Q, H}
+use Rattle.qr_layout.specs.Versions.{side_of}
+use Rattle.qr_layout.specs.Words.{remainder_of, format_with, five_bits, level_bits, format_word_of}
+use Rattle.qr_layout.specs.Roles.{first_place}
+use Rattle.qr_layout.proofs.TableLemmas.{below, below-at, eqb-same}
+use Rattle.qr_layout.proofs.RoleLaws.{format-first}
+use Rattle.qr_symbol.specs.Grid.{Grid}
+use Rattle.qr_symbol.specs.Colour.{colour_by, colour_of, grid_of}
+use Rattle.qr_symbol.specs.Reading.{IsFormat}
+use Rattle.qr_symbol.proofs.GridLemmas.{colour-square}
+
+-- a word gives back its five bits, and has fifteen
+gives-back : ℕ → Bool
+gives-back i = eqb (bit_xor (format_with i) 0x5412 / 1024) i
+
+is-short : ℕ → Bool
+is-short i = ltb (format_with i) (2 ^ 15)
+
+all-give-back : below 32 gives-back ≡ true
+unfolding gives-back remainder_of
+all-give-back = refl
+
+all-short : below 32 is-short ≡ true
+unfolding is-short remainder_of
+all-short = refl
+
+level-small : (l : Level) → level_bits l ≤ 3
+level-small L = omega arith
+level-small M = omega arith
+level-small Q = omega arith
+level-small H = omega arith
+
+level-one : (l k : Level) → level_bits l ≡ level_bits k → l ≡ k
+level-one L L e = refl
+level-one L M e = absurd (omega arith)
+level-one L Q e = absurd (omega arith)
+level-one L H e = absurd (omega arith)
+level-one M L e = absurd (omega arith)
+level-one M M e = refl
+level-one M Q e = absurd (omega arith)
+level-one M H e = absurd (omega arith)
+level-one Q L e = absurd (omega arith)
+level-one Q M e = absurd (omega arith)
+level-one Q Q e = refl
+level-one Q H e = absurd (omega arith)
+level-one H L e = absurd (omega arith)
+level-one H M e = absurd (omega arith)
+level-one H Q e = absurd (omega arith)
+level-one H H e = refl
+
+short : (l : Level) (mask : ℕ) → mask < 8 → format_word_of l mask < 2 ^ 15
+unfolding format_word_of is-short
+short l mask h = let s = level-small l in ltb-true _ _ (below-at 32 is-short all-short (five_bits l mask) (omega arith))
+
+back : (l : Level) (mask : ℕ) → mask < 8 → bit_xor (format_word_of l mask) 0x5412 / 1024 ≡ five_bits l mask
+unfolding format_word_of gives-back
+back l mask h = let s = level-small l in eqb-same (bit_xor (format_with (five_bits l mask)) 0x5412 / 1024) (five_bits l mask) (below-at 32 gives-back all-give-back (five_bits l mask) (omega arith))
+
+same-bit : (a b : ℕ) → a < 2 → b < 2 → nat_eq a 1 ≡ nat_eq b 1 → a ≡ b
+same-bit a b l m e = grind (arith, nat_tests)
+
+-- a square has the format information of one level and one mask
+pub format-one : (g : Grid) (l k : Level) (m n : ℕ) → IsFormat g l m → IsFormat g k n → (l ≡ k) × (m ≡ n)
+format-one g l k m n h j =
+    let a = format_word_of l m in
+    let b = format_word_of k n in
+    let p = h.in_range in
+    let q = j.in_range in
+    let words : a ≡ b = same_from_bits_below 15 a b (short l m p) (short k n q) (λ i r. same-bit (bit_at a i) (bit_at b i) (bit_at-lt a i) (bit_at-lt b i) (sym (h.bits i r) ∙ j.bits i r)) in
+    let five : five_bits l m ≡ five_bits k n = sym (back l m p) ∙ (ap (λ (z : ℕ). bit_xor z 0x5412 / 1024) words ∙ back k n q) in
+    let s = level-small l in
+    let t = level-small k in
+    (level-one l k (omega arith), omega arith)
+
+first-row : (i : ℕ) → i < 15 → (first_place i).row < 15
+first-row i l = elim (cases_lt i 6) [ inl k ↦ grind (arith, nat_tests) | inr k ↦ grind (arith, nat_tests) ]
+
+first-col : (i : ℕ) → i < 15 → (first_place i).col < 15
+first-col i l = elim (cases_lt i 8) [ inl k ↦ grind (arith, nat_tests) | inr k ↦ grind (arith, nat_tests) ]
+
+-- a symbol has that of its level and mask
+pub format-read : (v : ℕ) (l : Level) (mask : ℕ) (cw : List ℕ) → 1 ≤ v → v ≤ 40 → mask < 8 → IsFormat (grid_of v l mask cw) l mask
+unfolding colour_of
+format-read v l mask cw p q h = record {
+  in_range = h;
+  bits = λ i r.
+      let a = first-row i r in
+      let b = first-col i r in
+      colour-square (side_of v) (colour_of v l mask cw) (first_place i).row (first_place i).col (omega arith) (omega arith) ∙ ap (colour_by v l mask cw (first_place i).row (first_place i).col) (format-first v i p q r);
+}

@@ -1,0 +1,97 @@
+-- Putting codewords back into their blocks.
+use Rattle.std.proofs.Common.{◌≡◌, ℕ, zero, suc, ◌+◌, ◌<◌, ◌≤◌, List, [], ◌∷◌, ◌++◌, map, take, length, get_or, set, refl, sym, ◌∙◌, ap, subst, inl, inr, arith}
+use Rattle.std.proofs.lemmas.List.{take_more, get_or-set_same, get_or-set_other, length-set, length-map, length-take, map-append, ext_get_or}
+use Rattle.qr_layout.proofs.ListFacts.{Mem}
+use Rattle.qr_layout.specs.declared.blocks.Blocks.{Blocks}
+use Rattle.qr_symbol.specs.declared.message.Cut.{Cut}
+use Rattle.qr_symbol.specs.Interleaving.{Tag, IsBefore, count_of, start_of, cut_len, IsTag, codeword_at, data_cut, check_at, IsFinalMessage}
+use Rattle.qr_symbol.specs.Sending.{IsGathered}
+use Rattle.qr_symbol.proofs.TagLemmas.{tag, TagsBefore, tags-start, tags-push, tags-pass, tags-row, tags-end, tag-in}
+use Rattle.qr_symbol.proofs.RankLemmas.{tag-one, rank_of, rank-start, rank-push, rank-pass, rank-row, rank-end, rank-in, tags-one, tag-of, map-at, Mem-of-Contains}
+use Rattle.qr_symbol.proofs.MessageLemmas.{final-one}
+
+-- ---- what was put back so far
+
+pub record GatheredBefore (c : Cut) (sent : List ℕ) (p b : ℕ) (xs : List ℕ) (next : ℕ) : Type 0 where
+  pub long : length xs ≡ cut_len c
+  pub tags : List Tag
+  pub order : TagsBefore c p b tags
+  pub rank : next ≡ rank_of c p b
+  pub same : map (codeword_at c xs) tags ≡ take next sent
+
+map-mem : {X Y : Type 0} (f g : X → Y) (xs : List X) → ((x : X) → Mem x xs → f x ≡ g x) → map f xs ≡ map g xs
+map-mem f g [] e = refl
+map-mem f g (x ∷ xs) e = let h = e x (inl refl) in let t = map-mem f g xs (λ y m. e y (inr m)) in λ i. h i ∷ t i
+
+irrefl : (t : Tag) (p b : ℕ) → IsBefore t (tag p b) → t.place ≡ p → t.block ≡ b → ⊥
+irrefl t p b (inl l) e f = absurd (omega arith)
+irrefl t p b (inr w) e f = absurd (let l = w.1 in omega arith)
+
+pub gather-start : (c : Cut) (sent xs : List ℕ) → length xs ≡ cut_len c → GatheredBefore c sent 0 0 xs 0
+gather-start c sent xs e = record { long = e; tags = []; order = tags-start c; rank = rank-start c; same = refl }
+
+pub gather-push : (c : Cut) (sent xs ys : List ℕ) (p b next i : ℕ) → cut_len c ≤ length sent → GatheredBefore c sent p b xs next → IsTag c (tag p b) → i ≡ start_of c b + p → ys ≡ set xs i (get_or sent next 0) → GatheredBefore c sent p (b + 1) ys (next + 1)
+gather-push c sent xs ys p b next i l h t e k =
+    let x = get_or sent next 0 in
+    let j = start_of c b + p in
+    let ks : ys ≡ set xs j x = k ∙ ap (λ (z : ℕ). set xs z x) e in
+    let inside = tag-in c p b t in
+    let below = rank-in c p b t in
+    let r = h.rank in
+    let g = h.long in
+    let old : map (codeword_at c (set xs j x)) h.tags ≡ map (codeword_at c xs) h.tags = map-mem (codeword_at c (set xs j x)) (codeword_at c xs) h.tags (λ u m. let w = h.order.sound u m in get_or-set_other xs j (start_of c u.block + u.place) x 0 (λ q. let z = tag-one c u (tag p b) w.0 t q in irrefl u p b w.1 z.0 z.1)) in
+    let new : codeword_at c (set xs j x) (tag p b) ≡ x = get_or-set_same xs j x 0 (omega arith) in
+    record {
+      long = ap length k ∙ (length-set xs i x ∙ g);
+      tags = h.tags ++ tag p b ∷ [];
+      order = tags-push c p b h.tags t h.order;
+      rank = ap (λ (z : ℕ). z + 1) r ∙ sym (rank-push c p b t);
+      same = ap (λ (zs : List ℕ). map (codeword_at c zs) (h.tags ++ tag p b ∷ [])) ks
+          ∙ (map-append (codeword_at c (set xs j x)) h.tags (tag p b ∷ [])
+          ∙ (ap (λ (zs : List ℕ). zs ++ codeword_at c (set xs j x) (tag p b) ∷ []) (old ∙ h.same)
+          ∙ (ap (λ (z : ℕ). take next sent ++ z ∷ []) new ∙ sym (take_more sent next 0 (omega arith)))));
+    }
+
+pub gather-pass : (c : Cut) (sent xs : List ℕ) (p b next : ℕ) → p ≤ c.short_len → b < count_of c → GatheredBefore c sent p b xs next → (IsTag c (tag p b) → ⊥) → GatheredBefore c sent p (b + 1) xs next
+gather-pass c sent xs p b next l m h n = record { long = h.long; tags = h.tags; order = tags-pass c p b h.tags n h.order; rank = h.rank ∙ sym (rank-pass c p b l m n); same = h.same }
+
+pub gather-row : (c : Cut) (sent xs : List ℕ) (p b next : ℕ) → p ≤ c.short_len → b ≡ count_of c → GatheredBefore c sent p b xs next → GatheredBefore c sent (p + 1) 0 xs next
+gather-row c sent xs p b next l e h = record { long = h.long; tags = h.tags; order = tags-row c p h.tags (subst (λ (k : ℕ). TagsBefore c p k h.tags) e h.order); rank = h.rank ∙ (ap (rank_of c p) e ∙ rank-row c p l); same = h.same }
+
+pub gather-end : (c : Cut) (sent xs : List ℕ) (p next : ℕ) → cut_len c ≤ length sent → p ≡ c.short_len + 1 → GatheredBefore c sent p 0 xs next → IsGathered c sent xs
+gather-end c sent xs p next l e h =
+    let n : next ≡ cut_len c = h.rank ∙ (ap (λ (k : ℕ). rank_of c k 0) e ∙ rank-end c) in
+    let s : map (codeword_at c xs) h.tags ≡ take (cut_len c) sent = h.same ∙ ap (λ (k : ℕ). take k sent) n in
+    record {
+      long = h.long;
+      tags = h.tags;
+      order = tags-end c h.tags (subst (λ (k : ℕ). TagsBefore c k 0 h.tags) e h.order);
+      many = let a = ap length s in let b = length-map h.tags (codeword_at c xs) in let d = length-take (cut_len c) sent in omega arith;
+      same = s;
+    }
+
+-- ---- one message at most
+
+take-front : {X : Type 0} (n : ℕ) (xs ys : List X) → length xs ≡ n → take n (xs ++ ys) ≡ xs
+take-front zero [] ys e = refl
+take-front zero (x ∷ xs) ys e = absurd (omega arith)
+take-front (suc n) [] ys e = absurd (omega arith)
+take-front (suc n) (x ∷ xs) ys e = ap (λ zs. x ∷ zs) (take-front n xs ys (omega arith))
+
+pub gathered-one : (b : Blocks) (sent xs d : List ℕ) → IsGathered (data_cut b) sent xs → length d ≡ cut_len (data_cut b) → IsFinalMessage b d sent → xs ≡ d
+gathered-one b sent xs d g n h =
+    let c = data_cut b in
+    let one = tags-one c h.data_tags g.tags h.data_order g.order in
+    let first : take (cut_len c) sent ≡ map (codeword_at c d) g.tags =
+    ap (take (cut_len c)) (h.whole ∙ ap (λ (ts : List Tag). map (codeword_at c d) ts ++ map (check_at h.checks) h.check_tags) one)
+    ∙ take-front (cut_len c) (map (codeword_at c d) g.tags) (map (check_at h.checks) h.check_tags) (length-map g.tags (codeword_at c d) ∙ g.many) in
+    ext_get_or 0 xs d (g.long ∙ sym n) (λ j l.
+    let w = tag-of c (count_of c) j (omega arith) (let z = g.long in omega arith) in
+    let q = map-at (codeword_at c xs) (codeword_at c d) g.tags w.0 (g.same ∙ first) (Mem-of-Contains g.tags w.0 (g.order.complete w.0 w.1)) in
+    ap (λ (k : ℕ). get_or xs k 0) (sym w.2) ∙ (q ∙ ap (λ (k : ℕ). get_or d k 0) w.2))
+
+-- codewords that are not those of the gathered message are those of none
+pub none-fits : (b : Blocks) (sent xs again d : List ℕ) → IsGathered (data_cut b) sent xs → IsFinalMessage b xs again → (again ≡ sent → ⊥) → length d ≡ cut_len (data_cut b) → IsFinalMessage b d sent → ⊥
+none-fits b sent xs again d g h n l k =
+    let e = gathered-one b sent xs d g l k in
+    n (final-one b d again sent (subst (λ (z : List ℕ). IsFinalMessage b z again) e h) k)

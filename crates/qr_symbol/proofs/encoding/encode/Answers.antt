@@ -1,0 +1,52 @@
+use Rattle.std.proofs.Common.{◌≡◌, length, Result, Err, None, sym, ◌∙◌, ap, arith}
+use Rattle.std.proofs.lemmas.Bool.{eqb-false}
+use Rattle.std.proofs.lemmas.Result.{err_from_is_err_and}
+use Rattle.qr_bits.specs.declared.fault.BitFault.{BitFault}
+use Rattle.qr_bits.specs.declared.fault.BitFault.TheVariants.{Memory, TooLong}
+use Rattle.qr_bits.proofs.Counts.{fitting_short}
+use Rattle.qr_bits.proofs.DataLaws.{length-data}
+use Rattle.qr_symbol.specs.declared.fault.EncodeFault.{EncodeFault}
+use Rattle.qr_symbol.specs.declared.fault.EncodeFault.TheVariants as fault
+use Rattle.qr_symbol.specs.declared.symbol.Symbol.{Symbol}
+use Rattle.qr_symbol.specs.Faults.{fault_of}
+use Rattle.qr_symbol.proofs.RoundTrip.{symbol-back}
+use Rattle.qr_symbol.proofs.encoding.encode.Goals as goal
+
+answer : EncodeFault → Result Symbol EncodeFault
+answer e = Err e
+
+not_empty : (f : BitFault) → answer (fault_of f) ≡ answer fault.Empty → ⊥
+unfolding answer
+not_empty Memory e = cc
+not_empty TooLong e = cc
+
+is_too_long : (f : BitFault) → answer (fault_of f) ≡ answer fault.TooLong → f ≡ TooLong
+unfolding answer
+is_too_long Memory e = cc
+is_too_long TooLong e = cc
+
+pub returns-then-input-gt-LONGEST-clause-too_long : goal.returns-then-input-gt-LONGEST-clause-too_long
+returns-then-input-gt-LONGEST-clause-too_long c =
+    λ _ v a b held.
+    let short = fitting_short v c.args.level c.args.bytes_only c.args.input.now (omega arith) b held in omega arith
+
+pub returns-in_err-fit-clause-empty : goal.returns-in_err-fit-clause-empty
+unfolding answer
+returns-in_err-fit-clause-empty c =
+    let p = err_from_is_err_and c.from_residual.result c.from_residual.ensures.1 in
+    rw (p.1, p.2) (λ e. absurd (not_empty c.in_err-fit.field-0.0 e), λ none. absurd (eqb-false (length c.args.input.now) 0 (sym c.if-is_empty.ensures) (ap length none)))
+
+pub returns-in_err-fit-clause-too_long : goal.returns-in_err-fit-clause-too_long
+unfolding answer
+returns-in_err-fit-clause-too_long c =
+    let p = err_from_is_err_and c.from_residual.result c.from_residual.ensures.1 in
+    rw (p.1, p.2) (λ e. c.in_err-fit.ensures.too_long (ap (λ (f : BitFault). Err f) (is_too_long c.in_err-fit.field-0.0 e)))
+
+pub interleave-requires : goal.interleave-requires
+interleave-requires c =
+    let long = length-data c.in_ok-fit.fit.version c.args.level c.args.input.now c.deref.result.now None c.in_ok-message.message.items c.in_ok-message.ensures.ok in
+    record { whole = ap length c.deref-2.ensures.value ∙ long }
+
+pub returns-clause-read : goal.returns-clause-read
+returns-clause-read c =
+    symbol-back c.args.input.now c.args.level c.args.smallest c.args.bytes_only c.in_ok-fit.fit.version c.in_ok-fit.fit.segments.items c.deref.result.now c.in_ok-message.message.items c.deref-2.result.now c.in_ok-sent.sent.items c.deref-3.result.now c.build.result (omega arith) c.in_ok-fit.ensures.version c.in_ok-fit.ensures.segments c.deref.ensures.value c.in_ok-message.ensures.ok c.deref-2.ensures.value c.in_ok-sent.ensures.sent c.deref-3.ensures.value c.build.ensures.version c.build.ensures.mask c.build.ensures.matrix

@@ -1,0 +1,5 @@
+use Rattle.qr_symbol.proofs.FitLemmas.{symbol-one}
+use Rattle.qr_symbol.proofs.laws.symbols_are_one.Goals as goal
+
+pub returns : goal.returns
+returns c = symbol-one

@@ -1,0 +1,68 @@
+-- The reading of a symbol, from the layout of its version, its blocks and the order of its modules. Public clauses cite
+-- this file.
+use Rattle.std.specs.Prelude.{◌≡◌, ℕ, ◌-◌, ◌*◌, ◌<◌, ◌≤◌, Bool, false, List, ◌++◌, map, take, length, replicate, Ok, None}
+use Rattle.std.specs.List.{All}
+use Rattle.qr_layout.specs.declared.level.Level.{Level}
+use Rattle.qr_layout.specs.declared.region.Module.{Module}
+use Rattle.qr_layout.specs.Versions.{side_of, total_codewords_of}
+use Rattle.qr_layout.specs.Blocks.{data_codewords_of}
+use Rattle.qr_layout.specs.Words.{format_word_of}
+use Rattle.qr_layout.specs.Order.{IsOrder}
+use Rattle.qr_layout.specs.Roles.{first_place}
+use Rattle.qr_bits.specs.declared.segment.Segment.{Segment}
+use Rattle.qr_bits.specs.Letters.{IsLeastSegmentation}
+use Rattle.qr_bits.specs.Bits.{bits_of}
+use Rattle.qr_bits.specs.Parse.{Content, parse}
+use Rattle.qr_symbol.specs.Grid.{Grid, colour}
+use Rattle.qr_symbol.specs.Masks.{inverts, inverted}
+use Rattle.qr_symbol.specs.Colour.{word_bit}
+use Rattle.qr_symbol.specs.Interleaving.{IsInterleaved}
+
+-- the colour of a module of the encoding region without its mask (ISO/IEC 18004:2015, 12)
+abbrev pub unmasked : ℕ → Grid → Module → Bool
+unmasked mask g m = inverted (inverts mask m.row m.col) (colour g m.row m.col)
+
+-- the bits of all codewords, at the first places of the order, and 0 where the order is shorter
+-- (ISO/IEC 18004:2015, 7.7.3, 12)
+abbrev pub read_bits : ℕ → ℕ → Grid → List Module → List Bool
+read_bits v mask g ms = map (unmasked mask g) (take (8 * total_codewords_of v) ms) ++ replicate (8 * total_codewords_of v - length ms) false
+
+-- the square holds these codewords under the mask (ISO/IEC 18004:2015, 7.7.3, 12)
+pub record IsRead (v mask : ℕ) (g : Grid) (cw : List ℕ) : Type 0 where
+  pub bytes : All (λ x. x < 256) cw
+  pub places : List Module
+  pub order : IsOrder v places
+  pub bits : bits_of cw ≡ read_bits v mask g places
+
+-- the square holds the final sequence of these data codewords (ISO/IEC 18004:2015, 7.6, 12)
+pub record IsMessage (v : ℕ) (l : Level) (mask : ℕ) (g : Grid) (d : List ℕ) : Type 0 where
+  pub codewords : List ℕ
+  pub read : IsRead v mask g codewords
+  pub many : length d ≡ data_codewords_of v l
+  pub sent : IsInterleaved v l d codewords
+
+-- the format information beside the top left finder pattern is that of the level and the mask
+-- (ISO/IEC 18004:2015, 7.9.1, 12)
+pub record IsFormat (g : Grid) (l : Level) (mask : ℕ) : Type 0 where
+  pub in_range : mask < 8
+  pub bits : (i : ℕ) → i < 15 → colour g (first_place i).row (first_place i).col ≡ word_bit (format_word_of l mask) i
+
+-- the square is read as this content: its side is that of a version, its format information that of a level and a mask,
+-- and the data codewords that it holds say so (ISO/IEC 18004:2015, 12)
+pub record IsReading (g : Grid) (content : Content) : Type 0 where
+  pub version : ℕ
+  pub level : Level
+  pub mask : ℕ
+  pub message : List ℕ
+  pub least : 1 ≤ version
+  pub most : version ≤ 40
+  pub side : g.side ≡ side_of version
+  pub format : IsFormat g level mask
+  pub holds : IsMessage version level mask g message
+  pub parsed : parse version (bits_of message) ≡ Ok content
+
+-- the square is read as the input, in segments of least bits for the version and without a header
+-- (ISO/IEC 18004:2015, 12)
+abbrev pub IsReadBack : List ℕ → ℕ → Bool → Grid → Type 0
+IsReadBack x v bytes_only g = (segments : List Segment) × IsLeastSegmentation v bytes_only x segments
+    × IsReading g (record { header = None; segments = segments; bytes = x })

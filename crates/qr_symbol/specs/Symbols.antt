@@ -1,0 +1,46 @@
+-- The symbol that an input is encoded as. Public clauses cite this file.
+use Rattle.std.specs.Prelude.{◌≡◌, ℕ, ◌<◌, ◌≤◌, Bool, List, None}
+use Rattle.qr_layout.specs.declared.level.Level.{Level}
+use Rattle.qr_bits.specs.declared.segment.Segment.{Segment}
+use Rattle.qr_bits.specs.Letters.{HasFit, IsLeastSegmentation}
+use Rattle.qr_bits.specs.Data.{capacity_of, IsData}
+use Rattle.qr_symbol.specs.Grid.{Grid}
+use Rattle.qr_symbol.specs.Colour.{grid_of}
+use Rattle.qr_symbol.specs.Interleaving.{IsInterleaved}
+use Rattle.qr_symbol.specs.Choice.{IsMask}
+
+-- the bytes fit a symbol of version v and level l: some way to cut them into segments has no more bits than its data
+-- codewords hold (ISO/IEC 18004:2015, 7.4.10, Table 7)
+abbrev pub FitsVersion : List ℕ → Level → Bool → ℕ → Type 0
+FitsVersion x l bytes_only v = HasFit v bytes_only x (capacity_of v l)
+
+-- v is the least version from `smallest` to 40 that the bytes fit [own]
+pub record IsVersion (x : List ℕ) (l : Level) (smallest : ℕ) (bytes_only : Bool) (v : ℕ) : Type 0 where
+  pub least : smallest ≤ v
+  pub most : v ≤ 40
+  pub fits : FitsVersion x l bytes_only v
+  pub first : (u : ℕ) → smallest ≤ u → u < v → FitsVersion x l bytes_only u → ⊥
+
+-- the bytes fit no version from `smallest` to 40 [own]
+abbrev pub HasNoVersion : List ℕ → Level → ℕ → Bool → Type 0
+HasNoVersion x l smallest bytes_only = (v : ℕ) → smallest ≤ v → v ≤ 40 → FitsVersion x l bytes_only v → ⊥
+
+-- g is the symbol of the bytes at level l, of version v and with this mask: the bytes are cut into the segments of least
+-- bits, written as data codewords, interleaved with their error correction codewords, placed, and masked
+-- (ISO/IEC 18004:2015, 7.1)
+pub record IsSymbol (x : List ℕ) (l : Level) (smallest : ℕ) (bytes_only : Bool) (v mask : ℕ) (g : Grid) : Type 0 where
+  pub version : IsVersion x l smallest bytes_only v
+  pub segments : List Segment
+  pub chosen : IsLeastSegmentation v bytes_only x segments
+  pub message : List ℕ
+  pub written : IsData v l x segments None message
+  pub codewords : List ℕ
+  pub sent : IsInterleaved v l message codewords
+  pub best : IsMask v l codewords mask
+  pub drawn : g ≡ grid_of v l mask codewords
+
+-- An input has only one symbol: the version, the mask and the modules are those of any other [own].
+abbrev pub SymbolsAreOne : Type 0
+SymbolsAreOne = (x : List ℕ) (l : Level) (smallest : ℕ) (bytes_only : Bool) (v w m n : ℕ) (g h : Grid)
+    → IsSymbol x l smallest bytes_only v m g → IsSymbol x l smallest bytes_only w n h
+    → (v ≡ w) × (m ≡ n) × (g ≡ h)

@@ -1,0 +1,113 @@
+//! The encoding of an input as one symbol (ISO/IEC 18004:2015, 7.1).
+
+ghost use Rattle.std.specs.Prelude.{◌≡◌, ◌≤◌, ◌↔◌, ◌⊎◌, [], length, Err, IfOk, IfErr};
+ghost use Rattle.qr_symbol.specs.declared.fault.EncodeFault.{EncodeFault};
+ghost use Rattle.qr_symbol.specs.Reading.{IsReadBack};
+ghost use Rattle.qr_symbol.specs.Symbols.{HasNoVersion, IsSymbol};
+
+use crate::choice::build;
+use crate::fault::EncodeFault;
+use crate::fitting::least_fit;
+use crate::message::interleave;
+use crate::symbol::Symbol;
+use qr_bits::{INPUT_MAX, codewords};
+use qr_layout::{Level, Version};
+use std::alloc::Global;
+
+// The most bytes that a symbol holds: digits, in version 40 and level L (7.4.10, Table 7).
+const LONGEST: usize = 7089;
+
+/// The symbol of an input (ISO/IEC 18004:2015, 7.1), of the least version from `smallest` on that it fits. With
+/// `bytes_only` the whole input is one byte segment.
+///
+/// `Empty` where the input has no byte, and `TooLong` where it fits no version from `smallest` on. Both come before any
+/// memory is taken where the input is empty or has more than 7,089 bytes.
+pub fn encode(
+    alloc: Global,
+    input: &[u8],
+    level: Level,
+    smallest: Version,
+    bytes_only: bool,
+) -> Result<Symbol, EncodeFault>
+    requires { length input.now ≤ INPUT_MAX }
+    ensures symbol { IfOk result (λ s. IsSymbol input.now level smallest bytes_only
+        s.version s.mask s.matrix) }
+    ensures level { IfOk result (λ s. s.level ≡ level) }
+    ensures read { IfOk result (λ s. IsReadBack input.now s.version bytes_only s.matrix) }
+    ensures empty { (result ≡ Err EncodeFault.Empty) ↔ (input.now ≡ []) }
+    ensures too_long { result ≡ Err EncodeFault.TooLong
+        → HasNoVersion input.now level smallest bytes_only }
+    ensures fault { IfErr result (λ e. (e ≡ EncodeFault.Empty) ⊎ (e ≡ EncodeFault.TooLong)
+        ⊎ (e ≡ EncodeFault.Memory)) }
+{
+    if input.is_empty() {
+        return Err(EncodeFault::Empty);
+    }
+    if input.len() > LONGEST {
+        return Err(EncodeFault::TooLong);
+    }
+    let fit = least_fit(alloc, input, level, smallest, bytes_only)?;
+    let message = codewords(alloc, input, &fit.segments, None, fit.version, level)?;
+    let sent = interleave(alloc, fit.version, level, &message)?;
+    build(alloc, fit.version, level, &sent)
+}
+
+#[cfg(test)]
+mod tests {
+    use super::*;
+    use std::test::Fail;
+
+    #[test]
+    fn masks(rt: HostRuntime) -> Result<(), Fail> {
+        let rows = [
+            ("five letters at 1-L", &b"hello"[..], Level::L, 7),
+            ("letters and digits at 1-L", &b"ab012"[..], Level::L, 3),
+            ("a tie of masks 0 and 4 at 1-Q", &b"g"[..], Level::Q, 0),
+            ("a tie of masks 3 and 7 at 1-L", &b"BR"[..], Level::L, 3),
+            ("a tie of masks 6 and 7 at 1-L", &b"CE"[..], Level::L, 6),
+        ];
+        let first = Version::new(1).ok_or("version 1")?;
+        for (name, input, level, mask) in rows {
+            assert!(rt; input.len() <= INPUT_MAX);
+            let symbol = encode(rt.alloc(), input, level, first, false)?;
+            assert_eq!(rt; symbol.version, first, "{name}");
+            assert_eq!(rt; symbol.mask, mask, "{name}");
+        }
+        Ok(())
+    }
+
+    #[test]
+    fn versions(rt: HostRuntime) -> Result<(), Fail> {
+        let digits = [b'7'; 7089];
+        let rows = [
+            ("41 digits at L", 41, 1u8, 1),
+            ("42 digits at L", 42, 1, 2),
+            ("a larger version than needed", 42, 3, 3),
+            ("7,089 digits at L", 7089, 1, 40),
+        ];
+        for (name, len, smallest, version) in rows {
+            let smallest = Version::new(smallest).ok_or("smallest version")?;
+            assert!(rt; len <= digits.len());
+            let symbol = encode(rt.alloc(), &digits[..len], Level::L, smallest, false)?;
+            assert_eq!(rt; symbol.version.number(), version, "{name}");
+        }
+        Ok(())
+    }
+
+    #[test]
+    fn refusals(rt: HostRuntime) -> Result<(), Fail> {
+        let first = Version::new(1).ok_or("version")?;
+        let fault = encode(rt.alloc(), b"", Level::L, first, false);
+        assert!(rt; matches!(fault, Err(EncodeFault::Empty)), "no byte");
+        let fault = encode(rt.alloc(), &[b'7'; 7090], Level::L, first, false);
+        assert!(rt; matches!(fault, Err(EncodeFault::TooLong)), "7,090 digits");
+        let fault = encode(rt.alloc(), &[b'a'; 2954], Level::L, first, false);
+        assert!(rt; matches!(fault, Err(EncodeFault::TooLong)), "2,954 bytes");
+        let fault = encode(rt.alloc(), &[b'7'; INPUT_MAX], Level::L, first, false);
+        assert!(rt;
+            matches!(fault, Err(EncodeFault::TooLong)),
+            "the longest input"
+        );
+        Ok(())
+    }
+}
