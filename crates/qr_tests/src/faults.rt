@@ -22,7 +22,17 @@ fn of_words_and_input(rt: HostRuntime) -> Result<(), Fail> {
             ["-t", ""].as_slice(),
             "qrencode: unknown type\n",
         ),
+        (
+            "a level before a type",
+            ["-l", "X", "-t", "PNG"].as_slice(),
+            "qrencode: unknown level\n",
+        ),
         ("no byte", DRAW.as_slice(), "qrencode: input is empty\n"),
+        (
+            "an empty text",
+            ["-t", "ASCII", ""].as_slice(),
+            "qrencode: input is empty\n",
+        ),
     ];
     for (name, words, line) in rows {
         let r = run_with(rt.alloc(), words, b"", Devices::WELL)?;
@@ -39,16 +49,21 @@ fn of_words_alone(rt: HostRuntime) -> Result<(), Fail> {
     let rows = [
         ("no type", ["-8"].as_slice(), "required"),
         (
-            "a later version",
-            ["-v", "2", "-t", "ASCII"].as_slice(),
-            "0..=1",
+            "a version past 40",
+            ["-v", "41", "-t", "ASCII"].as_slice(),
+            "0..=40",
+        ),
+        (
+            "a margin past 100",
+            ["-m", "101", "-t", "ASCII"].as_slice(),
+            "0..=100",
         ),
         (
             "a type given twice",
             ["-t", "ASCII", "-t", "ASCII"].as_slice(),
             "-t",
         ),
-        ("a text", ["-t", "ASCII", "A"].as_slice(), "'A'"),
+        ("two texts", ["-t", "ASCII", "A", "B"].as_slice(), "'B'"),
         ("kanji", ["-k", "-t", "ASCII"].as_slice(), "-k"),
         (
             "help",
@@ -72,15 +87,27 @@ fn of_words_alone(rt: HostRuntime) -> Result<(), Fail> {
     Ok(())
 }
 
+// The longest input at each level that fits a symbol in digits, and one digit more.
 #[test]
 fn of_length(rt: HostRuntime) -> Result<(), Fail> {
-    let letters = [b'a'; 18];
-    let r = run_with(rt.alloc(), &DRAW, &letters[..17], Devices::WELL)?;
-    assert_eq!(rt; r.status, 0, "seventeen bytes");
-    let r = run_with(rt.alloc(), &DRAW, &letters, Devices::WELL)?;
-    assert_eq!(rt; r.status, 1, "eighteen bytes");
-    assert_eq!(rt; r.err.bytes(), b"qrencode: input does not fit\n".as_slice());
-    assert!(rt; r.out.bytes().is_empty());
+    let digits = vec![in rt.alloc(); b'7'; 7090]?;
+    let digits = digits.as_slice();
+    assert!(rt; digits.len() == 7090);
+    for (level, most) in [("L", 7089usize), ("M", 5596), ("Q", 3993), ("H", 3057)] {
+        assert!(rt; most < 7090);
+        let words = ["-m", "0", "-l", level, "-t", "ASCII"];
+        let devices = Devices {
+            out_room: 70_000,
+            ..Devices::WELL
+        };
+        let r = run_with(rt.alloc(), &words, &digits[..most], devices)?;
+        assert_eq!(rt; r.status, 0, "{level}");
+        assert_eq!(rt; r.out.bytes().len(), 177 * 355, "{level}");
+        let r = run_with(rt.alloc(), &words, &digits[..most + 1], devices)?;
+        assert_eq!(rt; r.status, 1, "{level}");
+        assert_eq!(rt; r.err.bytes(), b"qrencode: input does not fit\n".as_slice());
+        assert!(rt; r.out.bytes().is_empty());
+    }
     Ok(())
 }
 

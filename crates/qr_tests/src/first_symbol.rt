@@ -63,12 +63,16 @@ fn is_drawn(rt: HostRuntime) -> Result<(), Fail> {
     let want = drawing(rt.alloc())?;
     assert_eq!(rt; want.len(), 29 * 59);
     let spellings = [
-        DRAW.as_slice(),
-        ["-t", "ascii"].as_slice(),
-        ["-v0", "-tAscii"].as_slice(),
+        (DRAW.as_slice(), b"A".as_slice()),
+        (["-8", "-t", "ascii"].as_slice(), b"A".as_slice()),
+        (["-v0", "-8", "-tAscii", "-lL"].as_slice(), b"A".as_slice()),
+        (
+            ["-t", "ASCII", "-8", "-m", "4", "A"].as_slice(),
+            b"B".as_slice(),
+        ),
     ];
-    for words in spellings {
-        let r = run_with(rt.alloc(), words, b"A", Devices::WELL)?;
+    for (words, input) in spellings {
+        let r = run_with(rt.alloc(), words, input, Devices::WELL)?;
         assert_eq!(rt; r.status, 0);
         assert_eq!(rt; r.out.bytes(), want.as_slice());
         assert!(rt; r.err.bytes().is_empty());

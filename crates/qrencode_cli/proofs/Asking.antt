@@ -1,5 +1,5 @@
 -- What the words and the input ask for.
-use Rattle.std.proofs.Common.{◌≡◌, ◌∙◌, ◌<◌, ℕ, List, [], ◌∷◌, take, Option, None, Some, Result, Ok, Err, MatchOption, MatchResult, refl, sym, min, length, append-nil}
+use Rattle.std.proofs.Common.{◌≡◌, ◌∙◌, ◌<◌, ◌≤◌, ℕ, List, [], ◌∷◌, take, Option, None, Some, Result, Ok, Err, MatchOption, MatchResult, refl, sym, min, length, append-nil, arith}
 use Rattle.std.proofs.lemmas.List.{take_min}
 use Rattle.clap.specs.Walk.{Text}
 use Rattle.qr_bits.specs.declared.segment.TheConstants.{INPUT_MAX}
@@ -9,8 +9,11 @@ use Rattle.qrencode_cli.specs.Device.{Reader}
 use Rattle.qrencode_cli.specs.Drawings.{ascii_drawing}
 use Rattle.qrencode_cli.specs.Input.{IsInputOf}
 use Rattle.qrencode_cli.specs.Settings.{Refusal, Seen, settings_for}
-use Rattle.qrencode_cli.specs.Steps.{IsEarly, IsSymbolFault, Prepares, drawing_of}
-use Rattle.qrencode_cli.specs.Symbols.{IsSymbol, version_of}
+use Rattle.qrencode_cli.specs.Steps.{IsEarly, IsInputFault, Prepares, drawing_of}
+use Rattle.qr_symbol.specs.Symbols.{IsSymbol}
+use Rattle.qr_bits.proofs.Counts.{fitting_short}
+use Rattle.std.proofs.lemmas.Grind.{common_steps}
+use Rattle.qrencode_cli.specs.Symbols.{smallest_of}
 use Rattle.qrencode_cli.specs.Usage.{IsUsageFault}
 use Rattle.qrencode_cli.specs.declared.command.Fault.{Fault}
 use Rattle.qrencode_cli.specs.declared.command.Fault.TheVariants as fault
@@ -35,15 +38,18 @@ pub input_for-reader : (s : Seen) (given : List ℕ) → s.string ≡ None → i
 input_for-reader s given e = rw e refl
 
 -- the one symbol of an input, drawn with a margin, is what the settings ask for
-pub IsDrawing-one : (s : Seen) (input : List ℕ) (v : ℕ) (g : Grid) → s.kind ≡ Ascii → v ≡ version_of s
-    → IsSymbol v s.level input g × (0 < length input) × (length input < INPUT_MAX) → IsDrawing s input (ascii_drawing s.margin g)
-IsDrawing-one s input v g kind e (symbol, some, short) = record {
-  squares = g ∷ [];
-  symbols = (g, rw (← e) symbol, refl);
-  some = some;
-  short = short;
-  is_drawn = rw kind (sym (append-nil (ascii_drawing s.margin g)));
-}
+pub IsDrawing-one : (s : Seen) (input : List ℕ) (smallest version mask : ℕ) (g : Grid) → s.kind ≡ Ascii → 1 ≤ smallest → smallest ≡ smallest_of s
+    → (input ≡ [] → ⊥) → IsSymbol input s.level smallest s.bytes_only version mask g → IsDrawing s input (ascii_drawing s.margin g)
+IsDrawing-one s input smallest version mask g kind least e some symbol =
+    let from = symbol.version.least in
+    let few : length input ≤ 7089 = fitting_short version s.level s.bytes_only input (omega arith) symbol.version.most symbol.version.fits in
+    record {
+      squares = g ∷ [];
+      symbols = (g, record { version = version; mask = mask; symbol = rw (← e) symbol }, refl);
+      some = grind (arith, common_steps);
+      short = omega arith;
+      is_drawn = rw kind (sym (append-nil (ascii_drawing s.margin g)));
+    }
 
 -- where nothing was read, nothing was read for the words
 reads-nothing : (o : Result Seen Refusal) (in0 : Reader) (given : List ℕ) (u : UsageFault)
@@ -68,7 +74,7 @@ prepares-usage words in0 u h = let i = any_input in0.remaining in record {
 module _ (words : List Text) (s : Seen) (taken : settings_for words ≡ Ok s) where
   -- the answer for the input that is encoded
   answer-for : (given input : List ℕ) (r : Result Picture Fault) → input_for s given ≡ input
-      → MatchResult r (λ p. IsDrawing s input (drawing_of p)) (IsSymbolFault (version_of s) s.level input)
+      → MatchResult r (λ p. IsDrawing s input (drawing_of p)) (IsInputFault s input)
       → MatchResult r (λ p. Asks words given (drawing_of p)) (λ f. IsFault words given f × IsEarly f)
   answer-for given input (Ok p) e h = record { settings = s; taken = taken; is_drawing = rw e h }
   answer-for given input (Err (fault.Usage u)) e h = absurd h
@@ -84,7 +90,7 @@ module _ (words : List Text) (s : Seen) (taken : settings_for words ≡ Ok s) wh
 
   -- the input is the words' string
   pub prepares-string : (in0 : Reader) (text buf : List ℕ) (n : ℕ) (r : Result Picture Fault) → s.string ≡ Some text → buf ≡ text → n ≡ min INPUT_MAX (length buf)
-      → MatchResult r (λ p. IsDrawing s (take n buf) (drawing_of p)) (IsSymbolFault (version_of s) s.level (take n buf))
+      → MatchResult r (λ p. IsDrawing s (take n buf) (drawing_of p)) (IsInputFault s (take n buf))
       → Prepares words in0 in0 r
   prepares-string in0 text buf n r string is cut h = let i = any_input in0.remaining in record {
     given = i.0;
@@ -96,7 +102,7 @@ module _ (words : List Text) (s : Seen) (taken : settings_for words ≡ Ok s) wh
   -- the input is what the reader gave
   pub prepares-reader : (in0 in1 : Reader) (bytes buf : List ℕ) (r : Result Picture Fault) → s.string ≡ None → buf ≡ bytes
       → IsInputOf in0.remaining bytes → Gives in0 in1 bytes
-      → MatchResult r (λ p. IsDrawing s buf (drawing_of p)) (IsSymbolFault (version_of s) s.level buf)
+      → MatchResult r (λ p. IsDrawing s buf (drawing_of p)) (IsInputFault s buf)
       → Prepares words in0 in1 r
   prepares-reader in0 in1 bytes buf r string is input gives h = record {
     given = bytes;
@@ -105,7 +111,7 @@ module _ (words : List Text) (s : Seen) (taken : settings_for words ≡ Ok s) wh
     answer = answer-for bytes buf r (input_for-reader s bytes string ∙ sym is) h;
   }
     where
-      gives-for : (r : Result Picture Fault) → MatchResult r (λ p. IsDrawing s buf (drawing_of p)) (IsSymbolFault (version_of s) s.level buf)
+      gives-for : (r : Result Picture Fault) → MatchResult r (λ p. IsDrawing s buf (drawing_of p)) (IsInputFault s buf)
           → Reads in0 in1 bytes r
       gives-for (Ok p) h = gives
       gives-for (Err (fault.Usage u)) h = absurd h

@@ -1,5 +1,4 @@
 mod Asking
-mod FirstSymbol
 mod Lines
 mod Matching
 mod NumberIn

@@ -8,18 +8,22 @@ use Rattle.qrencode_cli.specs.Settings.{number_at}
 
 module _ {E : Type 0} (gives : Text → Result ℕ E → Type 0)
     (reads : (t : Text) (r : Result ℕ E) → gives t r → ParsesUnsigned 8 10 t r)
+    (otherwise : ℕ)
   where
+    -- a number was read
     pub number_some : (o : Option Text) (r : Result (Option ℕ) E) → (o ≡ None → r ≡ Ok None) → ((t : Text) → o ≡ Some t → TriesOne gives t r)
-        → (n : ℕ) → r ≡ Ok (Some n) → n ≡ number_at o
+        → (n : ℕ) → r ≡ Ok (Some n) → n ≡ number_at otherwise o
     number_some None r none some n e = let bad : r ≡ Ok None = none refl in cc
     number_some (Some t) r none some n e = byte_read {E = E} t (Ok n) (reads t (Ok n) (rw e at (some t refl)))
 
+    -- no number stands
     pub number_none : (o : Option Text) (r : Result (Option ℕ) E) → (o ≡ None → r ≡ Ok None) → ((t : Text) → o ≡ Some t → TriesOne gives t r)
-        → r ≡ Ok None → 0 ≡ number_at o
+        → r ≡ Ok None → otherwise ≡ number_at otherwise o
     number_none None r none some e = refl
     number_none (Some t) r none some e = absurd (rw e at (some t refl))
 
+    -- what stands is no number
     pub number_err : (o : Option Text) (r : Result (Option ℕ) E) → (o ≡ None → r ≡ Ok None) → ((t : Text) → o ≡ Some t → TriesOne gives t r)
-        → (x : E) → r ≡ Err x → 0 ≡ number_at o
+        → (x : E) → r ≡ Err x → 0 ≡ number_at otherwise o
     number_err None r none some x e = let bad : r ≡ Ok None = none refl in cc
     number_err (Some t) r none some x e = byte_read {E = E} t (Err x) (reads t (Err x) (rw e at (some t refl)))

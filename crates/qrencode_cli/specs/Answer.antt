@@ -12,7 +12,7 @@ use Rattle.qrencode_cli.specs.Device.{AppendsBeginning, IsReadWithin, IsWrittenW
 use Rattle.qrencode_cli.specs.Drawings.{IsDrawn}
 use Rattle.qrencode_cli.specs.Input.{IsInputOf}
 use Rattle.qrencode_cli.specs.Settings.{Refusal, Seen, settings_for}
-use Rattle.qrencode_cli.specs.Symbols.{AreSymbols, IsTooLong, version_of}
+use Rattle.qrencode_cli.specs.Symbols.{AreSymbols, IsTooLong}
 use Rattle.qrencode_cli.specs.Usage.{IsUsageFault}
 use Rattle.qrencode_cli.specs.declared.command.Fault.{Fault}
 use Rattle.qrencode_cli.specs.declared.command.Fault.TheVariants as fault
@@ -54,7 +54,7 @@ abbrev pub IsFault : List Text → List ℕ → Fault → Type 0
 IsFault words given (fault.Usage u) = IsUsageFault (settings_for words) u
 IsFault words given fault.Read = AsksReader words
 IsFault words given fault.Empty = Refuses words given (λ s input. input ≡ [])
-IsFault words given fault.TooLong = Refuses words given (λ s input. IsTooLong (version_of s) s.level input)
+IsFault words given fault.TooLong = Refuses words given IsTooLong
 IsFault words given fault.Memory = Unit {0}
 IsFault words given fault.Write = (drawing : List ℕ) × Asks words given drawing
 

@@ -18,6 +18,10 @@ number_rule id letter most = record (text_rule id letter) { parser = Some (parse
 abbrev pub required_rule : Text → ℕ → Rule
 required_rule id letter = record (text_rule id letter) { required = true }
 
+-- a word that is no option [own]
+abbrev pub word_rule : Text → Rule
+word_rule id = record (new_rule id) { value_names = 1 }
+
 -- an option that takes no value [own]
 abbrev pub flag_rule : Text → ℕ → Rule
 flag_rule id letter = record (new_rule id) { short = Some letter; action = Some SetTrue }
@@ -26,13 +30,15 @@ flag_rule id letter = record (new_rule id) { short = Some letter; action = Some 
 abbrev pub letter_of : Text → ℕ
 letter_of text = slice_index text 0
 
--- the command: -l, -v with 0 to 40, -t, which has to be given, and -8 [own]
+-- the command: -l, -v with 0 to 40, -t, which has to be given, -m with 0 to 100, -8, and a text [own]
 unfoldable pub command : App
-command = with_rule (with_rule (with_rule (with_rule (new_app (codes "qrencode"))
+command = with_rule (with_rule (with_rule (with_rule (with_rule (with_rule (new_app (codes "qrencode"))
     (text_rule (codes "level") (letter_of (codes "l"))))
     (number_rule (codes "version") (letter_of (codes "v")) (pos 40)))
     (required_rule (codes "type") (letter_of (codes "t"))))
-    (flag_rule (codes "bytes-only") (letter_of (codes "8")))
+    (number_rule (codes "margin") (letter_of (codes "m")) (pos 100)))
+    (flag_rule (codes "bytes-only") (letter_of (codes "8"))))
+    (word_rule (codes "string"))
 
 -- the matches that clap states for the words [own]
 unfoldable pub rows_for : List Text → List Row

@@ -47,6 +47,24 @@ pub record RowsOfWords : Type 0 where
     structured = false;
     string = None;
   })
+  pub of_a_string : settings_for (codes "qrencode" ∷ codes "-m" ∷ codes "0" ∷ codes "-t" ∷ codes "ascii" ∷ codes "--" ∷ codes "-8" ∷ []) ≡ Ok (record {
+    level = L;
+    smallest = None;
+    kind = Ascii;
+    margin = 0;
+    bytes_only = false;
+    structured = false;
+    string = Some (codes "-8");
+  })
+  pub of_an_empty_string : settings_for (codes "qrencode" ∷ codes "-m" ∷ codes "100" ∷ codes "-t" ∷ codes "ascii" ∷ codes "" ∷ []) ≡ Ok (record {
+    level = L;
+    smallest = None;
+    kind = Ascii;
+    margin = 100;
+    bytes_only = false;
+    structured = false;
+    string = Some (codes "");
+  })
   pub no_words : settings_for [] ≡ Err no_matches
   pub name_alone : Refused [] no_matches
   pub no_type : Refused (codes "-8" ∷ []) no_matches
@@ -59,8 +77,8 @@ pub record RowsOfWords : Type 0 where
   pub past_versions : Refused (codes "-v" ∷ codes "41" ∷ codes "-t" ∷ codes "ASCII" ∷ []) no_matches
   pub type_twice : Refused (codes "-t" ∷ codes "ASCII" ∷ codes "-t" ∷ codes "ASCII" ∷ []) no_matches
   pub flag_twice : Refused (codes "-8" ∷ codes "-8" ∷ codes "-t" ∷ codes "ASCII" ∷ []) no_matches
-  pub string : Refused (codes "-t" ∷ codes "ASCII" ∷ codes "A" ∷ []) no_matches
-  pub margin : Refused (codes "-m" ∷ codes "0" ∷ codes "-t" ∷ codes "ASCII" ∷ []) no_matches
+  pub two_strings : Refused (codes "-t" ∷ codes "ASCII" ∷ codes "a" ∷ codes "b" ∷ []) no_matches
+  pub past_margins : Refused (codes "-m" ∷ codes "101" ∷ codes "-t" ∷ codes "ASCII" ∷ []) no_matches
   pub structured : Refused (codes "-S" ∷ codes "-t" ∷ codes "ASCII" ∷ []) no_matches
   pub kanji : Refused (codes "-k" ∷ codes "-t" ∷ codes "ASCII" ∷ []) no_matches
   pub folding : Refused (codes "-i" ∷ codes "-t" ∷ codes "ASCII" ∷ []) no_matches

@@ -49,9 +49,9 @@ abbrev pub drawing_at : Option Text → Option Drawing
 drawing_at None = None
 drawing_at (Some t) = drawing_named t
 
--- the number that is asked for, 0 where none stands [own]
-abbrev pub number_at : Option Text → ℕ
-number_at o = option_map_or byte_or_zero o 0
+-- the number that is asked for, or another where none stands [own]
+abbrev pub number_at : ℕ → Option Text → ℕ
+number_at otherwise o = option_map_or byte_or_zero o otherwise
 
 -- the version of a number, none for 0 [own]
 abbrev pub version_numbered : ℕ → Option ℕ
@@ -59,22 +59,22 @@ version_numbered n = if nat_le 1 n && nat_le n 40 then Some n else None
 
 -- the version that is asked for [own]
 abbrev pub version_at : Option Text → Option ℕ
-version_at o = version_numbered (number_at o)
+version_at o = version_numbered (number_at 0 o)
 
 -- the flag stands [own]
 abbrev pub flag_at : Option Text → Bool
 flag_at o = option_map_or (λ t. bytes_eq t (codes "true")) o false
 
--- the settings, once level and type are known; margin 4 and one symbol are not to be chosen yet [own]
+-- the settings, once level and type are known; a series of symbols is not to be chosen yet [own]
 abbrev pub settings_with : List Row → Level → Drawing → Seen
 settings_with rows level kind = record {
   level = level;
   smallest = version_at (one_of (codes "version") rows);
   kind = kind;
-  margin = 4;
+  margin = number_at 4 (one_of (codes "margin") rows);
   bytes_only = flag_at (first_of (codes "bytes-only") rows);
   structured = false;
-  string = None;
+  string = first_of (codes "string") rows;
 }
 
 -- the type is looked at [own]

@@ -1,12 +1,11 @@
 -- What the parts of a run come to. Only private clauses cite this file.
 use Rattle.std.specs.Prelude.{◌≡◌, ℕ, List, [], IfErr, Result, MatchResult}
 use Rattle.clap.specs.Walk.{Text}
-use Rattle.qr_layout.specs.declared.level.Level.{Level}
 use Rattle.qrencode_cli.specs.Answer.{Asks, IsFault, ReadsFor, Shows}
 use Rattle.qrencode_cli.specs.Device.{Reader, Writer}
 use Rattle.qrencode_cli.specs.Drawings.{ascii_drawing}
 use Rattle.qrencode_cli.specs.Input.{IsInputOf}
-use Rattle.qrencode_cli.specs.Settings.{settings_for}
+use Rattle.qrencode_cli.specs.Settings.{Seen, settings_for}
 use Rattle.qrencode_cli.specs.Symbols.{IsTooLong}
 use Rattle.qrencode_cli.specs.declared.command.Fault.{Fault}
 use Rattle.qrencode_cli.specs.declared.command.Fault.TheVariants.{Usage, Read, Empty, TooLong, Memory, Write}
@@ -16,14 +15,14 @@ use Rattle.qrencode_cli.specs.declared.command.Picture.{Picture}
 abbrev pub drawing_of : Picture → List ℕ
 drawing_of p = ascii_drawing p.margin p.matrix
 
--- why an input has no symbol of a version and a level
-abbrev pub IsSymbolFault : ℕ → Level → List ℕ → Fault → Type 0
-IsSymbolFault v l input (Usage u) = ⊥
-IsSymbolFault v l input Read = ⊥
-IsSymbolFault v l input Empty = input ≡ []
-IsSymbolFault v l input TooLong = IsTooLong v l input
-IsSymbolFault v l input Memory = Unit {0}
-IsSymbolFault v l input Write = ⊥
+-- why an input has no drawing
+abbrev pub IsInputFault : Seen → List ℕ → Fault → Type 0
+IsInputFault s input (Usage u) = ⊥
+IsInputFault s input Read = ⊥
+IsInputFault s input Empty = input ≡ []
+IsInputFault s input TooLong = IsTooLong s input
+IsInputFault s input Memory = Unit {0}
+IsInputFault s input Write = ⊥
 
 -- the fault comes before any byte is written
 abbrev pub IsEarly : Fault → Type 0

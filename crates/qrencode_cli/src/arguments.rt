@@ -5,7 +5,7 @@ ghost use Rattle.std.specs.String.{string_bytes};
 ghost use Rattle.clap.specs.Words.{app_of, found_of};
 ghost use Rattle.clap.specs.Walk.{rows_of, rule_of};
 ghost use Rattle.clap.specs.Simple.{new_app};
-ghost use Rattle.qrencode_cli.specs.Arguments.{command, faults_for, flag_rule, number_rule, required_rule, rows_for, text_rule};
+ghost use Rattle.qrencode_cli.specs.Arguments.{command, faults_for, flag_rule, number_rule, required_rule, rows_for, text_rule, word_rule};
 
 use clap::builder::ValueParser;
 use clap::error::ErrorKind;
@@ -59,6 +59,14 @@ fn flag<'a>(alloc: Global, name: Name<'a>) -> Arg<'a>
         .action(ArgAction::SetTrue)
 }
 
+// A word that is no option.
+fn word<'a>(alloc: Global, id: &'a str, value: &'a str, help: &'a str) -> Arg<'a>
+    ensures rule { rule_of result ≡ word_rule id.entry.now }
+    ensures local { result.global ≡ false }
+{
+    Arg::new(alloc, id).value_name(value).help(help)
+}
+
 // The command without its arguments.
 fn bare<'a>(alloc: Global) -> Command<'a>
     ensures { app_of result ≡ new_app (codes "qrencode") }
@@ -89,6 +97,13 @@ const TYPE: Name<'static> = Name {
     help: "Type of the drawing: ASCII",
 };
 
+const MARGIN: Name<'static> = Name {
+    id: "margin",
+    short: 'm',
+    value: "N",
+    help: "Margin on each side, 0 to 100 modules [default: 4]",
+};
+
 const BYTES_ONLY: Name<'static> = Name {
     id: "bytes-only",
     short: '8',
@@ -103,7 +118,14 @@ fn described<'a>(alloc: Global) -> Result<Command<'a>, AllocError>
     let with_level = bare(alloc).arg(text(alloc, LEVEL))?;
     let with_version = with_level.arg(number(alloc, VERSION, 40))?;
     let with_type = with_version.arg(required(alloc, TYPE))?;
-    with_type.arg(flag(alloc, BYTES_ONLY))
+    let with_margin = with_type.arg(number(alloc, MARGIN, 100))?;
+    let with_bytes_only = with_margin.arg(flag(alloc, BYTES_ONLY))?;
+    with_bytes_only.arg(word(
+        alloc,
+        "string",
+        "STRING",
+        "Input, in place of standard input",
+    ))
 }
 
 /// Why the words have no matches.

@@ -6,8 +6,7 @@ ghost use Rattle.std.specs.Io.KnownBytes.{Appends};
 ghost use Rattle.std.specs.String.{string_bytes};
 ghost use Rattle.qrencode_cli.specs.Answer.{Breaks, Draws, IsDrawing, Runs, is_read, is_write, line_of};
 ghost use Rattle.qrencode_cli.specs.Device.{IsReadWithin, IsWrittenWithin, is_read_fault, is_write_fault, no_reads, no_writes, reader, writer};
-ghost use Rattle.qrencode_cli.specs.Steps.{Attempts, IsSymbolFault, Prepares, drawing_of};
-ghost use Rattle.qrencode_cli.specs.Symbols.{version_of};
+ghost use Rattle.qrencode_cli.specs.Steps.{Attempts, IsInputFault, Prepares, drawing_of};
 ghost use Rattle.qrencode_cli.specs.Usage.{seen};
 ghost use Rattle.qrencode_cli.specs.declared.command.Fault.{Fault};
 ghost use Rattle.qrencode_cli.specs.declared.drawing.Drawing.TheVariants.{Ascii};
@@ -17,10 +16,9 @@ use crate::drawing::draw_ascii;
 use crate::input::{InputFault, read_input};
 use crate::pen::{PIECE, write_text};
 use crate::settings::{Settings, UsageFault, options};
-use crate::symbol::first_symbol;
 use qr_bits::INPUT_MAX;
 use qr_layout::Version;
-use qr_symbol::Matrix;
+use qr_symbol::{EncodeFault, Matrix, encode};
 use std::alloc::Global;
 
 /// Why the command draws nothing, or not all.
@@ -65,18 +63,20 @@ fn make_picture(alloc: Global, input: &[u8], settings: &Settings) -> Result<Pict
     requires short { length input.now ≤ INPUT_MAX }
     requires kind { settings.now.kind ≡ Ascii }
     ensures { MatchResult result (λ p. IsDrawing (seen settings.now) input.now (drawing_of p))
-        (IsSymbolFault (version_of (seen settings.now)) settings.now.level input.now) }
+        (IsInputFault (seen settings.now) input.now) }
 {
     let Some(first) = Version::new(1) else {
         unreachable!()
     };
-    let version = settings.smallest.unwrap_or(first);
-    match first_symbol(alloc, input, version, settings.level) {
-        Ok(matrix) => Ok(Picture {
-            matrix,
+    let smallest = settings.smallest.unwrap_or(first);
+    match encode(alloc, input, settings.level, smallest, settings.bytes_only) {
+        Ok(symbol) => Ok(Picture {
+            matrix: symbol.matrix,
             margin: settings.margin,
         }),
-        Err(fault) => Err(fault),
+        Err(EncodeFault::Empty) => Err(Fault::Empty),
+        Err(EncodeFault::TooLong) => Err(Fault::TooLong),
+        Err(_) => Err(Fault::Memory),
     }
 }
 

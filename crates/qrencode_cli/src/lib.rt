@@ -10,7 +10,6 @@ mod input;
 pub mod laws;
 mod pen;
 mod settings;
-mod symbol;
 mod trial;
 
 pub use command::run;

@@ -14,8 +14,8 @@ use qr_layout::{Level, Version};
 use std::alloc::Global;
 use thiserror::Error;
 
-/// The margin where none is asked for, in modules: the quiet zone of the standard (6.3.8).
-pub(crate) const MARGIN: u8 = 4;
+// The margin where none is asked for, in modules (6.3.8).
+const QUIET_ZONE: u8 = 4;
 
 /// What the words ask for.
 #[derive(Debug, Drop)]
@@ -120,13 +120,13 @@ fn flag_in(matches: &ArgMatches<'_>, id: &str) -> bool
     }
 }
 
-// The number of an argument, or 0 where it is not given.
-fn number_in(matches: &ArgMatches<'_>, id: &str) -> u8
-    ensures { result ≡ number_at (one_of id.now (rows_of (found_of matches.now))) }
+// The number of an argument, or another where it is not given.
+fn number_in(matches: &ArgMatches<'_>, id: &str, otherwise: u8) -> u8
+    ensures { result ≡ number_at otherwise (one_of id.now (rows_of (found_of matches.now))) }
 {
     match matches.try_get_one::<u8>(id) {
         Ok(Some(number)) => number,
-        Ok(None) => 0,
+        Ok(None) => otherwise,
         Err(_) => 0,
     }
 }
@@ -135,11 +135,26 @@ fn number_in(matches: &ArgMatches<'_>, id: &str) -> u8
 fn version_in(matches: &ArgMatches<'_>) -> Option<Version>
     ensures { result ≡ version_at (one_of (codes "version") (rows_of (found_of matches.now))) }
 {
-    Version::new(number_in(matches, "version"))
+    Version::new(number_in(matches, "version", 0))
+}
+
+// The string of the words, copied.
+fn string_in(alloc: Global, matches: &ArgMatches<'_>) -> Result<Option<String>, UsageFault>
+    ensures { MatchResult result
+        (λ s. option_map string_bytes s ≡ first_of (codes "string") (rows_of (found_of matches.now)))
+        (λ e. e ≡ UsageFault.Memory) }
+{
+    match text_in(matches, "string") {
+        Some(text) => match String::from_str(alloc, text) {
+            Ok(copy) => Ok(Some(copy)),
+            Err(_) => Err(UsageFault::Memory),
+        },
+        None => Ok(None),
+    }
 }
 
 // The settings of the matches.
-fn settings_in(matches: &ArgMatches<'_>) -> Result<Settings, UsageFault>
+fn settings_in(alloc: Global, matches: &ArgMatches<'_>) -> Result<Settings, UsageFault>
     ensures { MatchResult result (λ s. settings_of (rows_of (found_of matches.now)) ≡ Ok (seen s))
         (IsUsageFault (settings_of (rows_of (found_of matches.now)))) }
 {
@@ -149,15 +164,18 @@ fn settings_in(matches: &ArgMatches<'_>) -> Result<Settings, UsageFault>
     let Some(kind) = drawing_in(matches) else {
         return Err(UsageFault::Kind);
     };
-    Ok(Settings {
-        level,
-        smallest: version_in(matches),
-        kind,
-        margin: MARGIN,
-        bytes_only: flag_in(matches, "bytes-only"),
-        structured: false,
-        string: None,
-    })
+    match string_in(alloc, matches) {
+        Ok(string) => Ok(Settings {
+            level,
+            smallest: version_in(matches),
+            kind,
+            margin: number_in(matches, "margin", QUIET_ZONE),
+            bytes_only: flag_in(matches, "bytes-only"),
+            structured: false,
+            string,
+        }),
+        Err(fault) => Err(fault),
+    }
 }
 
 /// Reads the words of a command line, of which the first is the program's name.
@@ -166,7 +184,7 @@ pub fn options(alloc: Global, words: &[String]) -> Result<Settings, UsageFault>
         (IsUsageFault (settings_for (map string_bytes words.now))) }
 {
     match matches(alloc, words) {
-        Ok(matches) => settings_in(&matches),
+        Ok(matches) => settings_in(alloc, &matches),
         Err(MatchFault::Words(text)) => Err(UsageFault::Words(text)),
         Err(MatchFault::Memory) => Err(UsageFault::Memory),
     }

@@ -10,4 +10,6 @@ returns c =
     let a1 = c.in_ok-with_level.ensures.shape c.text.ensures.local ∙ ap₂ with_rule c.bare.ensures c.text.ensures.rule in
     let a2 = c.in_ok-with_version.ensures.shape c.number.ensures.local ∙ ap₂ with_rule a1 c.number.ensures.rule in
     let a3 = c.in_ok-with_type.ensures.shape c.required.ensures.local ∙ ap₂ with_rule a2 c.required.ensures.rule in
-    IfOk-weaker c.arg-4.result _ _ (λ r h. h.shape c.flag.ensures.local ∙ ap₂ with_rule a3 c.flag.ensures.rule) c.arg-4.ensures
+    let a4 = c.in_ok-with_margin.ensures.shape c.number-2.ensures.local ∙ ap₂ with_rule a3 c.number-2.ensures.rule in
+    let a5 = c.in_ok-with_bytes_only.ensures.shape c.flag.ensures.local ∙ ap₂ with_rule a4 c.flag.ensures.rule in
+    IfOk-weaker c.arg-6.result _ _ (λ r h. h.shape c.word.ensures.local ∙ ap₂ with_rule a5 c.word.ensures.rule) c.arg-6.ensures
