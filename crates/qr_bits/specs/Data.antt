@@ -16,6 +16,10 @@ abbrev pub header_bits : Option Header → ℕ
 header_bits None = 0
 header_bits (Some h) = 20
 
+-- the bits that the data codewords hold behind a header (ISO/IEC 18004:2015, 7.4.10, 8.1)
+abbrev pub room_of : ℕ → Level → ℕ
+room_of v l = capacity_of v l - 20
+
 -- four zero bits, or as many as the capacity has room for (ISO/IEC 18004:2015, 7.4.9)
 abbrev pub terminated : ℕ → List Bool → List Bool
 terminated capacity stream = stream ++ replicate (min 4 (capacity - length stream)) false

@@ -15,7 +15,7 @@ count_width v Byte = if nat_le v 9 then 8 else 16
 abbrev pub is_digit : ℕ → Bool
 is_digit b = nat_le 48 b && nat_le b 57
 
--- the 45 characters of alphanumeric mode, in the order of their values (ISO/IEC 18004:2015, 7.3.4, Table 5)
+-- the 45 characters of alphanumeric mode, in the order of their values (ISO/IEC 18004:2015, 7.4.4, Table 5)
 unfoldable pub characters : List ℕ
 characters = codes "0123456789ABCDEFGHIJKLMNOPQRSTUVWXYZ $%*+-./:"
 

@@ -46,7 +46,7 @@ digits_of (suc (suc (suc n))) bits =
     let group = value (take 10 bits) in
     if nat_lt group 1000 then (digits_of n (drop 10 bits) >>= λ ds. Ok (digit (group / 100) ∷ digit (group / 10) ∷ digit group ∷ ds)) else Err BadValue
 
--- the character of a value below 45 (ISO/IEC 18004:2015, 7.3.4, Table 5)
+-- the character of a value below 45 (ISO/IEC 18004:2015, 7.4.4, Table 5)
 unfoldable pub character : ℕ → ℕ
 character n = slice_index_or characters n 0
 

@@ -25,7 +25,7 @@ digit_bits (a ∷ []) = field 4 (a - 48)
 digit_bits (a ∷ b ∷ []) = field 7 (10 * (a - 48) + (b - 48))
 digit_bits (a ∷ b ∷ c ∷ xs) = field 10 (100 * (a - 48) + 10 * (b - 48) + (c - 48)) ++ digit_bits xs
 
--- the value of a character: its place in the table (ISO/IEC 18004:2015, 7.3.4, Table 5)
+-- the value of a character: its place in the table (ISO/IEC 18004:2015, 7.4.4, Table 5)
 unfoldable pub character_value : ℕ → ℕ
 character_value b = position_or_len (λ c. c == b) characters
 

@@ -1,6 +1,6 @@
 //! Segments of an input, and the bits that they cost: ISO/IEC 18004:2015, 7.4.1.
 
-ghost use Rattle.std.specs.Prelude.{◌≡◌, ◌+◌, ◌*◌, ◌<◌, ◌≤◌, ◌↔◌, All, IsTrue, length, sum_by};
+ghost use Rattle.std.specs.Prelude.{◌≡◌, ◌<◌, ◌≤◌, ◌↔◌, All, IsTrue, length, sum_by};
 ghost use Rattle.std.specs.List.{list_all};
 ghost use Rattle.qr_bits.specs.Letters.{bits, Covers, is_alphanumeric, is_digit, segment_bits, suits};
 

@@ -1,12 +1,12 @@
 //! From segments to data codewords: ISO/IEC 18004:2015, 7.4 and 8.
 
-ghost use Rattle.std.specs.Prelude.{◌≡◌, ◌+◌, ◌-◌, ◌*◌, ◌/◌, ◌<◌, ◌≤◌, ◌^◌, ◌++◌, All, IfOk, IsTrue, OnOk, ◌==◌, length, vec_len};
+ghost use Rattle.std.specs.Prelude.{◌≡◌, ◌+◌, ◌-◌, ◌<◌, ◌≤◌, ◌^◌, ◌++◌, All, IfOk, IsTrue, OnOk, ◌==◌, length, vec_len};
 ghost use Rattle.std.specs.List.{list_all, position};
 ghost use Rattle.std.specs.Option.{ForSome};
 ghost use Rattle.qr_bits.specs.Bits.{bits_of};
 ghost use Rattle.qr_bits.specs.Letters.{bits, characters, Covers, is_alphanumeric, is_digit, suits};
 ghost use Rattle.qr_bits.specs.Stream.{character_bits, character_value, digit_bits, header_stream, indicator, payload, segment_stream, segments_stream};
-ghost use Rattle.qr_bits.specs.Data.{capacity_of, header_bits, padded, pads, IsData};
+ghost use Rattle.qr_bits.specs.Data.{capacity_of, header_bits, pads, IsData};
 
 use crate::covering::bit_len;
 use crate::fault::BitFault;
@@ -178,7 +178,7 @@ fn put_characters(writer: &mut BitWriter, characters: &[u8]) -> Result<(), Alloc
     Ok(())
 }
 
-// The value of a character: its place among the 45 (7.3.4, Table 5).
+// The value of a character: its place among the 45 (7.4.4, Table 5).
 fn character_value(character: u8) -> u16
     requires { IsTrue (is_alphanumeric character) }
     ensures value { result ≡ character_value character }

@@ -1,12 +1,12 @@
 //! What fits the data codewords of a symbol: ISO/IEC 18004:2015, 7.4.10.
 
-ghost use Rattle.std.specs.Prelude.{◌≡◌, ◌-◌, ◌≤◌, length, IsOkAnd};
+ghost use Rattle.std.specs.Prelude.{◌≡◌, ◌≤◌, length, IsOkAnd};
 ghost use Rattle.qr_bits.specs.Letters.{IsLongestFit};
-ghost use Rattle.qr_bits.specs.Data.{capacity_of, header_bits};
+ghost use Rattle.qr_bits.specs.Data.{capacity_of, header_bits, room_of};
 
 use crate::fault::BitFault;
 use crate::header::Header;
-use crate::place::ByPlace;
+use crate::place::NO_BITS;
 use crate::segment::INPUT_MAX;
 use crate::table::row;
 use qr_layout::{Level, Version};
@@ -51,19 +51,11 @@ pub fn longest_fit(
 ) -> Result<usize, BitFault>
     requires { length input.now ≤ INPUT_MAX }
     ensures { IsOkAnd result (λ n.
-        IsLongestFit version bytes_only input.now (capacity_of version level - 20) n) }
+        IsLongestFit version bytes_only input.now (room_of version level) n) }
 {
     let room = capacity(version, level) - HEADER_BITS;
     let mut longest = 0;
-    let mut rest = ByPlace {
-        start: 0,
-        digit1: 0,
-        digit2: 0,
-        digit3: 0,
-        character1: 0,
-        character2: 0,
-        in_bytes: 0,
-    };
+    let mut rest = NO_BITS;
     for i in 0..input.len() {
         let (_, bits) = row(version, bytes_only, &input[i..i + 1], &rest);
         rest = bits;

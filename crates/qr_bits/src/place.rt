@@ -77,6 +77,17 @@ pub(crate) struct ByPlace<T> {
     pub in_bytes: T,
 }
 
+/// Before any byte: no bits from any place.
+pub(crate) const NO_BITS: ByPlace<u32> = ByPlace {
+    start: 0,
+    digit1: 0,
+    digit2: 0,
+    digit3: 0,
+    character1: 0,
+    character2: 0,
+    in_bytes: 0,
+};
+
 impl<T: Copy> ByPlace<T> {
     ghost use Rattle.qr_bits.specs.ByPlaces.{at_place};
 

@@ -1,6 +1,6 @@
 //! Reading bits out of codewords, the highest bit of a codeword first: ISO/IEC 18004:2015, 7.4.10.
 
-ghost use Rattle.std.specs.Prelude.{◌≡◌, ◌+◌, ◌*◌, ◌<◌, ◌≤◌, Bool, List, drop, take, length, ◌∷◌};
+ghost use Rattle.std.specs.Prelude.{◌≡◌, ◌*◌, ◌<◌, ◌≤◌, Bool, List, drop, take, length, ◌∷◌};
 ghost use Rattle.qr_bits.specs.Bits.{bits_of, value};
 
 use crate::segment::{HEADER_INDICATOR, TERMINATOR};

@@ -8,8 +8,16 @@ use crate::fault::ParseFault;
 use crate::reader::BitReader;
 use crate::segment::{CHARACTERS, Mode, Segment};
 
-// Two characters are a number below this (7.4.4).
-const PAIRS: u16 = 45 * 45;
+// Groups of digits and characters are numbers below these (7.4.3, 7.4.4).
+const THREE_DIGITS: u16 = 1000;
+
+const TWO_DIGITS: u16 = 100;
+
+const ONE_DIGIT: u16 = 10;
+
+const PAIRS: u16 = 2025;
+
+const SINGLES: u16 = 45;
 
 /// Reads the data of a segment, which is there in full, and adds its bytes to `out`.
 #[tactic(auto, unfolding(crate::specs::Parse::values_of))]
@@ -41,7 +49,7 @@ fn digits(reader: &mut BitReader, count: usize, out: &mut Vec<u8>) -> Result<(),
     let mut left = count;
     while left >= 3 {
         let group = reader.take(10);
-        if group >= 1000 {
+        if group >= THREE_DIGITS {
             return Err(ParseFault::BadValue);
         }
         out.extend_from_slice(&[digit(group / 100), digit(group / 10), digit(group)])?;
@@ -49,13 +57,13 @@ fn digits(reader: &mut BitReader, count: usize, out: &mut Vec<u8>) -> Result<(),
     }
     if left == 2 {
         let group = reader.take(7);
-        if group >= 100 {
+        if group >= TWO_DIGITS {
             return Err(ParseFault::BadValue);
         }
         out.extend_from_slice(&[digit(group / 10), digit(group)])?;
     } else if left == 1 {
         let group = reader.take(4);
-        if group >= 10 {
+        if group >= ONE_DIGIT {
             return Err(ParseFault::BadValue);
         }
         out.push(digit(group))?;
@@ -88,7 +96,7 @@ fn characters(reader: &mut BitReader, count: usize, out: &mut Vec<u8>) -> Result
     }
     if left == 1 {
         let single = reader.take(6);
-        if single >= 45 {
+        if single >= SINGLES {
             return Err(ParseFault::BadValue);
         }
         out.push(character(single))?;
@@ -96,7 +104,7 @@ fn characters(reader: &mut BitReader, count: usize, out: &mut Vec<u8>) -> Result
     Ok(())
 }
 
-// The character of a value (7.3.4, Table 5).
+// The character of a value (7.4.4, Table 5).
 #[tactic(auto, unfolding(crate::specs::Letters::characters, crate::specs::Parse::character))]
 fn character(value: u16) -> u8
     requires { value < 45 }

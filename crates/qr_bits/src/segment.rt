@@ -1,7 +1,7 @@
 //! Modes and segments: ISO/IEC 18004:2015, 7.3 and 7.4.1.
 
-ghost use Rattle.std.specs.Prelude.{◌≡◌, ◌≤◌, ◌<◌};
-ghost use Rattle.qr_bits.specs.Letters.{characters, count_width, is_alphanumeric, is_digit, may_use, payload_bits};
+ghost use Rattle.std.specs.Prelude.{◌≡◌, ◌≤◌};
+ghost use Rattle.qr_bits.specs.Letters.{count_width, is_alphanumeric, is_digit, may_use, payload_bits};
 
 use qr_layout::Version;
 
@@ -33,7 +33,7 @@ pub(crate) const TERMINATOR: u16 = 0b0000;
 
 pub(crate) const HEADER_INDICATOR: u16 = 0b0011;
 
-// The characters of alphanumeric mode, in the order of their values (7.3.4, Table 5).
+// The characters of alphanumeric mode, in the order of their values (7.4.4, Table 5).
 pub(crate) const CHARACTERS: [u8; 45] = *b"0123456789ABCDEFGHIJKLMNOPQRSTUVWXYZ $%*+-./:";
 
 // The width of the character count indicator (7.4.1, Table 3).

@@ -4,13 +4,13 @@
 //! one with the fewest bits for itself and the best rest behind it. A row of the table takes seven
 //! bytes.
 
-ghost use Rattle.std.specs.Prelude.{◌≡◌, ◌+◌, ◌*◌, ◌<◌, ◌≤◌, length, reverse, IfOk, vec_len};
+ghost use Rattle.std.specs.Prelude.{◌≡◌, ◌<◌, ◌≤◌, length, reverse, IfOk, vec_len};
 ghost use Rattle.qr_bits.specs.declared.segment.Mode.{Mode};
 ghost use Rattle.qr_bits.specs.declared.place.Place.{Place};
 ghost use Rattle.qr_bits.specs.Places.{may_take, IsChoice};
 ghost use Rattle.qr_bits.specs.ByPlaces.{at_place, IsBestTable};
 
-use crate::place::{ByPlace, Place, after, step_bits};
+use crate::place::{ByPlace, NO_BITS, Place, after, step_bits};
 use crate::segment::{INPUT_MAX, Mode, is_alphanumeric, is_digit, may_use};
 use qr_layout::Version;
 use std::alloc::{AllocError, Global};
@@ -119,15 +119,7 @@ pub(crate) fn best_letters(
     ensures best { IfOk result (λ t. IsBestTable version bytes_only input.now (reverse t.items)) }
 {
     let mut table = Vec::with_capacity(alloc, input.len())?;
-    let mut rest = ByPlace {
-        start: 0,
-        digit1: 0,
-        digit2: 0,
-        digit3: 0,
-        character1: 0,
-        character2: 0,
-        in_bytes: 0,
-    };
+    let mut rest = NO_BITS;
     for i in (0..input.len()).rev() {
         let (modes, bits) = row(version, bytes_only, &input[i..], &rest);
         table.push(modes)?;

@@ -27,17 +27,17 @@ loop-left-preserved c =
       rest = rw rest (drop-drop (payload_bits Alphanumeric (n - 2)) 11 bits ∙ ap (λ (k : ℕ). drop k bits) (sym less) ∙ i.rest);
     }
 
-pub returns-then-single-ge45-clause-err : goal.returns-then-single-ge45-clause-err
-returns-then-single-ge45-clause-err c =
+pub returns-then-single-ge-SINGLES-clause-err : goal.returns-then-single-ge-SINGLES-clause-err
+returns-then-single-ge-SINGLES-clause-err c =
     let one = c.if-left-eq1.true in
-    fails _ _ _ _ BadValue (rw one at c.loop-left.invariant.reads) (characters_one_bad c.loop-left.reader (omega (arith, c.take-single.ensures.value, c.if-single-ge45.true)))
+    fails _ _ _ _ BadValue (rw one at c.loop-left.invariant.reads) (characters_one_bad c.loop-left.reader (omega (arith, c.take-single.ensures.value, c.if-single-ge-SINGLES.true)))
 
 pub returns-in_ok-push-clause-ok : goal.returns-in_ok-push-clause-ok
 returns-in_ok-push-clause-ok c =
     let i = c.loop-left.invariant in
     let one = c.if-left-eq1.true in
     let take = c.take-single.ensures in
-    let d = finish _ _ _ _ _ (rw one at i.reads) (characters_one c.loop-left.reader (omega (arith, take.value, c.if-single-ge45.false))) in
+    let d = finish _ _ _ _ _ (rw one at i.reads) (characters_one c.loop-left.reader (omega (arith, take.value, c.if-single-ge-SINGLES.false))) in
     let out = rw (c.character-then-left-eq1.ensures, take.value) at c.in_ok-push.ensures.items in
     (d.0, d.1, out ∙ d.2, take.rest ∙ rw one at i.rest)
 
