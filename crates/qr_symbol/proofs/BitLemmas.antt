@@ -19,10 +19,6 @@ pub bit-past : (cw : List ℕ) (i : ℕ) → length cw ≤ i / 8 → false ≡ c
 bit-past cw i l =
     sym (ap (λ (z : ℕ). nat_eq (z / 2 ^ (7 - i % 8) % 2) 1) (get_or-eq_default cw 0 {n = i / 8} l) ∙ ap (λ (z : ℕ). nat_eq z 1) (bit_at-zero (7 - i % 8)))
 
--- what a shift and a mask give is the bit of a word
-pub word-there : (word i : ℕ) → nat_eq (bit_and (word / 2 ^ i) 1) 1 ≡ word_bit word i
-word-there word i = let mask : bit_and (word / 2 ^ i) 1 ≡ word / 2 ^ i % 2 = and_mask _ 1 in ap (λ (z : ℕ). nat_eq z 1) mask
-
 -- a word of 32 bits has no bit from 32 on
 pub word-past : (word i : ℕ) → word < 2 ^ 32 → 32 ≤ i → false ≡ word_bit word i
 word-past word i l h = sym (ap (λ (z : ℕ). nat_eq z 1) (bit_at_above word 32 i l h))

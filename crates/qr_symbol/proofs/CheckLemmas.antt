@@ -11,10 +11,7 @@ use Rattle.qr_symbol.specs.Interleaving.{count_of, len_of, start_of, IsTag, code
 use Rattle.qr_symbol.specs.Sending.{IsSent, IsChecks}
 use Rattle.qr_symbol.proofs.TagLemmas.{start-next, start-most}
 
--- no block has been worked out
-pub checks-start : (b : Blocks) (d : List ℕ) → IsChecks b d 0 []
-checks-start b d = record { checks = []; count = refl; each = λ i l. absurd (omega arith); long = grind (arith, nat_tests); same = λ t l. absurd (omega arith) }
-
+-- a block's error correction codewords are as many as those of any other
 check-len : (b : Blocks) (k : ℕ) → k < count_of (data_cut b) → len_of (correction_cut b) k ≡ b.ec_len
 check-len b k l = grind (arith, nat_tests)
 
@@ -58,10 +55,12 @@ checks-push b d xs ys es k l h c e =
     none : (k : ℕ) → k - k ≡ 0
     none k = omega arith
 
+-- functions that agree where a fact holds give one list
 map-each : {X Y : Type 0} (P : X → Type 0) (f g : X → Y) (xs : List X) → All P xs → ((x : X) → P x → f x ≡ g x) → map f xs ≡ map g xs
 map-each P f g [] a e = refl
 map-each P f g (x ∷ xs) a e = let h = e x (a 0 x (omega arith)) in let t = map-each P f g xs (λ k d l. a (suc k) d (omega arith)) e in λ i. h i ∷ t i
 
+-- the data codewords and then the error correction codewords were sent
 both-sent : (b : Blocks) (d es first second : List ℕ) → IsChecks b d (count_of (data_cut b)) es → IsSent (data_cut b) d [] first → IsSent (correction_cut b) es first second → IsFinalMessage b d second
 both-sent b d es first second h s t = record {
   data_tags = s.tags;

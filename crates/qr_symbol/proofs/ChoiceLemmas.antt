@@ -36,6 +36,7 @@ least-kept n f m h b = let r = h.in_range in record {
   ];
 }
 
+-- measures that are equal have one least
 least-same : (n : ℕ) (f g : ℕ → ℕ) (m : ℕ) → ((k : ℕ) → f k ≡ g k) → IsFirstLeast n f m → IsFirstLeast n g m
 least-same n f g m e h = record {
   in_range = h.in_range;

@@ -23,6 +23,7 @@ use Rattle.qr_symbol.specs.Colour.{word_bit, colour_by, colour_of, grid_of}
 use Rattle.qr_symbol.specs.Drawing.{fixed_colour, inverts_under, placed_colour, is_region, format_or, masked_colour, masked_grid, region_grid, plain_grid}
 use Rattle.qr_symbol.proofs.GridLemmas.{same-place, square-same, colour-square, colour-painted-here, colour-painted-there}
 
+-- the module in a row and a column
 abbrev pub at : ℕ → ℕ → Module
 at r c = record { row = r; col = c }
 
@@ -30,26 +31,32 @@ at r c = record { row = r; col = c }
 abbrev pub Done : ℕ → Option ℕ → List ℕ → Grid → List Module → Grid → Type 0
 Done v mask cw g0 rest g = (r c : ℕ) → r < side_of v → c < side_of v → (Mem (at r c) rest → ⊥) → colour g r c ≡ placed_colour v mask cw (colour g0) r c
 
+-- outside the encoding region the other colour stays
 outside : (v : ℕ) (mask : Option ℕ) (cw : List ℕ) (f : ℕ → ℕ → Bool) (r c : ℕ) → is_in_region v r c ≡ false → f r c ≡ placed_colour v mask cw f r c
 unfolding placed_colour
 outside v mask cw f r c e = rw e refl
 
+-- inside it the bit of the place's number is placed
 pub inside : (v : ℕ) (mask : Option ℕ) (cw : List ℕ) (f : ℕ → ℕ → Bool) (r c : ℕ) → is_in_region v r c ≡ true → placed_colour v mask cw f r c ≡ inverted (inverts_under mask r c) (codeword_bit cw (number_of v (at r c)))
 unfolding placed_colour
 inside v mask cw f r c e = rw e refl
 
+-- by cases on a test
 by_test : (b : Bool) (A : Type 0) → (b ≡ true → A) → (b ≡ false → A) → A
 by_test true A f g = f refl
 by_test false A f g = g refl
 
+-- before the walk, what is not to come is outside the region
 pub done-start : (v : ℕ) (mask : Option ℕ) (cw : List ℕ) (g : Grid) (ms : List Module) → IsOrder v ms → Done v mask cw g ms g
 done-start v mask cw g ms o r c l m n =
     outside v mask cw (colour g) r c (by_test (is_in_region v r c) (is_in_region v r c ≡ false) (λ t. absurd (n (order-has v ms o (at r c) t))) (λ e. e))
 
+-- what stands in the middle is a member
 pub Mem-mid : {X : Type 0} (x : X) (front back : List X) → Mem x (front ++ x ∷ back)
 Mem-mid x [] back = inl refl
 Mem-mid x (y ∷ ys) back = inr (Mem-mid x ys back)
 
+-- one module of the walk is drawn
 pub done-step : (v : ℕ) (mask : Option ℕ) (cw : List ℕ) (g0 g : Grid) (front later : List Module) (x : Module) (number : ℕ) (d : Bool)
     → IsOrder v (front ++ x ∷ later) → number ≡ length front → g.side ≡ side_of v → d ≡ inverted (inverts_under mask x.row x.col) (codeword_bit cw number)
     → Done v mask cw g0 (x ∷ later) g → Done v mask cw g0 later (painted g x.row x.col d)
@@ -67,9 +74,11 @@ done-step v mask cw g0 g front later x number d o k s e h r c l m n =
           colour-painted-there g x.row x.col r c d (omega arith) (omega arith) w.0 ∙ h r c l m (λ q. elim q [ inl e ↦ w.0 (ap (λ (z : Module). z.row) (sym e), ap (λ (z : Module). z.col) (sym e)) | inr q ↦ n q ])
     ]
 
+-- after the walk, every place has its colour
 pub done-end : (v : ℕ) (mask : Option ℕ) (cw : List ℕ) (g0 g : Grid) → IsSquare (side_of v) g → Done v mask cw g0 [] g → g ≡ square (side_of v) (placed_colour v mask cw (colour g0))
 done-end v mask cw g0 g e h = e ∙ square-same (side_of v) (colour g) (placed_colour v mask cw (colour g0)) (λ r c l m. h r c l m (λ q. q))
 
+-- a square is made of its own colours
 square-again : (k : ℕ) (f : ℕ → ℕ → Bool) → square k f ≡ square k (colour (square k f))
 square-again k f = square-same k f (colour (square k f)) (λ r c l m. sym (colour-square k f r c l m))
 
@@ -77,9 +86,11 @@ square-again k f = square-same k f (colour (square k f)) (λ r c l m. sym (colou
 pub square-is : (s : ℕ) (f : ℕ → ℕ → Bool) (g : Grid) → g ≡ square s f → IsSquare s g
 square-is s f g e = rw e (square-again s f)
 
+-- a square with one place changed is a square
 pub painted-square : (s : ℕ) (g : Grid) (row col : ℕ) (d : Bool) → g.side ≡ s → IsSquare s (painted g row col d)
 painted-square s g row col d e = square-again g.side (λ r c. cond (nat_eq r row && nat_eq c col) d (colour g r c)) ∙ ap (λ (k : ℕ). square k (colour (painted g row col d))) e
 
+-- placing keeps equal colours equal
 placed-same : (v : ℕ) (mask : Option ℕ) (cw : List ℕ) (f h : ℕ → ℕ → Bool) (r c : ℕ) → f r c ≡ h r c → placed_colour v mask cw f r c ≡ placed_colour v mask cw h r c
 unfolding placed_colour
 placed-same v mask cw f h r c e = ap (λ (b : Bool). cond (is_in_region v r c) (inverted (inverts_under mask r c) (codeword_bit cw (number_of v (at r c)))) b) e
@@ -126,21 +137,26 @@ pub word-or-none : (v word : ℕ) (o : Option ℕ) → SomeIff o (7 ≤ v) (vers
 word-or-none v word None h e l = absurd (h l)
 word-or-none v word (Some x) h e l = e ∙ h.1
 
+-- the order, seen at the next module
 pub whole-next : (v : ℕ) (front now later : List Module) (x : Module) → IsOrder v (front ++ now) → now ≡ x ∷ later → IsOrder v (front ++ x ∷ later)
 whole-next v front now later x o e = subst (λ (ms : List Module). IsOrder v (front ++ ms)) e o
 
+-- the order, past the next module
 pub whole-push : (v : ℕ) (front later : List Module) (x : Module) → IsOrder v (front ++ x ∷ later) → IsOrder v ((front ++ x ∷ []) ++ later)
 whole-push v front later x o = subst (IsOrder v) (sym (append_assoc front (x ∷ []) later)) o
 
+-- a module of the order is in the square
 pub in-square : (v : ℕ) (front later : List Module) (x : Module) → IsOrder v (front ++ x ∷ later) → (x.row < side_of v) × (x.col < side_of v)
 in-square v front later x o = let w = order-mem v (front ++ x ∷ later) o x (Mem-mid x front later) in (row-in v x w, col-in v x w)
 
 -- ---- a symbol drawn anew with a mask
 
+-- the role of the region passes its test
 region-is : (q : Role) → q ≡ Region → is_region q ≡ true
 unfolding is_region
 region-is q e = ap is_region e
 
+-- only the role of the region passes it
 is-region : (q : Role) → is_region q ≡ true → q ≡ Region
 unfolding is_region
 is-region (Fixed dark) e = cc
@@ -157,9 +173,11 @@ region-test v r c k i j =
     (λ u. let f = role-region v r c k i j (is-region (role_of v r c) u) in let g : false ≡ true = sym t ∙ f in absurd (cc))
     (λ u. u ∙ sym t))
 
+-- each first place of format information is in row 8 or in column 8
 first-line : (i : ℕ) → ((first_place i).row ≡ 8) ⊎ ((first_place i).col ≡ 8)
 first-line i = elim (cases_lt i 8) [ inl l ↦ inr (grind (arith, nat_tests)) | inr l ↦ inl (grind (arith, nat_tests)) ]
 
+-- and so is each second place
 second-line : (s i : ℕ) → ((second_place s i).row ≡ 8) ⊎ ((second_place s i).col ≡ 8)
 second-line s i = elim (cases_lt i 8) [ inl l ↦ inl (grind (arith, nat_tests)) | inr l ↦ inr (grind (arith, nat_tests)) ]
 
@@ -186,6 +204,7 @@ format-other (FormatBit i) format other n = absurd (n i refl)
 format-other (VersionBit i) format other n = refl
 format-other Region format other n = refl
 
+-- a role that is not the region has its colour with the format information
 role-masked : (v : ℕ) (l : Level) (mask : ℕ) (cw : List ℕ) (r c : ℕ) (q : Role) → (q ≡ Region → ⊥) → format_or (format_word_of l mask) q (fixed_colour 0 (version_word_of v) q) ≡ colour_by v l mask cw r c q
 unfolding format_or fixed_colour
 role-masked v l mask cw r c (Fixed dark) n = refl
@@ -197,6 +216,7 @@ role-masked v l mask cw r c Region n = absurd (n refl)
 abbrev plain_colours : ℕ → List ℕ → ℕ → ℕ → Bool
 plain_colours v cw = placed_colour v None cw (λ r c. fixed_colour 0 (version_word_of v) (role_of v r c))
 
+-- the colour of a module of the region
 masked-inside : (v : ℕ) (l : Level) (mask : ℕ) (cw : List ℕ) (r c : ℕ) → is_in_region v r c ≡ true → role_of v r c ≡ Region
     → format_or (format_word_of l mask) (role_of v r c) (inverted (is_in_region v r c && inverts mask r c) (plain_colours v cw r c)) ≡ colour_of v l mask cw r c
 unfolding colour_of format_or inverts_under
@@ -205,6 +225,7 @@ masked-inside v l mask cw r c t e =
     ∙ (ap (λ (b : Bool). inverted (b && inverts mask r c) (plain_colours v cw r c)) t
     ∙ (ap (inverted (inverts mask r c)) (inside v None cw (λ r c. fixed_colour 0 (version_word_of v) (role_of v r c)) r c t) ∙ ap (colour_by v l mask cw r c) (sym e)))
 
+-- the colour of another module
 masked-outside : (v : ℕ) (l : Level) (mask : ℕ) (cw : List ℕ) (r c : ℕ) → is_in_region v r c ≡ false → (role_of v r c ≡ Region → ⊥)
     → format_or (format_word_of l mask) (role_of v r c) (inverted (is_in_region v r c && inverts mask r c) (plain_colours v cw r c)) ≡ colour_of v l mask cw r c
 unfolding colour_of

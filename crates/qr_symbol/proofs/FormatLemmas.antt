@@ -22,23 +22,28 @@ use Rattle.qr_symbol.proofs.GridLemmas.{colour-square}
 gives-back : ℕ → Bool
 gives-back i = eqb (bit_xor (format_with i) 0x5412 / 1024) i
 
+-- the word has 15 bits
 is-short : ℕ → Bool
 is-short i = ltb (format_with i) (2 ^ 15)
 
+-- each of the 32 words gives back its five bits, computed
 all-give-back : below 32 gives-back ≡ true
 unfolding gives-back remainder_of
 all-give-back = refl
 
+-- each of them has 15 bits, computed
 all-short : below 32 is-short ≡ true
 unfolding is-short remainder_of
 all-short = refl
 
+-- a level has two bits
 level-small : (l : Level) → level_bits l ≤ 3
 level-small L = omega arith
 level-small M = omega arith
 level-small Q = omega arith
 level-small H = omega arith
 
+-- and levels have different ones
 level-one : (l k : Level) → level_bits l ≡ level_bits k → l ≡ k
 level-one L L e = refl
 level-one L M e = absurd (omega arith)
@@ -57,14 +62,17 @@ level-one H M e = absurd (omega arith)
 level-one H Q e = absurd (omega arith)
 level-one H H e = refl
 
+-- the word of a level and a mask has 15 bits
 short : (l : Level) (mask : ℕ) → mask < 8 → format_word_of l mask < 2 ^ 15
 unfolding format_word_of is-short
 short l mask h = let s = level-small l in ltb-true _ _ (below-at 32 is-short all-short (five_bits l mask) (omega arith))
 
+-- and gives back their five bits
 back : (l : Level) (mask : ℕ) → mask < 8 → bit_xor (format_word_of l mask) 0x5412 / 1024 ≡ five_bits l mask
 unfolding format_word_of gives-back
 back l mask h = let s = level-small l in eqb-same (bit_xor (format_with (five_bits l mask)) 0x5412 / 1024) (five_bits l mask) (below-at 32 gives-back all-give-back (five_bits l mask) (omega arith))
 
+-- bits that test alike are equal
 same-bit : (a b : ℕ) → a < 2 → b < 2 → nat_eq a 1 ≡ nat_eq b 1 → a ≡ b
 same-bit a b l m e = grind (arith, nat_tests)
 
@@ -81,9 +89,11 @@ format-one g l k m n h j =
     let t = level-small k in
     (level-one l k (omega arith), omega arith)
 
+-- the first places are in the first rows
 first-row : (i : ℕ) → i < 15 → (first_place i).row < 15
 first-row i l = elim (cases_lt i 6) [ inl k ↦ grind (arith, nat_tests) | inr k ↦ grind (arith, nat_tests) ]
 
+-- and in the first columns
 first-col : (i : ℕ) → i < 15 → (first_place i).col < 15
 first-col i l = elim (cases_lt i 8) [ inl k ↦ grind (arith, nat_tests) | inr k ↦ grind (arith, nat_tests) ]
 

@@ -12,6 +12,7 @@ use Rattle.qr_symbol.proofs.MessageLemmas.{final-one}
 
 -- ---- what was put back so far
 
+-- the codewords of the tags before one were put back
 pub record GatheredBefore (c : Cut) (sent : List ℕ) (p b : ℕ) (xs : List ℕ) (next : ℕ) : Type 0 where
   pub long : length xs ≡ cut_len c
   pub tags : List Tag
@@ -19,17 +20,17 @@ pub record GatheredBefore (c : Cut) (sent : List ℕ) (p b : ℕ) (xs : List ℕ
   pub rank : next ≡ rank_of c p b
   pub same : map (codeword_at c xs) tags ≡ take next sent
 
+-- functions that agree on the members give one list
 map-mem : {X Y : Type 0} (f g : X → Y) (xs : List X) → ((x : X) → Mem x xs → f x ≡ g x) → map f xs ≡ map g xs
 map-mem f g [] e = refl
 map-mem f g (x ∷ xs) e = let h = e x (inl refl) in let t = map-mem f g xs (λ y m. e y (inr m)) in λ i. h i ∷ t i
 
+-- no tag comes before itself
 irrefl : (t : Tag) (p b : ℕ) → IsBefore t (tag p b) → t.place ≡ p → t.block ≡ b → ⊥
 irrefl t p b (inl l) e f = absurd (omega arith)
 irrefl t p b (inr w) e f = absurd (let l = w.1 in omega arith)
 
-pub gather-start : (c : Cut) (sent xs : List ℕ) → length xs ≡ cut_len c → GatheredBefore c sent 0 0 xs 0
-gather-start c sent xs e = record { long = e; tags = []; order = tags-start c; rank = rank-start c; same = refl }
-
+-- one codeword more
 pub gather-push : (c : Cut) (sent xs ys : List ℕ) (p b next i : ℕ) → cut_len c ≤ length sent → GatheredBefore c sent p b xs next → IsTag c (tag p b) → i ≡ start_of c b + p → ys ≡ set xs i (get_or sent next 0) → GatheredBefore c sent p (b + 1) ys (next + 1)
 gather-push c sent xs ys p b next i l h t e k =
     let x = get_or sent next 0 in
@@ -52,12 +53,15 @@ gather-push c sent xs ys p b next i l h t e k =
           ∙ (ap (λ (z : ℕ). take next sent ++ z ∷ []) new ∙ sym (take_more sent next 0 (omega arith)))));
     }
 
+-- a block that has no such place
 pub gather-pass : (c : Cut) (sent xs : List ℕ) (p b next : ℕ) → p ≤ c.short_len → b < count_of c → GatheredBefore c sent p b xs next → (IsTag c (tag p b) → ⊥) → GatheredBefore c sent p (b + 1) xs next
 gather-pass c sent xs p b next l m h n = record { long = h.long; tags = h.tags; order = tags-pass c p b h.tags n h.order; rank = h.rank ∙ sym (rank-pass c p b l m n); same = h.same }
 
+-- on to the next place
 pub gather-row : (c : Cut) (sent xs : List ℕ) (p b next : ℕ) → p ≤ c.short_len → b ≡ count_of c → GatheredBefore c sent p b xs next → GatheredBefore c sent (p + 1) 0 xs next
 gather-row c sent xs p b next l e h = record { long = h.long; tags = h.tags; order = tags-row c p h.tags (subst (λ (k : ℕ). TagsBefore c p k h.tags) e h.order); rank = h.rank ∙ (ap (rank_of c p) e ∙ rank-row c p l); same = h.same }
 
+-- all codewords were put back
 pub gather-end : (c : Cut) (sent xs : List ℕ) (p next : ℕ) → cut_len c ≤ length sent → p ≡ c.short_len + 1 → GatheredBefore c sent p 0 xs next → IsGathered c sent xs
 gather-end c sent xs p next l e h =
     let n : next ≡ cut_len c = h.rank ∙ (ap (λ (k : ℕ). rank_of c k 0) e ∙ rank-end c) in
@@ -72,12 +76,14 @@ gather-end c sent xs p next l e h =
 
 -- ---- one message at most
 
+-- the front of a joined list
 take-front : {X : Type 0} (n : ℕ) (xs ys : List X) → length xs ≡ n → take n (xs ++ ys) ≡ xs
 take-front zero [] ys e = refl
 take-front zero (x ∷ xs) ys e = absurd (omega arith)
 take-front (suc n) [] ys e = absurd (omega arith)
 take-front (suc n) (x ∷ xs) ys e = ap (λ zs. x ∷ zs) (take-front n xs ys (omega arith))
 
+-- what was put back is the message, if there is one
 pub gathered-one : (b : Blocks) (sent xs d : List ℕ) → IsGathered (data_cut b) sent xs → length d ≡ cut_len (data_cut b) → IsFinalMessage b d sent → xs ≡ d
 gathered-one b sent xs d g n h =
     let c = data_cut b in

@@ -11,6 +11,7 @@ use Rattle.std.proofs.Math.ListN.{get_or-eq_default}
 use Rattle.std.specs.List.{range_with_len}
 use Rattle.qr_symbol.specs.Grid.{Grid, rows_of, square, colour, painted}
 
+-- functions that agree give one list
 map-same : {X : Type 0} (f g : ℕ → X) (a n : ℕ) → ((k : ℕ) → k < a + n → f k ≡ g k) → map f (range_with_len a n) ≡ map g (range_with_len a n)
 map-same f g a zero e = refl
 map-same f g a (suc n) e = let h = e a (omega arith) in let t = map-same f g (a + 1) n (λ k l. e k (omega arith)) in λ i. h i ∷ t i
@@ -20,12 +21,14 @@ pub square-same : (s : ℕ) (f g : ℕ → ℕ → Bool) → ((r c : ℕ) → r 
 unfolding rows_of
 square-same s f g e = let k = map-same (λ r. map (λ c. f r c) (range_with_len 0 s)) (λ r. map (λ c. g r c) (range_with_len 0 s)) 0 s (λ r l. map-same (λ c. f r c) (λ c. g r c) 0 s (λ c m. e r c (omega arith) (omega arith))) in λ i. record { side = s; rows = k i }
 
+-- inside a square the colours are those that made it
 pub colour-square : (s : ℕ) (f : ℕ → ℕ → Bool) (r c : ℕ) → r < s → c < s → colour (square s f) r c ≡ f r c
 unfolding rows_of colour
 colour-square s f r c l m =
     let e = get_or-map-range_with_len (λ r. map (λ c. f r c) (range_with_len 0 s)) 0 s r r [] l (omega arith) in
     ap (λ (row : List Bool). get_or row c false) e ∙ get_or-map-range_with_len (λ c. f r c) 0 s c c false m (omega arith)
 
+-- below a square all is light
 colour-under : (s : ℕ) (f : ℕ → ℕ → Bool) (r c : ℕ) → s ≤ r → colour (square s f) r c ≡ false
 unfolding rows_of colour
 colour-under s f r c l =
@@ -44,9 +47,11 @@ colour-outside s f r c (inr l) = elim (cases_lt r s) [
 
 -- ---- places in rows one after another
 
+-- the item of a list of colours
 abbrev at : List Bool → ℕ → ℕ → Bool
 at xs s k = get_or xs k false
 
+-- places in rows one after another are told apart
 one_place : (s row col r c : ℕ) → col < s → c < s → r * s + c ≡ row * s + col → (r ≡ row) × (c ≡ col)
 one_place s row col r c l m e = elim (cases_lt r row) [
   | inl k ↦ absurd (omega (arith, mul-add-lt r s c row k m, mul_comm s row))
@@ -56,6 +61,7 @@ one_place s row col r c l m e = elim (cases_lt r row) [
   ]
 ]
 
+-- a place that is read
 pub read-place : (s : ℕ) (xs : List Bool) (g : Grid) (r c : ℕ) → square s (λ r c. get_or xs (r * s + c) false) ≡ g → r < s → c < s → get_or xs (r * s + c) false ≡ colour g r c
 read-place s xs g r c e l m = sym (colour-square s (λ r c. get_or xs (r * s + c) false) r c l m) ∙ ap (λ (h : Grid). colour h r c) e
 
@@ -63,12 +69,15 @@ read-place s xs g r c e l m = sym (colour-square s (λ r c. get_or xs (r * s + c
 eqb-true : (x y : ℕ) → eqb x y ≡ true → x ≡ y
 eqb-true x y h = grind (arith, nat_tests)
 
+-- equal numbers pass their test
 true-eqb : (x y : ℕ) → x ≡ y → eqb x y ≡ true
 true-eqb x y h = grind (arith, nat_tests)
 
+-- the place in this row and column
 abbrev pub IsPlace : ℕ → ℕ → ℕ → ℕ → Type 0
 IsPlace row col r c = (r ≡ row) × (c ≡ col)
 
+-- a place is this one or another
 pub same-place : (row col r c : ℕ) → (IsPlace row col r c × ((eqb r row && eqb c col) ≡ true)) ⊎ ((IsPlace row col r c → ⊥) × ((eqb r row && eqb c col) ≡ false))
 same-place row col r c = told (eqb r row) (eqb c col) (eqb-true r row) (eqb-true c col) (true-eqb r row) (true-eqb c col)
   where
@@ -84,6 +93,7 @@ painted-by s f h row col d e o = square-same s h (λ r c. cond (eqb r row && eqb
   | inr w ↦ let t = w.1 in rw t (o r c l m w.0 ∙ sym (colour-square s f r c l m))
 ])
 
+-- a place that is written
 pub write-place : (s : ℕ) (xs : List Bool) (row col : ℕ) (d : Bool) → row < s → col < s → length xs ≡ s * s → square s (λ r c. get_or (set xs (row * s + col) d) (r * s + c) false) ≡ painted (square s (λ r c. get_or xs (r * s + c) false)) row col d
 write-place s xs row col d l m n =
     painted-by s (λ r c. get_or xs (r * s + c) false) (λ r c. get_or (set xs (row * s + col) d) (r * s + c) false) row col d (get_or-set_same xs (row * s + col) d false (omega (arith, mul-add-lt row s col s l m)))
@@ -96,6 +106,7 @@ colour-painted-here g row col d l m = elim (same-place row col row col) [
   | inr w ↦ absurd (w.0 (refl, refl))
 ]
 
+-- and of another place
 pub colour-painted-there : (g : Grid) (row col r c : ℕ) (d : Bool) → r < g.side → c < g.side → (IsPlace row col r c → ⊥) → colour (painted g row col d) r c ≡ colour g r c
 colour-painted-there g row col r c d l m o = elim (same-place row col r c) [
   | inl w ↦ absurd (o w.0)
@@ -104,18 +115,21 @@ colour-painted-there g row col r c d l m o = elim (same-place row col r c) [
 
 -- ---- the steps of a matrix
 
+-- the index of a place is in the list
 pub index-in : (s row col i j k n : ℕ) (g : Grid) (f : ℕ → ℕ → Bool) → square s f ≡ g → i ≡ row → j ≡ s → k ≡ col → row < g.side → col < g.side → n ≡ s * s → i * j + k < n
 index-in s row col i j k n g f e a b d l m o =
     let t : s ≡ g.side = ap (λ (h : Grid). h.side) e in
     let w = mul-add-lt row s col s (omega arith) (omega arith) in
     rw (a, b, d, o) w
 
+-- reading one place
 pub read-step : (s : ℕ) (xs : List Bool) (g : Grid) (row col i j k : ℕ) (x : Bool) → square s (λ r c. get_or xs (r * s + c) false) ≡ g → i ≡ row → j ≡ s → k ≡ col → row < g.side → col < g.side → length xs ≡ s * s → x ≡ get_or xs (i * j + k) x → x ≡ colour g row col
 read-step s xs g row col i j k x e a b d l m o q =
     let t : s ≡ g.side = ap (λ (h : Grid). h.side) e in
     let inside = index-in s row col i j k (length xs) g (λ r c. get_or xs (r * s + c) false) e a b d l m o in
     get_or_read xs (i * j + k) x inside q false ∙ rw (a, b, d) (read-place s xs g row col e (omega arith) (omega arith))
 
+-- writing one place
 pub write-step : (s : ℕ) (xs : List Bool) (g : Grid) (row col i j k : ℕ) (x : Bool) → square s (λ r c. get_or xs (r * s + c) false) ≡ g → i ≡ row → j ≡ s → k ≡ col → row < g.side → col < g.side → length xs ≡ s * s → square s (λ r c. get_or (set xs (i * j + k) x) (r * s + c) false) ≡ painted g row col x
 write-step s xs g row col i j k x e a b d l m o =
     let t : s ≡ g.side = ap (λ (h : Grid). h.side) e in
@@ -123,6 +137,7 @@ write-step s xs g row col i j k x e a b d l m o =
 
 -- ---- filling a square row by row
 
+-- the place was passed, row by row
 abbrev pub passed : ℕ → ℕ → ℕ → ℕ → Bool
 passed row col r c = ltb r row || (eqb r row && ltb c col)
 
@@ -130,31 +145,39 @@ passed row col r c = ltb r row || (eqb r row && ltb c col)
 abbrev pub filled : ℕ → (ℕ → ℕ → Bool) → (ℕ → ℕ → Bool) → ℕ → ℕ → Grid
 filled s f h row col = square s (λ r c. cond (passed row col r c) (f r c) (h r c))
 
+-- one place more is passed
 passed-here : (row col : ℕ) → passed row (col + 1) row col ≡ true
 passed-here row col = grind (arith, nat_tests)
 
+-- another place is passed as before
 passed-there : (row col r c : ℕ) → (IsPlace row col r c → ⊥) → passed row (col + 1) r c ≡ passed row col r c
 passed-there row col r c o = elim (same-place row col r c) [
   | inl w ↦ absurd (o w.0)
   | inr w ↦ let t = w.1 in grind (arith, nat_tests)
 ]
 
+-- the end of a row is the start of the next
 passed-row : (s row r c : ℕ) → c < s → passed row s r c ≡ passed (row + 1) 0 r c
 passed-row s row r c l = grind (arith, nat_tests)
 
+-- past the last row all was passed
 passed-all : (s r c : ℕ) → r < s → passed s 0 r c ≡ true
 passed-all s r c l = grind (arith, nat_tests)
 
+-- one place is filled
 pub fill-step : (s : ℕ) (f h : ℕ → ℕ → Bool) (row col : ℕ) (d : Bool) (g : Grid) → g ≡ filled s f h row col → d ≡ f row col → painted g row col d ≡ filled s f h row (col + 1)
 fill-step s f h row col d g e k =
     ap (λ (x : Grid). painted x row col d) e ∙ sym (painted-by s (λ r c. cond (passed row col r c) (f r c) (h r c)) (λ r c. cond (passed row (col + 1) r c) (f r c) (h r c)) row col d (rw (passed-here row col) (sym k)) (λ r c l m o. ap (λ (b : Bool). cond b (f r c) (h r c)) (passed-there row col r c o)))
 
+-- a row is full
 pub fill-row : (s : ℕ) (f h : ℕ → ℕ → Bool) (row : ℕ) → filled s f h row s ≡ filled s f h (row + 1) 0
 fill-row s f h row = square-same s (λ r c. cond (passed row s r c) (f r c) (h r c)) (λ r c. cond (passed (row + 1) 0 r c) (f r c) (h r c)) (λ r c l m. ap (λ (b : Bool). cond b (f r c) (h r c)) (passed-row s row r c m))
 
+-- the square is full
 pub fill-all : (s : ℕ) (f h : ℕ → ℕ → Bool) → filled s f h s 0 ≡ square s f
 fill-all s f h = square-same s (λ r c. cond (passed s 0 r c) (f r c) (h r c)) f (λ r c l m. rw (passed-all s r c l) refl)
 
+-- nothing is filled
 pub fill-none : (s : ℕ) (f h : ℕ → ℕ → Bool) → square s h ≡ filled s f h 0 0
 fill-none s f h = square-same s h (λ r c. cond (passed 0 0 r c) (f r c) (h r c)) (λ r c l m. sym (rw (passed-none r c) refl))
   where

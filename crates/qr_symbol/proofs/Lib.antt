@@ -13,6 +13,8 @@ pub mod SquareLemmas
 pub mod ChoiceLemmas
 pub mod GatherLemmas
 pub mod FitLemmas
+pub mod SymbolLemmas
 pub mod ReadLemmas
 pub mod FormatLemmas
 pub mod RoundTrip
+pub mod SymbolReadLemmas

@@ -18,6 +18,7 @@ abbrev pub run_before : (ℕ → Bool) → ℕ → ℕ
 run_before line zero = 0
 run_before line (suc k) = ending line k
 
+-- the colour of the place before, or light
 abbrev pub last_before : (ℕ → Bool) → ℕ → Bool
 last_before line zero = false
 last_before line (suc k) = line k
@@ -32,10 +33,7 @@ pub record Swept (line : ℕ → Bool) (i cost run window : ℕ) (last : Bool) :
   pub window_small : window < 2048
   pub last_is : last ≡ last_before line i
 
--- nothing is known of a line before its first place
-pub swept-start : (line : ℕ → Bool) → Swept line 0 0 0 0 false
-swept-start line = record { cost_is = refl; cost_small = omega arith; run_is = refl; run_small = omega arith; window_is = refl; window_small = omega arith; last_is = refl }
-
+-- the length to which a run has come, one place further
 run-next : (line : ℕ → Bool) (i : ℕ) (dark last : Bool) (run : ℕ) → dark ≡ line i → last ≡ last_before line i → run ≡ run_before line i → cond (beq dark last) (run + 1) 1 ≡ ending line i
 run-next line zero dark last run e f g = ap (λ z. cond (beq dark last) (z + 1) 1) g ∙ one (beq dark last)
   where
@@ -53,6 +51,7 @@ run-next line (suc k) dark last run e f g =
     same false true = refl
     same false false = refl
 
+-- a run is no longer than the places so far
 run-most : (b : Bool) (run i : ℕ) → run ≤ i → cond b (run + 1) 1 ≤ i + 1
 run-most true run i l = omega arith
 run-most false run i l = omega arith

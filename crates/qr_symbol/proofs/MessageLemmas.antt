@@ -14,6 +14,7 @@ use Rattle.qr_symbol.proofs.RankLemmas.{tags-one, tags-many, tag-of, map-at, Mem
 
 -- ---- one final message
 
+-- blocks have one list of error correction codewords each
 checks-one : (b : Blocks) (d : List ℕ) (n : ℕ) (xs ys : List (List ℕ)) → length xs ≡ n → length ys ≡ n
     → ((i : ℕ) → i < n → IsCorrection (block_of b d i) b.ec_len (get_or xs i []))
     → ((i : ℕ) → i < n → IsCorrection (block_of b d i) b.ec_len (get_or ys i []))
@@ -32,6 +33,7 @@ final-one b d xs ys h k =
     ∙ (ap (λ (ts : List Tag). map (codeword_at (data_cut b) d) k.data_tags ++ map (check_at h.checks) ts) u
     ∙ (ap (λ (cs : List (List ℕ)). map (codeword_at (data_cut b) d) k.data_tags ++ map (check_at cs) k.check_tags) e ∙ sym k.whole)))
 
+-- joined lists with fronts of one length are equal part by part
 pub append-front : {X : Type 0} (xs ys us vs : List X) → length xs ≡ length ys → xs ++ us ≡ ys ++ vs → (xs ≡ ys) × (us ≡ vs)
 append-front [] [] us vs n e = (refl, e)
 append-front [] (y ∷ ys) us vs n e = absurd (omega arith)
@@ -60,6 +62,7 @@ data-one b d e cw n m h k =
 
 -- ---- how long it is
 
+-- a final message has a codeword for each tag
 final-many : (b : Blocks) (d cw : List ℕ) → IsFinalMessage b d cw → length cw ≡ cut_len (data_cut b) + cut_len (correction_cut b)
 final-many b d cw h =
     let e = ap (length {A = ℕ}) h.whole in
@@ -70,9 +73,11 @@ final-many b d cw h =
     let q = tags-many (correction_cut b) h.check_tags h.check_order in
     omega arith
 
+-- blocks of two lengths, summed
 cut-sum : (k n r : ℕ) → n * (k + r) + (k + r - k) ≡ k * n + r * (n + 1)
 cut-sum k n r = omega arith
 
+-- blocks of one length, summed
 cut-even : (k n : ℕ) → n * (k + 0) + (k + 0 - k) ≡ k * n
 cut-even k n = omega arith
 

@@ -26,15 +26,19 @@ tag-one c t u i j e =
 
 -- ---- how many tags come before one
 
+-- the number of tags before one, in closed form
 abbrev pub rank_of : Cut → ℕ → ℕ → ℕ
 rank_of c p b = cond (ltb p c.short_len) (count_of c * p + b) (cond (eqb p c.short_len) (c.short_len * count_of c + (b - c.short)) (cut_len c))
 
+-- a tag is in the part that all blocks have, or at the end of a long one
 tag-cases : (c : Cut) (p b : ℕ) → (IsTag c (tag p b)) → (p < c.short_len) ⊎ ((p ≡ c.short_len) × (c.short ≤ b))
 tag-cases c p b i = let l = i.1 in grind (arith, nat_tests)
 
+-- one tag more
 pub rank-push : (c : Cut) (p b : ℕ) → IsTag c (tag p b) → rank_of c p (b + 1) ≡ rank_of c p b + 1
 rank-push c p b i = let w = tag-cases c p b i in grind (arith, nat_tests)
 
+-- a tag comes before the end
 pub rank-in : (c : Cut) (p b : ℕ) → IsTag c (tag p b) → rank_of c p b < cut_len c
 rank-in c p b i = elim (tag-cases c p b i) [
   | inl l ↦
@@ -55,12 +59,14 @@ rank-in c p b i = elim (tag-cases c p b i) [
     more : (n p : ℕ) → n * (p + 1) ≡ n * p + n
     more n p = let o : p + 1 ≡ suc p = omega arith in rw o (mul-suc n p)
 
+-- a block that has no such place
 pub rank-pass : (c : Cut) (p b : ℕ) → p ≤ c.short_len → b < count_of c → (IsTag c (tag p b) → ⊥) → rank_of c p (b + 1) ≡ rank_of c p b
 rank-pass c p b l m n = elim (cases_lt p (len_of c b)) [
   | inl k ↦ absurd (n (m, k))
   | inr k ↦ grind (arith, nat_tests)
 ]
 
+-- on to the next place
 pub rank-row : (c : Cut) (p : ℕ) → p ≤ c.short_len → rank_of c p (count_of c) ≡ rank_of c (p + 1) 0
 rank-row c p l = elim (cases_lt p c.short_len) [
   | inl k ↦
@@ -77,23 +83,28 @@ rank-row c p l = elim (cases_lt p c.short_len) [
   | inr k ↦ let h : p ≡ c.short_len = omega arith in grind (arith, nat_tests)
 ]
 
+-- no tag comes before the first
 pub rank-start : (c : Cut) → 0 ≡ rank_of c 0 0
 rank-start c = grind (arith, nat_tests)
 
+-- past the last place all have come
 pub rank-end : (c : Cut) → rank_of c (c.short_len + 1) 0 ≡ cut_len c
 rank-end c = grind (arith, nat_tests)
 
 -- ---- one order
 
+-- what is contained is a member
 pub Mem-of-Contains : {X : Type 0} (xs : List X) (x : X) → Contains xs x → Mem x xs
 Mem-of-Contains [] x (k, l, e) = absurd (omega arith)
 Mem-of-Contains (y ∷ ys) x (zero, l, e) = inl e
 Mem-of-Contains (y ∷ ys) x (suc k, l, e) = inr (Mem-of-Contains ys x (k, omega arith, e))
 
+-- what holds of all, by recursion
 All-rec : {X : Type 0} (P : X → Type 0) (xs : List X) → All P xs → AllByRecursion P xs
 All-rec P [] h = tt
 All-rec P (x ∷ xs) h = (h 0 x (omega arith), All-rec P xs (λ k d l. h (suc k) d (omega arith)))
 
+-- two tags do not come before each other
 asym : (t u : Tag) → IsBefore t u → IsBefore u t → ⊥
 asym t u (inl h) (inl k) = absurd (omega arith)
 asym t u (inl h) (inr k) = absurd (let e = k.0 in omega arith)
@@ -121,6 +132,7 @@ tag-of c (suc k) j l m =
       | inr s ↦ (tag (j - start_of c k) k, (omega arith, omega arith), omega arith)
     ]
 
+-- equal lists of values have equal values
 pub map-at : {X Y : Type 0} (f g : X → Y) (xs : List X) (x : X) → map f xs ≡ map g xs → Mem x xs → f x ≡ g x
 map-at f g [] x e m = absurd m
 map-at f g (y ∷ ys) x e (inl k) = let h : f y ≡ g y = cc in ap f (sym k) ∙ (h ∙ ap g k)
@@ -134,6 +146,7 @@ record Listed (c : Cut) (p b : ℕ) : Type 0 where
   pub order : TagsBefore c p b tags
   pub many : length tags ≡ rank_of c p b
 
+-- one block more
 listed-next : (c : Cut) (p b : ℕ) → p ≤ c.short_len → b < count_of c → Listed c p b → Listed c p (b + 1)
 listed-next c p b l m h = elim (cases_lt p (len_of c b)) [
   | inl k ↦ record { tags = h.tags ++ tag p b ∷ []; order = tags-push c p b h.tags (m, k) h.order; many = let r = rank-push c p b (m, k) in let n = h.many in let a = length-append h.tags (tag p b ∷ []) in omega arith }
@@ -142,10 +155,12 @@ listed-next c p b l m h = elim (cases_lt p (len_of c b)) [
       record { tags = h.tags; order = tags-pass c p b h.tags n h.order; many = h.many ∙ sym (rank-pass c p b l m n) }
 ]
 
+-- all blocks of a place
 listed-across : (c : Cut) (p b : ℕ) → p ≤ c.short_len → b ≤ count_of c → Listed c p 0 → Listed c p b
 listed-across c p zero l m h = h
 listed-across c p (suc b) l m h = let e : b + 1 ≡ suc b = omega arith in subst (Listed c p) e (listed-next c p b l (omega arith) (listed-across c p b l (omega arith) h))
 
+-- all places
 listed-down : (c : Cut) (p : ℕ) → p ≤ c.short_len + 1 → Listed c p 0
 listed-down c zero l = record { tags = []; order = tags-start c; many = rank-start c }
 listed-down c (suc p) l =

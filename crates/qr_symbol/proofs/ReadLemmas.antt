@@ -29,6 +29,7 @@ use Rattle.qr_symbol.proofs.GridLemmas.{colour-square}
 use Rattle.qr_symbol.proofs.DrawingLemmas.{in-square, whole-push, Mem-mid}
 use Rattle.qr_symbol.proofs.MessageLemmas.{append-front, data-one, data-cut-whole}
 
+-- what is inverted twice is as it was
 inverted-twice : (b x : Bool) → inverted b (inverted b x) ≡ x
 inverted-twice true true = refl
 inverted-twice true false = refl
@@ -44,6 +45,7 @@ read-place v l mask cw front back m k o =
     ap (inverted (inverts mask m.row m.col)) (colour-square (side_of v) (colour_of v l mask cw) m.row m.col w.0 w.1 ∙ ap (colour_by v l mask cw m.row m.col) e)
     ∙ (inverted-twice (inverts mask m.row m.col) (codeword_bit cw (number_of v m)) ∙ ap (codeword_bit cw) (number-at v front back m o))
 
+-- the bits from one place of the order on
 read-from : (v : ℕ) (l : Level) (mask : ℕ) (cw : List ℕ) (n : ℕ) (front rest : List Module) → 1 ≤ v → IsOrder v (front ++ rest) → length front + n ≤ 8 * length cw → n ≤ length rest → map (unmasked mask (grid_of v l mask cw)) (take n rest) ≡ take n (drop (length front) (bits_of cw))
 read-from v l mask cw zero front rest p o i h = refl
 read-from v l mask cw (suc n) front [] p o i h = absurd (omega arith)
@@ -58,12 +60,14 @@ read-from v l mask cw (suc n) front (m ∷ rest) p o i h =
     let both : map (unmasked mask (grid_of v l mask cw)) (take (suc n) (m ∷ rest)) ≡ get_or bits k false ∷ take n (drop (suc k) bits) = (let head = here ∙ sym bit in λ i. head i ∷ later i) in
     both ∙ ap (λ (xs : List Bool). take (suc n) xs) (sym c)
 
+-- the front of the full length is the whole
 take-whole : {X : Type 0} (xs : List X) (n : ℕ) → length xs ≡ n → take n xs ≡ xs
 take-whole [] zero e = refl
 take-whole [] (suc n) e = refl
 take-whole (x ∷ xs) zero e = absurd (omega arith)
 take-whole (x ∷ xs) (suc n) e = ap (λ zs. x ∷ zs) (take-whole xs n (omega arith))
 
+-- a symbol is read as the bits of its codewords
 pub read-grid : (v : ℕ) (l : Level) (mask : ℕ) (cw : List ℕ) (ms : List Module) → 1 ≤ v → v ≤ 40 → IsOrder v ms → length cw ≡ total_codewords_of v → read_bits v mask (grid_of v l mask cw) ms ≡ bits_of cw
 read-grid v l mask cw ms p h o e =
     let t = 8 * total_codewords_of v in
@@ -75,6 +79,7 @@ read-grid v l mask cw ms p h o e =
 
 -- ---- bits give back their bytes
 
+-- equal fields have equal bits
 field-one : (w x y : ℕ) → field w x ≡ field w y → (i : ℕ) → i < w → bit_at x i ≡ bit_at y i
 unfolding field
 field-one zero x y e i l = absurd (omega arith)
@@ -94,6 +99,7 @@ field-one (suc w) x y e i l = elim (cases_lt i w) [
     same_bit : (a b : ℕ) → a < 2 → b < 2 → nat_eq a 1 ≡ nat_eq b 1 → a ≡ b
     same_bit a b l m e = grind (arith, nat_tests)
 
+-- equal bits are those of equal bytes
 pub bits-one : (cw ds : List ℕ) → All (λ x. x < 256) cw → All (λ x. x < 256) ds → bits_of cw ≡ bits_of ds → cw ≡ ds
 unfolding bits_of
 bits-one [] [] a b e = refl
@@ -105,6 +111,7 @@ bits-one (c ∷ cs) (d ∷ ds) a b e =
     let t = bits-one cs ds (λ k x l. a (suc k) x (omega arith)) (λ k x l. b (suc k) x (omega arith)) w.1 in
     λ i. h i ∷ t i
 
+-- a square is read as one list of codewords
 pub read-one : (v mask : ℕ) (g : Grid) (cw ds : List ℕ) → IsRead v mask g cw → IsRead v mask g ds → cw ≡ ds
 read-one v mask g cw ds h k = bits-one cw ds h.bytes k.bytes (h.bits ∙ (ap (read_bits v mask g) (only_order v h.places k.places h.order k.order) ∙ sym k.bits))
 

@@ -12,24 +12,29 @@ use Rattle.qr_symbol.proofs.SumLemmas.{sum_below-one}
 unfoldable joins : ℕ → (ℕ → Bool) → ℕ → Bool
 joins s line c = ltb (c + 1) s && is_same (line c) (line (c + 1))
 
+-- the last place is joined to none
 joins-past : (s : ℕ) (line : ℕ → Bool) (c : ℕ) → s ≤ c + 1 → joins s line c ≡ false
 unfolding joins
 joins-past s line c h = let e : ltb (c + 1) s ≡ false = grind (arith, nat_tests) in ap (λ z. z && is_same (line c) (line (c + 1))) e
 
+-- a test is true or false
 true_or_false : (b : Bool) → (b ≡ true) ⊎ (b ≡ false)
 true_or_false true = inl refl
 true_or_false false = inr refl
 
 -- ---- tests of all below
 
+-- all numbers pass
 all_below-true : (k : ℕ) (p : ℕ → Bool) → ((i : ℕ) → i < k → p i ≡ true) → all_below k p ≡ true
 all_below-true zero p h = refl
 all_below-true (suc k) p h = ap (λ z. z && all_below k p) (h k (omega arith)) ∙ all_below-true k p (λ i l. h i (omega arith))
 
+-- a conjunction with what is false
 and-false : (a b : Bool) → b ≡ false → (a && b) ≡ false
 and-false true b e = e
 and-false false b e = refl
 
+-- one number does not pass
 all_below-false : (k : ℕ) (p : ℕ → Bool) (i : ℕ) → i < k → p i ≡ false → all_below k p ≡ false
 all_below-false zero p i h e = absurd (omega arith)
 all_below-false (suc k) p i h e = elim (cases_lt i k) [
@@ -39,24 +44,29 @@ all_below-false (suc k) p i h e = elim (cases_lt i k) [
 
 -- ---- how many places after this one belong to its run
 
+-- how many places after place a belong to its run, of n places that are left
 unfoldable ahead : (ℕ → Bool) → ℕ → ℕ → ℕ
 ahead j zero a = 0
 ahead j (suc n) a = cond (j a) (suc (ahead j n (a + 1))) 0
 
+-- colours that are the same are equal
 same-true : (a b : Bool) → is_same a b ≡ true → a ≡ b
 same-true true true e = refl
 same-true true false e = sym e
 same-true false true e = e
 same-true false false e = refl
 
+-- equal colours are the same
 same-self : (a b : Bool) → a ≡ b → is_same a b ≡ true
 same-self true b e = sym e
 same-self false b e = ap not (sym e)
 
+-- both parts of a conjunction
 and-both : (a b : Bool) → (a && b) ≡ true → (a ≡ true) × (b ≡ true)
 and-both true b e = (refl, e)
 and-both false b e = absurd (false≢true e)
 
+-- a place that is joined to the next
 joins-true : (s : ℕ) (line : ℕ → Bool) (a : ℕ) → joins s line a ≡ true → (a + 1 < s) × (line (a + 1) ≡ line a)
 unfolding joins
 joins-true s line a h =
@@ -64,6 +74,7 @@ joins-true s line a h =
     let t = e.0 in
     (grind (arith, nat_tests), sym (same-true (line a) (line (a + 1)) e.1))
 
+-- a place that is not
 joins-false : (s : ℕ) (line : ℕ → Bool) (a : ℕ) → joins s line a ≡ false → (s ≤ a + 1) ⊎ (is_same (line a) (line (a + 1)) ≡ false)
 unfolding joins
 joins-false s line a h = elim (cases_lt (a + 1) s) [
@@ -71,10 +82,12 @@ joins-false s line a h = elim (cases_lt (a + 1) s) [
   | inr l ↦ inl l
 ]
 
+-- one place more
 ahead-true : (j : ℕ → Bool) (n a : ℕ) → j a ≡ true → ahead j (suc n) a ≡ suc (ahead j n (a + 1))
 unfolding ahead
 ahead-true j n a e = ap (λ z. cond z (suc (ahead j n (a + 1))) 0) e
 
+-- none
 ahead-false : (j : ℕ → Bool) (n a : ℕ) → j a ≡ false → ahead j n a ≡ 0
 unfolding ahead
 ahead-false j zero a e = refl
@@ -129,12 +142,15 @@ stretch-end s line (suc n) a e p = elim (true_or_false (joins s line a)) [
 
 -- ---- the maximal run from a place, if one begins there
 
+-- a run can begin here: there is no place before, or it differs
 abbrev heads : (ℕ → Bool) → ℕ → Bool
 heads line a = eqb a 0 || not (is_same (line (a - 1)) (line a))
 
+-- the length of the run from place a on
 abbrev run_len : ℕ → (ℕ → Bool) → ℕ → ℕ
 run_len s line a = suc (ahead (joins s line) (s - a) a)
 
+-- four tests of which three are true
 four : (p q h r : Bool) → p ≡ true → q ≡ true → r ≡ true → (((p && q) && h) && r) ≡ h
 four p q h r a b c = subst (λ z. (((z && q) && h) && r) ≡ h) (sym a) (subst (λ z. ((z && h) && r) ≡ h) (sym b) (subst (λ z. (h && z) ≡ h) (sym c) (last h)))
   where
@@ -142,6 +158,7 @@ four p q h r a b c = subst (λ z. (((z && q) && h) && r) ≡ h) (sym a) (subst (
     last true = refl
     last false = refl
 
+-- a maximal run from place a has just that length
 is_run-is : (s : ℕ) (line : ℕ → Bool) (a k : ℕ) → a < s → is_run s line a k ≡ (heads line a && eqb k (run_len s line a))
 unfolding is_run
 is_run-is s line a k l =
@@ -196,6 +213,7 @@ is_run-is s line a k l =
 
 -- ---- the sum over the lengths
 
+-- the sum over all lengths is that of one
 run_at : (s : ℕ) (line : ℕ → Bool) (a : ℕ) → a < s → sum_below (s + 1) (λ k. cond (leb 5 k && is_run s line a k) (k - 2) 0) ≡ cond (leb 5 (run_len s line a) && heads line a) (run_len s line a - 2) 0
 run_at s line a l =
     let m = run_len s line a in
@@ -218,6 +236,7 @@ run_at s line a l =
 abbrev left : ℕ → (ℕ → Bool) → ℕ → ℕ
 left s line a = ahead (joins s line) (s - a) a
 
+-- how many places are left, by whether the next one is joined
 left-is : (s : ℕ) (line : ℕ → Bool) (a : ℕ) → left s line a ≡ cond (joins s line a) (suc (left s line (a + 1))) 0
 unfolding ahead
 left-is s line a = elim (cases_lt a s) [
@@ -232,6 +251,7 @@ left-is s line a = elim (cases_lt a s) [
     step : (j : ℕ → Bool) (n a : ℕ) → ahead j (suc n) a ≡ cond (j a) (suc (ahead j n (a + 1))) 0
     step j n a = refl
 
+-- a run begins where the place before is not joined
 heads-is : (s : ℕ) (line : ℕ → Bool) (a : ℕ) → a < s → heads line a ≡ not (ltb 0 a && joins s line (a - 1))
 unfolding joins
 heads-is s line a h = elim (cases_lt 0 a) [
@@ -265,6 +285,7 @@ ending line (suc k) = cond (is_same (line k) (line (suc k))) (suc (ending line k
 abbrev whole_cost : ℕ → ℕ
 whole_cost k = cond (leb 5 k) (k - 2) 0
 
+-- one place more of a run
 one-more : (k : ℕ) → whole_cost (suc k) ≡ run_share (suc k) + whole_cost k
 unfolding run_share
 one-more k = grind (arith, nat_tests)
@@ -274,10 +295,12 @@ abbrev up_to : (ℕ → Bool) → ℕ → ℕ
 up_to line zero = 0
 up_to line (suc m) = whole_cost (ending line m)
 
+-- what the runs that were begun cost as a whole
 abbrev as_whole : ℕ → (ℕ → Bool) → ℕ → ℕ
 as_whole s line zero = 0
 as_whole s line (suc m) = whole_cost (ending line m + left s line m)
 
+-- the run goes on
 goes-on : (a b k l m n : ℕ) → l ≡ suc n → m ≡ suc k → a + whole_cost k ≡ b + whole_cost (k + l) → a + 0 + whole_cost m ≡ b + run_share m + whole_cost (m + n)
 goes-on a b k l m n e f h =
     let g : whole_cost m ≡ run_share m + whole_cost k = ap whole_cost f ∙ (one-more k ∙ ap (λ z. run_share z + whole_cost k) (sym f)) in
@@ -285,6 +308,7 @@ goes-on a b k l m n e f h =
     let j = ap whole_cost i in
     omega arith
 
+-- the run ends and another one begins
 ends-here : (a b k l m n : ℕ) → l ≡ 0 → m ≡ 1 → a + whole_cost k ≡ b + whole_cost (k + l) → a + whole_cost (suc n) + whole_cost m ≡ b + run_share m + whole_cost (m + n)
 unfolding run_share
 ends-here a b k l m n e f h =
@@ -296,6 +320,7 @@ ends-here a b k l m n e f h =
     let t = ap whole_cost r in
     omega arith
 
+-- inside a run none begins
 cost-none : (s : ℕ) (line : ℕ → Bool) (m : ℕ) → suc m < s → joins s line m ≡ true → cost_at s line (suc m) ≡ 0
 cost-none s line m l t =
     let e : suc m - 1 ≡ m = omega arith in
@@ -307,6 +332,7 @@ cost-none s line m l t =
     none true x = refl
     none false x = refl
 
+-- a run that begins costs by its length
 cost-whole : (s : ℕ) (line : ℕ → Bool) (n : ℕ) → heads line n ≡ true → cost_at s line n ≡ whole_cost (suc (left s line n))
 cost-whole s line n h =
     ap (λ z. cond (leb 5 (run_len s line n) && z) (run_len s line n - 2) 0) h ∙ whole (leb 5 (run_len s line n)) (run_len s line n - 2)
@@ -315,6 +341,7 @@ cost-whole s line n h =
     whole true x = refl
     whole false x = refl
 
+-- inside the line, joined means equal
 next-equal : (s : ℕ) (line : ℕ → Bool) (m : ℕ) → suc m < s → joins s line m ≡ is_same (line m) (line (suc m))
 unfolding joins
 next-equal s line m l =
@@ -322,19 +349,23 @@ next-equal s line m l =
     let t : ltb (m + 1) s ≡ true = grind (arith, nat_tests) in
     ap (λ z. z && is_same (line m) (line (m + 1))) t ∙ ap (λ z. is_same (line m) (line z)) e
 
+-- a run begins at the first place
 heads-first : (line : ℕ → Bool) → heads line 0 ≡ true
 heads-first line = refl
 
+-- a run begins after a place that is not joined
 heads-after : (s : ℕ) (line : ℕ → Bool) (m : ℕ) → suc m < s → joins s line m ≡ false → heads line (suc m) ≡ true
 heads-after s line m l t =
     let e : suc m - 1 ≡ m = omega arith in
     let f : ltb 0 (suc m) ≡ true = grind (arith, nat_tests) in
     heads-is s line (suc m) l ∙ (ap (λ z. not (z && joins s line (suc m - 1))) f ∙ (ap (λ z. not (joins s line z)) e ∙ ap not t))
 
+-- one place adds nothing
 share-one : run_share 1 ≡ 0
 unfolding run_share
 share-one = refl
 
+-- the runs begun so far cost what their places added and are still to add
 balanced : (s : ℕ) (line : ℕ → Bool) (n : ℕ) → n ≤ s → sum_below n (cost_at s line) + up_to line n ≡ sum_below n (λ k. run_share (ending line k)) + as_whole s line n
 balanced s line zero l = refl
 balanced s line (suc zero) l =
@@ -367,6 +398,7 @@ balanced s line (suc (suc m)) l =
           omega arith
     ]
 
+-- at the end of the line all runs have ended
 all-ended : (s : ℕ) (line : ℕ → Bool) → up_to line s ≡ as_whole s line s
 all-ended zero line = refl
 all-ended (suc m) line =

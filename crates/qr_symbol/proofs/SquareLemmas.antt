@@ -52,6 +52,7 @@ lines-more s places k cost a b cost1 l e f g h =
     let y = g ∙ ap (λ z. run_cost s z + 40 * window_count s z) (column-line s places k l) in
     sum_below-more k cost (a + b) cost1 (lines_at s places) e (ap (λ z. z + b) x ∙ ap (λ z. run_cost s (cell_at s places k) + 40 * window_count s (cell_at s places k) + z) y) h
 
+-- a sum with weights
 weighted : (n : ℕ) (f g : ℕ → ℕ) → sum_below n (λ k. f k + 40 * g k) ≡ sum_below n f + 40 * sum_below n g
 weighted n f g = let a = sum_below-add n f (λ k. 40 * g k) in let b = sum_below-scale 40 n g in omega arith
 
@@ -67,10 +68,12 @@ lines-all s places k cost e h =
     let f = ap (λ z. sum_below z (lines_at s places)) e in
     omega arith
 
+-- a colour as a number
 pub byte-bit : (b : Bool) → bool_byte b ≡ cond b 1 0
 byte-bit true = refl
 byte-bit false = refl
 
+-- the code's equality of colours is the definition's
 beq-same : (a b : Bool) → beq a b ≡ is_same b a
 beq-same true true = refl
 beq-same true false = refl
@@ -92,6 +95,7 @@ block-here s dark r c p q m n h k ep eq em en =
     all {t} {u} {a} {b} {d} {x} {y} {z} et eu ea eb ed =
         ap (λ v. v && y && z) ea ∙ (ap (λ v. a && v && z) eb ∙ (ap (λ v. a && b && v) ed ∙ sym (ap (λ v. v && u && a && b && d) et ∙ ap (λ v. v && a && b && d) eu)))
 
+-- no block begins in the last column
 block-right : (s : ℕ) (dark : ℕ → ℕ → Bool) (r c : ℕ) → s ≤ c + 1 → is_block s dark r c ≡ false
 unfolding is_block
 block-right s dark r c h =
@@ -105,6 +109,7 @@ block-right s dark r c h =
     right true = refl
     right false = refl
 
+-- no block begins in the last row
 block-bottom : (s : ℕ) (dark : ℕ → ℕ → Bool) (r c : ℕ) → s ≤ r + 1 → is_block s dark r c ≡ false
 unfolding is_block
 block-bottom s dark r c h =
@@ -133,6 +138,7 @@ blocks-all s dark row col count l e h =
     let b = ap (λ z. count_below z (is_block s dark row)) o in
     omega arith
 
+-- the blocks of all rows but the last are all
 pub block-rows-all : (s : ℕ) (dark : ℕ → ℕ → Bool) (row count : ℕ) → 1 ≤ s → row ≡ s - 1 → count ≡ sum_below row (λ r. count_below s (is_block s dark r)) → count ≡ block_count s dark
 unfolding block_count
 block-rows-all s dark row count l e h =
@@ -151,6 +157,7 @@ darks-all s places e =
     ∙ sum_below-same s (λ r. sum_below s (λ c. cond (get_or places (r * s + c) false) 1 0)) (λ r. count_below s (cell_at s places r))
     (λ r l. sum_below-same s (λ c. cond (get_or places (r * s + c) false) 1 0) (λ c. cond (cell_at s places r c) 1 0) (λ c m. ap (λ z. cond {A = ℕ} z 1 0) (sym (cell-in s places r c l m)))))
 
+-- the colour of a grid, inside and outside
 colour-cell : (s : ℕ) (places : List Bool) (r c : ℕ) → colour (square s (λ r c. get_or places (r * s + c) false)) r c ≡ cell_at s places r c
 unfolding cell_at
 colour-cell s places r c = elim (cases_lt r s) [

@@ -11,6 +11,7 @@ use Rattle.qr_symbol.specs.declared.message.Cut.{Cut}
 use Rattle.qr_symbol.specs.Interleaving.{Tag, IsBefore, count_of, len_of, start_of, IsTag, IsTagOrder, cut_len, codeword_at}
 use Rattle.qr_symbol.specs.Sending.{IsSent}
 
+-- the tag of a place and a block
 abbrev pub tag : ℕ → ℕ → Tag
 tag p b = record { place = p; block = b }
 
@@ -20,31 +21,37 @@ pub record TagsBefore (c : Cut) (p b : ℕ) (ts : List Tag) : Type 0 where
   pub full : (t : Tag) → IsTag c t → IsBefore t (tag p b) → Mem t ts
   pub rises : Rises IsBefore ts
 
+-- a member of a list with one more item
 Mem-push : {X : Type 0} (x y : X) (xs : List X) → Mem x (xs ++ y ∷ []) → Mem x xs ⊎ (y ≡ x)
 Mem-push x y [] (inl e) = inr e
 Mem-push x y [] (inr m) = absurd m
 Mem-push x y (z ∷ zs) (inl e) = inl (inl e)
 Mem-push x y (z ∷ zs) (inr m) = elim (Mem-push x y zs m) [ inl k ↦ inl (inr k) | inr e ↦ inr e ]
 
+-- the old members stay
 Mem-old : {X : Type 0} (x y : X) (xs : List X) → Mem x xs → Mem x (xs ++ y ∷ [])
 Mem-old x y [] m = absurd m
 Mem-old x y (z ∷ zs) (inl e) = inl e
 Mem-old x y (z ∷ zs) (inr m) = inr (Mem-old x y zs m)
 
+-- the new item is a member
 Mem-new : {X : Type 0} (x y : X) (xs : List X) → y ≡ x → Mem x (xs ++ y ∷ [])
 Mem-new x y [] e = inl e
 Mem-new x y (z ∷ zs) e = inr (Mem-new x y zs e)
 
+-- what holds of all and of one more
 All-push-rec : {X : Type 0} (P : X → Type 0) (xs : List X) (y : X) → AllByRecursion P xs → P y → AllByRecursion P (xs ++ y ∷ [])
 All-push-rec P [] y h k = (k, tt)
 All-push-rec P (x ∷ xs) y h k = (h.0, All-push-rec P xs y h.1 k)
 
+-- a rising list with a larger item behind it
 Rises-push : {X : Type 0} (R : X → X → Type 0) (xs : List X) (y : X) → Rises R xs → ((x : X) → Mem x xs → R x y) → Rises R (xs ++ y ∷ [])
 Rises-push R [] y h f = (tt, tt)
 Rises-push R (x ∷ xs) y h f = (All-push-rec (R x) xs y h.0 (f x (inl refl)), Rises-push R xs y h.1 (λ z m. f z (inr m)))
 
 -- ---- the steps
 
+-- no tag comes before the first
 pub tags-start : (c : Cut) → TagsBefore c 0 0 []
 tags-start c = record {
   sound = λ t m. absurd m;
@@ -52,10 +59,12 @@ tags-start c = record {
   rises = tt;
 }
 
+-- what comes before a tag comes before the next
 before-more : (t : Tag) (p b : ℕ) → IsBefore t (tag p b) → IsBefore t (tag p (b + 1))
 before-more t p b (inl l) = inl l
 before-more t p b (inr w) = inr (w.0, let l = w.1 in omega arith)
 
+-- what comes before the next tag
 before-cases : (t : Tag) (p b : ℕ) → IsBefore t (tag p (b + 1)) → IsBefore t (tag p b) ⊎ (tag p b ≡ t)
 before-cases t p b (inl l) = inl (inl l)
 before-cases t p b (inr w) = elim (cases_lt t.block b) [
@@ -63,6 +72,7 @@ before-cases t p b (inr w) = elim (cases_lt t.block b) [
   | inr l ↦ let h = w.1 in let k : b ≡ t.block = omega arith in let e = w.0 in inr (λ i. record { place = sym e i; block = k i })
 ]
 
+-- one tag more
 pub tags-push : (c : Cut) (p b : ℕ) (ts : List Tag) → IsTag c (tag p b) → TagsBefore c p b ts → TagsBefore c p (b + 1) (ts ++ tag p b ∷ [])
 tags-push c p b ts i h = record {
   sound = λ t m. elim (Mem-push t (tag p b) ts m) [
@@ -73,6 +83,7 @@ tags-push c p b ts i h = record {
   rises = Rises-push IsBefore ts (tag p b) h.rises (λ t m. (h.sound t m).1);
 }
 
+-- a block that has no such place
 pub tags-pass : (c : Cut) (p b : ℕ) (ts : List Tag) → (IsTag c (tag p b) → ⊥) → TagsBefore c p b ts → TagsBefore c p (b + 1) ts
 tags-pass c p b ts n h = record {
   sound = λ t m. let w = h.sound t m in (w.0, before-more t p b w.1);
@@ -80,6 +91,7 @@ tags-pass c p b ts n h = record {
   rises = h.rises;
 }
 
+-- on to the next place
 pub tags-row : (c : Cut) (p : ℕ) (ts : List Tag) → TagsBefore c p (count_of c) ts → TagsBefore c (p + 1) 0 ts
 tags-row c p ts h = record {
   sound = λ t m. let w = h.sound t m in (w.0, elim w.1 [ inl l ↦ inl (omega arith) | inr k ↦ inl (let e = k.0 in omega arith) ]);
@@ -90,23 +102,28 @@ tags-row c p ts h = record {
   rises = h.rises;
 }
 
+-- a member is contained
 Contains-of-Mem : {X : Type 0} (xs : List X) (x : X) → Mem x xs → Contains xs x
 Contains-of-Mem [] x m = absurd m
 Contains-of-Mem (y ∷ ys) x (inl e) = (0, omega arith, e)
 Contains-of-Mem (y ∷ ys) x (inr m) = let w = Contains-of-Mem ys x m in (suc w.0, (let l = w.1 in omega arith), w.2)
 
+-- what holds of all, item by item
 All-of-rec : {X : Type 0} (P : X → Type 0) (xs : List X) → AllByRecursion P xs → All P xs
 All-of-rec P [] h k d l = absurd (omega arith)
 All-of-rec P (x ∷ xs) h zero d l = h.0
 All-of-rec P (x ∷ xs) h (suc k) d l = All-of-rec P xs h.1 k d (omega arith)
 
+-- a rising list, pair by pair
 pairs-of-Rises : {X : Type 0} (R : X → X → Type 0) (xs : List X) → Rises R xs → AllPairs R xs
 pairs-of-Rises R [] h = λ i j d l m. absurd (omega arith)
 pairs-of-Rises R (x ∷ xs) h = AllPairs-cons R x xs (All-of-rec (R x) xs h.0) (pairs-of-Rises R xs h.1)
 
+-- no block is longer than a long one
 len-most : (c : Cut) (i : ℕ) → len_of c i ≤ c.short_len + 1
 len-most c i = grind (arith, nat_tests)
 
+-- past the last place all tags have come
 pub tags-end : (c : Cut) (ts : List Tag) → TagsBefore c (c.short_len + 1) 0 ts → IsTagOrder c ts
 tags-end c ts h = record {
   in_blocks = All-of-rec (IsTag c) ts (All-of-Mem (IsTag c) ts (λ t m. (h.sound t m).0));
@@ -116,14 +133,13 @@ tags-end c ts h = record {
 
 -- ---- what was sent so far
 
+-- the codewords of the tags before one were sent
 pub record SentBefore (c : Cut) (d : List ℕ) (p b : ℕ) (before now : List ℕ) : Type 0 where
   pub tags : List Tag
   pub order : TagsBefore c p b tags
   pub sent : now ≡ before ++ map (codeword_at c d) tags
 
-pub sent-start : (c : Cut) (d before : List ℕ) → SentBefore c d 0 0 before before
-sent-start c d before = record { tags = []; order = tags-start c; sent = sym (append-nil before) }
-
+-- one codeword more
 pub sent-push : (c : Cut) (d : List ℕ) (p b : ℕ) (before now later : List ℕ) (x : ℕ) → SentBefore c d p b before now → IsTag c (tag p b) → x ≡ codeword_at c d (tag p b) → later ≡ now ++ x ∷ [] → SentBefore c d p (b + 1) before later
 sent-push c d p b before now later x h i e k = record {
   tags = h.tags ++ tag p b ∷ [];
@@ -131,12 +147,15 @@ sent-push c d p b before now later x h i e k = record {
   sent = k ∙ (ap (λ (xs : List ℕ). xs ++ x ∷ []) h.sent ∙ (append_assoc before (map (codeword_at c d) h.tags) (x ∷ []) ∙ ap (λ (xs : List ℕ). before ++ xs) (ap (λ (y : ℕ). map (codeword_at c d) h.tags ++ y ∷ []) e ∙ sym (map-append (codeword_at c d) h.tags (tag p b ∷ [])))));
 }
 
+-- a block that has no such place
 pub sent-pass : (c : Cut) (d : List ℕ) (p b : ℕ) (before now : List ℕ) → SentBefore c d p b before now → (IsTag c (tag p b) → ⊥) → SentBefore c d p (b + 1) before now
 sent-pass c d p b before now h n = record { tags = h.tags; order = tags-pass c p b h.tags n h.order; sent = h.sent }
 
+-- on to the next place
 pub sent-row : (c : Cut) (d : List ℕ) (p b : ℕ) (before now : List ℕ) → b ≡ count_of c → SentBefore c d p b before now → SentBefore c d (p + 1) 0 before now
 sent-row c d p b before now e h = record { tags = h.tags; order = tags-row c p h.tags (subst (λ (k : ℕ). TagsBefore c p k h.tags) e h.order); sent = h.sent }
 
+-- all codewords were sent
 pub sent-end : (c : Cut) (d : List ℕ) (p : ℕ) (before now : List ℕ) → p ≡ c.short_len + 1 → SentBefore c d p 0 before now → IsSent c d before now
 sent-end c d p before now e h = record { tags = h.tags; order = tags-end c h.tags (subst (λ (k : ℕ). TagsBefore c k 0 h.tags) e h.order); sent = h.sent }
 

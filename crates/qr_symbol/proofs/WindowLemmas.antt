@@ -28,29 +28,35 @@ abbrev pattern_of : ℕ → List Bool → ℕ
 pattern_of x [] = x
 pattern_of x (b ∷ bs) = pattern_of (2 * x + bit b) bs
 
+-- two numbers with a last bit are equal where both parts are
 pair-eq : (x y : ℕ) (p q : Bool) → eqb (2 * x + bit p) (2 * y + bit q) ≡ (eqb x y && is_same p q)
 pair-eq x y true true = grind (arith, nat_tests)
 pair-eq x y true false = grind (arith, nat_tests)
 pair-eq x y false true = grind (arith, nat_tests)
 pair-eq x y false false = grind (arith, nat_tests)
 
+-- a conjunction of three, grouped in either way
 and-assoc : (a b c : Bool) → ((a && b) && c) ≡ (a && (b && c))
 and-assoc true b c = refl
 and-assoc false b c = refl
 
+-- a conjunction with what is true
 and-true : (a : Bool) → a ≡ (a && true)
 and-true true = refl
 and-true false = refl
 
+-- places read as a pattern where their numbers are equal
 reads-number : (bs : List Bool) (x y : ℕ) (line : ℕ → Bool) (c : ℕ) → eqb (number_of x line c (length bs)) (pattern_of y bs) ≡ (eqb x y && reads line c bs)
 reads-number [] x y line c = and-true (eqb x y)
 reads-number (b ∷ bs) x y line c =
     reads-number bs (2 * x + bit (line c)) (2 * y + bit b) line (c + 1)
     ∙ (ap (λ z. z && reads line (c + 1) bs) (pair-eq x y (line c) b) ∙ and-assoc (eqb x y) (is_same (line c) b) (reads line (c + 1) bs))
 
+-- a number with a last bit, shifted
 spread : (x b p : ℕ) → (2 * x + b) * p ≡ x * (2 * p) + (2 * 0 + b) * p
 spread x b p = omega arith
 
+-- a number in front is shifted by the places behind it
 number-behind : (n x : ℕ) (line : ℕ → Bool) (c : ℕ) → number_of x line c n ≡ x * 2 ^ n + number_of 0 line c n
 number-behind zero x line c = omega arith
 number-behind (suc n) x line c =
@@ -61,10 +67,7 @@ number-behind (suc n) x line c =
     let s = spread x b (2 ^ n) in
     omega arith
 
-bit-small : (b : Bool) → bit b ≤ 1
-bit-small true = omega arith
-bit-small false = omega arith
-
+-- n places make a number of n bits
 number-small : (n : ℕ) (line : ℕ → Bool) (c : ℕ) → number_of 0 line c n < 2 ^ n
 number-small zero line c = omega arith
 number-small (suc n) line c =
@@ -77,10 +80,12 @@ number-small (suc n) line c =
     by_bit true z q w h p r g = omega arith
     by_bit false z q w h p r g = omega arith
 
+-- the last eleven places make a number of eleven bits
 register-small : (line : ℕ → Bool) (n : ℕ) → register line n < 2048
 register-small line zero = omega arith
 register-small line (suc n) = omega arith
 
+-- the last eleven places of more, as a number
 register-number : (n x : ℕ) (line : ℕ → Bool) (c : ℕ) → register line c ≡ x % 2048 → register line (c + n) ≡ number_of x line c n % 2048
 register-number zero x line c e = let o : c + 0 ≡ c = omega arith in ap (register line) o ∙ e
 register-number (suc n) x line c e =
@@ -91,6 +96,7 @@ register-number (suc n) x line c e =
     next : (r b : ℕ) → r ≡ x % 2048 → (2 * r + b) % 2048 ≡ (2 * x + b) % 2048
     next r b f = omega arith
 
+-- after eleven places they are those alone
 last-eleven : (line : ℕ → Bool) (c : ℕ) → register line (c + 11) ≡ number_of 0 line c 11
 last-eleven line c =
     let r = register line c in
@@ -109,6 +115,7 @@ reads-tail line k l =
     let o : suc k ≡ k - 10 + 11 = omega arith in
     ap (λ z. eqb z 0x5D0) (ap (register line) o ∙ last-eleven line (k - 10)) ∙ reads-number tail_window 0 0 line (k - 10)
 
+-- the places that end at place k are the window after light modules
 reads-head : (line : ℕ → Bool) (k : ℕ) → 10 ≤ k → eqb (register line (suc k)) 0x05D ≡ reads line (k - 10) head_window
 reads-head line k l =
     let o : suc k ≡ k - 10 + 11 = omega arith in
@@ -118,12 +125,14 @@ reads-head line k l =
 abbrev reads_window : (ℕ → Bool) → ℕ → Bool
 reads_window line c = reads line c tail_window || reads line c head_window
 
+-- before place 10 no window ends
 share-early : (line : ℕ → Bool) (k : ℕ) → k < 10 → window_share k (register line (suc k)) ≡ 0
 unfolding window_share
 share-early line k l =
     let e : leb 10 k ≡ false = grind (arith, nat_tests) in
     ap (λ z. cond {A = ℕ} (z && (eqb (register line (suc k)) 0x5D0 || eqb (register line (suc k)) 0x05D)) 40 0) e
 
+-- from place 10 on a place adds 40 where a window ends
 share-late : (line : ℕ → Bool) (k : ℕ) → 10 ≤ k → window_share k (register line (suc k)) ≡ 40 * cond (reads_window line (k - 10)) 1 0
 unfolding window_share
 share-late line k l =
@@ -136,14 +145,17 @@ share-late line k l =
     forty true = refl
     forty false = refl
 
+-- inside the line a window is what reads so
 window-fits : (s : ℕ) (line : ℕ → Bool) (c : ℕ) → c + 11 ≤ s → is_window s line c ≡ reads_window line c
 unfolding is_window
 window-fits s line c l = let e : leb (c + 11) s ≡ true = grind (arith, nat_tests) in ap (λ z. z && reads_window line c) e
 
+-- past its end there is none
 window-past : (s : ℕ) (line : ℕ → Bool) (c : ℕ) → s < c + 11 → is_window s line c ≡ false
 unfolding is_window
 window-past s line c l = let e : leb (c + 11) s ≡ false = grind (arith, nat_tests) in ap (λ z. z && reads_window line c) e
 
+-- a line of ten places or fewer
 short-line : (s : ℕ) (line : ℕ → Bool) → s < 11 → sum_below s (λ k. window_share k (register line (suc k))) ≡ 40 * window_count s line
 unfolding window_count
 short-line s line l =
@@ -152,6 +164,7 @@ short-line s line l =
     let z = sum_below-zero s in
     omega arith
 
+-- a line of more
 long-line : (n : ℕ) (line : ℕ → Bool) → sum_below (10 + n) (λ k. window_share k (register line (suc k))) ≡ 40 * window_count (n + 10) line
 unfolding window_count
 long-line n line =

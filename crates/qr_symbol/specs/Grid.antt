@@ -7,7 +7,7 @@ pub record Grid : Type 0 where
   pub side : ℕ
   pub rows : List (List Bool)
 
--- the colours f of the places of s rows and s columns
+-- the colours f of the places of s rows and s columns, row by row [own]
 unfoldable pub rows_of : ℕ → (ℕ → ℕ → Bool) → List (List Bool)
 rows_of s f = map (λ r. map (λ c. f r c) (range_with_len 0 s)) (range_with_len 0 s)
 

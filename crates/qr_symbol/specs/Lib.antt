@@ -4,6 +4,7 @@ pub mod Worked
 pub mod Colour
 pub mod Drawing
 pub mod Penalty
+pub mod Runs
 pub mod Lines
 pub mod Choice
 pub mod Symbols

@@ -1,6 +1,6 @@
 -- The reading of a symbol, from the layout of its version, its blocks and the order of its modules. Public clauses cite
 -- this file.
-use Rattle.std.specs.Prelude.{◌≡◌, ℕ, ◌-◌, ◌*◌, ◌<◌, ◌≤◌, Bool, false, List, ◌++◌, map, take, length, replicate, Ok, None}
+use Rattle.std.specs.Prelude.{◌≡◌, ℕ, ◌-◌, ◌*◌, ◌<◌, ◌≤◌, Bool, false, List, ◌++◌, map, take, length, replicate, Ok, Err, None}
 use Rattle.std.specs.List.{All}
 use Rattle.qr_layout.specs.declared.level.Level.{Level}
 use Rattle.qr_layout.specs.declared.region.Module.{Module}
@@ -13,6 +13,10 @@ use Rattle.qr_bits.specs.declared.segment.Segment.{Segment}
 use Rattle.qr_bits.specs.Letters.{IsLeastSegmentation}
 use Rattle.qr_bits.specs.Bits.{bits_of}
 use Rattle.qr_bits.specs.Parse.{Content, parse}
+use Rattle.qr_bits.specs.declared.fault.ParseFault.{ParseFault}
+use Rattle.qr_bits.specs.declared.fault.ParseFault.TheVariants as unparsed
+use Rattle.qr_symbol.specs.declared.fault.ReadFault.{ReadFault}
+use Rattle.qr_symbol.specs.declared.fault.ReadFault.TheVariants as unread
 use Rattle.qr_symbol.specs.Grid.{Grid, colour}
 use Rattle.qr_symbol.specs.Masks.{inverts, inverted}
 use Rattle.qr_symbol.specs.Colour.{word_bit}
@@ -66,3 +70,33 @@ pub record IsReading (g : Grid) (content : Content) : Type 0 where
 abbrev pub IsReadBack : List ℕ → ℕ → Bool → Grid → Type 0
 IsReadBack x v bytes_only g = (segments : List Segment) × IsLeastSegmentation v bytes_only x segments
     × IsReading g (record { header = None; segments = segments; bytes = x })
+
+-- the side of the square is that of the version (ISO/IEC 18004:2015, 6.3.2, 12)
+pub record IsOfVersion (g : Grid) (v : ℕ) : Type 0 where
+  pub least : 1 ≤ v
+  pub most : v ≤ 40
+  pub side : g.side ≡ side_of v
+
+-- the square has the side of the version, holds the message under the format information's level and mask, and the
+-- message cannot be parsed, with this fault (ISO/IEC 18004:2015, 12)
+pub record IsNotParsed (g : Grid) (e : ParseFault) : Type 0 where
+  pub version : ℕ
+  pub level : Level
+  pub mask : ℕ
+  pub message : List ℕ
+  pub sized : IsOfVersion g version
+  pub format : IsFormat g level mask
+  pub holds : IsMessage version level mask g message
+  pub parsed : parse version (bits_of message) ≡ Err e
+
+-- why the square is not read as any content; memory may be refused for any square (ISO/IEC 18004:2015, 12)
+abbrev pub IsUnread : Grid → ReadFault → Type 0
+IsUnread g unread.Memory = Unit {0}
+IsUnread g unread.Side = (v : ℕ) → IsOfVersion g v → ⊥
+IsUnread g unread.Format = (v : ℕ) × IsOfVersion g v × ((l : Level) (mask : ℕ) → IsFormat g l mask → ⊥)
+IsUnread g unread.Check = (v : ℕ) × IsOfVersion g v × (l : Level) × (mask : ℕ) × IsFormat g l mask × ((d : List ℕ) → IsMessage v l mask g d → ⊥)
+IsUnread g (unread.Segments unparsed.Memory) = ⊥
+IsUnread g (unread.Segments unparsed.BadMode) = IsNotParsed g unparsed.BadMode
+IsUnread g (unread.Segments unparsed.Cut) = IsNotParsed g unparsed.Cut
+IsUnread g (unread.Segments unparsed.BadValue) = IsNotParsed g unparsed.BadValue
+IsUnread g unread.Series = ⊥

@@ -27,7 +27,7 @@ fn bit_at(codewords: &[u8], number: usize) -> bool
 }
 
 // Bit `i` of a word of format or version information, bit 0 being the lowest.
-fn is_bit_set(word: u32, i: u8) -> bool
+pub(crate) fn is_bit_set(word: u32, i: u8) -> bool
     ensures { result ≡ word_bit word i }
 {
     i < 32 && word >> i & 1 == 1

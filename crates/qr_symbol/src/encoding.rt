@@ -20,8 +20,8 @@ const LONGEST: usize = 7089;
 /// The symbol of an input (ISO/IEC 18004:2015, 7.1), of the least version from `smallest` on that it fits. With
 /// `bytes_only` the whole input is one byte segment.
 ///
-/// `Empty` where the input has no byte, and `TooLong` where it fits no version from `smallest` on. Both come before any
-/// memory is taken where the input is empty or has more than 7,089 bytes.
+/// `Empty` where the input has no byte, and `TooLong` where it fits no version from `smallest` on. An input of more than
+/// 7,089 bytes fits none, and is refused before any memory is taken.
 pub fn encode(
     alloc: Global,
     input: &[u8],

@@ -9,11 +9,10 @@ ghost use Rattle.qr_bits.specs.Parse.{Content};
 ghost use Rattle.qr_symbol.specs.Grid.{Grid};
 ghost use Rattle.qr_symbol.specs.Colour.{grid_of};
 ghost use Rattle.qr_symbol.specs.Reading.{read_bits, IsRead, IsMessage, IsFormat, IsReading};
-ghost use Rattle.qr_symbol.specs.Symbols.{IsSymbol};
+ghost use Rattle.qr_symbol.specs.Symbols.{IsSymbol, SymbolsAreOne};
 ghost use Rattle.qr_layout.specs.Versions.{total_codewords_of};
 ghost use Rattle.qr_layout.specs.Blocks.{data_codewords_of, blocks_of};
 ghost use Rattle.qr_symbol.specs.Interleaving.{count_of, len_of, start_of, cut_len, data_cut, IsInterleaved};
-ghost use Rattle.qr_symbol.specs.Symbols.{SymbolsAreOne};
 ghost use Rattle.qr_symbol.specs.Worked.{all_masks, first_rows, computed_rows};
 
 use qr_layout::{Level, Version};
@@ -21,11 +20,6 @@ use qr_layout::{Level, Version};
 /// The definition of the masks computes the first places of each mask pattern.
 pub fn masks_compute()
     ensures { map first_rows all_masks ≡ computed_rows }
-{}
-
-/// An input has only one symbol.
-pub fn symbols_are_one()
-    ensures { SymbolsAreOne }
 {}
 
 /// The blocks of the data codewords stand one after another, from the first codeword to the last.
@@ -75,6 +69,11 @@ pub fn format_is_one()
 /// A square is read as one content at most.
 pub fn contents_are_one()
     ensures { (g : Grid) (p q : Content) → IsReading g p → IsReading g q → p ≡ q }
+{}
+
+/// An input has only one symbol of a level, from a version on.
+pub fn symbols_are_one()
+    ensures { SymbolsAreOne }
 {}
 
 /// The symbol of an input is read as the input, in the segments of least bits and without a header.

@@ -1,4 +1,4 @@
-//! Symbols: how codewords are interleaved, placed and masked, and how a symbol's mask is chosen.
+//! Symbols: how an input is encoded as one, how codewords are interleaved, placed and masked, and what a symbol is read as.
 #![tactic(auto)]
 
 mod choice;
@@ -11,6 +11,7 @@ mod mask;
 mod matrix;
 mod message;
 mod penalties;
+mod reading;
 mod symbol;
 
 pub use choice::build;
@@ -19,4 +20,5 @@ pub use fault::{EncodeFault, ReadFault};
 pub use matrix::Matrix;
 pub use message::{deinterleave, interleave};
 pub use penalties::penalty;
+pub use reading::read_symbol;
 pub use symbol::{Symbol, build_masked};

@@ -2,6 +2,7 @@
 
 ghost use Rattle.std.specs.Prelude.{◌≡◌, ◌+◌, ◌*◌, ◌<◌, ◌≤◌, false, length, slice_index_or, IfOk};
 ghost use Rattle.qr_symbol.specs.Grid.{square, colour, painted, light};
+ghost use Rattle.qr_symbol.specs.Runs.{IsRunEnd};
 
 use std::alloc::{AllocError, Global};
 use std::marker::Model;
@@ -54,6 +55,22 @@ impl Matrix {
         self.places[usize::from(row) * usize::from(self.side) + usize::from(col)]
     }
 
+    /// Where the run of equal modules that begins at `col` ends: the least column after `col` whose
+    /// colour in that row differs from that at `col`, or the side where there is none.
+    pub fn run_end(&self, row: u8, col: u8) -> u8
+        requires row_in { row < self.now.side }
+        requires col_in { col < self.now.side }
+        ensures { IsRunEnd self.now row col result }
+    {
+        let side = self.side();
+        let dark = self.dark(row, col);
+        let mut end = col + 1;
+        'run: while end < side && self.dark(row, end) == dark {
+            end += 1;
+        }
+        end
+    }
+
     // The modules row by row.
     pub(crate) fn places(&self) -> &[bool]
         ensures cells { square self.now.side
@@ -89,6 +106,13 @@ mod tests {
                 assert_eq!(rt; matrix.dark(row, col), is_set, "row {row}, column {col}");
             }
         }
+        Ok(())
+    }
+
+    #[test]
+    fn a_light_row_is_one_run(rt: HostRuntime) -> Result<(), Fail> {
+        let matrix = Matrix::new(rt.alloc(), 177)?;
+        assert_eq!(rt; matrix.run_end(0, 60), 177);
         Ok(())
     }
 }

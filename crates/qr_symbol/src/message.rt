@@ -152,7 +152,8 @@ fn deinterleave_blocks(
     blocks: Blocks,
     codewords: &[u8],
 ) -> Result<Vec<u8>, ReadFault>
-    requires whole { length codewords.now ≡ cut_len (data_cut blocks) + cut_len (correction_cut blocks) }
+    requires whole { length codewords.now
+        ≡ cut_len (data_cut blocks) + cut_len (correction_cut blocks) }
     requires least { 1 ≤ blocks.ec_len }
     requires most { blocks.ec_len ≤ 30 }
     ensures len { IfOk result (λ d. length d.items ≡ cut_len (data_cut blocks)) }

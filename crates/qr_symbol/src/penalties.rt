@@ -130,7 +130,8 @@ fn block_count(places: &[bool], side: usize) -> u32
 
 fn dark_count(places: &[bool]) -> u32
     requires small { length places.now ≤ 31329 }
-    ensures value { result ≡ count_below (length places.now) (λ k. slice_index_or places.now k false) }
+    ensures value { result
+        ≡ count_below (length places.now) (λ k. slice_index_or places.now k false) }
     ensures most { result ≤ 31329 }
 {
     let mut count = 0;
@@ -145,7 +146,8 @@ fn balance_cost(modules: u32, dark: u32) -> u32
     requires some { 0 < modules }
     requires most { modules ≤ 31329 }
     requires fits { dark ≤ 31329 }
-    ensures value { result ≡ 10 * (((20 * dark - 10 * modules) + (10 * modules - 20 * dark)) / modules) }
+    ensures value { result
+        ≡ 10 * (((20 * dark - 10 * modules) + (10 * modules - 20 * dark)) / modules) }
     ensures bound { result ≤ 7000000 }
 {
     let excess = (20 * dark).abs_diff(10 * modules);

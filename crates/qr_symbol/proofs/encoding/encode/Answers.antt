@@ -12,14 +12,17 @@ use Rattle.qr_symbol.specs.Faults.{fault_of}
 use Rattle.qr_symbol.proofs.RoundTrip.{symbol-back}
 use Rattle.qr_symbol.proofs.encoding.encode.Goals as goal
 
+-- the answer of a fault
 answer : EncodeFault → Result Symbol EncodeFault
 answer e = Err e
 
+-- A fault of the bits is no empty input.
 not_empty : (f : BitFault) → answer (fault_of f) ≡ answer fault.Empty → ⊥
 unfolding answer
 not_empty Memory e = cc
 not_empty TooLong e = cc
 
+-- Too many bits come from too many bits alone.
 is_too_long : (f : BitFault) → answer (fault_of f) ≡ answer fault.TooLong → f ≡ TooLong
 unfolding answer
 is_too_long Memory e = cc
@@ -27,8 +30,8 @@ is_too_long TooLong e = cc
 
 pub returns-then-input-gt-LONGEST-clause-too_long : goal.returns-then-input-gt-LONGEST-clause-too_long
 returns-then-input-gt-LONGEST-clause-too_long c =
-    λ _ v a b held.
-    let short = fitting_short v c.args.level c.args.bytes_only c.args.input.now (omega arith) b held in omega arith
+    λ _ v a b fits.
+    let short = fitting_short v c.args.level c.args.bytes_only c.args.input.now (omega arith) b fits in omega arith
 
 pub returns-in_err-fit-clause-empty : goal.returns-in_err-fit-clause-empty
 unfolding answer
@@ -49,4 +52,6 @@ interleave-requires c =
 
 pub returns-clause-read : goal.returns-clause-read
 returns-clause-read c =
-    symbol-back c.args.input.now c.args.level c.args.smallest c.args.bytes_only c.in_ok-fit.fit.version c.in_ok-fit.fit.segments.items c.deref.result.now c.in_ok-message.message.items c.deref-2.result.now c.in_ok-sent.sent.items c.deref-3.result.now c.build.result (omega arith) c.in_ok-fit.ensures.version c.in_ok-fit.ensures.segments c.deref.ensures.value c.in_ok-message.ensures.ok c.deref-2.ensures.value c.in_ok-sent.ensures.sent c.deref-3.ensures.value c.build.ensures.version c.build.ensures.mask c.build.ensures.matrix
+    let v = c.in_ok-fit.fit.version in
+    let segs = c.in_ok-fit.fit.segments.items in
+    symbol-back c.args.input.now c.args.level c.args.smallest c.args.bytes_only v segs c.deref.result.now c.in_ok-message.message.items c.deref-2.result.now c.in_ok-sent.sent.items c.deref-3.result.now c.build.result (omega arith) c.in_ok-fit.ensures.version c.in_ok-fit.ensures.segments c.deref.ensures.value c.in_ok-message.ensures.ok c.deref-2.ensures.value c.in_ok-sent.ensures.sent c.deref-3.ensures.value c.build.ensures.version c.build.ensures.mask c.build.ensures.matrix

@@ -1,0 +1,73 @@
+-- Why an input has only one symbol: each of its layers is one.
+use Rattle.std.proofs.Common.{◌≡◌, ℕ, inl, inr, Bool, List, [], ◌∷◌, None, refl, sym, ◌∙◌, ap, subst, arith}
+use Rattle.std.proofs.lemmas.Bool.{cases_lt}
+use Rattle.qr_layout.specs.declared.level.Level.{Level}
+use Rattle.qr_layout.specs.Blocks.{blocks_of}
+use Rattle.qr_bits.specs.declared.segment.Mode.{Mode}
+use Rattle.qr_bits.specs.declared.segment.Segment.{Segment}
+use Rattle.qr_bits.specs.Letters.{runs_of, rank, NotAfter, IsLeastSegmentation}
+use Rattle.qr_bits.specs.Data.{IsData}
+use Rattle.qr_bits.proofs.DataLaws.{data_one}
+use Rattle.qr_symbol.specs.Interleaving.{IsInterleaved}
+use Rattle.qr_symbol.specs.Colour.{grid_of}
+use Rattle.qr_symbol.specs.Choice.{IsFirstLeast, IsMask, mask_penalty}
+use Rattle.qr_symbol.specs.Symbols.{IsVersion, SymbolsAreOne}
+use Rattle.qr_symbol.proofs.MessageLemmas.{final-one}
+
+-- Letters of which neither come after the others are the same.
+letters-one : (ms ks : List Mode) → NotAfter ms ks → NotAfter ks ms → ms ≡ ks
+letters-one [] [] a b = refl
+letters-one [] (k ∷ ks) a b = absurd b
+letters-one (m ∷ ms) [] a b = absurd a
+letters-one (m ∷ ms) (k ∷ ks) a b =
+    elim a [
+      | inl i ↦ elim b [ inl j ↦ absurd (omega arith) | inr y ↦ (let e = ap rank y.0 in absurd (omega arith)) ]
+      | inr x ↦ elim b [ inl j ↦ (let e = ap rank x.0 in absurd (omega arith)) | inr y ↦ (let e = letters-one ms ks x.1 y.1 in let f = x.0 in cc) ]
+    ]
+
+-- The least segmentation is one.
+segmentation-one : (v : ℕ) (bytes_only : Bool) (xs : List ℕ) (ss ts : List Segment) → IsLeastSegmentation v bytes_only xs ss → IsLeastSegmentation v bytes_only xs ts → ss ≡ ts
+segmentation-one v bytes_only xs ss ts a b =
+    let ab = a.1.least b.0 b.1.lettering in
+    let ba = b.1.least a.0 a.1.lettering in
+    a.2 ∙ ap runs_of (letters-one a.0 b.0 (a.1.first b.0 b.1.lettering (omega arith)) (b.1.first a.0 a.1.lettering (omega arith))) ∙ sym b.2
+
+-- The first number of the least measure is one.
+least-one : (n : ℕ) (f : ℕ → ℕ) (m k : ℕ) → IsFirstLeast n f m → IsFirstLeast n f k → m ≡ k
+least-one n f m k a b =
+    elim (a.least k b.in_range) [
+      | inl i ↦ elim (b.least m a.in_range) [ inl j ↦ absurd (omega arith) | inr w ↦ (let e = w.0 in absurd (omega arith)) ]
+      | inr i ↦ elim (b.least m a.in_range) [ inl j ↦ (let e = i.0 in absurd (omega arith)) | inr w ↦ (let d = i.1 in let e = w.1 in omega arith) ]
+    ]
+
+-- The least version is one.
+version-one : (xs : List ℕ) (l : Level) (least : ℕ) (bytes_only : Bool) (v w : ℕ) → IsVersion xs l least bytes_only v → IsVersion xs l least bytes_only w → v ≡ w
+version-one xs l least bytes_only v w a b =
+    elim (cases_lt v w) [
+      | inl i ↦ absurd (b.first v a.least i a.fits)
+      | inr i ↦ elim (cases_lt w v) [ inl j ↦ absurd (a.first w b.least j b.fits) | inr j ↦ omega arith ]
+    ]
+
+-- An input has only one symbol.
+pub symbol-one : SymbolsAreOne
+symbol-one xs l least bytes_only v w m n g h a b =
+    let version : v ≡ w = version-one xs l least bytes_only v w a.version b.version in
+    let segments : a.segments ≡ b.segments =
+    segmentation-one w bytes_only xs a.segments b.segments
+    (subst (λ (k : ℕ). IsLeastSegmentation k bytes_only xs a.segments) version a.chosen) b.chosen in
+    let message : a.message ≡ b.message =
+    data_one w l xs b.segments None a.message b.message
+    (subst (λ (ss : List Segment). IsData w l xs ss None a.message) segments
+    (subst (λ (k : ℕ). IsData k l xs a.segments None a.message) version a.written)) b.written in
+    let codewords : a.codewords ≡ b.codewords =
+    final-one (blocks_of w l) b.message a.codewords b.codewords
+    (subst (λ (d : List ℕ). IsInterleaved w l d a.codewords) message
+    (subst (λ (k : ℕ). IsInterleaved k l a.message a.codewords) version a.sent)) b.sent in
+    let mask : m ≡ n =
+    least-one 8 (mask_penalty w l b.codewords) m n
+    (subst (λ (cw : List ℕ). IsMask w l cw m) codewords
+    (subst (λ (k : ℕ). IsMask k l a.codewords m) version a.best)) b.best in
+    let square : g ≡ h =
+    a.drawn ∙ ap (λ (k : ℕ). grid_of k l m a.codewords) version ∙ ap (λ (k : ℕ). grid_of w l k a.codewords) mask
+    ∙ ap (grid_of w l n) codewords ∙ sym b.drawn in
+    (version, mask, square)

@@ -1,0 +1,8 @@
+use Rattle.std.proofs.Common.{◌≡◌, ℕ, ◌<◌}
+use Rattle.qr_layout.specs.Roles.{first_place}
+use Rattle.qr_symbol.specs.Grid.{colour}
+use Rattle.qr_symbol.specs.Colour.{word_bit}
+use Rattle.qr_symbol.proofs.reading.has_format.Given as goal
+
+abbrev pub invariant-loop-i : goal.invariant-loop-i
+invariant-loop-i l = (k : ℕ) → k < l.i → colour l.matrix (first_place k).row (first_place k).col ≡ word_bit l.word k

@@ -1,0 +1,267 @@
+//! The reading of one symbol: its version by the side, its level and its mask by the format information, then the
+//! codewords, the message and what it says (ISO/IEC 18004:2015, 12).
+
+ghost use Rattle.std.specs.Prelude.{◌≡◌, ℕ, ◌<◌, ◌≤◌, length, IfOk, MatchOption, MatchResult};
+ghost use Rattle.std.specs.Bool.{Decides};
+ghost use Rattle.qr_layout.specs.declared.level.Level.{Level};
+ghost use Rattle.qr_layout.specs.Roles.{first_place};
+ghost use Rattle.qr_layout.specs.Versions.{side_of, total_codewords_of};
+ghost use Rattle.qr_symbol.specs.Reading.{IsFormat, IsRead, IsReading, IsUnread};
+
+use crate::drawing::is_bit_set;
+use crate::fault::ReadFault;
+use crate::mask::inverts;
+use crate::matrix::Matrix;
+use crate::message::deinterleave;
+use qr_bits::{ParseFault, Parsed, parse};
+use qr_layout::{Level, Module, Version, format_word, walk};
+use std::alloc::{AllocError, Global};
+
+// How many bits format information has.
+const FORMAT_BITS: u8 = 15;
+
+// The version whose symbols have this side.
+fn version_of_side(side: u8) -> Option<Version>
+    ensures { MatchOption result
+        ((v : ℕ) → 1 ≤ v → v ≤ 40 → side ≡ side_of v → ⊥)
+        (λ v. (1 ≤ v) × (v ≤ 40) × (side ≡ side_of v)) }
+{
+    if side < 21 || (side - 17) % 4 != 0 {
+        return None;
+    }
+    Version::new((side - 17) / 4)
+}
+
+// Where a bit of the format information stands beside the top left finder pattern (7.9.1).
+fn format_place(i: u8) -> Module
+    requires { i < 15 }
+    ensures { result ≡ first_place i }
+{
+    Module {
+        row: if i < 6 {
+            i
+        } else if i == 6 {
+            7
+        } else {
+            8
+        },
+        col: if i < 8 {
+            8
+        } else if i == 8 {
+            7
+        } else {
+            14 - i
+        },
+    }
+}
+
+// Whether the format information beside the top left finder pattern is that of the level and the mask.
+fn has_format(matrix: &Matrix, level: Level, mask: u8) -> bool
+    requires side { 21 ≤ matrix.now.side }
+    requires mask_in { mask < 8 }
+    ensures { Decides result (IsFormat matrix.now level mask) }
+{
+    let word = u32::from(format_word(level, mask));
+    for i in 0..FORMAT_BITS {
+        let place = format_place(i);
+        if matrix.dark(place.row, place.col) != is_bit_set(word, i) {
+            return false;
+        }
+    }
+    true
+}
+
+// The mask that the format information tells beside this level.
+fn mask_of(matrix: &Matrix, level: Level) -> Option<u8>
+    requires { 21 ≤ matrix.now.side }
+    ensures { MatchOption result
+        ((mask : ℕ) → IsFormat matrix.now level mask → ⊥)
+        (λ mask. IsFormat matrix.now level mask) }
+{
+    for mask in 0..8 {
+        if has_format(matrix, level, mask) {
+            return Some(mask);
+        }
+    }
+    None
+}
+
+// The level and the mask that the format information tells.
+fn format_of(matrix: &Matrix) -> Option<(Level, u8)>
+    requires { 21 ≤ matrix.now.side }
+    ensures { MatchOption result
+        ((l : Level) (mask : ℕ) → IsFormat matrix.now l mask → ⊥)
+        (λ f. IsFormat matrix.now f.0 f.1) }
+{
+    for level in [Level::L, Level::M, Level::Q, Level::H] {
+        if let Some(mask) = mask_of(matrix, level) {
+            return Some((level, mask));
+        }
+    }
+    None
+}
+
+// The codewords that the modules of the encoding region hold under a mask; the remainder bits are left aside.
+fn read_codewords(
+    alloc: Global,
+    version: Version,
+    mask: u8,
+    matrix: &Matrix,
+) -> Result<Vec<u8>, AllocError>
+    requires { matrix.now.side ≡ side_of version }
+    ensures read { IfOk result (λ cw. IsRead version mask matrix.now cw.items) }
+    ensures many { IfOk result (λ cw. length cw.items ≡ total_codewords_of version) }
+{
+    let mut codewords = Vec::with_capacity(alloc, usize::from(version.total_codewords()))?;
+    let mut begun = 0u8;
+    let mut width = 0u8;
+    for module in walk(version) {
+        let dark = matrix.dark(module.row, module.col);
+        begun = 2 * begun + u8::from(dark != inverts(mask, module.row, module.col));
+        width += 1;
+        if width == 8 {
+            codewords.push(begun)?;
+            begun = 0;
+            width = 0;
+        }
+    }
+    Ok(codewords)
+}
+
+/// What a symbol says, read without any correction of errors (ISO/IEC 18004:2015, 12): the version by the side, the level
+/// and the mask by the format information beside the top left finder pattern alone, and the data codewords, whose error
+/// correction codewords must be theirs. The other function patterns, the second format information, the version
+/// information and the remainder bits are not looked at.
+pub fn read_symbol(alloc: Global, matrix: &Matrix) -> Result<Parsed, ReadFault>
+    ensures { MatchResult result (IsReading matrix.now) (IsUnread matrix.now) }
+{
+    let Some(version) = version_of_side(matrix.side()) else {
+        return Err(ReadFault::Side);
+    };
+    let Some((level, mask)) = format_of(matrix) else {
+        return Err(ReadFault::Format);
+    };
+    let codewords = read_codewords(alloc, version, mask, matrix)?;
+    let message = deinterleave(alloc, version, level, &codewords)?;
+    match parse(alloc, &message, version) {
+        Ok(parsed) => Ok(parsed),
+        Err(ParseFault::Memory) => Err(ReadFault::Memory),
+        Err(fault) => Err(ReadFault::Segments(fault)),
+    }
+}
+
+#[cfg(test)]
+mod tests {
+    use super::*;
+    use crate::encoding::encode;
+    use crate::symbol::build_masked;
+    use qr_bits::{Mode, Segment};
+    use std::test::Fail;
+
+    // The codewords of `01234567` in version 1-M.
+    static CODEWORDS: [u8; 26] = [
+        0x10, 0x20, 0x0C, 0x56, 0x61, 0x80, 0xEC, 0x11, 0xEC, 0x11, 0xEC, 0x11, 0xEC, 0x11, 0xEC,
+        0x11, 0xA5, 0x24, 0xD4, 0xC1, 0xED, 0x36, 0xC7, 0x87, 0x2C, 0x55,
+    ];
+
+    // Whether a square is read as one segment, without a header.
+    fn says(rt: &HostRuntime, matrix: &Matrix, mode: Mode, bytes: &[u8]) -> Result<bool, Fail> {
+        let parsed = read_symbol(rt.alloc(), matrix)?;
+        let segment = Segment {
+            mode,
+            len: bytes.len(),
+        };
+        Ok(
+            parsed.header.is_none()
+                && parsed.segments.len() == 1
+                && parsed.segments.first().copied() == Some(segment)
+                && parsed.bytes.as_slice() == bytes,
+        )
+    }
+
+    #[test]
+    fn eight_digits_with_a_module_inverted(rt: HostRuntime) -> Result<(), Fail> {
+        let rows = [
+            ("a corner of a finder pattern", (0, 0), None),
+            ("a bit of the second format information", (20, 8), None),
+            (
+                "a bit of the first format information",
+                (0, 8),
+                Some(ReadFault::Format),
+            ),
+            (
+                "a bit of the first codeword",
+                (20, 20),
+                Some(ReadFault::Check),
+            ),
+            (
+                "a bit of the last codeword",
+                (12, 0),
+                Some(ReadFault::Check),
+            ),
+        ];
+        let version = Version::new(1).ok_or("version 1")?;
+        assert!(rt; version.total_codewords() == 26);
+        for (name, (row, col), fault) in rows {
+            let mut symbol = build_masked(rt.alloc(), version, Level::M, &CODEWORDS, 0)?;
+            assert!(rt;
+                says(&rt, &symbol.matrix, Mode::Numeric, b"01234567")?,
+                "as drawn"
+            );
+            assert!(rt; row < symbol.matrix.side() && col < symbol.matrix.side());
+            let dark = symbol.matrix.dark(row, col);
+            symbol.matrix.set(row, col, !dark);
+            let read = read_symbol(rt.alloc(), &symbol.matrix);
+            assert_eq!(rt; read.err(), fault, "{name}");
+            if fault.is_none() {
+                assert!(rt;
+                    says(&rt, &symbol.matrix, Mode::Numeric, b"01234567")?,
+                    "{name}"
+                );
+            }
+        }
+        Ok(())
+    }
+
+    #[test]
+    fn light_squares(rt: HostRuntime) -> Result<(), Fail> {
+        for (side, fault) in [
+            (1, ReadFault::Side),
+            (17, ReadFault::Side),
+            (20, ReadFault::Side),
+            (21, ReadFault::Format),
+            (22, ReadFault::Side),
+            (176, ReadFault::Side),
+            (177, ReadFault::Format),
+        ] {
+            assert!(rt; side >= 1 && side <= 177);
+            let matrix = Matrix::new(rt.alloc(), side)?;
+            let read = read_symbol(rt.alloc(), &matrix);
+            assert_eq!(rt; read.err(), Some(fault), "side {side}");
+        }
+        Ok(())
+    }
+
+    #[test]
+    fn letters_and_digits_as_bytes(rt: HostRuntime) -> Result<(), Fail> {
+        let version = Version::new(1).ok_or("version 1")?;
+        let symbol = encode(rt.alloc(), b"ab012", Level::L, version, true)?;
+        assert!(rt; says(&rt, &symbol.matrix, Mode::Byte, b"ab012")?);
+        Ok(())
+    }
+
+    #[test]
+    fn a_letter_in_every_symbol(rt: HostRuntime) -> Result<(), Fail> {
+        for number in 1..=40u8 {
+            let version = Version::new(number).ok_or("no such version")?;
+            for level in [Level::L, Level::M, Level::Q, Level::H] {
+                let symbol = encode(rt.alloc(), b"A", level, version, false)?;
+                assert!(rt;
+                    says(&rt, &symbol.matrix, Mode::Alphanumeric, b"A")?,
+                    "version {number}, {level:?}"
+                );
+            }
+        }
+        Ok(())
+    }
+}
