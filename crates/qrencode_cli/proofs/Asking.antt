@@ -1,12 +1,13 @@
 -- What the words and the input ask for.
-use Rattle.std.proofs.Common.{◌≡◌, ◌∙◌, ◌<◌, ◌≤◌, ℕ, List, [], ◌∷◌, take, Option, None, Some, Result, Ok, Err, MatchOption, MatchResult, refl, sym, min, length, append-nil, arith}
+use Rattle.std.proofs.Common.{◌≡◌, ◌∙◌, ◌≤◌, ℕ, List, [], ◌∷◌, take, Option, None, Some, Result, Ok, Err, MatchOption, MatchResult, refl, sym, min, length, append-nil, arith}
 use Rattle.std.proofs.lemmas.List.{take_min}
 use Rattle.clap.specs.Walk.{Text}
 use Rattle.qr_bits.specs.declared.segment.TheConstants.{INPUT_MAX}
 use Rattle.qr_symbol.specs.Grid.{Grid}
 use Rattle.qrencode_cli.specs.Answer.{Asks, Gives, IsDrawing, IsFault, Reads, ReadsFor, input_for}
 use Rattle.qrencode_cli.specs.Device.{Reader}
-use Rattle.qrencode_cli.specs.Drawings.{ascii_drawing}
+use Rattle.qrencode_cli.specs.Drawings.{text_drawing}
+use Rattle.qrencode_cli.specs.declared.text_drawing.Cells.TheVariants.{Plain}
 use Rattle.qrencode_cli.specs.Input.{IsInputOf}
 use Rattle.qrencode_cli.specs.Settings.{Refusal, Seen, settings_for}
 use Rattle.qrencode_cli.specs.Steps.{IsEarly, IsInputFault, Prepares, drawing_of}
@@ -39,7 +40,7 @@ input_for-reader s given e = rw e refl
 
 -- the one symbol of an input, drawn with a margin, is what the settings ask for
 pub IsDrawing-one : (s : Seen) (input : List ℕ) (smallest version mask : ℕ) (g : Grid) → s.kind ≡ Ascii → 1 ≤ smallest → smallest ≡ smallest_of s
-    → (input ≡ [] → ⊥) → IsSymbol input s.level smallest s.bytes_only version mask g → IsDrawing s input (ascii_drawing s.margin g)
+    → (input ≡ [] → ⊥) → IsSymbol input s.level smallest s.bytes_only version mask g → IsDrawing s input (text_drawing Plain s.margin g)
 IsDrawing-one s input smallest version mask g kind least e some symbol =
     let from = symbol.version.least in
     let few : length input ≤ 7089 = fitting_short version s.level s.bytes_only input (omega arith) symbol.version.most symbol.version.fits in
@@ -48,7 +49,7 @@ IsDrawing-one s input smallest version mask g kind least e some symbol =
       symbols = (g, record { version = version; mask = mask; symbol = rw (← e) symbol }, refl);
       some = grind (arith, common_steps);
       short = omega arith;
-      is_drawn = rw kind (sym (append-nil (ascii_drawing s.margin g)));
+      is_drawn = rw kind (sym (append-nil (text_drawing Plain s.margin g)));
     }
 
 -- where nothing was read, nothing was read for the words

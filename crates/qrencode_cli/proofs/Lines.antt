@@ -1,7 +1,8 @@
 -- How the texts of places join while they are put.
-use Rattle.std.proofs.Common.{◌≡◌, ◌++◌, ◌∙◌, ◌<◌, ◌+◌, ◌-◌, ℕ, zero, suc, List, [], ◌∷◌, MatchResult, Result, Ok, Err, refl, sym, ap, subst, arith, append_assoc, append-nil}
+use Rattle.std.proofs.Common.{◌≡◌, ◌++◌, ◌∙◌, ◌<◌, ◌+◌, ◌-◌, ℕ, zero, suc, List, [], ◌∷◌, MatchResult, Result, Ok, Err, refl, sym, ap, subst, arith, append_assoc, append-nil, map, take, drop, length, get_or}
 use Rattle.std.specs.List.{flat_map, range_with_len}
 use Rattle.std.proofs.lemmas.Grind.{flat_map-append}
+use Rattle.std.proofs.lemmas.List.{take_more, take-append-drop}
 use Rattle.qrencode_cli.specs.Device.{Writer}
 use Rattle.qrencode_cli.specs.Drawings.{texts_below}
 use Rattle.qrencode_cli.specs.Writing.{Stops, Writes}
@@ -67,3 +68,39 @@ put_then a b c i j k h0 h1 h2 x y (Err e) p q = writes_stop a b c i j h0 h1 x y 
 -- what stopped in the first of two texts stopped in both
 pub stops_first : (a b : Writer) (i : ℕ) (h x y : List ℕ) → Stops a b i (h ++ x) → Stops a b i (h ++ (x ++ y))
 stops_first a b i h x y p = subst (λ l. Stops a b i l) (append_assoc h x y) (stops_before a b i (h ++ x) y p)
+
+-- the texts of images are those of what they are images of
+pub flat_map-map : {A B : Type 0} (f : A → B) (text : B → List ℕ) (xs : List A)
+    → flat_map text (map f xs) ≡ flat_map (λ x. text (f x)) xs
+flat_map-map f text [] = refl
+flat_map-map f text (x ∷ xs) = ap (λ l. text (f x) ++ l) (flat_map-map f text xs)
+
+module _ {A : Type 0} (text : A → List ℕ) where
+  -- the texts of n + 1 items are those of n items and the next one's
+  items-more : (xs : List A) (n : ℕ) (x : A) → n < length xs → x ≡ get_or xs n x
+      → flat_map text (take (n + 1) xs) ≡ flat_map text (take n xs) ++ text x
+  items-more xs n x lt e =
+      ap (λ l. flat_map text l) (take_more xs n x lt ∙ ap (λ y. take n xs ++ y ∷ []) (sym e))
+      ∙ flat_map-append text (take n xs) (x ∷ []) ∙ ap (λ l. flat_map text (take n xs) ++ l) (append-nil (text x))
+
+  -- before the first item nothing was put
+  pub items_none : (a : Writer) (i : ℕ) (h : List ℕ) (xs : List A) → Writes a a i i (h ++ flat_map text (take 0 xs)) h
+  items_none a i h xs = writes_none a i h
+
+  -- the text of the next item was put
+  pub items_next : (a b c : Writer) (i j k n : ℕ) (h0 h1 h2 : List ℕ) (xs : List A) (x : A) → n < length xs → x ≡ get_or xs n x
+      → Writes a b i j (h0 ++ flat_map text (take n xs)) h1 → Writes b c j k (h1 ++ text x) h2
+      → Writes a c i k (h0 ++ flat_map text (take (n + 1) xs)) h2
+  items_next a b c i j k n h0 h1 h2 xs x lt e p q =
+      rw (items-more xs n x lt e) (writes_on a b c i j k h0 h1 h2 (flat_map text (take n xs)) (text x) p q)
+
+  -- the text of the next item stopped
+  pub items_stop : (a b c : Writer) (i j n : ℕ) (h0 h1 : List ℕ) (xs : List A) (x : A) → n < length xs → x ≡ get_or xs n x
+      → Writes a b i j (h0 ++ flat_map text (take n xs)) h1 → Stops b c j (h1 ++ text x) → Stops a c i (h0 ++ flat_map text xs)
+  items_stop a b c i j n h0 h1 xs x lt e p q =
+      let s : Stops a c i (h0 ++ flat_map text (take (n + 1) xs)) =
+      rw (items-more xs n x lt e) (writes_stop a b c i j h0 h1 (flat_map text (take n xs)) (text x) p q) in
+      let whole : (h0 ++ flat_map text (take (n + 1) xs)) ++ flat_map text (drop (n + 1) xs) ≡ h0 ++ flat_map text xs =
+      append_assoc h0 (flat_map text (take (n + 1) xs)) (flat_map text (drop (n + 1) xs))
+      ∙ ap (λ l. h0 ++ l) (sym (flat_map-append text (take (n + 1) xs) (drop (n + 1) xs)) ∙ ap (λ l. flat_map text l) (take-append-drop (n + 1) xs)) in
+      subst (λ l. Stops a c i l) whole (stops_before a c i _ (flat_map text (drop (n + 1) xs)) s)

@@ -3,7 +3,8 @@ use Rattle.std.specs.Prelude.{◌≡◌, ℕ, List, [], IfErr, Result, MatchResu
 use Rattle.clap.specs.Walk.{Text}
 use Rattle.qrencode_cli.specs.Answer.{Asks, IsFault, ReadsFor, Shows}
 use Rattle.qrencode_cli.specs.Device.{Reader, Writer}
-use Rattle.qrencode_cli.specs.Drawings.{ascii_drawing}
+use Rattle.qrencode_cli.specs.Drawings.{text_drawing}
+use Rattle.qrencode_cli.specs.declared.text_drawing.Cells.TheVariants.{Plain}
 use Rattle.qrencode_cli.specs.Input.{IsInputOf}
 use Rattle.qrencode_cli.specs.Settings.{Seen, settings_for}
 use Rattle.qrencode_cli.specs.Symbols.{IsTooLong}
@@ -13,7 +14,7 @@ use Rattle.qrencode_cli.specs.declared.command.Picture.{Picture}
 
 -- the drawing of a picture
 abbrev pub drawing_of : Picture → List ℕ
-drawing_of p = ascii_drawing p.margin p.matrix
+drawing_of p = text_drawing Plain p.margin p.matrix
 
 -- why an input has no drawing
 abbrev pub IsInputFault : Seen → List ℕ → Fault → Type 0

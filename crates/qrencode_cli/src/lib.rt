@@ -10,6 +10,7 @@ mod input;
 pub mod laws;
 mod pen;
 mod settings;
+mod text_drawing;
 mod trial;
 
 pub use command::run;
