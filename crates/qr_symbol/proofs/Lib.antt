@@ -18,3 +18,4 @@ pub mod ReadLemmas
 pub mod FormatLemmas
 pub mod RoundTrip
 pub mod SymbolReadLemmas
+pub mod RefusalLemmas

@@ -18,7 +18,7 @@ use Rattle.qr_symbol.specs.declared.fault.ReadFault.TheVariants as fault
 use Rattle.qr_symbol.specs.Grid.{Grid, colour}
 use Rattle.qr_symbol.specs.Masks.{inverts, inverted}
 use Rattle.qr_symbol.specs.Interleaving.{IsInterleaved}
-use Rattle.qr_symbol.specs.Reading.{unmasked, read_bits, IsRead, IsFormat, IsOfVersion, IsUnread}
+use Rattle.qr_symbol.specs.Reading.{unmasked, IsRead, IsFormat, IsOfVersion, IsUnread}
 use Rattle.qr_symbol.proofs.BitLemmas.{differs-inverted}
 use Rattle.qr_symbol.proofs.MessageLemmas.{append-front}
 use Rattle.qr_symbol.proofs.ReadLemmas.{read-one}

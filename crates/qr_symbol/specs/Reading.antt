@@ -77,8 +77,7 @@ pub record IsOfVersion (g : Grid) (v : ℕ) : Type 0 where
   pub most : v ≤ 40
   pub side : g.side ≡ side_of v
 
--- the square has the side of the version, holds the message under the format information's level and mask, and the
--- message cannot be parsed, with this fault (ISO/IEC 18004:2015, 12)
+-- the square holds a message that cannot be parsed, with this fault (ISO/IEC 18004:2015, 12)
 pub record IsNotParsed (g : Grid) (e : ParseFault) : Type 0 where
   pub version : ℕ
   pub level : Level
@@ -89,7 +88,9 @@ pub record IsNotParsed (g : Grid) (e : ParseFault) : Type 0 where
   pub holds : IsMessage version level mask g message
   pub parsed : parse version (bits_of message) ≡ Err e
 
--- why the square is not read as any content; memory may be refused for any square (ISO/IEC 18004:2015, 12)
+-- the square is not read, for this fault: its side is that of no version; its side is, but its format information is that
+-- of no level and mask; these are there, but it holds no message; it holds one that cannot be parsed. Memory may be refused
+-- for any square, and no single square is a wrong series (ISO/IEC 18004:2015, 12)
 abbrev pub IsUnread : Grid → ReadFault → Type 0
 IsUnread g unread.Memory = Unit {0}
 IsUnread g unread.Side = (v : ℕ) → IsOfVersion g v → ⊥

@@ -1,14 +1,15 @@
 //! The laws of masks, of interleaving and of reading. Each function does nothing: its contract is the law.
 
-ghost use Rattle.std.specs.Prelude.{◌≡◌, ◌<◌, ◌+◌, ℕ, Bool, List, length, map, None};
+ghost use Rattle.std.specs.Prelude.{◌≡◌, ◌<◌, ◌+◌, ◌⊎◌, ℕ, Bool, List, length, map, None};
 ghost use Rattle.qr_layout.specs.declared.level.Level.{Level};
 ghost use Rattle.qr_layout.specs.declared.region.Module.{Module};
 ghost use Rattle.qr_layout.specs.Order.{IsOrder};
 ghost use Rattle.qr_bits.specs.Bits.{bits_of};
 ghost use Rattle.qr_bits.specs.Parse.{Content};
+ghost use Rattle.qr_symbol.specs.declared.fault.ReadFault.{ReadFault};
 ghost use Rattle.qr_symbol.specs.Grid.{Grid};
 ghost use Rattle.qr_symbol.specs.Colour.{grid_of};
-ghost use Rattle.qr_symbol.specs.Reading.{read_bits, IsRead, IsMessage, IsFormat, IsReading};
+ghost use Rattle.qr_symbol.specs.Reading.{read_bits, IsRead, IsMessage, IsFormat, IsReading, IsUnread};
 ghost use Rattle.qr_symbol.specs.Symbols.{IsSymbol, SymbolsAreOne};
 ghost use Rattle.qr_layout.specs.Versions.{total_codewords_of};
 ghost use Rattle.qr_layout.specs.Blocks.{data_codewords_of, blocks_of};
@@ -69,6 +70,14 @@ pub fn format_is_one()
 /// A square is read as one content at most.
 pub fn contents_are_one()
     ensures { (g : Grid) (p q : Content) → IsReading g p → IsReading g q → p ≡ q }
+{}
+
+/// A square that is read as a content is refused for want of memory alone, and any square for one other reason at most.
+pub fn refusals_are_one()
+    ensures read { (g : Grid) (p : Content) (e : ReadFault) → IsReading g p → IsUnread g e
+        → e ≡ ReadFault.Memory }
+    ensures one { (g : Grid) (e f : ReadFault) → IsUnread g e → IsUnread g f
+        → (e ≡ ReadFault.Memory) ⊎ (f ≡ ReadFault.Memory) ⊎ (e ≡ f) }
 {}
 
 /// An input has only one symbol of a level, from a version on.

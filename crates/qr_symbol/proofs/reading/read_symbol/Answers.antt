@@ -1,9 +1,8 @@
-use Rattle.std.proofs.Common.{◌≡◌, ℕ, List, length, Err, sym, ◌∙◌, ap, subst, arith}
+use Rattle.std.proofs.Common.{ℕ, length, Err, sym, ◌∙◌, ap, subst, arith}
 use Rattle.std.proofs.lemmas.Result.{err_from_is_err_and}
-use Rattle.qr_layout.specs.Versions.{side_of}
 use Rattle.qr_layout.proofs.BlockLemmas.{laws-of}
 use Rattle.qr_symbol.specs.declared.fault.ReadFault.{ReadFault}
-use Rattle.qr_symbol.specs.Reading.{IsRead, IsUnread}
+use Rattle.qr_symbol.specs.Reading.{IsRead}
 use Rattle.qr_symbol.proofs.SymbolReadLemmas.{not-checked}
 use Rattle.qr_symbol.proofs.reading.read_symbol.Goals as goal
 
