@@ -18,12 +18,6 @@ fn main(rt: HostRuntime) -> ExitCode {
     let mut input = Counted::new(rt.stdin());
     let mut out = Counted::new(rt.stdout());
     let mut err = Counted::new(rt.stderr());
-    let status = run(
-        rt.alloc(),
-        words.as_slice(),
-        &mut input,
-        &mut out,
-        &mut err,
-    );
+    let status = run(rt.alloc(), words.as_slice(), &mut input, &mut out, &mut err);
     ExitCode::from(status)
 }
