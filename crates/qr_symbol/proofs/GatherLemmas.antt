@@ -6,8 +6,8 @@ use Rattle.qr_layout.specs.declared.blocks.Blocks.{Blocks}
 use Rattle.qr_symbol.specs.declared.message.Cut.{Cut}
 use Rattle.qr_symbol.specs.Interleaving.{Tag, IsBefore, count_of, start_of, cut_len, IsTag, codeword_at, data_cut, check_at, IsFinalMessage}
 use Rattle.qr_symbol.specs.Sending.{IsGathered}
-use Rattle.qr_symbol.proofs.TagLemmas.{tag, TagsBefore, tags-start, tags-push, tags-pass, tags-row, tags-end, tag-in}
-use Rattle.qr_symbol.proofs.RankLemmas.{tag-one, rank_of, rank-start, rank-push, rank-pass, rank-row, rank-end, rank-in, tags-one, tag-of, map-at, Mem-of-Contains}
+use Rattle.qr_symbol.proofs.TagLemmas.{tag, TagsBefore, tags-push, tags-pass, tags-row, tags-end, tag-in}
+use Rattle.qr_symbol.proofs.RankLemmas.{tag-one, rank_of, rank-push, rank-pass, rank-row, rank-end, rank-in, tags-one, tag-of, map-at, Mem-of-Contains}
 use Rattle.qr_symbol.proofs.MessageLemmas.{final-one}
 
 -- ---- what was put back so far

@@ -17,5 +17,10 @@ pub mod SymbolLemmas
 pub mod ReadLemmas
 pub mod FormatLemmas
 pub mod RoundTrip
+pub mod SymbolMaking
+pub mod PartLemmas
+pub mod SeriesLemmas
 pub mod SymbolReadLemmas
+pub mod JoiningLemmas
 pub mod RefusalLemmas
+pub mod SizeLemmas

@@ -1,6 +1,6 @@
 -- A symbol is read as its input.
 use Rattle.std.proofs.Common.{◌≡◌, ℕ, ◌+◌, ◌<◌, ◌≤◌, Bool, List, [], map, length, get_or, sym, ◌∙◌, ap, subst, inl, inr, arith}
-use Rattle.std.specs.Prelude.{None, Result, Ok, Err, IfOk}
+use Rattle.std.specs.Prelude.{Option}
 use Rattle.std.specs.List.{All}
 use Rattle.std.proofs.lemmas.Bool.{cases_lt}
 use Rattle.std.proofs.Math.ListN.{get_or-eq_default}
@@ -8,20 +8,14 @@ use Rattle.std.proofs.lemmas.List.Elements.{All-append, All-map}
 use Rattle.qr_layout.specs.declared.blocks.Blocks.{Blocks}
 use Rattle.qr_layout.specs.declared.level.Level.{Level}
 use Rattle.qr_layout.specs.Blocks.{blocks_of}
-use Rattle.qr_bits.specs.declared.segment.Segment.{Segment}
-use Rattle.qr_bits.specs.Letters.{IsLeastSegmentation}
-use Rattle.qr_bits.specs.Data.{IsData}
+use Rattle.qr_bits.specs.declared.header.Header.{Header}
 use Rattle.qr_bits.specs.Bits.{bits_of}
 use Rattle.qr_bits.specs.Parse.{Content, parse}
 use Rattle.qr_bits.proofs.DataLaws.{data_again, length-data}
 use Rattle.qr_symbol.specs.Grid.{Grid}
-use Rattle.qr_symbol.specs.Colour.{grid_of}
-use Rattle.qr_symbol.specs.Interleaving.{start_of, codeword_at, data_cut, check_at, IsFinalMessage, IsInterleaved}
-use Rattle.qr_symbol.specs.Reading.{IsFormat, IsMessage, IsReading, IsReadBack}
-use Rattle.qr_symbol.specs.declared.fault.EncodeFault.{EncodeFault}
-use Rattle.qr_symbol.specs.declared.symbol.Symbol.{Symbol}
-use Rattle.qr_symbol.specs.Choice.{IsMask}
-use Rattle.qr_symbol.specs.Symbols.{IsVersion, IsSymbol}
+use Rattle.qr_symbol.specs.Interleaving.{start_of, codeword_at, data_cut, check_at, IsFinalMessage}
+use Rattle.qr_symbol.specs.Reading.{IsFormat, IsMessage, IsReading}
+use Rattle.qr_symbol.specs.Symbols.{IsSymbolAt}
 use Rattle.qr_symbol.proofs.MessageLemmas.{final-whole}
 use Rattle.qr_symbol.proofs.ReadLemmas.{message-read, message-one}
 use Rattle.qr_symbol.proofs.FormatLemmas.{format-one, format-read}
@@ -41,25 +35,22 @@ final-bytes b d cw a h =
     let i = (h.check_order.in_blocks k t l).0 in
     byte-at (get_or h.checks u.block []) u.place (h.each u.block (omega arith)).bytes)))
 
--- a symbol is read as the bytes of which it is the symbol, in their segments
-pub symbol-read : (x : List ℕ) (l : Level) (smallest : ℕ) (b : Bool) (v mask : ℕ) (g : Grid) → 1 ≤ smallest → (s : IsSymbol x l smallest b v mask g) → IsReading g (record { header = None; segments = s.segments; bytes = x })
-symbol-read x l smallest b v mask g k s =
-    let p = s.version.least in
-    let q = s.version.most in
-    let h = s.best.in_range in
+-- a symbol is read as the bytes of which it is the symbol, in their segments and behind their header
+pub symbol-read : (v : ℕ) (l : Level) (b : Bool) (x : List ℕ) (h : Option Header) (mask : ℕ) (g : Grid) → 1 ≤ v → v ≤ 40 → (s : IsSymbolAt v l b x h mask g) → IsReading g (record { header = h; segments = s.segments; bytes = x })
+symbol-read v l b x h mask g p q s =
     let bytes = final-bytes (blocks_of v l) s.message s.codewords s.written.bytes s.sent in
-    let many = final-whole v l s.message s.codewords (omega arith) q s.sent in
+    let many = final-whole v l s.message s.codewords p q s.sent in
     record {
       version = v;
       level = l;
       mask = mask;
       message = s.message;
-      least = omega arith;
+      least = p;
       most = q;
       side = ap (λ (z : Grid). z.side) s.drawn;
-      format = subst (λ (z : Grid). IsFormat z l mask) (sym s.drawn) (format-read v l mask s.codewords (omega arith) q h);
-      holds = subst (λ (z : Grid). IsMessage v l mask z s.message) (sym s.drawn) (message-read v l mask s.message s.codewords (omega arith) q many bytes (length-data v l x s.segments None s.message s.written) s.sent);
-      parsed = data_again v l x s.segments None s.message s.written;
+      format = subst (λ (z : Grid). IsFormat z l mask) (sym s.drawn) (format-read v l mask s.codewords p q s.best.in_range);
+      holds = subst (λ (z : Grid). IsMessage v l mask z s.message) (sym s.drawn) (message-read v l mask s.message s.codewords p q many bytes (length-data v l x s.segments h s.message s.written) s.sent);
+      parsed = data_again v l x s.segments h s.message s.written;
     }
 
 -- a square is read as one content at most
@@ -75,24 +66,3 @@ reading-one g p q h k =
     let same = message-one h.version h.level h.mask g h.message k.message h.least h.most h.holds m3 in
     let e = sym h.parsed ∙ (ap (λ (d : List ℕ). parse h.version (bits_of d)) same ∙ (ap (λ (v : ℕ). parse v (bits_of k.message)) (sym vs) ∙ k.parsed)) in
     cc
-
--- what was built of the codewords of an input is read as the input
-pub symbol-back : (x : List ℕ) (l : Level) (smallest : ℕ) (b : Bool) (v : ℕ) (found lent : List Segment) (message passed codewords given : List ℕ) (r : Result Symbol EncodeFault)
-    → 1 ≤ smallest → IsVersion x l smallest b v → IsLeastSegmentation v b x found → lent ≡ found → IsData v l x lent None message → passed ≡ message → IsInterleaved v l passed codewords → given ≡ codewords
-    → IfOk r (λ s. s.version ≡ v) → IfOk r (λ s. IsMask v l given s.mask) → IfOk r (λ s. s.matrix ≡ grid_of v l s.mask given) → IfOk r (λ s. IsReadBack x s.version b s.matrix)
-symbol-back x l smallest b v found lent message passed codewords given (Ok s) k fits chosen a written c sent e same best drawn = (
-  found,
-  subst (λ (w : ℕ). IsLeastSegmentation w b x found) (sym same) chosen,
-  symbol-read x l smallest b v s.mask s.matrix k (record {
-    version = fits;
-    segments = found;
-    chosen = chosen;
-    message = message;
-    written = subst (λ (segs : List Segment). IsData v l x segs None message) a written;
-    codewords = codewords;
-    sent = subst (λ (d : List ℕ). IsInterleaved v l d codewords) c sent;
-    best = subst (λ (cw : List ℕ). IsMask v l cw s.mask) e best;
-    drawn = drawn ∙ ap (grid_of v l s.mask) e;
-  }),
-)
-symbol-back x l smallest b v found lent message passed codewords given (Err f) k fits chosen a written c sent e same best drawn = tt

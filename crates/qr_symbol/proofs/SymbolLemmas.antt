@@ -1,17 +1,19 @@
 -- Why an input has only one symbol: each of its layers is one.
-use Rattle.std.proofs.Common.{◌≡◌, ℕ, inl, inr, Bool, List, [], ◌∷◌, None, refl, sym, ◌∙◌, ap, subst, arith}
+use Rattle.std.proofs.Common.{◌≡◌, ℕ, inl, inr, Bool, List, [], ◌∷◌, Option, None, refl, sym, ◌∙◌, ap, subst, arith}
 use Rattle.std.proofs.lemmas.Bool.{cases_lt}
 use Rattle.qr_layout.specs.declared.level.Level.{Level}
 use Rattle.qr_layout.specs.Blocks.{blocks_of}
 use Rattle.qr_bits.specs.declared.segment.Mode.{Mode}
 use Rattle.qr_bits.specs.declared.segment.Segment.{Segment}
+use Rattle.qr_bits.specs.declared.header.Header.{Header}
 use Rattle.qr_bits.specs.Letters.{runs_of, rank, NotAfter, IsLeastSegmentation}
 use Rattle.qr_bits.specs.Data.{IsData}
 use Rattle.qr_bits.proofs.DataLaws.{data_one}
+use Rattle.qr_symbol.specs.Grid.{Grid}
 use Rattle.qr_symbol.specs.Interleaving.{IsInterleaved}
 use Rattle.qr_symbol.specs.Colour.{grid_of}
 use Rattle.qr_symbol.specs.Choice.{IsFirstLeast, IsMask, mask_penalty}
-use Rattle.qr_symbol.specs.Symbols.{IsVersion, SymbolsAreOne}
+use Rattle.qr_symbol.specs.Symbols.{IsVersion, IsSymbolAt, SymbolsAreOne}
 use Rattle.qr_symbol.proofs.MessageLemmas.{final-one}
 
 -- Letters of which neither come after the others are the same.
@@ -48,26 +50,27 @@ version-one xs l least bytes_only v w a b =
       | inr i ↦ elim (cases_lt w v) [ inl j ↦ absurd (a.first w b.least j b.fits) | inr j ↦ omega arith ]
     ]
 
+-- Bytes have only one symbol of a version and level behind a header or none.
+pub symbol-at-one : (v : ℕ) (l : Level) (bytes_only : Bool) (xs : List ℕ) (head : Option Header) (m n : ℕ) (g h : Grid) → IsSymbolAt v l bytes_only xs head m g → IsSymbolAt v l bytes_only xs head n h → (m ≡ n) × (g ≡ h)
+symbol-at-one v l bytes_only xs head m n g h a b =
+    let segments : a.segments ≡ b.segments = segmentation-one v bytes_only xs a.segments b.segments a.chosen b.chosen in
+    let message : a.message ≡ b.message =
+    data_one v l xs b.segments head a.message b.message
+    (subst (λ (ss : List Segment). IsData v l xs ss head a.message) segments a.written) b.written in
+    let codewords : a.codewords ≡ b.codewords =
+    final-one (blocks_of v l) b.message a.codewords b.codewords
+    (subst (λ (d : List ℕ). IsInterleaved v l d a.codewords) message a.sent) b.sent in
+    let mask : m ≡ n =
+    least-one 8 (mask_penalty v l b.codewords) m n
+    (subst (λ (cw : List ℕ). IsMask v l cw m) codewords a.best) b.best in
+    let square : g ≡ h =
+    a.drawn ∙ ap (λ (k : ℕ). grid_of v l k a.codewords) mask ∙ ap (grid_of v l n) codewords ∙ sym b.drawn in
+    (mask, square)
+
 -- An input has only one symbol.
 pub symbol-one : SymbolsAreOne
 symbol-one xs l least bytes_only v w m n g h a b =
     let version : v ≡ w = version-one xs l least bytes_only v w a.version b.version in
-    let segments : a.segments ≡ b.segments =
-    segmentation-one w bytes_only xs a.segments b.segments
-    (subst (λ (k : ℕ). IsLeastSegmentation k bytes_only xs a.segments) version a.chosen) b.chosen in
-    let message : a.message ≡ b.message =
-    data_one w l xs b.segments None a.message b.message
-    (subst (λ (ss : List Segment). IsData w l xs ss None a.message) segments
-    (subst (λ (k : ℕ). IsData k l xs a.segments None a.message) version a.written)) b.written in
-    let codewords : a.codewords ≡ b.codewords =
-    final-one (blocks_of w l) b.message a.codewords b.codewords
-    (subst (λ (d : List ℕ). IsInterleaved w l d a.codewords) message
-    (subst (λ (k : ℕ). IsInterleaved k l a.message a.codewords) version a.sent)) b.sent in
-    let mask : m ≡ n =
-    least-one 8 (mask_penalty w l b.codewords) m n
-    (subst (λ (cw : List ℕ). IsMask w l cw m) codewords
-    (subst (λ (k : ℕ). IsMask k l a.codewords m) version a.best)) b.best in
-    let square : g ≡ h =
-    a.drawn ∙ ap (λ (k : ℕ). grid_of k l m a.codewords) version ∙ ap (λ (k : ℕ). grid_of w l k a.codewords) mask
-    ∙ ap (grid_of w l n) codewords ∙ sym b.drawn in
-    (version, mask, square)
+    let made : IsSymbolAt w l bytes_only xs None m g = subst (λ (k : ℕ). IsSymbolAt k l bytes_only xs None m g) version a.made in
+    let rest = symbol-at-one w l bytes_only xs None m n g h made b.made in
+    (version, rest.0, rest.1)

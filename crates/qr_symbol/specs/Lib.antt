@@ -8,7 +8,10 @@ pub mod Runs
 pub mod Lines
 pub mod Choice
 pub mod Symbols
+pub mod Parts
+pub mod Series
 pub mod Reading
+pub mod Joining
 pub mod Faults
 pub mod Interleaving
 pub mod Sending

@@ -1,7 +1,8 @@
 -- The symbol that an input is encoded as. Public clauses cite this file.
-use Rattle.std.specs.Prelude.{◌≡◌, ℕ, ◌<◌, ◌≤◌, Bool, List, None}
+use Rattle.std.specs.Prelude.{◌≡◌, ℕ, ◌<◌, ◌≤◌, Bool, List, Option, None}
 use Rattle.qr_layout.specs.declared.level.Level.{Level}
 use Rattle.qr_bits.specs.declared.segment.Segment.{Segment}
+use Rattle.qr_bits.specs.declared.header.Header.{Header}
 use Rattle.qr_bits.specs.Letters.{HasFit, IsLeastSegmentation}
 use Rattle.qr_bits.specs.Data.{capacity_of, IsData}
 use Rattle.qr_symbol.specs.Grid.{Grid}
@@ -25,19 +26,24 @@ pub record IsVersion (x : List ℕ) (l : Level) (smallest : ℕ) (bytes_only : B
 abbrev pub HasNoVersion : List ℕ → Level → ℕ → Bool → Type 0
 HasNoVersion x l smallest bytes_only = (v : ℕ) → smallest ≤ v → v ≤ 40 → FitsVersion x l bytes_only v → ⊥
 
--- g is the symbol of the bytes at level l, of version v and with this mask: the bytes are cut into the segments of least
--- bits, written as data codewords, interleaved with their error correction codewords, placed, and masked
--- (ISO/IEC 18004:2015, 7.1)
-pub record IsSymbol (x : List ℕ) (l : Level) (smallest : ℕ) (bytes_only : Bool) (v mask : ℕ) (g : Grid) : Type 0 where
-  pub version : IsVersion x l smallest bytes_only v
+-- g is the symbol, of version v and level l and with this mask, of the bytes behind a header or none: the bytes are cut
+-- into the segments of least bits, written as data codewords, interleaved with their error correction codewords, placed,
+-- and masked (ISO/IEC 18004:2015, 7.1, 8.1)
+pub record IsSymbolAt (v : ℕ) (l : Level) (bytes_only : Bool) (x : List ℕ) (h : Option Header) (mask : ℕ) (g : Grid) : Type 0 where
   pub segments : List Segment
   pub chosen : IsLeastSegmentation v bytes_only x segments
   pub message : List ℕ
-  pub written : IsData v l x segments None message
+  pub written : IsData v l x segments h message
   pub codewords : List ℕ
   pub sent : IsInterleaved v l message codewords
   pub best : IsMask v l codewords mask
   pub drawn : g ≡ grid_of v l mask codewords
+
+-- g is the symbol of the bytes at level l, with this mask, of the least version v from `smallest` on that they fit
+-- (ISO/IEC 18004:2015, 7.1)
+pub record IsSymbol (x : List ℕ) (l : Level) (smallest : ℕ) (bytes_only : Bool) (v mask : ℕ) (g : Grid) : Type 0 where
+  pub version : IsVersion x l smallest bytes_only v
+  pub made : IsSymbolAt v l bytes_only x None mask g
 
 -- An input has only one symbol: the version, the mask and the modules are those of any other [own].
 abbrev pub SymbolsAreOne : Type 0

@@ -1,21 +1,25 @@
 //! The encoding of an input as one symbol (ISO/IEC 18004:2015, 7.1).
 
-ghost use Rattle.std.specs.Prelude.{◌≡◌, ◌≤◌, ◌↔◌, ◌⊎◌, [], length, Err, IfOk, IfErr};
+ghost use Rattle.std.specs.Prelude.{◌≡◌, ◌+◌, ◌<◌, ◌≤◌, ◌↔◌, ◌⊎◌, Bool, [], length, Err, IfOk, IfErr};
+ghost use Rattle.std.specs.Option.{ForSome};
+ghost use Rattle.qr_bits.specs.Letters.{bits, Covers, IsLeastSegmentation};
+ghost use Rattle.qr_bits.specs.Data.{capacity_of, header_bits};
 ghost use Rattle.qr_symbol.specs.declared.fault.EncodeFault.{EncodeFault};
 ghost use Rattle.qr_symbol.specs.Reading.{IsReadBack};
 ghost use Rattle.qr_symbol.specs.Symbols.{HasNoVersion, IsSymbol};
+ghost use Rattle.qr_symbol.specs.Series.{IsSymbolOf};
 
 use crate::choice::build;
 use crate::fault::EncodeFault;
 use crate::fitting::least_fit;
 use crate::message::interleave;
 use crate::symbol::Symbol;
-use qr_bits::{INPUT_MAX, codewords};
+use qr_bits::{Header, INPUT_MAX, Segment, codewords};
 use qr_layout::{Level, Version};
 use std::alloc::Global;
 
 // The most bytes that a symbol holds: digits, in version 40 and level L (7.4.10, Table 7).
-const LONGEST: usize = 7089;
+pub(crate) const LONGEST: usize = 7089;
 
 /// The symbol of an input (ISO/IEC 18004:2015, 7.1), of the least version from `smallest` on that it fits. With
 /// `bytes_only` the whole input is one byte segment.
@@ -47,9 +51,30 @@ pub fn encode(
         return Err(EncodeFault::TooLong);
     }
     let fit = least_fit(alloc, input, level, smallest, bytes_only)?;
-    let message = codewords(alloc, input, &fit.segments, None, fit.version, level)?;
-    let sent = interleave(alloc, fit.version, level, &message)?;
-    build(alloc, fit.version, level, &sent)
+    symbol_at(alloc, input, &fit.segments, None, fit.version, level)
+}
+
+// The symbol of bytes in these segments, behind a header or none (7.1, 8.1).
+pub(crate) fn symbol_at(
+    alloc: Global,
+    input: &[u8],
+    segments: &[Segment],
+    header: Option<Header>,
+    version: Version,
+    level: Level,
+) -> Result<Symbol, EncodeFault>
+    requires short { length input.now ≤ INPUT_MAX }
+    requires covered { Covers input.now segments.now }
+    requires in_range { ForSome header (λ h. (h.position < 16) × (h.last < 16)) }
+    ensures made { (b : Bool) → IsLeastSegmentation version b input.now segments.now
+        → IfOk result (λ s. IsSymbolOf version level b input.now header s) }
+    ensures too_long { result ≡ Err EncodeFault.TooLong
+        → capacity_of version level < header_bits header + bits version segments.now }
+    ensures fault { IfErr result (λ e. (e ≡ EncodeFault.TooLong) ⊎ (e ≡ EncodeFault.Memory)) }
+{
+    let message = codewords(alloc, input, segments, header, version, level)?;
+    let sent = interleave(alloc, version, level, &message)?;
+    build(alloc, version, level, &sent)
 }
 
 #[cfg(test)]

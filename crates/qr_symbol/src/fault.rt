@@ -1,7 +1,7 @@
 //! Why no symbol is made, and why a symbol is not read.
 
 use qr_bits::{BitFault, ParseFault};
-use std::alloc::AllocError;
+use std::alloc::{AllocError, AllocFailed};
 use thiserror::Error;
 
 /// Why an input is not encoded, in the order in which the causes are looked for.
@@ -28,6 +28,17 @@ impl From<AllocError> for EncodeFault {
     ghost from_gives = { λ _ e. e ≡ EncodeFault.Memory };
 
     fn from(_: AllocError) -> Self {
+        EncodeFault::Memory
+    }
+}
+
+impl<T: Drop> From<AllocFailed<T>> for EncodeFault {
+    ghost use Rattle.std.specs.Prelude.{◌≡◌};
+    ghost use Rattle.qr_symbol.specs.declared.fault.EncodeFault.{EncodeFault};
+
+    ghost from_gives = { λ _ e. e ≡ EncodeFault.Memory };
+
+    fn from(_: AllocFailed<T>) -> Self {
         EncodeFault::Memory
     }
 }
@@ -76,6 +87,17 @@ impl From<AllocError> for ReadFault {
     ghost from_gives = { λ _ e. e ≡ ReadFault.Memory };
 
     fn from(_: AllocError) -> Self {
+        ReadFault::Memory
+    }
+}
+
+impl<T: Drop> From<AllocFailed<T>> for ReadFault {
+    ghost use Rattle.std.specs.Prelude.{◌≡◌};
+    ghost use Rattle.qr_symbol.specs.declared.fault.ReadFault.{ReadFault};
+
+    ghost from_gives = { λ _ e. e ≡ ReadFault.Memory };
+
+    fn from(_: AllocFailed<T>) -> Self {
         ReadFault::Memory
     }
 }

@@ -1,21 +1,25 @@
-//! The laws of masks, of interleaving and of reading. Each function does nothing: its contract is the law.
+//! The laws of masks, of interleaving, of reading and of series. Each function does nothing: its contract is the law.
 
-ghost use Rattle.std.specs.Prelude.{◌≡◌, ◌<◌, ◌+◌, ◌⊎◌, ℕ, Bool, List, length, map, None};
+ghost use Rattle.std.specs.Prelude.{◌≡◌, ◌<◌, ◌≤◌, ◌+◌, ◌⊎◌, ℕ, Bool, List, length, map, None};
 ghost use Rattle.qr_layout.specs.declared.level.Level.{Level};
 ghost use Rattle.qr_layout.specs.declared.region.Module.{Module};
 ghost use Rattle.qr_layout.specs.Order.{IsOrder};
 ghost use Rattle.qr_bits.specs.Bits.{bits_of};
 ghost use Rattle.qr_bits.specs.Parse.{Content};
 ghost use Rattle.qr_symbol.specs.declared.fault.ReadFault.{ReadFault};
+ghost use Rattle.qr_symbol.specs.declared.symbol.Symbol.{Symbol};
 ghost use Rattle.qr_symbol.specs.Grid.{Grid};
 ghost use Rattle.qr_symbol.specs.Colour.{grid_of};
 ghost use Rattle.qr_symbol.specs.Reading.{read_bits, IsRead, IsMessage, IsFormat, IsReading, IsUnread};
-ghost use Rattle.qr_symbol.specs.Symbols.{IsSymbol, SymbolsAreOne};
+ghost use Rattle.qr_symbol.specs.Symbols.{IsSymbol, HasNoVersion, SymbolsAreOne};
+ghost use Rattle.qr_symbol.specs.Series.{squares_of, IsSeries};
+ghost use Rattle.qr_symbol.specs.Joining.{IsJoined, IsUnjoined};
 ghost use Rattle.qr_layout.specs.Versions.{total_codewords_of};
 ghost use Rattle.qr_layout.specs.Blocks.{data_codewords_of, blocks_of};
 ghost use Rattle.qr_symbol.specs.Interleaving.{count_of, len_of, start_of, cut_len, data_cut, IsInterleaved};
 ghost use Rattle.qr_symbol.specs.Worked.{all_masks, first_rows, computed_rows};
 
+use qr_bits::INPUT_MAX;
 use qr_layout::{Level, Version};
 
 /// The definition of the masks computes the first places of each mask pattern.
@@ -80,6 +84,19 @@ pub fn refusals_are_one()
         → (e ≡ ReadFault.Memory) ⊎ (f ≡ ReadFault.Memory) ⊎ (e ≡ f) }
 {}
 
+/// Squares are joined to one list of bytes at most.
+pub fn joinings_are_one()
+    ensures { (gs : List Grid) (x y : List ℕ) → IsJoined gs x → IsJoined gs y → x ≡ y }
+{}
+
+/// Squares that are joined to bytes are refused for want of memory alone, and any squares for one other reason at most.
+pub fn joining_refusals_are_one()
+    ensures joined { (gs : List Grid) (x : List ℕ) (e : ReadFault) → IsJoined gs x
+        → IsUnjoined gs e → e ≡ ReadFault.Memory }
+    ensures one { (gs : List Grid) (e f : ReadFault) → IsUnjoined gs e → IsUnjoined gs f
+        → (e ≡ ReadFault.Memory) ⊎ (f ≡ ReadFault.Memory) ⊎ (e ≡ f) }
+{}
+
 /// An input has only one symbol of a level, from a version on.
 pub fn symbols_are_one()
     ensures { SymbolsAreOne }
@@ -89,5 +106,25 @@ pub fn symbols_are_one()
 pub fn symbols_are_read(smallest: Version)
     ensures { (x : List ℕ) (l : Level) (bytes_only : Bool) (v mask : ℕ) (g : Grid)
         → (s : IsSymbol x l smallest bytes_only v mask g)
-        → IsReading g (record { header = None; segments = s.segments; bytes = x }) }
+        → IsReading g (record { header = None; segments = s.made.segments; bytes = x }) }
+{}
+
+/// An input has only one series of a version and a level.
+pub fn series_are_one()
+    ensures { (x : List ℕ) (l : Level) (bytes_only : Bool) (v : ℕ) (ss ts : List Symbol)
+        → IsSeries x l bytes_only v ss → IsSeries x l bytes_only v ts → ss ≡ ts }
+{}
+
+/// The symbols of a series are joined to the input.
+pub fn series_are_joined(version: Version)
+    ensures { (x : List ℕ) (l : Level) (bytes_only : Bool) (ss : List Symbol)
+        → IsSeries x l bytes_only version ss → IsJoined (squares_of ss) x }
+{}
+
+/// An input of `INPUT_MAX` bytes or more has no symbol, from any version on, and no series of a version.
+pub fn long_inputs_have_none(version: Version)
+    ensures symbol { (x : List ℕ) (l : Level) (bytes_only : Bool) → INPUT_MAX ≤ length x
+        → HasNoVersion x l version bytes_only }
+    ensures series { (x : List ℕ) (l : Level) (bytes_only : Bool) (ss : List Symbol)
+        → INPUT_MAX ≤ length x → IsSeries x l bytes_only version ss → ⊥ }
 {}

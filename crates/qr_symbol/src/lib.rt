@@ -1,4 +1,5 @@
-//! Symbols: how an input is encoded as one, how codewords are interleaved, placed and masked, and what a symbol is read as.
+//! Symbols: how an input is encoded as one or as a series, how codewords are interleaved, placed and masked, and what
+//! symbols are read as.
 #![tactic(auto)]
 
 mod choice;
@@ -6,19 +7,25 @@ mod drawing;
 mod encoding;
 mod fault;
 mod fitting;
+mod joining;
 pub mod laws;
 mod mask;
 mod matrix;
 mod message;
 mod penalties;
 mod reading;
+#[cfg(test)]
+mod samples;
+mod series;
 mod symbol;
 
 pub use choice::build;
 pub use encoding::encode;
 pub use fault::{EncodeFault, ReadFault};
+pub use joining::read_series;
 pub use matrix::Matrix;
 pub use message::{deinterleave, interleave};
 pub use penalties::penalty;
 pub use reading::read_symbol;
+pub use series::encode_series;
 pub use symbol::{Symbol, build_masked};

@@ -154,6 +154,7 @@ pub fn read_symbol(alloc: Global, matrix: &Matrix) -> Result<Parsed, ReadFault>
 mod tests {
     use super::*;
     use crate::encoding::encode;
+    use crate::samples::byte_symbol;
     use crate::symbol::build_masked;
     use qr_bits::{Mode, Segment};
     use std::test::Fail;
@@ -244,8 +245,7 @@ mod tests {
 
     #[test]
     fn letters_and_digits_as_bytes(rt: HostRuntime) -> Result<(), Fail> {
-        let version = Version::new(1).ok_or("version 1")?;
-        let symbol = encode(rt.alloc(), b"ab012", Level::L, version, true)?;
+        let symbol = byte_symbol(&rt, b"ab012", None, Level::L)?;
         assert!(rt; says(&rt, &symbol.matrix, Mode::Byte, b"ab012")?);
         Ok(())
     }

@@ -1,15 +1,14 @@
-use Rattle.std.proofs.Common.{◌≡◌, length, Result, Err, None, sym, ◌∙◌, ap, arith}
+use Rattle.std.proofs.Common.{◌≡◌, length, Result, Err, sym, ap, arith}
 use Rattle.std.proofs.lemmas.Bool.{eqb-false}
-use Rattle.std.proofs.lemmas.Result.{err_from_is_err_and}
+use Rattle.std.proofs.lemmas.Result.{err_from_is_err_and, IfOk-weaker}
 use Rattle.qr_bits.specs.declared.fault.BitFault.{BitFault}
 use Rattle.qr_bits.specs.declared.fault.BitFault.TheVariants.{Memory, TooLong}
 use Rattle.qr_bits.proofs.Counts.{fitting_short}
-use Rattle.qr_bits.proofs.DataLaws.{length-data}
 use Rattle.qr_symbol.specs.declared.fault.EncodeFault.{EncodeFault}
 use Rattle.qr_symbol.specs.declared.fault.EncodeFault.TheVariants as fault
 use Rattle.qr_symbol.specs.declared.symbol.Symbol.{Symbol}
 use Rattle.qr_symbol.specs.Faults.{fault_of}
-use Rattle.qr_symbol.proofs.RoundTrip.{symbol-back}
+use Rattle.qr_symbol.proofs.SymbolMaking.{symbol-found, symbol-back}
 use Rattle.qr_symbol.proofs.encoding.encode.Goals as goal
 
 -- the answer of a fault
@@ -45,13 +44,17 @@ returns-in_err-fit-clause-too_long c =
     let p = err_from_is_err_and c.from_residual.result c.from_residual.ensures.1 in
     rw (p.1, p.2) (λ e. c.in_err-fit.ensures.too_long (ap (λ (f : BitFault). Err f) (is_too_long c.in_err-fit.field-0.0 e)))
 
-pub interleave-requires : goal.interleave-requires
-interleave-requires c =
-    let long = length-data c.in_ok-fit.fit.version c.args.level c.args.input.now c.deref.result.now None c.in_ok-message.message.items c.in_ok-message.ensures.ok in
-    record { whole = ap length c.deref-2.ensures.value ∙ long }
+pub returns-clause-symbol : goal.returns-clause-symbol
+returns-clause-symbol c =
+    let made = c.symbol_at.ensures.made c.args.bytes_only (rw c.deref.ensures.value c.in_ok-fit.ensures.segments) in
+    symbol-found c.in_ok-fit.fit.version c.args.level c.args.smallest c.args.bytes_only c.args.input.now c.symbol_at.result c.in_ok-fit.ensures.version made
+
+pub returns-clause-level : goal.returns-clause-level
+returns-clause-level c =
+    let made = c.symbol_at.ensures.made c.args.bytes_only (rw c.deref.ensures.value c.in_ok-fit.ensures.segments) in
+    IfOk-weaker c.symbol_at.result _ _ (λ s is. is.level) made
 
 pub returns-clause-read : goal.returns-clause-read
 returns-clause-read c =
-    let v = c.in_ok-fit.fit.version in
-    let segs = c.in_ok-fit.fit.segments.items in
-    symbol-back c.args.input.now c.args.level c.args.smallest c.args.bytes_only v segs c.deref.result.now c.in_ok-message.message.items c.deref-2.result.now c.in_ok-sent.sent.items c.deref-3.result.now c.build.result (omega arith) c.in_ok-fit.ensures.version c.in_ok-fit.ensures.segments c.deref.ensures.value c.in_ok-message.ensures.ok c.deref-2.ensures.value c.in_ok-sent.ensures.sent c.deref-3.ensures.value c.build.ensures.version c.build.ensures.mask c.build.ensures.matrix
+    let made = c.symbol_at.ensures.made c.args.bytes_only (rw c.deref.ensures.value c.in_ok-fit.ensures.segments) in
+    symbol-back c.in_ok-fit.fit.version c.args.level c.args.bytes_only c.args.input.now c.symbol_at.result (omega arith) (omega arith) made

@@ -1,0 +1,156 @@
+-- The parts of bytes: how long a front fits, and the lengths that are found one after the other.
+use Rattle.std.proofs.Common.{◌≡◌, ℕ, zero, suc, ◌+◌, ◌*◌, ◌<◌, ◌≤◌, min, Bool, List, [], ◌∷◌, ◌++◌, take, drop, length, get_or, Some, refl, sym, ◌∙◌, ap, subst, append_assoc, arith}
+use Rattle.std.proofs.lemmas.List.{length-take, length-drop}
+use Rattle.std.proofs.Math.Seq.{drop-cons}
+use Rattle.qr_layout.specs.declared.level.Level.{Level}
+use Rattle.qr_bits.specs.declared.segment.Mode.TheVariants.{Byte}
+use Rattle.qr_bits.specs.Letters.{runs_of, Covers, HasFit, IsLongestFit}
+use Rattle.qr_bits.specs.Data.{room_of}
+use Rattle.qr_bits.proofs.SegmentLists.{count_width_bound}
+use Rattle.qr_bits.proofs.Counts.{capacity_least, fitting_short}
+use Rattle.qr_symbol.specs.declared.symbol.Symbol.{Symbol}
+use Rattle.qr_symbol.specs.Series.{AreParts, IsSymbolOf, AreSymbolsFrom}
+use Rattle.qr_symbol.specs.Parts.{AreLengths, parts_of}
+
+-- ---- how long a front fits
+
+-- one byte has no more than 28 bits
+one-fits : (v : ℕ) (b : Bool) (x n : ℕ) → 28 ≤ n → HasFit v b (x ∷ []) n
+unfolding runs_of Covers
+one-fits v b x n h = (Byte ∷ [], (refl, (omega arith, omega arith, refl, refl)), omega (arith, count_width_bound v Byte))
+
+-- so the longest front that fits is not empty
+pub longest-some : (v : ℕ) (l : Level) (b : Bool) (xs : List ℕ) (n : ℕ) → 1 ≤ v → v ≤ 40 → 0 < length xs → IsLongestFit v b xs (room_of v l) n → 0 < n
+longest-some v l b [] n p q some h = absurd (omega arith)
+longest-some v l b (x ∷ xs) n p q some h =
+    let least = capacity_least v l p q in
+    let one = h.longest 1 (omega arith) (one-fits v b x (room_of v l) (omega arith)) in omega arith
+
+-- what fits behind a header has at most 7,089 bytes
+pub part-short : (v : ℕ) (l : Level) (b : Bool) (xs : List ℕ) → 1 ≤ v → v ≤ 40 → HasFit v b xs (room_of v l) → length xs ≤ 7089
+part-short v l b xs p q fit = fitting_short v l b xs p q (fit.0, fit.1, (let few = fit.2 in omega arith))
+
+-- the front of a front
+take-less : {X : Type 0} (k m : ℕ) (xs : List X) → k ≤ m → take k (take m xs) ≡ take k xs
+take-less zero m xs h = refl
+take-less (suc k) zero xs h = absurd (omega arith)
+take-less (suc k) (suc m) [] h = refl
+take-less (suc k) (suc m) (x ∷ xs) h = ap (λ zs. x ∷ zs) (take-less k m xs (omega arith))
+
+-- the longest front that fits is that of any front of so many bytes
+pub longest-cut : (v : ℕ) (l : Level) (b : Bool) (xs : List ℕ) (m n : ℕ) → 1 ≤ v → v ≤ 40 → min (length xs) 7089 ≤ m → IsLongestFit v b (take m xs) (room_of v l) n → IsLongestFit v b xs (room_of v l) n
+longest-cut v l b xs m n p q long h =
+    let room = room_of v l in
+    let cut = length-take m xs in
+    let within = h.inside in
+    record {
+      inside = omega arith;
+      fits = subst (λ (ys : List ℕ). HasFit v b ys room) (take-less n m xs (omega arith)) h.fits;
+      longest = λ k i fit.
+          let short = part-short v l b (take k xs) p q fit in
+          let same = length-take k xs in
+          let less : k ≤ m = omega arith in
+          h.longest k (omega arith) (subst (λ (ys : List ℕ). HasFit v b ys room) (sym (take-less k m xs less)) fit);
+    }
+
+-- ---- lengths of parts
+
+-- lengths of parts cut the bytes into parts
+pub parts-are : (v : ℕ) (l : Level) (b : Bool) (x ns : List ℕ) → AreLengths v l b x ns → AreParts v l b x (parts_of x ns)
+unfolding AreLengths AreParts parts_of
+parts-are v l b x [] h = h
+parts-are v l b x (n ∷ ns) h = (n, h.0, h.1, refl, parts-are v l b (drop n x) ns h.2)
+
+-- they are as many
+pub length-parts : (x ns : List ℕ) → length (parts_of x ns) ≡ length ns
+unfolding parts_of
+length-parts x [] = refl
+length-parts x (n ∷ ns) = ap suc (length-parts (drop n x) ns)
+
+-- no byte has no part
+pub lengths-none : (v : ℕ) (l : Level) (b : Bool) → AreLengths v l b [] []
+unfolding AreLengths
+lengths-none v l b = refl
+
+-- bytes have lengths of parts
+pub lengths-some : (v : ℕ) (l : Level) (b : Bool) (x ns : List ℕ) → AreLengths v l b x ns → 0 < length x → 0 < length ns
+unfolding AreLengths
+lengths-some v l b x [] h some = absurd (omega (arith, ap length h))
+lengths-some v l b x (n ∷ ns) h some = omega arith
+
+-- the next length: where the lengths so far and those of the rest are those of the whole, so they are with it
+pub lengths-more : (v : ℕ) (l : Level) (b : Bool) (whole found rest : List ℕ) (n : ℕ) → 0 < n → IsLongestFit v b rest (room_of v l) n
+    → ((ns : List ℕ) → AreLengths v l b rest ns → AreLengths v l b whole (found ++ ns))
+    → (ns : List ℕ) → AreLengths v l b (drop n rest) ns → AreLengths v l b whole ((found ++ n ∷ []) ++ ns)
+unfolding AreLengths
+lengths-more v l b whole found rest n some fit all ns h = rw append_assoc (all (n ∷ ns) (some, fit, h))
+
+-- the longest front is one
+longest-one : (v : ℕ) (b : Bool) (xs : List ℕ) (room m n : ℕ) → IsLongestFit v b xs room m → IsLongestFit v b xs room n → m ≡ n
+longest-one v b xs room m n h k =
+    let below = k.longest m h.inside h.fits in
+    let above = h.longest n k.inside k.fits in omega arith
+
+-- bytes have one list of parts
+pub parts-one : (v : ℕ) (l : Level) (b : Bool) (x : List ℕ) (ps qs : List (List ℕ)) → AreParts v l b x ps → AreParts v l b x qs → ps ≡ qs
+unfolding AreParts
+parts-one v l b x [] [] h k = refl
+parts-one v l b x [] (q ∷ qs) h k = absurd (let within = k.2.inside in omega (arith, ap length h))
+parts-one v l b x (p ∷ ps) [] h k = absurd (let within = h.2.inside in omega (arith, ap length k))
+parts-one v l b x (p ∷ ps) (q ∷ qs) h k =
+    let same = longest-one v b x (room_of v l) h.0 k.0 h.2 k.2 in
+    let here : p ≡ q = h.3 ∙ (ap (λ (n : ℕ). take n x) same ∙ sym k.3) in
+    let rest = parts-one v l b (drop k.0 x) ps qs (subst (λ (n : ℕ). AreParts v l b (drop n x) ps) same h.4) k.4 in
+    λ i. here i ∷ rest i
+
+-- the parts of bytes are one more than those of the rest behind their longest front
+pub parts-more : (v : ℕ) (l : Level) (b : Bool) (x : List ℕ) (n : ℕ) (ps : List (List ℕ)) → 0 < length x → IsLongestFit v b x (room_of v l) n → AreParts v l b x ps
+    → (qs : List (List ℕ)) × AreParts v l b (drop n x) qs × (length ps ≡ 1 + length qs)
+unfolding AreParts
+parts-more v l b x n [] some fit h = absurd (omega (arith, ap length h))
+parts-more v l b x n (p ∷ ps) some fit h =
+    let same = longest-one v b x (room_of v l) h.0 n h.2 fit in
+    (ps, subst (λ (m : ℕ). AreParts v l b (drop m x) ps) same h.4, omega arith)
+
+-- bytes have a part
+pub parts-some : (v : ℕ) (l : Level) (b : Bool) (x : List ℕ) (ps : List (List ℕ)) → AreParts v l b x ps → 0 < length x → 0 < length ps
+unfolding AreParts
+parts-some v l b x [] h some = absurd (omega (arith, ap length h))
+parts-some v l b x (p ∷ ps) h some = omega arith
+
+-- parts hold at most 7,089 bytes each
+pub parts-long : (v : ℕ) (l : Level) (b : Bool) (x : List ℕ) (ps : List (List ℕ)) → 1 ≤ v → v ≤ 40 → AreParts v l b x ps → length x ≤ 7089 * length ps
+unfolding AreParts
+parts-long v l b x [] i j h = omega (arith, ap length h)
+parts-long v l b x (p ∷ ps) i j h =
+    let short = part-short v l b (take h.0 x) i j h.2.fits in
+    let within = h.2.inside in
+    let rest = parts-long v l b (drop h.0 x) ps i j h.4 in
+    omega (arith, length-take h.0 x, length-drop h.0 x)
+
+-- ---- the symbols of parts, one after the other
+
+-- what a length says of the rest that it cuts
+pub lengths-at : (v : ℕ) (l : Level) (b : Bool) (rest ns : List ℕ) (i : ℕ) → i < length ns → AreLengths v l b rest (drop i ns)
+    → IsLongestFit v b rest (room_of v l) (get_or ns i 0) × AreLengths v l b (drop (get_or ns i 0) rest) (drop (i + 1) ns)
+unfolding AreLengths
+lengths-at v l b rest ns i some h =
+    let here : AreLengths v l b rest (get_or ns i 0 ∷ drop (suc i) ns) = rw (drop-cons ns i 0) at h in
+    let next : suc i ≡ i + 1 = omega arith in
+    (here.1, subst (λ (k : ℕ). AreLengths v l b (drop (get_or ns i 0) rest) (drop k ns)) next here.2)
+
+-- where the symbols so far and those of the rest are those of the whole, so they are with the next symbol
+pub symbols-more : (v : ℕ) (l : Level) (b : Bool) (last parity k : ℕ) (rest ns : List ℕ) (whole : List (List ℕ)) (found : List Symbol) (s : Symbol) → k < length ns
+    → IsSymbolOf v l b (take (get_or ns k 0) rest) (Some (record { position = k; last = last; parity = parity })) s
+    → ((ss : List Symbol) → AreSymbolsFrom v l b last parity k (parts_of rest (drop k ns)) ss → AreSymbolsFrom v l b last parity 0 whole (found ++ ss))
+    → (ss : List Symbol) → AreSymbolsFrom v l b last parity (k + 1) (parts_of (drop (get_or ns k 0) rest) (drop (k + 1) ns)) ss → AreSymbolsFrom v l b last parity 0 whole ((found ++ s ∷ []) ++ ss)
+unfolding AreSymbolsFrom parts_of
+symbols-more v l b last parity k rest ns whole found s some is all ss h =
+    let next : k + 1 ≡ suc k = omega arith in
+    let rest_of = subst (λ (j : ℕ). AreSymbolsFrom v l b last parity (k + 1) (parts_of (drop (get_or ns k 0) rest) (drop j ns)) ss) next h in
+    rw append_assoc (all (s ∷ ss) (rw (drop-cons ns k 0) (is, rest_of)))
+
+-- no part has no symbol
+pub symbols-none : (v : ℕ) (l : Level) (b : Bool) (last parity k : ℕ) (rest : List ℕ) → AreSymbolsFrom v l b last parity k (parts_of rest []) []
+unfolding AreSymbolsFrom parts_of
+symbols-none v l b last parity k rest = tt

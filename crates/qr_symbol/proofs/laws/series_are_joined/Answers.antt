@@ -1,0 +1,6 @@
+use Rattle.std.proofs.Common.{arith}
+use Rattle.qr_symbol.proofs.SeriesLemmas.{series-joined}
+use Rattle.qr_symbol.proofs.laws.series_are_joined.Goals as goal
+
+pub returns : goal.returns
+returns c = λ x l b ss s. series-joined x l b c.args.version ss (omega arith) (omega arith) s

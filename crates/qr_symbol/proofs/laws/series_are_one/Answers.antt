@@ -1,0 +1,5 @@
+use Rattle.qr_symbol.proofs.SeriesLemmas.{series-one}
+use Rattle.qr_symbol.proofs.laws.series_are_one.Goals as goal
+
+pub returns : goal.returns
+returns c = series-one

@@ -1,0 +1,37 @@
+use Rattle.std.proofs.Common.{◌<◌, List, [], ◌∷◌, ◌++◌, length, ◌∙◌, ap, arith, rules}
+use Rattle.std.proofs.lemmas.Bool.Decides.{nat_tests}
+use Rattle.std.proofs.lemmas.Option.{MatchOption-at_some}
+use Rattle.std.proofs.lemmas.Result.{IfOk-weaker}
+use Rattle.qr_symbol.specs.declared.symbol.Symbol.{Symbol}
+use Rattle.qr_symbol.specs.Symbols.{FitsVersion}
+use Rattle.qr_symbol.proofs.PartLemmas.{lengths-some}
+use Rattle.qr_symbol.proofs.SeriesLemmas.{lone-series, split-series, series-joined}
+use Rattle.qr_symbol.proofs.series.encode_series.Goals as goal
+
+pub returns-in-Some-clause-series : goal.returns-in-Some-clause-series
+returns-in-Some-clause-series c =
+    lone-series c.args.input.now c.args.level c.args.bytes_only c.args.version c.in-Some.symbol c.push.new.self.items
+    (MatchOption-at_some _ _ c.in-Some.symbol c.in-Some.is c.in_ok-symbol.ensures.symbol)
+    (c.in_ok-push.ensures.items ∙ ap (λ (ss : List Symbol). ss ++ c.in-Some.symbol ∷ []) c.new-symbols.ensures.items)
+
+pub returns-in-Some-clause-joined : goal.returns-in-Some-clause-joined
+returns-in-Some-clause-joined c =
+    series-joined c.args.input.now c.args.level c.args.bytes_only c.args.version c.push.new.self.items (omega arith) (omega arith) (returns-in-Some-clause-series c)
+
+pub part_symbols-requires-clause-some : goal.part_symbols-requires-clause-some
+part_symbols-requires-clause-some c =
+    let some : 0 < length c.args.input.now = grind (arith, nat_tests) in
+    let more = lengths-some c.args.version c.args.level c.args.bytes_only c.args.input.now c.in_ok-lengths.lengths.items c.in_ok-lengths.ensures.parts some in
+    omega (arith, ap length c.as_slice.ensures.value)
+
+pub returns-clause-series : goal.returns-clause-series
+returns-clause-series c =
+    let long : FitsVersion c.args.input.now c.args.level c.args.bytes_only c.args.version → ⊥ = search rules in
+    IfOk-weaker c.part_symbols.result _ _
+    (λ ss made.
+    split-series c.args.input.now c.args.level c.args.bytes_only c.args.version c.as_slice.result.now ss.items long (rw c.as_slice.ensures.value c.in_ok-lengths.ensures.parts) (omega arith) made)
+    c.part_symbols.ensures.made
+
+pub returns-clause-joined : goal.returns-clause-joined
+returns-clause-joined c =
+    IfOk-weaker c.part_symbols.result _ _ (λ ss series. series-joined c.args.input.now c.args.level c.args.bytes_only c.args.version ss.items (omega arith) (omega arith) series) (returns-clause-series c)

@@ -1,0 +1,44 @@
+use Rattle.std.proofs.Common.{◌<◌, [], ◌∷◌, length, sym, ◌∙◌, length-append, arith}
+use Rattle.std.proofs.lemmas.Bool.Decides.{nat_tests}
+use Rattle.std.proofs.lemmas.Bool.{eqb-true}
+use Rattle.std.proofs.lemmas.List.{append-nil, nil_from_length, length-drop}
+use Rattle.qr_symbol.proofs.PartLemmas.{lengths-none, lengths-more, parts-some, parts-more}
+use Rattle.qr_symbol.proofs.series.part_lengths.Goals as goal
+
+pub returns-then-is_full-clause-too_many : goal.returns-then-is_full-clause-too_many
+returns-then-is_full-clause-too_many c =
+    λ _ parts cut.
+    let r = c.loop-rest.invariant.parts parts cut in
+    let full = eqb-true (length c.loop-rest.lengths.items) _ (sym c.is_full.ensures.value ∙ c.if-is_full.true) in
+    let some : 0 < length c.loop-rest.rest.now = grind (arith, nat_tests) in
+    let more = parts-some c.args.version c.args.level c.args.bytes_only c.loop-rest.rest.now r.0 r.1 some in
+    omega (arith, r.2)
+
+pub loop-rest-preserved : goal.loop-rest-preserved
+loop-rest-preserved c =
+    let v = c.args.version in
+    let l = c.args.level in
+    let b = c.args.bytes_only in
+    let rest = c.loop-rest.rest.now in
+    let found = c.loop-rest.lengths.items in
+    let n = c.in_ok-len.len in
+    let inv = c.loop-rest.invariant in
+    let some : 0 < length rest = grind (arith, nat_tests) in
+    let less = length-drop n rest in
+    rw (c.push.ensures.items, c.split_at.ensures.back) (record {
+      short = omega (arith, inv.short);
+      lengths = lengths-more v l b c.args.input.now found rest n c.in_ok-len.ensures.some c.in_ok-len.ensures.longest inv.lengths;
+      parts = λ ps cut.
+          let r = inv.parts ps cut in
+          let more = parts-more v l b rest n r.0 some c.in_ok-len.ensures.longest r.1 in
+          (more.0, more.1, omega (arith, r.2, more.2, length-append found (n ∷ [])));
+    })
+
+pub returns-clause-parts : goal.returns-clause-parts
+returns-clause-parts c =
+    let v = c.args.version in
+    let l = c.args.level in
+    let b = c.args.bytes_only in
+    let found = c.loop-rest.lengths.items in
+    let none = nil_from_length c.loop-rest.rest.now (eqb-true (length c.loop-rest.rest.now) 0 (sym c.is_empty.ensures ∙ c.loop-rest-test.false)) in
+    rw append-nil at (c.loop-rest.invariant.lengths [] (rw none (lengths-none v l b)))

@@ -1,0 +1,12 @@
+use Rattle.std.proofs.Common.{◌+◌, Some, arith}
+use Rattle.qr_bits.specs.Letters.{bits}
+use Rattle.qr_bits.specs.Data.{capacity_of, header_bits}
+use Rattle.qr_symbol.proofs.SymbolMaking.{behind-header, memory-alone}
+use Rattle.qr_symbol.proofs.series.part_symbol.Goals as goal
+
+pub returns-clause-fault : goal.returns-clause-fault
+returns-clause-fault c =
+    let segs = c.deref.result.now in
+    memory-alone (capacity_of c.args.version c.args.level) (header_bits (Some c.args.header) + bits c.args.version segs) c.symbol_at.result
+    (behind-header c.args.version c.args.level c.args.bytes_only c.args.part.now segs c.args.header (omega arith) (omega arith) (rw c.deref.ensures.value c.in_ok-segments.ensures.ok) c.requires.fits)
+    c.symbol_at.ensures.too_long c.symbol_at.ensures.fault

@@ -1,0 +1,17 @@
+use Rattle.std.proofs.Common.{◌≡◌, ◌-◌, ◌≤◌, List, ◌++◌, length, drop}
+use Rattle.std.specs.Prelude.{vec_len}
+use Rattle.qr_bits.specs.Stream.{parity_of}
+use Rattle.qr_symbol.specs.declared.symbol.Symbol.{Symbol}
+use Rattle.qr_symbol.specs.Series.{AreSymbolsFrom}
+use Rattle.qr_symbol.specs.Parts.{AreLengths, parts_of}
+use Rattle.qr_symbol.proofs.series.part_symbols.Given as goal
+
+-- the symbols so far and those of the rest are those of the whole
+abbrev pub invariant-loop-len : goal.invariant-loop-len
+invariant-loop-len l = record {
+  short : length l.rest ≤ length l.fn.input;
+  count : vec_len l.symbols ≡ l.len-index;
+  rest : AreLengths l.version l.level l.bytes_only l.rest (drop l.len-index l.lengths);
+  made : (ss : List Symbol) → AreSymbolsFrom l.version l.level l.bytes_only (length l.lengths - 1) (parity_of l.fn.input) l.len-index (parts_of l.rest (drop l.len-index l.lengths)) ss
+      → AreSymbolsFrom l.version l.level l.bytes_only (length l.lengths - 1) (parity_of l.fn.input) 0 (parts_of l.fn.input l.lengths) (l.symbols.items ++ ss);
+}

@@ -1,0 +1,72 @@
+-- What the symbols of a series are joined to, from what each is read as. Public clauses cite this file.
+use Rattle.std.specs.Prelude.{◌≡◌, ◌⊎◌, ℕ, ◌+◌, ◌-◌, ◌<◌, List, [], ◌∷◌, length, None, Some}
+use Rattle.std.specs.List.{flat_map}
+use Rattle.qr_bits.specs.Parse.{Content}
+use Rattle.qr_bits.specs.Stream.{parity_of}
+use Rattle.qr_symbol.specs.declared.fault.ReadFault.{ReadFault}
+use Rattle.qr_symbol.specs.declared.fault.ReadFault.TheVariants as unread
+use Rattle.qr_symbol.specs.Grid.{Grid}
+use Rattle.qr_symbol.specs.Reading.{IsReading, IsUnread}
+
+-- the squares are read as these contents, one by one (ISO/IEC 18004:2015, 12)
+unfoldable pub AreReadings : List Grid → List Content → Type 0
+AreReadings [] [] = Unit {0}
+AreReadings [] (c ∷ cs) = ⊥
+AreReadings (g ∷ gs) [] = ⊥
+AreReadings (g ∷ gs) (c ∷ cs) = IsReading g c × AreReadings gs cs
+
+-- the bytes of contents, one after the other [own]
+abbrev pub bytes_of_all : List Content → List ℕ
+bytes_of_all contents = flat_map (λ c. c.bytes) contents
+
+-- it is one content, without a header [own]
+abbrev pub IsPlain : List Content → Type 0
+IsPlain [] = ⊥
+IsPlain (c ∷ []) = c.header ≡ None
+IsPlain (c ∷ d ∷ cs) = ⊥
+
+-- the contents from position k on have headers with their positions, this number of symbols less 1 and this parity
+-- (ISO/IEC 18004:2015, 8.1 to 8.3)
+unfoldable pub HaveHeaders : (last parity k : ℕ) → List Content → Type 0
+HaveHeaders last parity k [] = Unit {0}
+HaveHeaders last parity k (c ∷ cs) =
+    (c.header ≡ Some (record { position = k; last = last; parity = parity })) × HaveHeaders last parity (k + 1) cs
+
+-- the contents are those of a series, in their order: there is one at least, and their headers tell their positions, how
+-- many they are, and the parity of all bytes (ISO/IEC 18004:2015, 8.1 to 8.3)
+abbrev pub AreInSeries : List Content → Type 0
+AreInSeries contents =
+    (0 < length contents) × HaveHeaders (length contents - 1) (parity_of (bytes_of_all contents)) 0 contents
+
+-- the contents belong together: one without a header, or those of a series [own]
+abbrev pub BelongTogether : List Content → Type 0
+BelongTogether contents = IsPlain contents ⊎ AreInSeries contents
+
+-- the squares are joined to these bytes: those of what they are read as, which belongs together
+-- (ISO/IEC 18004:2015, 8.1 to 8.3, 12)
+pub record IsJoined (squares : List Grid) (bytes : List ℕ) : Type 0 where
+  pub contents : List Content
+  pub read : AreReadings squares contents
+  pub together : BelongTogether contents
+  pub joined : bytes ≡ bytes_of_all contents
+
+-- the first square that is not read is refused for this fault (ISO/IEC 18004:2015, 12)
+unfoldable pub IsFirstUnread : List Grid → ReadFault → Type 0
+IsFirstUnread [] e = ⊥
+IsFirstUnread (g ∷ gs) e = IsUnread g e ⊎ ((c : Content) × IsReading g c × IsFirstUnread gs e)
+
+-- all squares are read, but what they say does not belong together [own]
+pub record IsNoSeries (squares : List Grid) : Type 0 where
+  pub contents : List Content
+  pub read : AreReadings squares contents
+  pub apart : BelongTogether contents → ⊥
+
+-- the squares are not joined, for this fault: that of the first square that is not read, or that they are no series.
+-- Memory may be refused for any squares [own]
+abbrev pub IsUnjoined : List Grid → ReadFault → Type 0
+IsUnjoined squares unread.Memory = Unit {0}
+IsUnjoined squares unread.Side = IsFirstUnread squares unread.Side
+IsUnjoined squares unread.Format = IsFirstUnread squares unread.Format
+IsUnjoined squares unread.Check = IsFirstUnread squares unread.Check
+IsUnjoined squares (unread.Segments e) = IsFirstUnread squares (unread.Segments e)
+IsUnjoined squares unread.Series = IsNoSeries squares

@@ -1,0 +1,15 @@
+-- The lengths of the parts that an input is cut into. No public clause rests on how this is written.
+use Rattle.std.specs.Prelude.{◌≡◌, ℕ, ◌<◌, Bool, List, [], ◌∷◌, take, drop}
+use Rattle.qr_layout.specs.declared.level.Level.{Level}
+use Rattle.qr_bits.specs.Letters.{IsLongestFit}
+use Rattle.qr_bits.specs.Data.{room_of}
+
+-- the lengths are those of the parts of the bytes
+unfoldable pub AreLengths : ℕ → Level → Bool → List ℕ → List ℕ → Type 0
+AreLengths v l bytes_only x [] = x ≡ []
+AreLengths v l bytes_only x (n ∷ ns) = (0 < n) × IsLongestFit v bytes_only x (room_of v l) n × AreLengths v l bytes_only (drop n x) ns
+
+-- the parts of these lengths, one after the other
+unfoldable pub parts_of : List ℕ → List ℕ → List (List ℕ)
+parts_of x [] = []
+parts_of x (n ∷ ns) = take n x ∷ parts_of (drop n x) ns

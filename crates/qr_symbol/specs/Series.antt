@@ -1,0 +1,63 @@
+-- The series of symbols that an input is encoded as, by structured append. Public clauses cite this file.
+use Rattle.std.specs.Prelude.{◌≡◌, ◌⊎◌, ℕ, ◌+◌, ◌-◌, ◌<◌, ◌≤◌, Bool, List, [], ◌∷◌, length, take, drop, map, Option, None, Some}
+use Rattle.qr_layout.specs.declared.level.Level.{Level}
+use Rattle.qr_bits.specs.declared.header.Header.{Header}
+use Rattle.qr_bits.specs.Letters.{IsLongestFit}
+use Rattle.qr_bits.specs.Data.{room_of}
+use Rattle.qr_bits.specs.Stream.{parity_of}
+use Rattle.qr_symbol.specs.declared.symbol.Symbol.{Symbol}
+use Rattle.qr_symbol.specs.Grid.{Grid}
+use Rattle.qr_symbol.specs.Symbols.{FitsVersion, IsSymbolAt}
+
+-- the squares of symbols [own]
+abbrev pub squares_of : List Symbol → List Grid
+squares_of symbols = map (λ s. s.matrix) symbols
+
+-- the parts of the bytes: each is the longest front of what is left that fits a symbol behind a header, and none is
+-- empty [own]
+unfoldable pub AreParts : ℕ → Level → Bool → List ℕ → List (List ℕ) → Type 0
+AreParts v l bytes_only x [] = x ≡ []
+AreParts v l bytes_only x (p ∷ ps) = (n : ℕ) × (0 < n) × IsLongestFit v bytes_only x (room_of v l) n × (p ≡ take n x)
+    × AreParts v l bytes_only (drop n x) ps
+
+-- the symbol is that of the bytes behind a header or none, of version v and level l (ISO/IEC 18004:2015, 7.1, 8.1)
+pub record IsSymbolOf (v : ℕ) (l : Level) (bytes_only : Bool) (x : List ℕ) (h : Option Header) (s : Symbol) : Type 0 where
+  pub version : s.version ≡ v
+  pub level : s.level ≡ l
+  pub made : IsSymbolAt v l bytes_only x h s.mask s.matrix
+
+-- the symbols are those of the parts, one after the other, from position k on: each behind its position, the number of
+-- symbols less 1, and the parity (ISO/IEC 18004:2015, 8.1 to 8.3)
+unfoldable pub AreSymbolsFrom : ℕ → Level → Bool → (last parity k : ℕ) → List (List ℕ) → List Symbol → Type 0
+AreSymbolsFrom v l bytes_only last parity k [] [] = Unit {0}
+AreSymbolsFrom v l bytes_only last parity k [] (s ∷ ss) = ⊥
+AreSymbolsFrom v l bytes_only last parity k (p ∷ ps) [] = ⊥
+AreSymbolsFrom v l bytes_only last parity k (p ∷ ps) (s ∷ ss) =
+    IsSymbolOf v l bytes_only p (Some (record { position = k; last = last; parity = parity })) s
+    × AreSymbolsFrom v l bytes_only last parity (k + 1) ps ss
+
+-- the symbols are the series of the bytes' parts, of which there are at most 16; the bytes do not fit one symbol without
+-- a header [own]
+pub record IsSplit (x : List ℕ) (l : Level) (bytes_only : Bool) (v : ℕ) (symbols : List Symbol) : Type 0 where
+  pub too_long : FitsVersion x l bytes_only v → ⊥
+  pub parts : List (List ℕ)
+  pub split : AreParts v l bytes_only x parts
+  pub many : length parts ≤ 16
+  pub made : AreSymbolsFrom v l bytes_only (length parts - 1) (parity_of x) 0 parts symbols
+
+-- the symbol is the plain one of the bytes, which fit it without a header [own]
+pub record IsLone (x : List ℕ) (l : Level) (bytes_only : Bool) (v : ℕ) (symbols : List Symbol) : Type 0 where
+  pub fits : FitsVersion x l bytes_only v
+  pub symbol : Symbol
+  pub made : IsSymbolOf v l bytes_only x None symbol
+  pub alone : symbols ≡ symbol ∷ []
+
+-- the symbols are the series of the bytes at level l, all of version v: a plain symbol where the bytes fit one, else the
+-- symbols of their parts [own]
+abbrev pub IsSeries : List ℕ → Level → Bool → ℕ → List Symbol → Type 0
+IsSeries x l bytes_only v symbols = IsLone x l bytes_only v symbols ⊎ IsSplit x l bytes_only v symbols
+
+-- the bytes have no series: they do not fit one symbol, and their parts are more than 16 [own]
+pub record HasNoSeries (x : List ℕ) (l : Level) (bytes_only : Bool) (v : ℕ) : Type 0 where
+  pub too_long : FitsVersion x l bytes_only v → ⊥
+  pub too_many : (parts : List (List ℕ)) → AreParts v l bytes_only x parts → 16 < length parts

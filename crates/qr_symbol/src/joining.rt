@@ -1,0 +1,221 @@
+//! The reading of symbols together: those of a series are joined in their order (ISO/IEC 18004:2015, 8).
+
+ghost use Rattle.std.specs.Prelude.{◌≡◌, ◌-◌, ◌<◌, length, Some, IfOk, MatchResult};
+ghost use Rattle.std.specs.Bool.{Decides};
+ghost use Rattle.qr_symbol.specs.Series.{squares_of};
+ghost use Rattle.qr_symbol.specs.Joining.{bytes_of_all, AreReadings, HaveHeaders, IsJoined, IsPlain, IsUnjoined};
+
+use crate::fault::ReadFault;
+use crate::reading::read_symbol;
+use crate::symbol::Symbol;
+use qr_bits::{Parsed, parity};
+use std::alloc::{AllocError, Global};
+
+// What the symbols say, one by one.
+fn read_all(alloc: Global, symbols: &[Symbol]) -> Result<Vec<Parsed>, ReadFault>
+    ensures { MatchResult result
+        (λ contents. AreReadings (squares_of symbols.now) contents.items)
+        (IsUnjoined (squares_of symbols.now)) }
+{
+    let mut contents = Vec::with_capacity(alloc, symbols.len())?;
+    for symbol in symbols {
+        contents.push(read_symbol(alloc, &symbol.matrix)?)?;
+    }
+    Ok(contents)
+}
+
+// The bytes of the contents, one after the other.
+fn joined_bytes(alloc: Global, contents: &[Parsed]) -> Result<Vec<u8>, AllocError>
+    ensures { IfOk result (λ bytes. bytes.items ≡ bytes_of_all contents.now) }
+{
+    let mut bytes = Vec::new(alloc);
+    for content in contents {
+        bytes.extend_from_slice(&content.bytes)?;
+    }
+    Ok(bytes)
+}
+
+// Whether it is one content, without a header.
+fn is_plain(contents: &[Parsed]) -> bool
+    ensures { Decides result (IsPlain contents.now) }
+{
+    match contents {
+        [content] => content.header.is_none(),
+        _ => false,
+    }
+}
+
+// Whether the content has a header that tells this position, this number of symbols less 1 and this parity.
+fn has_header(content: &Parsed, position: usize, last: usize, parity: u8) -> bool
+    ensures { Decides result (content.now.header
+        ≡ Some (record { position = position; last = last; parity = parity })) }
+{
+    match content.header {
+        None => false,
+        Some(header) => {
+            usize::from(header.position) == position
+                && usize::from(header.last) == last
+                && header.parity == parity
+        }
+    }
+}
+
+// Whether there is a content, and the headers tell their positions, how many they are, and this parity (8.1 to 8.3).
+fn are_in_series(contents: &[Parsed], parity: u8) -> bool
+    ensures { Decides result ((0 < length contents.now)
+        × HaveHeaders (length contents.now - 1) parity 0 contents.now) }
+{
+    if contents.is_empty() {
+        return false;
+    }
+    let last = contents.len() - 1;
+    for (position, content) in contents.iter().enumerate() {
+        if !has_header(content, position, last, parity) {
+            return false;
+        }
+    }
+    true
+}
+
+/// The bytes of symbols, joined in their order (ISO/IEC 18004:2015, 8): those of one symbol without a header, or those of
+/// a series, whose headers must tell their positions from 0, how many they are, and the parity of all bytes. Of each
+/// symbol only its matrix is looked at.
+///
+/// Refused for the first fault of a symbol that is not read, in their order, before any header is looked at; then
+/// `Series` where the symbols do not belong together. No symbol at all is no series.
+pub fn read_series(alloc: Global, symbols: &[Symbol]) -> Result<Vec<u8>, ReadFault>
+    ensures { MatchResult result
+        (λ bytes. IsJoined (squares_of symbols.now) bytes.items)
+        (IsUnjoined (squares_of symbols.now)) }
+{
+    let contents = read_all(alloc, symbols)?;
+    let bytes = joined_bytes(alloc, &contents)?;
+    if is_plain(&contents) || are_in_series(&contents, parity(&bytes)) {
+        Ok(bytes)
+    } else {
+        Err(ReadFault::Series)
+    }
+}
+
+#[cfg(test)]
+mod tests {
+    use super::*;
+    use crate::matrix::Matrix;
+    use crate::samples::{byte_codewords, byte_symbol};
+    use qr_bits::Header;
+    use qr_layout::{Level, Version};
+    use std::test::Fail;
+
+    // A part of the series of `ABCDEFGH` at 1-H: `ABCDE` or `FGH`.
+    fn part(rt: &HostRuntime, position: u8) -> Result<Symbol, Fail>
+        requires { position < 2 }
+    {
+        let bytes = if position == 0 {
+            &b"ABCDE"[..]
+        } else {
+            &b"FGH"[..]
+        };
+        let header = Header {
+            position,
+            last: 1,
+            parity: 0x08,
+        };
+        byte_symbol(rt, bytes, Some(header), Level::H)
+    }
+
+    // A symbol whose modules are all light.
+    fn light(rt: &HostRuntime, side: u8) -> Result<Symbol, Fail>
+        requires least { 0 < side }
+        requires most { side < 178 }
+    {
+        Ok(Symbol {
+            version: Version::new(1).ok_or("version 1")?,
+            level: Level::L,
+            mask: 0,
+            matrix: Matrix::new(rt.alloc(), side)?,
+        })
+    }
+
+    #[test]
+    fn a_letter(rt: HostRuntime) -> Result<(), Fail> {
+        let header = Header {
+            position: 0,
+            last: 0,
+            parity: 0x41,
+        };
+        let message = byte_codewords(&rt, b"A", Some(header), Level::L)?;
+        let wanted = [
+            0x30, 0x04, 0x14, 0x01, 0x41, 0x00, 0xEC, 0x11, 0xEC, 0x11, 0xEC, 0x11, 0xEC, 0x11,
+            0xEC, 0x11, 0xEC, 0x11, 0xEC,
+        ];
+        assert_eq!(rt;
+            message.as_slice(),
+            wanted.as_slice(),
+            "a header, a byte and pads"
+        );
+        for (name, header) in [("a plain symbol", None), ("a series of one", Some(header))] {
+            let symbols = [byte_symbol(&rt, b"A", header, Level::L)?];
+            let joined = read_series(rt.alloc(), &symbols)?;
+            assert_eq!(rt; joined.as_slice(), b"A".as_slice(), "{name}");
+        }
+        Ok(())
+    }
+
+    #[test]
+    fn two_parts(rt: HostRuntime) -> Result<(), Fail> {
+        let parts = [part(&rt, 0)?, part(&rt, 1)?];
+        let joined = read_series(rt.alloc(), &parts)?;
+        assert_eq!(rt; joined.as_slice(), b"ABCDEFGH".as_slice());
+        Ok(())
+    }
+
+    #[test]
+    fn refusals(rt: HostRuntime) -> Result<(), Fail> {
+        let other = Header {
+            position: 0,
+            last: 0,
+            parity: 0x40,
+        };
+        let parity = [byte_symbol(&rt, b"A", Some(other), Level::L)?];
+        let plain = [
+            byte_symbol(&rt, b"A", None, Level::L)?,
+            byte_symbol(&rt, b"A", None, Level::L)?,
+        ];
+        let exchanged = [part(&rt, 1)?, part(&rt, 0)?];
+        let alone = [part(&rt, 0)?];
+        let twice = [part(&rt, 0)?, part(&rt, 0)?];
+        let side = [part(&rt, 0)?, light(&rt, 20)?, light(&rt, 21)?];
+        let format = [part(&rt, 0)?, light(&rt, 21)?, light(&rt, 20)?];
+        let rows = [
+            ("no symbol", &[][..], ReadFault::Series),
+            (
+                "the parity of another letter",
+                &parity[..],
+                ReadFault::Series,
+            ),
+            ("two plain symbols", &plain[..], ReadFault::Series),
+            (
+                "the second part before the first",
+                &exchanged[..],
+                ReadFault::Series,
+            ),
+            ("the first part alone", &alone[..], ReadFault::Series),
+            ("the first part twice", &twice[..], ReadFault::Series),
+            (
+                "a side of no version, then no format",
+                &side[..],
+                ReadFault::Side,
+            ),
+            (
+                "no format, then a side of no version",
+                &format[..],
+                ReadFault::Format,
+            ),
+        ];
+        for (name, symbols, fault) in rows {
+            let joined = read_series(rt.alloc(), symbols);
+            assert_eq!(rt; joined.err(), Some(fault), "{name}");
+        }
+        Ok(())
+    }
+}

@@ -1,0 +1,51 @@
+//! Symbols that tests read: of version 1, in one segment of byte mode, behind a header or none.
+
+ghost use Rattle.std.specs.Prelude.{◌<◌, ◌≤◌, length};
+ghost use Rattle.std.specs.Option.{ForSome};
+
+use crate::choice::build;
+use crate::message::interleave;
+use crate::symbol::Symbol;
+use qr_bits::{Header, INPUT_MAX, Mode, Segment, codewords, covers};
+use qr_layout::{Level, Version};
+use std::test::Fail;
+
+/// The data codewords of the bytes.
+pub(crate) fn byte_codewords(
+    rt: &HostRuntime,
+    bytes: &[u8],
+    header: Option<Header>,
+    level: Level,
+) -> Result<Vec<u8>, Fail>
+    requires short { length bytes.now ≤ INPUT_MAX }
+    requires in_range { ForSome header (λ h. (h.position < 16) × (h.last < 16)) }
+{
+    let version = Version::new(1).ok_or("version 1")?;
+    let segment = Segment {
+        mode: Mode::Byte,
+        len: bytes.len(),
+    };
+    if !covers(bytes, &[segment]) {
+        return Err("the segment is not the bytes".into());
+    }
+    Ok(codewords(rt.alloc(), bytes, &[segment], header, version, level)?)
+}
+
+/// The symbol of the bytes.
+pub(crate) fn byte_symbol(
+    rt: &HostRuntime,
+    bytes: &[u8],
+    header: Option<Header>,
+    level: Level,
+) -> Result<Symbol, Fail>
+    requires short { length bytes.now ≤ INPUT_MAX }
+    requires in_range { ForSome header (λ h. (h.position < 16) × (h.last < 16)) }
+{
+    let version = Version::new(1).ok_or("version 1")?;
+    let message = byte_codewords(rt, bytes, header, level)?;
+    if message.len() != usize::from(version.data_codewords(level)) {
+        return Err("the codewords are not those of the version".into());
+    }
+    let sent = interleave(rt.alloc(), version, level, &message)?;
+    Ok(build(rt.alloc(), version, level, &sent)?)
+}

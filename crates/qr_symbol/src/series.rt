@@ -1,0 +1,260 @@
+//! The encoding of an input as a series of symbols, by structured append (ISO/IEC 18004:2015, 8).
+
+ghost use Rattle.std.specs.Prelude.{◌≡◌, ◌-◌, ◌<◌, ◌≤◌, ◌↔◌, ◌⊎◌, ℕ, List, [], ◌∷◌, ◌++◌, length, None, Some, Err, OnOk, IfOk, IfErr, MatchOption};
+ghost use Rattle.qr_bits.specs.Letters.{HasFit, IsLongestFit};
+ghost use Rattle.qr_bits.specs.Data.{room_of};
+ghost use Rattle.qr_bits.specs.Stream.{parity_of};
+ghost use Rattle.qr_symbol.specs.declared.fault.EncodeFault.{EncodeFault};
+ghost use Rattle.qr_symbol.specs.Symbols.{FitsVersion};
+ghost use Rattle.qr_symbol.specs.Series.{squares_of, AreParts, IsSymbolOf, AreSymbolsFrom, IsSeries, HasNoSeries};
+ghost use Rattle.qr_symbol.specs.Joining.{IsJoined};
+ghost use Rattle.qr_symbol.specs.Parts.{AreLengths, parts_of};
+
+use crate::encoding::{LONGEST, symbol_at};
+use crate::fault::EncodeFault;
+use crate::symbol::Symbol;
+use arrayvec::ArrayVec;
+use qr_bits::{Header, INPUT_MAX, bit_len, longest_fit, parity, segments};
+use qr_layout::{Level, Version};
+use std::alloc::Global;
+
+/// The series of symbols of an input, all of one version and level (ISO/IEC 18004:2015, 8). Where the input fits one
+/// symbol, that is a plain symbol, without a header. Else it is cut into parts, and each part is the longest front of
+/// the rest that fits a symbol behind its header. With `bytes_only` each symbol has one byte segment.
+///
+/// `Empty` where the input has no byte, and `TooMany` where it takes more than 16 symbols.
+pub fn encode_series(
+    alloc: Global,
+    input: &[u8],
+    version: Version,
+    level: Level,
+    bytes_only: bool,
+) -> Result<Vec<Symbol>, EncodeFault>
+    requires { length input.now ≤ INPUT_MAX }
+    ensures series { IfOk result (λ ss. IsSeries input.now level bytes_only version ss.items) }
+    ensures joined { IfOk result (λ ss. IsJoined (squares_of ss.items) input.now) }
+    ensures empty { (result ≡ Err EncodeFault.Empty) ↔ (input.now ≡ []) }
+    ensures too_many { result ≡ Err EncodeFault.TooMany
+        → HasNoSeries input.now level bytes_only version }
+    ensures fault { IfErr result (λ e. (e ≡ EncodeFault.Empty) ⊎ (e ≡ EncodeFault.TooMany)
+        ⊎ (e ≡ EncodeFault.Memory)) }
+{
+    if input.is_empty() {
+        return Err(EncodeFault::Empty);
+    }
+    if let Some(symbol) = lone_symbol(alloc, input, version, level, bytes_only)? {
+        let mut symbols = Vec::new(alloc);
+        symbols.push(symbol)?;
+        return Ok(symbols);
+    }
+    let lengths = part_lengths(alloc, input, version, level, bytes_only)?;
+    part_symbols(alloc, input, lengths.as_slice(), version, level, bytes_only)
+}
+
+// The plain symbol of an input, where it fits one.
+fn lone_symbol(
+    alloc: Global,
+    input: &[u8],
+    version: Version,
+    level: Level,
+    bytes_only: bool,
+) -> Result<Option<Symbol>, EncodeFault>
+    requires { length input.now ≤ INPUT_MAX }
+    ensures symbol { IfOk result (λ found. MatchOption found
+        (FitsVersion input.now level bytes_only version → ⊥)
+        (λ s. IsSymbolOf version level bytes_only input.now None s)) }
+    ensures fault { IfErr result (λ e. e ≡ EncodeFault.Memory) }
+{
+    if input.len() > LONGEST {
+        return Ok(None);
+    }
+    let segments = segments(alloc, input, version, bytes_only)?;
+    if bit_len(&segments, version) > 8 * u64::from(version.data_codewords(level)) {
+        return Ok(None);
+    }
+    let symbol = symbol_at(alloc, input, &segments, None, version, level)?;
+    Ok(Some(symbol))
+}
+
+// The lengths of the parts of an input: of each rest, the longest front that fits a symbol behind a header.
+fn part_lengths(
+    alloc: Global,
+    input: &[u8],
+    version: Version,
+    level: Level,
+    bytes_only: bool,
+) -> Result<ArrayVec<usize, 16>, EncodeFault>
+    requires { length input.now ≤ INPUT_MAX }
+    ensures parts { IfOk result (λ ns. AreLengths version level bytes_only input.now ns.items) }
+    ensures too_many { result ≡ Err EncodeFault.TooMany → (parts : List (List ℕ))
+        → AreParts version level bytes_only input.now parts → 16 < length parts }
+    ensures fault { IfErr result (λ e. (e ≡ EncodeFault.TooMany) ⊎ (e ≡ EncodeFault.Memory)) }
+{
+    let mut lengths = ArrayVec::new();
+    let mut rest = input;
+    while !rest.is_empty() {
+        if lengths.is_full() {
+            return Err(EncodeFault::TooMany);
+        }
+        let len = front_len(alloc, rest, version, level, bytes_only)?;
+        lengths.push(len);
+        let (_, after) = rest.split_at(len);
+        rest = after;
+    }
+    Ok(lengths)
+}
+
+// The length of the longest front that fits a symbol behind a header. No more bytes are looked at than fit any symbol.
+fn front_len(
+    alloc: Global,
+    rest: &[u8],
+    version: Version,
+    level: Level,
+    bytes_only: bool,
+) -> Result<usize, EncodeFault>
+    requires some { 0 < length rest.now }
+    requires short { length rest.now ≤ INPUT_MAX }
+    ensures some { IfOk result (λ n. 0 < n) }
+    ensures longest { IfOk result (λ n.
+        IsLongestFit version bytes_only rest.now (room_of version level) n) }
+    ensures fault { IfErr result (λ e. e ≡ EncodeFault.Memory) }
+{
+    let front = &rest[..rest.len().min(LONGEST)];
+    Ok(longest_fit(alloc, front, version, level, bytes_only)?)
+}
+
+// The symbols of the parts of these lengths, each behind its header (8.1 to 8.3).
+fn part_symbols(
+    alloc: Global,
+    input: &[u8],
+    lengths: &[usize],
+    version: Version,
+    level: Level,
+    bytes_only: bool,
+) -> Result<Vec<Symbol>, EncodeFault>
+    requires short { length input.now ≤ INPUT_MAX }
+    requires parts { AreLengths version level bytes_only input.now lengths.now }
+    requires some { 0 < length lengths.now }
+    requires few { length lengths.now ≤ 16 }
+    ensures made { IfOk result (λ ss. AreSymbolsFrom version level bytes_only
+        (length lengths.now - 1) (parity_of input.now) 0 (parts_of input.now lengths.now)
+        ss.items) }
+    ensures fault { IfErr result (λ e. e ≡ EncodeFault.Memory) }
+{
+    let last = (lengths.len() - 1) as u8;
+    let parity = parity(input);
+    let mut symbols = Vec::with_capacity(alloc, lengths.len())?;
+    let mut rest = input;
+    for len in lengths {
+        let (part, after) = rest.split_at(*len);
+        let header = Header {
+            position: symbols.len() as u8,
+            last,
+            parity,
+        };
+        let symbol = part_symbol(alloc, part, header, version, level, bytes_only)?;
+        symbols.push(symbol)?;
+        rest = after;
+    }
+    Ok(symbols)
+}
+
+// The symbol of a part behind its header.
+fn part_symbol(
+    alloc: Global,
+    part: &[u8],
+    header: Header,
+    version: Version,
+    level: Level,
+    bytes_only: bool,
+) -> Result<Symbol, EncodeFault>
+    requires short { length part.now ≤ INPUT_MAX }
+    requires fits { HasFit version bytes_only part.now (room_of version level) }
+    requires position { header.position < 16 }
+    requires last { header.last < 16 }
+    ensures made { IfOk result (λ s. IsSymbolOf version level bytes_only part.now (Some header) s) }
+    ensures fault { IfErr result (λ e. e ≡ EncodeFault.Memory) }
+{
+    let segments = segments(alloc, part, version, bytes_only)?;
+    symbol_at(alloc, part, &segments, Some(header), version, level)
+}
+
+#[cfg(test)]
+mod tests {
+    use super::*;
+    use crate::reading::read_symbol;
+    use std::test::Fail;
+
+    // Whether a symbol is read as these bytes behind this header or none.
+    fn says(
+        rt: &HostRuntime,
+        symbol: &Symbol,
+        header: Option<Header>,
+        bytes: &[u8],
+    ) -> Result<bool, Fail> {
+        let parsed = read_symbol(rt.alloc(), &symbol.matrix)?;
+        Ok(parsed.header == header && parsed.bytes.as_slice() == bytes)
+    }
+
+    #[test]
+    fn eight_letters_at_1_h(rt: HostRuntime) -> Result<(), Fail> {
+        let version = Version::new(1).ok_or("version 1")?;
+        let symbols = encode_series(rt.alloc(), b"ABCDEFGH", version, Level::H, true)?;
+        assert_eq!(rt; symbols.len(), 2);
+        let parts = [(0, &b"ABCDE"[..]), (1, &b"FGH"[..])];
+        for (symbol, (position, bytes)) in symbols.iter().zip(parts) {
+            let header = Header {
+                position,
+                last: 1,
+                parity: 0x08,
+            };
+            assert!(rt;
+                says(&rt, symbol, Some(header), bytes)?,
+                "symbol {position}"
+            );
+        }
+        Ok(())
+    }
+
+    #[test]
+    fn a_plain_symbol_where_it_fits(rt: HostRuntime) -> Result<(), Fail> {
+        let version = Version::new(1).ok_or("version 1")?;
+        let symbols = encode_series(rt.alloc(), b"ABCDEFG", version, Level::H, true)?;
+        assert_eq!(rt; symbols.len(), 1);
+        assert!(rt; says(&rt, &symbols[0], None, b"ABCDEFG")?);
+        Ok(())
+    }
+
+    #[test]
+    fn numbers_of_symbols_at_1_h(rt: HostRuntime) -> Result<(), Fail> {
+        let letters = [b'a'; 81];
+        let digits = [b'7'; INPUT_MAX];
+        let rows = [
+            ("7 letters", &letters[..7], true, Ok(1)),
+            ("8 letters", &letters[..8], true, Ok(2)),
+            ("80 letters", &letters[..80], true, Ok(16)),
+            ("81 letters", &letters[..], true, Err(EncodeFault::TooMany)),
+            ("176 digits", &digits[..176], false, Ok(16)),
+            (
+                "177 digits",
+                &digits[..177],
+                false,
+                Err(EncodeFault::TooMany),
+            ),
+            (
+                "the longest input",
+                &digits[..],
+                false,
+                Err(EncodeFault::TooMany),
+            ),
+            ("no byte", &[], false, Err(EncodeFault::Empty)),
+        ];
+        let version = Version::new(1).ok_or("version 1")?;
+        for (name, input, bytes_only, count) in rows {
+            assert!(rt; input.len() <= INPUT_MAX);
+            let symbols = encode_series(rt.alloc(), input, version, Level::H, bytes_only);
+            assert_eq!(rt; symbols.map(|symbols| symbols.len()), count, "{name}");
+        }
+        Ok(())
+    }
+}
