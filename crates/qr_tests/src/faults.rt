@@ -13,9 +13,24 @@ fn of_words_and_input(rt: HostRuntime) -> Result<(), Fail> {
             "qrencode: unknown type\n",
         ),
         (
-            "a type that is not drawn yet",
-            ["-t", "SVG"].as_slice(),
+            "a type before a version",
+            ["-S", "-t", "PNG"].as_slice(),
             "qrencode: unknown type\n",
+        ),
+        (
+            "a series without a version",
+            ["-S", "-t", "SVG"].as_slice(),
+            "qrencode: -S needs -v\n",
+        ),
+        (
+            "a series with version 0",
+            ["-S", "-v", "0", "-t", "SVG", "A"].as_slice(),
+            "qrencode: -S needs -v\n",
+        ),
+        (
+            "no byte of a series",
+            ["-S", "-v", "1", "-t", "SVG"].as_slice(),
+            "qrencode: input is empty\n",
         ),
         (
             "an empty type",

@@ -4,10 +4,14 @@
 #[cfg(test)]
 mod counting;
 #[cfg(test)]
+mod drawings;
+#[cfg(test)]
 mod faults;
 #[cfg(test)]
 mod first_symbol;
 #[cfg(test)]
 mod runs;
+#[cfg(test)]
+mod series;
 #[cfg(test)]
 mod troubles;

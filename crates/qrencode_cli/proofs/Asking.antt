@@ -1,25 +1,35 @@
 -- What the words and the input ask for.
-use Rattle.std.proofs.Common.{◌≡◌, ◌∙◌, ◌≤◌, ℕ, List, [], ◌∷◌, take, Option, None, Some, Result, Ok, Err, MatchOption, MatchResult, refl, sym, min, length, append-nil, arith}
+use Rattle.std.proofs.Common.{◌≡◌, ◌∙◌, ◌≤◌, ℕ, Bool, true, false, List, [], ◌∷◌, take, Option, None, Some, Result, Ok, Err, MatchOption, MatchResult, refl, sym, subst, min, length, append-nil, arith, inl, inr, ◌⊎◌}
+use Rattle.std.proofs.lemmas.Bool.{cases_lt}
 use Rattle.std.proofs.lemmas.List.{take_min}
+use Rattle.std.specs.List.{All}
+use Rattle.std.proofs.lemmas.List.Elements.{All-cons, All-head, All-nil}
+use Rattle.qrencode_cli.specs.Drawings.{HaveOneSide}
 use Rattle.clap.specs.Walk.{Text}
 use Rattle.qr_bits.specs.declared.segment.TheConstants.{INPUT_MAX}
+use Rattle.qr_layout.specs.Versions.{side_of}
+use Rattle.qr_symbol.specs.declared.fault.EncodeFault.{EncodeFault}
+use Rattle.qr_symbol.specs.declared.fault.EncodeFault.TheVariants as encode
+use Rattle.qr_symbol.specs.declared.symbol.Symbol.{Symbol}
 use Rattle.qr_symbol.specs.Grid.{Grid}
+use Rattle.qr_symbol.specs.Joining.{AreReadings, IsJoined}
+use Rattle.qr_symbol.specs.Reading.{IsReadBack}
+use Rattle.qr_symbol.specs.Series.{IsSeries, squares_of}
+use Rattle.qr_symbol.proofs.SeriesLemmas.{long-has-no-series}
+use Rattle.qr_symbol.proofs.SizeLemmas.{series-few, series-side, series-some}
 use Rattle.qrencode_cli.specs.Answer.{Asks, Gives, IsDrawing, IsFault, Reads, ReadsFor, input_for}
 use Rattle.qrencode_cli.specs.Device.{Reader}
-use Rattle.qrencode_cli.specs.Drawings.{text_drawing}
-use Rattle.qrencode_cli.specs.declared.text_drawing.Cells.TheVariants.{Plain}
 use Rattle.qrencode_cli.specs.Input.{IsInputOf}
 use Rattle.qrencode_cli.specs.Settings.{Refusal, Seen, settings_for}
-use Rattle.qrencode_cli.specs.Steps.{IsEarly, IsInputFault, Prepares, drawing_of}
-use Rattle.qr_symbol.specs.Symbols.{IsSymbol}
+use Rattle.qrencode_cli.specs.Steps.{AreDrawnFor, IsEarly, IsInputFault, Prepares, drawing_of, told}
+use Rattle.qr_symbol.specs.Symbols.{HasNoVersion, IsSymbol}
 use Rattle.qr_bits.proofs.Counts.{fitting_short}
 use Rattle.std.proofs.lemmas.Grind.{common_steps}
-use Rattle.qrencode_cli.specs.Symbols.{smallest_of}
+use Rattle.qrencode_cli.specs.Symbols.{AreSquares, IsSquareOf, smallest_of}
 use Rattle.qrencode_cli.specs.Usage.{IsUsageFault}
 use Rattle.qrencode_cli.specs.declared.command.Fault.{Fault}
 use Rattle.qrencode_cli.specs.declared.command.Fault.TheVariants as fault
-use Rattle.qrencode_cli.specs.declared.command.Picture.{Picture}
-use Rattle.qrencode_cli.specs.declared.drawing.Drawing.TheVariants.{Ascii}
+use Rattle.qrencode_cli.specs.declared.picture.Picture.{Picture}
 use Rattle.qrencode_cli.specs.declared.settings.UsageFault.{UsageFault}
 
 -- some input that the reader may give
@@ -38,19 +48,66 @@ input_for-string s text given buf n e is cut =
 pub input_for-reader : (s : Seen) (given : List ℕ) → s.string ≡ None → input_for s given ≡ given
 input_for-reader s given e = rw e refl
 
--- the one symbol of an input, drawn with a margin, is what the settings ask for
-pub IsDrawing-one : (s : Seen) (input : List ℕ) (smallest version mask : ℕ) (g : Grid) → s.kind ≡ Ascii → 1 ≤ smallest → smallest ≡ smallest_of s
-    → (input ≡ [] → ⊥) → IsSymbol input s.level smallest s.bytes_only version mask g → IsDrawing s input (text_drawing Plain s.margin g)
-IsDrawing-one s input smallest version mask g kind least e some symbol =
-    let from = symbol.version.least in
-    let few : length input ≤ 7089 = fitting_short version s.level s.bytes_only input (omega arith) symbol.version.most symbol.version.fits in
-    record {
-      squares = g ∷ [];
-      symbols = (g, record { version = version; mask = mask; symbol = rw (← e) symbol }, refl);
-      some = grind (arith, common_steps);
+-- a symbol that is read as the input is joined to it
+joined-one : (input : List ℕ) (v : ℕ) (b : Bool) (g : Grid) → IsReadBack input v b g → IsJoined (g ∷ []) input
+unfolding AreReadings
+joined-one input v b g h = record {
+  contents = record { header = None; segments = h.0; bytes = input } ∷ [];
+  read = (h.2, tt);
+  together = inl refl;
+  joined = sym (append-nil input);
+}
+
+-- squares of this side are of one side
+one-side : (squares : List Grid) (side : ℕ) → All (λ g. g.side ≡ side) squares → HaveOneSide squares
+one-side [] side h = All-nil (λ k. k.side ≡ 0)
+one-side (g ∷ gs) side h =
+    let e : g.side ≡ side = All-head (λ k. k.side ≡ side) g gs h in
+    subst (λ (n : ℕ). All (λ k. k.side ≡ n) (g ∷ gs)) (sym e) h
+
+-- the one symbol of an input is what the settings ask for
+pub drawn-for-one : (s : Seen) (input : List ℕ) (version : ℕ) (symbol : Symbol) (symbols : List Symbol) → s.structured ≡ false → 1 ≤ version
+    → version ≡ smallest_of s → (input ≡ [] → ⊥) → IsSymbol input s.level version s.bytes_only symbol.version symbol.mask symbol.matrix
+    → IsReadBack input symbol.version s.bytes_only symbol.matrix → symbols ≡ symbol ∷ [] → AreDrawnFor s input symbols
+drawn-for-one s input version symbol symbols one least e some made read alone =
+    let from = made.version.least in
+    let few : length input ≤ 7089 = fitting_short symbol.version s.level s.bytes_only input (omega arith) made.version.most made.version.fits in
+    let square : IsSquareOf s input symbol.matrix = record { version = symbol.version; mask = symbol.mask; symbol = rw (← e) made } in
+    rw alone (record {
+      asked = subst (λ (b : Bool). AreSquares b s input (symbol.matrix ∷ [])) (sym one) (symbol.matrix, square, refl);
+      joined = joined-one input symbol.version s.bytes_only symbol.matrix read;
+      nonempty = grind (arith, common_steps);
       short = omega arith;
-      is_drawn = rw kind (sym (append-nil (text_drawing Plain s.margin g)));
-    }
+      some = omega arith;
+      few = omega arith;
+      one_side = All-cons (λ g. g.side ≡ symbol.matrix.side) symbol.matrix [] refl (All-nil (λ g. g.side ≡ symbol.matrix.side));
+    })
+
+-- why there is no one symbol is why the input has no drawing
+pub told-one : (s : Seen) (input : List ℕ) (e : EncodeFault) → s.structured ≡ false → (e ≡ encode.Empty → input ≡ [])
+    → (e ≡ encode.TooLong → HasNoVersion input s.level (smallest_of s) s.bytes_only)
+    → (e ≡ encode.Empty) ⊎ ((e ≡ encode.TooLong) ⊎ (e ≡ encode.Memory)) → IsInputFault s input (told e)
+told-one s input encode.Empty one empty long only = empty refl
+told-one s input encode.TooLong one empty long only = (one, long refl)
+told-one s input encode.TooMany one empty long only = elim only [ inl e ↦ absurd (cc) | inr w ↦ elim w [ inl e ↦ absurd (cc) | inr e ↦ absurd (cc) ] ]
+told-one s input encode.Memory one empty long only = tt
+
+-- the series of an input is what the settings ask for
+pub drawn-for-series : (s : Seen) (input : List ℕ) (version : ℕ) (symbols : List Symbol) → s.structured ≡ true → 1 ≤ version → version ≤ 40
+    → version ≡ smallest_of s → (input ≡ [] → ⊥) → IsSeries input s.level s.bytes_only version symbols
+    → IsJoined (squares_of symbols) input → AreDrawnFor s input symbols
+drawn-for-series s input version symbols many least most e some series joined = record {
+  asked = subst (λ (b : Bool). AreSquares b s input (squares_of symbols)) (sym many) (record { symbols = symbols; series = rw (← e) series; theirs = refl });
+  joined = joined;
+  nonempty = grind (arith, common_steps);
+  short = elim (cases_lt (length input) INPUT_MAX) [
+    | inl i ↦ i
+    | inr i ↦ absurd (long-has-no-series input s.level s.bytes_only version symbols least most (omega arith) series)
+  ];
+  some = series-some input s.level s.bytes_only version symbols series;
+  few = series-few input s.level s.bytes_only version symbols series;
+  one_side = one-side (squares_of symbols) (side_of version) (series-side input s.level s.bytes_only version symbols series);
+}
 
 -- where nothing was read, nothing was read for the words
 reads-nothing : (o : Result Seen Refusal) (in0 : Reader) (given : List ℕ) (u : UsageFault)
@@ -82,6 +139,7 @@ module _ (words : List Text) (s : Seen) (taken : settings_for words ≡ Ok s) wh
   answer-for given input (Err fault.Read) e h = absurd h
   answer-for given input (Err fault.Empty) e h = (record { settings = s; taken = taken; because = rw e h }, tt)
   answer-for given input (Err fault.TooLong) e h = (record { settings = s; taken = taken; because = rw e h }, tt)
+  answer-for given input (Err fault.TooMany) e h = (record { settings = s; taken = taken; because = rw e h }, tt)
   answer-for given input (Err fault.Memory) e h = (tt, tt)
   answer-for given input (Err fault.Write) e h = absurd h
 
@@ -119,6 +177,7 @@ module _ (words : List Text) (s : Seen) (taken : settings_for words ≡ Ok s) wh
       gives-for (Err fault.Read) h = absurd h
       gives-for (Err fault.Empty) h = gives
       gives-for (Err fault.TooLong) h = gives
+      gives-for (Err fault.TooMany) h = gives
       gives-for (Err fault.Memory) h = tt
       gives-for (Err fault.Write) h = absurd h
 

@@ -2,6 +2,7 @@ mod Asking
 mod Lines
 mod Matching
 mod NumberIn
+mod Paths
 mod Reading
 mod Running
 mod Sending

@@ -4,7 +4,7 @@ use Rattle.std.specs.List.{flat_map, range_with_len}
 use Rattle.std.proofs.lemmas.Grind.{flat_map-append}
 use Rattle.std.proofs.lemmas.List.{take_more, take-append-drop}
 use Rattle.qrencode_cli.specs.Device.{Writer}
-use Rattle.qrencode_cli.specs.Drawings.{texts_below}
+use Rattle.qrencode_cli.specs.Rasters.{texts_below}
 use Rattle.qrencode_cli.specs.Writing.{Stops, Writes}
 use Rattle.qrencode_cli.specs.declared.pen.DrawFault.{DrawFault}
 use Rattle.qrencode_cli.proofs.Writing.{stops_before, writes_none, writes_on, writes_stop}
@@ -18,7 +18,7 @@ range-more a (suc n) =
     rw (e, f) (ap (λ l. a ∷ l) (range-more (a + 1) n))
 
 -- the texts of n + 1 places are those of n places and one more
-texts_below-more : (n : ℕ) (text : ℕ → List ℕ) → texts_below (n + 1) text ≡ texts_below n text ++ text n
+pub texts_below-more : (n : ℕ) (text : ℕ → List ℕ) → texts_below (n + 1) text ≡ texts_below n text ++ text n
 unfolding texts_below
 texts_below-more n text =
     let e : 0 + n ≡ n = omega arith in

@@ -8,7 +8,7 @@ use Rattle.qrencode_cli.specs.Settings.{Refusal, Seen, settings_for}
 use Rattle.qrencode_cli.specs.Steps.{Attempts, IsEarly, Prepares, drawing_of}
 use Rattle.qrencode_cli.specs.declared.command.Fault.{Fault}
 use Rattle.qrencode_cli.specs.declared.command.Fault.TheVariants as fault
-use Rattle.qrencode_cli.specs.declared.command.Picture.{Picture}
+use Rattle.qrencode_cli.specs.declared.picture.Picture.{Picture}
 use Rattle.qrencode_cli.specs.declared.pen.DrawFault.{DrawFault}
 
 -- showing a picture reads nothing more
@@ -50,6 +50,7 @@ shows-nothing words given out0 (fault.Usage u) h = refl
 shows-nothing words given out0 fault.Read h = refl
 shows-nothing words given out0 fault.Empty h = refl
 shows-nothing words given out0 fault.TooLong h = refl
+shows-nothing words given out0 fault.TooMany h = refl
 shows-nothing words given out0 fault.Memory h = refl
 shows-nothing words given out0 fault.Write h = absurd h
 
@@ -64,6 +65,7 @@ reads-fault (Ok s) in0 in1 given f h = on s.string h
     same fault.Read h = h
     same fault.Empty h = h
     same fault.TooLong h = h
+    same fault.TooMany h = h
     same fault.Memory h = h
     same fault.Write h = h
 

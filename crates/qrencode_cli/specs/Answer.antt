@@ -7,12 +7,13 @@ use Rattle.std.specs.Io.KnownBytes.{Appends, Consumes}
 use Rattle.clap.specs.Walk.{Text}
 use Rattle.qr_bits.specs.declared.segment.TheConstants.{INPUT_MAX}
 use Rattle.qr_symbol.specs.Grid.{Grid}
+use Rattle.qr_symbol.specs.Joining.{IsJoined}
 use Rattle.qrencode_cli.specs.declared.pen.TheConstants.{PIECE}
 use Rattle.qrencode_cli.specs.Device.{AppendsBeginning, IsReadWithin, IsWrittenWithin, Reader, Writer, counted, is_read_fault, is_write_fault, no_reads, no_writes}
-use Rattle.qrencode_cli.specs.Drawings.{IsDrawn}
+use Rattle.qrencode_cli.specs.Drawings.{drawn}
 use Rattle.qrencode_cli.specs.Input.{IsInputOf}
 use Rattle.qrencode_cli.specs.Settings.{Refusal, Seen, settings_for}
-use Rattle.qrencode_cli.specs.Symbols.{AreSymbols, IsTooLong}
+use Rattle.qrencode_cli.specs.Symbols.{AreSymbols, IsTooLong, IsTooMany}
 use Rattle.qrencode_cli.specs.Usage.{IsUsageFault}
 use Rattle.qrencode_cli.specs.declared.command.Fault.{Fault}
 use Rattle.qrencode_cli.specs.declared.command.Fault.TheVariants as fault
@@ -23,13 +24,15 @@ use Rattle.qrencode_cli.specs.declared.settings.UsageFault.TheVariants as usage
 abbrev pub input_for : Seen → List ℕ → List ℕ
 input_for s given = option_map_or (λ text. take INPUT_MAX text) s.string given
 
--- the settings ask for this drawing of an input: that of its symbols [own]
+-- the settings ask for this drawing of an input: that of its symbols. They are read and joined to the input, and the
+-- input is shorter than what is read, so nothing of it was cut [own]
 pub record IsDrawing (s : Seen) (input drawing : List ℕ) : Type 0 where
   pub squares : List Grid
   pub symbols : AreSymbols s input squares
+  pub joined : IsJoined squares input
   pub some : 0 < length input
   pub short : length input < INPUT_MAX
-  pub is_drawn : IsDrawn s.kind s.margin squares drawing
+  pub is_drawn : drawing ≡ drawn s.kind s.margin squares
 
 -- the words and the input ask for this drawing [own]
 pub record Asks (words : List Text) (given drawing : List ℕ) : Type 0 where
@@ -55,6 +58,7 @@ IsFault words given (fault.Usage u) = IsUsageFault (settings_for words) u
 IsFault words given fault.Read = AsksReader words
 IsFault words given fault.Empty = Refuses words given (λ s input. input ≡ [])
 IsFault words given fault.TooLong = Refuses words given IsTooLong
+IsFault words given fault.TooMany = Refuses words given IsTooMany
 IsFault words given fault.Memory = Unit {0}
 IsFault words given fault.Write = (drawing : List ℕ) × Asks words given drawing
 
@@ -77,6 +81,7 @@ Shows words given old new (Err (fault.Usage u)) = new ≡ old
 Shows words given old new (Err fault.Read) = new ≡ old
 Shows words given old new (Err fault.Empty) = new ≡ old
 Shows words given old new (Err fault.TooLong) = new ≡ old
+Shows words given old new (Err fault.TooMany) = new ≡ old
 Shows words given old new (Err fault.Memory) = new ≡ old
 Shows words given old new (Err fault.Write) = (drawing : List ℕ) × Asks words given drawing × Breaks old new drawing
 
@@ -93,6 +98,7 @@ Reads old new given (Err (fault.Usage u)) = new ≡ old
 Reads old new given (Err fault.Read) = Unit {0}
 Reads old new given (Err fault.Empty) = Gives old new given
 Reads old new given (Err fault.TooLong) = Gives old new given
+Reads old new given (Err fault.TooMany) = Gives old new given
 Reads old new given (Err fault.Memory) = Unit {0}
 Reads old new given (Err fault.Write) = Gives old new given
 
@@ -115,6 +121,7 @@ line_of (fault.Usage u) = usage_line u
 line_of fault.Read = codes "qrencode: read error\n"
 line_of fault.Empty = codes "qrencode: input is empty\n"
 line_of fault.TooLong = codes "qrencode: input does not fit\n"
+line_of fault.TooMany = codes "qrencode: more than 16 symbols\n"
 line_of fault.Memory = codes "qrencode: out of memory\n"
 line_of fault.Write = codes "qrencode: write error\n"
 
@@ -136,6 +143,7 @@ is_read (Err (fault.Usage u)) = false
 is_read (Err fault.Read) = true
 is_read (Err fault.Empty) = false
 is_read (Err fault.TooLong) = false
+is_read (Err fault.TooMany) = false
 is_read (Err fault.Memory) = false
 is_read (Err fault.Write) = false
 
@@ -146,6 +154,7 @@ is_write (Err (fault.Usage u)) = false
 is_write (Err fault.Read) = false
 is_write (Err fault.Empty) = false
 is_write (Err fault.TooLong) = false
+is_write (Err fault.TooMany) = false
 is_write (Err fault.Memory) = false
 is_write (Err fault.Write) = true
 

@@ -1,30 +1,13 @@
 -- The drawings, as texts of a finished picture. Public clauses cite this file.
-use Rattle.std.specs.Prelude.{◌≡◌, ℕ, ◌+◌, ◌-◌, ◌*◌, ◌/◌, Bool, not, ◌&&◌, nat_le, nat_lt, if◌then◌else◌, List, [], ◌∷◌, ◌++◌, map}
-use Rattle.std.specs.List.{flat_map, range_with_len}
-use Rattle.qr_symbol.specs.Grid.{Grid, colour}
-use Rattle.qr_symbol.specs.declared.symbol.Symbol.{Symbol}
+use Rattle.std.specs.Prelude.{◌≡◌, ℕ, ◌+◌, ◌*◌, ◌/◌, Bool, not, if◌then◌else◌, List, [], ◌∷◌, ◌++◌}
+use Rattle.std.specs.List.{All, flat_map}
+use Rattle.qr_symbol.specs.Grid.{Grid}
 use Rattle.qrencode_cli.specs.declared.drawing.Drawing.{Drawing}
 use Rattle.qrencode_cli.specs.declared.drawing.Drawing.TheVariants.{Ascii, AsciiInverse, Utf8, Svg}
+use Rattle.qrencode_cli.specs.Rasters.{is_dark_at, raster_width, texts_below}
+use Rattle.qrencode_cli.specs.Svg.{square_at, svg_document}
 use Rattle.qrencode_cli.specs.declared.text_drawing.Cells.{Cells}
 use Rattle.qrencode_cli.specs.declared.text_drawing.Cells.TheVariants.{Plain, Inverse, HalfBlocks}
-
--- the texts of the places below n, one after the other
-unfoldable pub texts_below : ℕ → (ℕ → List ℕ) → List ℕ
-texts_below n text = flat_map text (range_with_len 0 n)
-
--- how many modules a raster is wide and high: the symbol and its margin on both sides [own]
-abbrev pub raster_width : ℕ → Grid → ℕ
-raster_width margin g = 2 * margin + g.side
-
--- a place of the raster is dark where a module of the symbol is; the margin is light (ISO/IEC 18004:2015, 6.3.8)
-unfoldable pub is_dark_at : ℕ → Grid → ℕ → ℕ → Bool
-is_dark_at margin g y x =
-    nat_le margin y && nat_lt y (margin + g.side) && nat_le margin x && nat_lt x (margin + g.side)
-    && colour g (y - margin) (x - margin)
-
--- the squares of symbols [own]
-abbrev pub squares_of : List Symbol → List Grid
-squares_of symbols = map (λ s. s.matrix) symbols
 
 -- a dark module is `##`, a light one two spaces [own]
 abbrev pub ascii_module : Bool → List ℕ
@@ -58,9 +41,13 @@ abbrev pub text_drawing : Cells → ℕ → Grid → List ℕ
 text_drawing cells margin g =
     texts_below (line_count cells (raster_width margin g)) (λ y. line_of cells margin g y ++ 10 ∷ [])
 
--- the text is the drawing of symbols, one after the other [own]
-abbrev pub IsDrawn : Drawing → ℕ → List Grid → List ℕ → Type 0
-IsDrawn Ascii margin squares text = text ≡ flat_map (text_drawing Plain margin) squares
-IsDrawn AsciiInverse margin squares text = text ≡ flat_map (text_drawing Inverse margin) squares
-IsDrawn Utf8 margin squares text = text ≡ flat_map (text_drawing HalfBlocks margin) squares
-IsDrawn Svg margin squares text = ⊥
+-- the squares are of one side, that of the first [own]
+abbrev pub HaveOneSide : List Grid → Type 0
+HaveOneSide squares = All (λ g. g.side ≡ (square_at squares 0).side) squares
+
+-- the drawing of symbols: their texts one after the other, or one document [own]
+abbrev pub drawn : Drawing → ℕ → List Grid → List ℕ
+drawn Ascii margin squares = flat_map (text_drawing Plain margin) squares
+drawn AsciiInverse margin squares = flat_map (text_drawing Inverse margin) squares
+drawn Utf8 margin squares = flat_map (text_drawing HalfBlocks margin) squares
+drawn Svg margin squares = svg_document margin squares

@@ -4,9 +4,11 @@ pub mod Device
 pub mod Drawings
 pub mod Input
 pub mod Pens
+pub mod Rasters
 pub mod Rows
 pub mod Settings
 pub mod Steps
+pub mod Svg
 pub mod Symbols
 pub mod Trial
 pub mod Usage

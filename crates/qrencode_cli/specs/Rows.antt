@@ -1,9 +1,9 @@
 -- What some command lines ask for. A public law cites this file.
 use Rattle.std.specs.Prelude.{◌≡◌, List, [], ◌∷◌, codes, Some, None, Ok, Err, true, false}
 use Rattle.clap.specs.Walk.{Text}
-use Rattle.qr_layout.specs.declared.level.Level.TheVariants.{H, L}
-use Rattle.qrencode_cli.specs.Settings.{Refusal, no_matches, settings_for, unknown_level, unknown_type}
-use Rattle.qrencode_cli.specs.declared.drawing.Drawing.TheVariants.{Ascii}
+use Rattle.qr_layout.specs.declared.level.Level.TheVariants.{H, L, M, Q}
+use Rattle.qrencode_cli.specs.Settings.{Refusal, needs_version, no_matches, settings_for, unknown_level, unknown_type}
+use Rattle.qrencode_cli.specs.declared.drawing.Drawing.TheVariants.{Ascii, AsciiInverse, Svg, Utf8}
 
 -- the words are refused, the program's name left aside
 abbrev pub Refused : List Text → Refusal → Type 0
@@ -65,11 +65,39 @@ pub record RowsOfWords : Type 0 where
     structured = false;
     string = Some (codes "");
   })
+  pub in_half_blocks : settings_for (codes "qrencode" ∷ codes "-t" ∷ codes "utf8" ∷ codes "-l" ∷ codes "h" ∷ codes "A" ∷ []) ≡ Ok (record {
+    level = H;
+    smallest = None;
+    kind = Utf8;
+    margin = 4;
+    bytes_only = false;
+    structured = false;
+    string = Some (codes "A");
+  })
+  pub in_a_series : settings_for (codes "qrencode" ∷ codes "-l" ∷ codes "Q" ∷ codes "-v" ∷ codes "2" ∷ codes "-m" ∷ codes "0" ∷ codes "-8" ∷ codes "-S"
+      ∷ codes "-t" ∷ codes "svg" ∷ codes "A" ∷ []) ≡ Ok (record {
+        level = Q;
+        smallest = Some 2;
+        kind = Svg;
+        margin = 0;
+        bytes_only = true;
+        structured = true;
+        string = Some (codes "A");
+      })
+  pub inverse : settings_for (codes "qrencode" ∷ codes "-l" ∷ codes "m" ∷ codes "-t" ∷ codes "asciiI" ∷ []) ≡ Ok (record {
+    level = M;
+    smallest = None;
+    kind = AsciiInverse;
+    margin = 4;
+    bytes_only = false;
+    structured = false;
+    string = None;
+  })
   pub no_words : settings_for [] ≡ Err no_matches
   pub name_alone : Refused [] no_matches
   pub no_type : Refused (codes "-8" ∷ []) no_matches
   pub other_type : Refused (codes "-t" ∷ codes "PNG" ∷ []) unknown_type
-  pub drawing_to_come : Refused (codes "-t" ∷ codes "SVG" ∷ []) unknown_type
+  pub type_before_version : Refused (codes "-S" ∷ codes "-t" ∷ codes "PNG" ∷ []) unknown_type
   pub empty_type : Refused (codes "-t" ∷ codes "" ∷ []) unknown_type
   pub other_level : Refused (codes "-l" ∷ codes "X" ∷ codes "-t" ∷ codes "PNG" ∷ []) unknown_level
   pub empty_level : Refused (codes "-l" ∷ codes "" ∷ codes "-t" ∷ codes "ASCII" ∷ []) unknown_level
@@ -79,7 +107,9 @@ pub record RowsOfWords : Type 0 where
   pub flag_twice : Refused (codes "-8" ∷ codes "-8" ∷ codes "-t" ∷ codes "ASCII" ∷ []) no_matches
   pub two_strings : Refused (codes "-t" ∷ codes "ASCII" ∷ codes "a" ∷ codes "b" ∷ []) no_matches
   pub past_margins : Refused (codes "-m" ∷ codes "101" ∷ codes "-t" ∷ codes "ASCII" ∷ []) no_matches
-  pub structured : Refused (codes "-S" ∷ codes "-t" ∷ codes "ASCII" ∷ []) no_matches
+  pub no_version : Refused (codes "-S" ∷ codes "-t" ∷ codes "ASCII" ∷ []) needs_version
+  pub version_0 : Refused (codes "-S" ∷ codes "-v" ∷ codes "0" ∷ codes "-t" ∷ codes "ASCII" ∷ []) needs_version
+  pub series_twice : Refused (codes "-S" ∷ codes "-S" ∷ codes "-v" ∷ codes "1" ∷ codes "-t" ∷ codes "ASCII" ∷ []) no_matches
   pub kanji : Refused (codes "-k" ∷ codes "-t" ∷ codes "ASCII" ∷ []) no_matches
   pub folding : Refused (codes "-i" ∷ codes "-t" ∷ codes "ASCII" ∷ []) no_matches
   pub long_name : Refused (codes "--type" ∷ codes "ASCII" ∷ []) no_matches

@@ -1,6 +1,6 @@
 -- What the words ask for. Public clauses cite this file.
 use Rattle.std.specs.Prelude.{◌&&◌, ℕ, Bool, false, nat_le, List, [], ◌∷◌, Option, Some, None, Result, Ok, Err, codes, if◌then◌else◌}
-use Rattle.std.specs.Option.{option_map_or}
+use Rattle.std.specs.Option.{is_none, option_map_or}
 use Rattle.std.specs.Str.{bytes_eq, str_eq_ignore_ascii_case}
 use Rattle.clap.specs.Words.{Kinds, first_of, one_of}
 use Rattle.clap.specs.Walk.{Row, Text, byte_or_zero}
@@ -42,7 +42,11 @@ level_at (Some t) = level_named t
 
 -- the type of drawing that a word names, in either case of its ASCII letters [own]
 abbrev pub drawing_named : Text → Option Drawing
-drawing_named t = if str_eq_ignore_ascii_case t (codes "ascii") then Some drawing.Ascii else None
+drawing_named t =
+    if str_eq_ignore_ascii_case t (codes "ascii") then Some drawing.Ascii else
+    (if str_eq_ignore_ascii_case t (codes "asciii") then Some drawing.AsciiInverse else
+    (if str_eq_ignore_ascii_case t (codes "utf8") then Some drawing.Utf8 else
+    (if str_eq_ignore_ascii_case t (codes "svg") then Some drawing.Svg else None)))
 
 -- the type of drawing that is asked for [own]
 abbrev pub drawing_at : Option Text → Option Drawing
@@ -65,7 +69,7 @@ version_at o = version_numbered (number_at 0 o)
 abbrev pub flag_at : Option Text → Bool
 flag_at o = option_map_or (λ t. bytes_eq t (codes "true")) o false
 
--- the settings, once level and type are known; a series of symbols is not to be chosen yet [own]
+-- the settings, once level and type are known [own]
 abbrev pub settings_with : List Row → Level → Drawing → Seen
 settings_with rows level kind = record {
   level = level;
@@ -73,14 +77,18 @@ settings_with rows level kind = record {
   kind = kind;
   margin = number_at 4 (one_of (codes "margin") rows);
   bytes_only = flag_at (first_of (codes "bytes-only") rows);
-  structured = false;
+  structured = flag_at (first_of (codes "structured") rows);
   string = first_of (codes "string") rows;
 }
 
--- the type is looked at [own]
+-- a series needs a version, which is looked at last [own]
+abbrev pub checked_series : Seen → Result Seen Refusal
+checked_series s = if s.structured && is_none s.smallest then Err needs_version else Ok s
+
+-- the type is looked at before that [own]
 abbrev pub checked_kind : Option Drawing → (Drawing → Seen) → Result Seen Refusal
 checked_kind None settings = Err unknown_type
-checked_kind (Some kind) settings = Ok (settings kind)
+checked_kind (Some kind) settings = checked_series (settings kind)
 
 -- the level is looked at before the type [own]
 abbrev pub checked_level : Option Level → Option Drawing → (Level → Drawing → Seen) → Result Seen Refusal

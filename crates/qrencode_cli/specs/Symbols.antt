@@ -1,10 +1,12 @@
 -- The symbols that the settings ask for of an input. Public clauses cite this file.
-use Rattle.std.specs.Prelude.{◌≡◌, ℕ, List, [], ◌∷◌, unwrap_or}
+use Rattle.std.specs.Prelude.{◌≡◌, ℕ, Bool, true, false, List, [], ◌∷◌, unwrap_or}
+use Rattle.qr_symbol.specs.declared.symbol.Symbol.{Symbol}
 use Rattle.qr_symbol.specs.Grid.{Grid}
 use Rattle.qr_symbol.specs.Symbols.{HasNoVersion, IsSymbol}
+use Rattle.qr_symbol.specs.Series.{HasNoSeries, IsSeries, squares_of}
 use Rattle.qrencode_cli.specs.Settings.{Seen}
 
--- the smallest version that may serve: that of the words, or else 1 [own]
+-- the smallest version that may serve, and that of a series: the version of the words, or else 1 [own]
 abbrev pub smallest_of : Seen → ℕ
 smallest_of s = unwrap_or s.smallest 1
 
@@ -14,10 +16,25 @@ pub record IsSquareOf (s : Seen) (input : List ℕ) (square : Grid) : Type 0 whe
   pub mask : ℕ
   pub symbol : IsSymbol input s.level (smallest_of s) s.bytes_only version mask square
 
--- the squares of the symbols that the settings ask for: for now one symbol [own]
-abbrev pub AreSymbols : Seen → List ℕ → List Grid → Type 0
-AreSymbols s input squares = (square : Grid) × IsSquareOf s input square × (squares ≡ square ∷ [])
+-- the squares are those of the input's series [own]
+pub record AreSquaresOf (s : Seen) (input : List ℕ) (squares : List Grid) : Type 0 where
+  pub symbols : List Symbol
+  pub series : IsSeries input s.level s.bytes_only (smallest_of s) symbols
+  pub theirs : squares ≡ squares_of symbols
 
--- the input fits no symbol of the settings' level, from their smallest version on [own]
+-- the squares are those of the input's series, where a series is asked for, or else that of its symbol [own]
+abbrev pub AreSquares : (structured : Bool) → Seen → List ℕ → List Grid → Type 0
+AreSquares true s input squares = AreSquaresOf s input squares
+AreSquares false s input squares = (square : Grid) × IsSquareOf s input square × (squares ≡ square ∷ [])
+
+-- the squares are those of the symbols that the settings ask for [own]
+abbrev pub AreSymbols : Seen → List ℕ → List Grid → Type 0
+AreSymbols s input squares = AreSquares s.structured s input squares
+
+-- one symbol is asked for, and the input fits none of the settings' level, from their smallest version on [own]
 abbrev pub IsTooLong : Seen → List ℕ → Type 0
-IsTooLong s input = HasNoVersion input s.level (smallest_of s) s.bytes_only
+IsTooLong s input = (s.structured ≡ false) × HasNoVersion input s.level (smallest_of s) s.bytes_only
+
+-- a series is asked for, and the input has none of the settings' level and version [own]
+abbrev pub IsTooMany : Seen → List ℕ → Type 0
+IsTooMany s input = (s.structured ≡ true) × HasNoSeries input s.level s.bytes_only (smallest_of s)

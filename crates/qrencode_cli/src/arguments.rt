@@ -72,7 +72,7 @@ fn bare<'a>(alloc: Global) -> Command<'a>
     ensures { app_of result ≡ new_app (codes "qrencode") }
 {
     Command::new(alloc, "qrencode").about(
-        "Draws standard input as a QR Code symbol on standard output",
+        "Draws standard input as QR Code symbols on standard output",
     )
 }
 
@@ -87,14 +87,14 @@ const VERSION: Name<'static> = Name {
     id: "version",
     short: 'v',
     value: "N",
-    help: "Smallest version of the symbol, 1 to 40, or 0 for any that fits [default: 0]",
+    help: "Smallest version of the symbol, 1 to 40, or 0 for any that fits; with -S the version [default: 0]",
 };
 
 const TYPE: Name<'static> = Name {
     id: "type",
     short: 't',
     value: "TYPE",
-    help: "Type of the drawing: ASCII",
+    help: "Type of the drawing: ASCII, ASCIIi, UTF8 or SVG",
 };
 
 const MARGIN: Name<'static> = Name {
@@ -111,6 +111,13 @@ const BYTES_ONLY: Name<'static> = Name {
     help: "Encode the whole input in byte mode",
 };
 
+const STRUCTURED: Name<'static> = Name {
+    id: "structured",
+    short: 'S',
+    value: "",
+    help: "Draw a series of up to 16 symbols where one does not hold the input; needs -v",
+};
+
 // The command with its arguments.
 fn described<'a>(alloc: Global) -> Result<Command<'a>, AllocError>
     ensures { IfOk result (λ c. app_of c ≡ command) }
@@ -120,7 +127,8 @@ fn described<'a>(alloc: Global) -> Result<Command<'a>, AllocError>
     let with_type = with_version.arg(required(alloc, TYPE))?;
     let with_margin = with_type.arg(number(alloc, MARGIN, 100))?;
     let with_bytes_only = with_margin.arg(flag(alloc, BYTES_ONLY))?;
-    with_bytes_only.arg(word(
+    let with_structured = with_bytes_only.arg(flag(alloc, STRUCTURED))?;
+    with_structured.arg(word(
         alloc,
         "string",
         "STRING",

@@ -1,24 +1,24 @@
 //! The whole command: words, input, symbol, drawing, and the line of a fault.
 
-ghost use Rattle.std.specs.Prelude.{◌≡◌, ◌≤◌, ◌+◌, ◌⊎◌, Err, OnOk, OnErr, IfErr, max, length, map, true};
+ghost use Rattle.std.specs.Prelude.{◌≡◌, ◌≤◌, ◌<◌, ◌+◌, ◌⊎◌, Err, OnOk, OnErr, IfErr, max, length, map, true};
 ghost use Rattle.std.specs.Prelude.{MatchResult, Result};
 ghost use Rattle.std.specs.Io.KnownBytes.{Appends};
 ghost use Rattle.std.specs.String.{string_bytes};
 ghost use Rattle.qrencode_cli.specs.Answer.{Breaks, Draws, IsDrawing, Runs, is_read, is_write, line_of};
 ghost use Rattle.qrencode_cli.specs.Device.{IsReadWithin, IsWrittenWithin, is_read_fault, is_write_fault, no_reads, no_writes, reader, writer};
-ghost use Rattle.qrencode_cli.specs.Steps.{Attempts, IsInputFault, Prepares, drawing_of};
+ghost use Rattle.qrencode_cli.specs.Steps.{AreDrawnFor, Attempts, IsInputFault, Prepares, drawing_of};
 ghost use Rattle.qrencode_cli.specs.Usage.{seen};
 ghost use Rattle.qrencode_cli.specs.declared.command.Fault.{Fault};
-ghost use Rattle.qrencode_cli.specs.declared.drawing.Drawing.TheVariants.{Ascii};
 
 use crate::device::{Sink, Source};
-use crate::drawing::draw_ascii;
+use crate::drawing::draw;
 use crate::input::{InputFault, read_input};
 use crate::pen::{PIECE, write_text};
+use crate::picture::Picture;
 use crate::settings::{Settings, UsageFault, options};
 use qr_bits::INPUT_MAX;
 use qr_layout::Version;
-use qr_symbol::{EncodeFault, Matrix, encode};
+use qr_symbol::{EncodeFault, Symbol, encode, encode_series};
 use std::alloc::Global;
 
 /// Why the command draws nothing, or not all.
@@ -28,6 +28,7 @@ pub(crate) enum Fault {
     Read,
     Empty,
     TooLong,
+    TooMany,
     Memory,
     Write,
 }
@@ -46,37 +47,62 @@ impl Fault {
             Fault::Read => b"qrencode: read error\n",
             Fault::Empty => b"qrencode: input is empty\n",
             Fault::TooLong => b"qrencode: input does not fit\n",
+            Fault::TooMany => b"qrencode: more than 16 symbols\n",
             Fault::Write => b"qrencode: write error\n",
         }
     }
 }
 
-// What is to be drawn.
-#[derive(Drop)]
-struct Picture {
-    matrix: Matrix,
-    margin: u8,
+impl From<EncodeFault> for Fault {
+    ghost use Rattle.std.specs.Prelude.{◌≡◌};
+    ghost use Rattle.qrencode_cli.specs.Steps.{told};
+
+    ghost from_gives = { λ e f. f ≡ told e };
+
+    fn from(fault: EncodeFault) -> Self {
+        match fault {
+            EncodeFault::Empty => Fault::Empty,
+            EncodeFault::TooLong => Fault::TooLong,
+            EncodeFault::TooMany => Fault::TooMany,
+            EncodeFault::Memory => Fault::Memory,
+        }
+    }
 }
 
-// The picture of an input under the settings.
-fn make_picture(alloc: Global, input: &[u8], settings: &Settings) -> Result<Picture, Fault>
-    requires short { length input.now ≤ INPUT_MAX }
-    requires kind { settings.now.kind ≡ Ascii }
-    ensures { MatchResult result (λ p. IsDrawing (seen settings.now) input.now (drawing_of p))
+// The symbols that the settings ask for of an input.
+fn symbols_for(alloc: Global, input: &[u8], settings: &Settings) -> Result<Vec<Symbol>, Fault>
+    requires { length input.now ≤ INPUT_MAX }
+    ensures { MatchResult result (λ symbols. AreDrawnFor (seen settings.now) input.now symbols.items)
         (IsInputFault (seen settings.now) input.now) }
 {
     let Some(first) = Version::new(1) else {
         unreachable!()
     };
-    let smallest = settings.smallest.unwrap_or(first);
-    match encode(alloc, input, settings.level, smallest, settings.bytes_only) {
-        Ok(symbol) => Ok(Picture {
-            matrix: symbol.matrix,
+    let version = settings.smallest.unwrap_or(first);
+    if settings.structured {
+        let symbols = encode_series(alloc, input, version, settings.level, settings.bytes_only)?;
+        return Ok(symbols);
+    }
+    let symbol = encode(alloc, input, settings.level, version, settings.bytes_only)?;
+    match Vec::from_array(alloc, [symbol]) {
+        Ok(symbols) => Ok(symbols),
+        Err(_) => Err(Fault::Memory),
+    }
+}
+
+// The picture of an input under the settings.
+fn make_picture(alloc: Global, input: &[u8], settings: &Settings) -> Result<Picture, Fault>
+    requires { length input.now ≤ INPUT_MAX }
+    ensures { MatchResult result (λ p. IsDrawing (seen settings.now) input.now (drawing_of p))
+        (IsInputFault (seen settings.now) input.now) }
+{
+    match symbols_for(alloc, input, settings) {
+        Ok(symbols) => Ok(Picture {
+            symbols,
+            kind: settings.kind,
             margin: settings.margin,
         }),
-        Err(EncodeFault::Empty) => Err(Fault::Empty),
-        Err(EncodeFault::TooLong) => Err(Fault::TooLong),
-        Err(_) => Err(Fault::Memory),
+        Err(fault) => Err(fault),
     }
 }
 
@@ -115,7 +141,8 @@ fn show<W: Sink>(picture: &Picture, out: &mut W) -> Result<(), Fault>
     ensures within { W.counts out.old ≡ no_writes → IsWrittenWithin (W.counts out.new) }
     ensures offered { (W.counts out.new).offered ≤ max (W.counts out.old).offered PIECE }
 {
-    if draw_ascii(&picture.matrix, picture.margin, out).is_err() {
+    let drawn = draw(&picture.symbols, picture.kind, picture.margin, out);
+    if drawn.is_err() {
         return Err(Fault::Write);
     }
     if out.flush().is_err() {

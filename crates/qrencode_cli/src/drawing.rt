@@ -1,17 +1,19 @@
-//! The types of drawings, and drawing a symbol. The raster of a symbol is its square with a light
+//! The types of drawings, and drawing symbols. The raster of a symbol is its square with a light
 //! margin on all sides (ISO/IEC 18004:2015, 6.3.8).
 
 ghost use Rattle.std.specs.Prelude.{◌≡◌, ◌≤◌, ◌<◌, ◌+◌, ◌++◌, ◌∷◌, [], max, is_err, length, OnOk, OnErr};
 ghost use Rattle.std.specs.Io.KnownBytes.{Appends};
-ghost use Rattle.qr_symbol.specs.Grid.{Grid};
 ghost use Rattle.qrencode_cli.specs.Device.{AppendsBeginning, IsWrittenWithin, counted, is_write_fault, no_writes, writer};
-ghost use Rattle.qrencode_cli.specs.Drawings.{is_dark_at, raster_width, text_drawing};
-ghost use Rattle.qrencode_cli.specs.declared.text_drawing.Cells.TheVariants.{Plain};
+ghost use Rattle.qr_symbol.specs.Series.{squares_of};
+ghost use Rattle.qrencode_cli.specs.Drawings.{HaveOneSide, drawn};
+ghost use Rattle.qrencode_cli.specs.Pens.{Puts};
+ghost use Rattle.qrencode_cli.specs.Rasters.{is_dark_at, raster_width};
 
 use crate::device::Sink;
 use crate::pen::{DrawFault, PIECE, Pen};
-use crate::text_drawing::{Cells, put_lines};
-use qr_symbol::Matrix;
+use crate::svg::put_document;
+use crate::text_drawing::{Cells, put_texts};
+use qr_symbol::{Matrix, Symbol};
 
 /// A type of drawing.
 #[derive(Clone, Copy, Debug, PartialEq, Eq)]
@@ -35,7 +37,7 @@ pub(crate) fn raster_width(matrix: &Matrix, margin: u8) -> u16
 }
 
 // Whether a place of the raster is dark.
-#[tactic(auto, unfolding(crate::specs::Drawings::is_dark_at))]
+#[tactic(auto, unfolding(crate::specs::Rasters::is_dark_at))]
 pub(crate) fn is_dark_at(matrix: &Matrix, margin: u8, y: u16, x: u16) -> bool
     ensures { result ≡ is_dark_at margin matrix.now y x }
 {
@@ -50,18 +52,54 @@ pub(crate) fn is_dark_at(matrix: &Matrix, margin: u8, y: u16, x: u16) -> bool
     matrix.dark((y - first) as u8, (x - first) as u8)
 }
 
-/// Draws a symbol with a margin of up to 100 modules, `##` for a dark module. Takes no memory.
-pub(crate) fn draw_ascii<W: Sink>(matrix: &Matrix, margin: u8, out: &mut W) -> Result<(), DrawFault>
-    ensures ok { OnOk result (Appends (W.taken out.old) (W.taken out.new) (text_drawing Plain margin matrix.now)) }
-    ensures err { OnErr result (AppendsBeginning (W.taken out.old) (W.taken out.new) (text_drawing Plain margin matrix.now)) }
+// Puts the drawing of symbols.
+fn put_drawing<W: Sink>(
+    pen: &mut Pen,
+    out: &mut W,
+    symbols: &[Symbol],
+    kind: Drawing,
+    margin: u8,
+) -> Result<(), DrawFault>
+    requires some { 0 < length symbols.now }
+    requires few { length symbols.now ≤ 16 }
+    requires one_side { HaveOneSide (squares_of symbols.now) }
+    ensures { Puts (writer (W.taken out.old) (W.counts out.old)) (writer (W.taken out.new) (W.counts out.new))
+        pen.old pen.new (drawn kind margin (squares_of symbols.now)) result }
+{
+    match kind {
+        Drawing::Ascii => put_texts(pen, out, Cells::Plain, symbols, margin),
+        Drawing::AsciiInverse => put_texts(pen, out, Cells::Inverse, symbols, margin),
+        Drawing::Utf8 => put_texts(pen, out, Cells::HalfBlocks, symbols, margin),
+        Drawing::Svg => put_document(pen, out, symbols, margin),
+    }
+}
+
+/// Draws symbols of one side, 1 to 16 of them: as text one after the other, as a document one below
+/// the other. Each has a light margin of so many modules on all sides (ISO/IEC 18004:2015, 6.3.8).
+///
+/// Takes no memory, and offers the writer at most 1,200 bytes at a time. Writes that are
+/// interrupted are tried again, 999 times in all. Where the writer is at fault, a beginning of the
+/// drawing was written.
+pub fn draw<W: Sink>(
+    symbols: &[Symbol],
+    kind: Drawing,
+    margin: u8,
+    out: &mut W,
+) -> Result<(), DrawFault>
+    requires some { 0 < length symbols.now }
+    requires few { length symbols.now ≤ 16 }
+    requires one_side { HaveOneSide (squares_of symbols.now) }
+    ensures ok { OnOk result (Appends (W.taken out.old) (W.taken out.new) (drawn kind margin (squares_of symbols.now))) }
+    ensures err { OnErr result (AppendsBeginning (W.taken out.old) (W.taken out.new)
+        (drawn kind margin (squares_of symbols.now))) }
     ensures fault { W.counts out.old ≡ no_writes → is_write_fault (W.counts out.new) ≡ is_err result }
     ensures taken { W.counts out.old ≡ no_writes
-        → OnOk result ((W.counts out.new).taken ≡ counted (length (text_drawing Plain margin matrix.now))) }
+        → OnOk result ((W.counts out.new).taken ≡ counted (length (drawn kind margin (squares_of symbols.now)))) }
     ensures within { W.counts out.old ≡ no_writes → IsWrittenWithin (W.counts out.new) }
     ensures offered { (W.counts out.new).offered ≤ max (W.counts out.old).offered PIECE }
     ensures flushes { (W.counts out.new).flushes ≡ (W.counts out.old).flushes }
 {
     let mut pen = Pen::new();
-    put_lines(&mut pen, out, Cells::Plain, matrix, margin)?;
+    put_drawing(&mut pen, out, symbols, kind, margin)?;
     pen.finish(out)
 }

@@ -9,14 +9,16 @@ mod drawing;
 mod input;
 pub mod laws;
 mod pen;
+mod picture;
 mod settings;
+mod svg;
 mod text_drawing;
 mod trial;
 
 pub use command::run;
 pub use counted::Counted;
 pub use device::{ReadCounts, Sink, Source, Trouble, WriteCounts};
-pub use drawing::Drawing;
+pub use drawing::{Drawing, draw};
 pub use pen::DrawFault;
 pub use settings::{Settings, UsageFault, options};
 pub use trial::{Manner, Trial};

@@ -22,7 +22,7 @@ const QUIET_ZONE: u8 = 4;
 pub struct Settings {
     /// The level of error correction.
     pub level: Level,
-    /// The smallest version that may serve, or any where none is asked for.
+    /// The smallest version that may serve, or any where none is asked for; of a series the version.
     pub smallest: Option<Version>,
     /// The type of the drawing.
     pub kind: Drawing,
@@ -30,7 +30,7 @@ pub struct Settings {
     pub margin: u8,
     /// Whether the whole input is encoded in byte mode.
     pub bytes_only: bool,
-    /// Whether a series of symbols may be drawn.
+    /// Whether a series of symbols is drawn where one does not hold the input.
     pub structured: bool,
     /// The input, where the words hold it.
     pub string: Option<String>,
@@ -68,6 +68,12 @@ fn drawing_named(name: &str) -> Option<Drawing>
 {
     if name.eq_ignore_ascii_case("ascii") {
         Some(Drawing::Ascii)
+    } else if name.eq_ignore_ascii_case("asciii") {
+        Some(Drawing::AsciiInverse)
+    } else if name.eq_ignore_ascii_case("utf8") {
+        Some(Drawing::Utf8)
+    } else if name.eq_ignore_ascii_case("svg") {
+        Some(Drawing::Svg)
     } else {
         None
     }
@@ -164,14 +170,19 @@ fn settings_in(alloc: Global, matches: &ArgMatches<'_>) -> Result<Settings, Usag
     let Some(kind) = drawing_in(matches) else {
         return Err(UsageFault::Kind);
     };
+    let smallest = version_in(matches);
+    let structured = flag_in(matches, "structured");
+    if structured && smallest.is_none() {
+        return Err(UsageFault::NeedsVersion);
+    }
     match string_in(alloc, matches) {
         Ok(string) => Ok(Settings {
             level,
-            smallest: version_in(matches),
+            smallest,
             kind,
             margin: number_in(matches, "margin", QUIET_ZONE),
             bytes_only: flag_in(matches, "bytes-only"),
-            structured: false,
+            structured,
             string,
         }),
         Err(fault) => Err(fault),

@@ -4,8 +4,10 @@
 ghost use Rattle.std.specs.Prelude.{◌≡◌, ◌≤◌, ◌<◌, ◌+◌, ◌++◌, ◌∷◌, [], map};
 ghost use Rattle.std.specs.List.{flat_map};
 ghost use Rattle.qrencode_cli.specs.Device.{writer};
-ghost use Rattle.qrencode_cli.specs.Drawings.{ascii_module, cell_of, half_blocks, line_count, line_of, raster_width, squares_of, text_drawing};
+ghost use Rattle.qr_symbol.specs.Series.{squares_of};
+ghost use Rattle.qrencode_cli.specs.Drawings.{ascii_module, cell_of, half_blocks, line_count, line_of, text_drawing};
 ghost use Rattle.qrencode_cli.specs.Pens.{Puts};
+ghost use Rattle.qrencode_cli.specs.Rasters.{raster_width};
 
 use crate::device::Sink;
 use crate::drawing::{is_dark_at, raster_width};
@@ -105,8 +107,8 @@ fn put_line<W: Sink>(
     pen.put(out, b'\n')
 }
 
-/// Puts the lines of a symbol.
-pub(crate) fn put_lines<W: Sink>(
+// Puts the lines of a symbol.
+fn put_lines<W: Sink>(
     pen: &mut Pen,
     out: &mut W,
     cells: Cells,

@@ -12,4 +12,5 @@ returns c =
     let a3 = c.in_ok-with_type.ensures.shape c.required.ensures.local ∙ ap₂ with_rule a2 c.required.ensures.rule in
     let a4 = c.in_ok-with_margin.ensures.shape c.number-2.ensures.local ∙ ap₂ with_rule a3 c.number-2.ensures.rule in
     let a5 = c.in_ok-with_bytes_only.ensures.shape c.flag.ensures.local ∙ ap₂ with_rule a4 c.flag.ensures.rule in
-    IfOk-weaker c.arg-6.result _ _ (λ r h. h.shape c.word.ensures.local ∙ ap₂ with_rule a5 c.word.ensures.rule) c.arg-6.ensures
+    let a6 = c.in_ok-with_structured.ensures.shape c.flag-2.ensures.local ∙ ap₂ with_rule a5 c.flag-2.ensures.rule in
+    IfOk-weaker c.arg-7.result _ _ (λ r h. h.shape c.word.ensures.local ∙ ap₂ with_rule a6 c.word.ensures.rule) c.arg-7.ensures

@@ -1,6 +1,7 @@
 use Rattle.std.proofs.Common.{◌++◌}
 use Rattle.qrencode_cli.specs.Device.{writer}
-use Rattle.qrencode_cli.specs.Drawings.{cell_of, texts_below}
+use Rattle.qrencode_cli.specs.Drawings.{cell_of}
+use Rattle.qrencode_cli.specs.Rasters.{texts_below}
 use Rattle.qrencode_cli.specs.Writing.{Writes}
 use Rattle.qrencode_cli.proofs.text_drawing.put_cells.Given as goal
 

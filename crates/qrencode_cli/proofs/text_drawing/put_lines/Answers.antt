@@ -1,4 +1,4 @@
-use Rattle.std.proofs.Common.{arith, ◌++◌, ◌∷◌, []}
+use Rattle.std.proofs.Common.{◌++◌, ◌∷◌, []}
 use Rattle.std.proofs.lemmas.Result.{err_from_is_err_and}
 use Rattle.qrencode_cli.specs.Drawings.{line_of}
 use Rattle.qrencode_cli.proofs.Lines.{put_next, put_none, put_stops}

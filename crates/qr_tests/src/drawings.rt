@@ -1,0 +1,148 @@
+//! The four types of drawings of one symbol, and of two.
+
+ghost use Rattle.std.specs.Prelude.{◌≡◌, IfOk};
+
+use qr_layout::{Level, Version};
+use qr_symbol::{Symbol, build_masked};
+use qrencode_cli::{Drawing, Manner, Trial, draw};
+use std::alloc::Global;
+use std::test::Fail;
+
+// The codewords of `01234567` in version 1-M.
+static CODEWORDS: [u8; 26] = [
+    0x10, 0x20, 0x0C, 0x56, 0x61, 0x80, 0xEC, 0x11, 0xEC, 0x11, 0xEC, 0x11, 0xEC, 0x11, 0xEC, 0x11,
+    0xA5, 0x24, 0xD4, 0xC1, 0xED, 0x36, 0xC7, 0x87, 0x2C, 0x55,
+];
+
+// The symbol of `01234567` in version 1-M under mask 0.
+fn symbol(alloc: Global) -> Result<Symbol, Fail>
+    ensures { IfOk result (λ s. s.matrix.side ≡ 21) }
+{
+    let version = Version::new(1).ok_or("version 1")?;
+    if version.total_codewords() != 26 {
+        return Err("26 codewords".into());
+    }
+    Ok(build_masked(alloc, version, Level::M, &CODEWORDS, 0)?)
+}
+
+// The drawing of that symbol.
+fn one(alloc: Global, kind: Drawing, margin: u8) -> Result<Trial, Fail> {
+    let symbols = [symbol(alloc)?];
+    let mut out = Trial::writer(alloc, 8000, Manner::WELL)?;
+    draw(&symbols, kind, margin, &mut out)?;
+    Ok(out)
+}
+
+// A line of a text, counted from 0.
+fn line(text: &[u8], index: usize) -> &[u8] {
+    text.split(|byte| *byte == b'\n').nth(index).unwrap_or(&[])
+}
+
+// How many lines a text has.
+fn line_count(text: &[u8]) -> usize {
+    text.iter().filter(|byte| **byte == b'\n').count()
+}
+
+#[test]
+fn ascii(rt: HostRuntime) -> Result<(), Fail> {
+    let out = one(rt.alloc(), Drawing::Ascii, 4)?;
+    let text = out.bytes();
+    assert_eq!(rt; line_count(text), 29);
+    assert_eq!(rt; line(text, 3), [b' '; 58].as_slice());
+    assert_eq!(rt;
+        line(text, 4),
+        b"        ##############      ######  ##############        ".as_slice()
+    );
+    Ok(())
+}
+
+#[test]
+fn ascii_inverse(rt: HostRuntime) -> Result<(), Fail> {
+    let out = one(rt.alloc(), Drawing::AsciiInverse, 0)?;
+    let text = out.bytes();
+    assert_eq!(rt; line_count(text), 21);
+    assert_eq!(rt;
+        line(text, 0),
+        b"              ######      ##              ".as_slice()
+    );
+    Ok(())
+}
+
+#[test]
+fn utf8(rt: HostRuntime) -> Result<(), Fail> {
+    let out = one(rt.alloc(), Drawing::Utf8, 0)?;
+    let text = out.bytes();
+    assert_eq!(rt; line_count(text), 11);
+    assert_eq!(rt; line(text, 10), "▄▄▄▄▄▄▄█▄██▄█▄▄▄██▄█▄".as_bytes());
+    Ok(())
+}
+
+#[test]
+fn utf8_with_a_margin(rt: HostRuntime) -> Result<(), Fail> {
+    let out = one(rt.alloc(), Drawing::Utf8, 4)?;
+    let text = out.bytes();
+    assert_eq!(rt; line_count(text), 15);
+    for index in 0..2 {
+        assert_eq!(rt;
+            line(text, index),
+            "█████████████████████████████".as_bytes()
+        );
+    }
+    assert!(rt; line(text, 2).starts_with("████ ▄▄▄▄▄ █".as_bytes()));
+    Ok(())
+}
+
+#[test]
+fn svg(rt: HostRuntime) -> Result<(), Fail> {
+    let out = one(rt.alloc(), Drawing::Svg, 4)?;
+    let text = out.bytes();
+    assert_eq!(rt; line_count(text), 5);
+    assert_eq!(rt;
+        line(text, 0),
+        b"<?xml version=\"1.0\" encoding=\"UTF-8\"?>".as_slice()
+    );
+    assert_eq!(rt;
+        line(text, 1),
+        b"<svg xmlns=\"http://www.w3.org/2000/svg\" version=\"1.1\" viewBox=\"0 0 29 29\" shape-rendering=\"crispEdges\">".as_slice()
+    );
+    assert_eq!(rt;
+        line(text, 2),
+        b"<rect x=\"0\" y=\"0\" width=\"29\" height=\"29\" fill=\"#ffffff\"/>".as_slice()
+    );
+    let path = line(text, 3);
+    assert!(rt;
+        path.starts_with(
+            b"<path fill=\"#000000\" d=\"M4 4h7v1h-7zM14 4h3v1h-3zM18 4h7v1h-7zM4 5h1v1h-1z"
+        )
+    );
+    assert!(rt; path.ends_with(b"h1v1h-1z\"/>"));
+    assert_eq!(rt; line(text, 4), b"</svg>".as_slice());
+    Ok(())
+}
+
+#[test]
+fn svg_of_two_symbols(rt: HostRuntime) -> Result<(), Fail> {
+    let symbols = [symbol(rt.alloc())?, symbol(rt.alloc())?];
+    let mut out = Trial::writer(rt.alloc(), 8000, Manner::WELL)?;
+    draw(&symbols, Drawing::Svg, 0, &mut out)?;
+    let text = out.bytes();
+    assert_eq!(rt; line_count(text), 5);
+    assert_eq!(rt;
+        line(text, 1),
+        b"<svg xmlns=\"http://www.w3.org/2000/svg\" version=\"1.1\" viewBox=\"0 0 21 42\" shape-rendering=\"crispEdges\">".as_slice()
+    );
+    assert_eq!(rt;
+        line(text, 2),
+        b"<rect x=\"0\" y=\"0\" width=\"21\" height=\"42\" fill=\"#ffffff\"/>".as_slice()
+    );
+    let path = line(text, 3);
+    assert!(rt; path.starts_with(b"<path fill=\"#000000\" d=\"M0 0h7v1h-7zM10 0h3v1h-3z"));
+    let second = b"zM0 21h7v1h-7zM10 21h3v1h-3z";
+    assert_eq!(rt;
+        path.windows(second.len())
+            .filter(|part| *part == second.as_slice())
+            .count(),
+        1
+    );
+    Ok(())
+}

@@ -1,0 +1,19 @@
+//! What is to be drawn.
+
+ghost use Rattle.std.specs.Prelude.{◌<◌, ◌≤◌, length};
+ghost use Rattle.qr_symbol.specs.Series.{squares_of};
+ghost use Rattle.qrencode_cli.specs.Drawings.{HaveOneSide};
+
+use crate::drawing::Drawing;
+use qr_symbol::Symbol;
+
+/// One symbol, or those of a series, and how they are drawn.
+#[derive(Drop)]
+pub(crate) struct Picture {
+    pub symbols: Vec<Symbol>,
+    pub kind: Drawing,
+    pub margin: u8,
+    ghost some: { 0 < length symbols.items },
+    ghost few: { length symbols.items ≤ 16 },
+    ghost one_side: { HaveOneSide (squares_of symbols.items) },
+}
