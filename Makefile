@@ -1,0 +1,15 @@
+# Builds the proved program, and puts it and its manual page under PREFIX.
+PREFIX = /usr/local
+PROGRAM = crates/qrencode/out/qrencode
+
+all:
+	./qrencode -t ASCII A >/dev/null
+
+install: all
+	install -D -m 755 $(PROGRAM) $(DESTDIR)$(PREFIX)/bin/qrencode
+	install -D -m 644 docs/qrencode.1 $(DESTDIR)$(PREFIX)/share/man/man1/qrencode.1
+
+uninstall:
+	rm -f $(DESTDIR)$(PREFIX)/bin/qrencode $(DESTDIR)$(PREFIX)/share/man/man1/qrencode.1
+
+.PHONY: all install uninstall
