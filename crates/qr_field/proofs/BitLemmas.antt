@@ -65,7 +65,7 @@ carryless-xor (suc w) a c b =
     ∙ (ap (λ z. bit_xor (bit_xor ta tc) z) (carryless-xor w a c b) ∙ xor-swap ta tc (carryless w a b) (carryless w c b))
 
 -- twice a carryless product
-carryless-double : (w a b : ℕ) → carryless w (2 * a) b ≡ 2 * carryless w a b
+pub carryless-double : (w a b : ℕ) → carryless w (2 * a) b ≡ 2 * carryless w a b
 unfolding carryless
 carryless-double zero a b = refl
 carryless-double (suc w) a b =
@@ -81,6 +81,34 @@ carryless-zero zero b = refl
 carryless-zero (suc w) b =
     let e : bit_at b w * (0 * 2 ^ w) ≡ 0 = omega arith in
     ap (λ z. bit_xor z (carryless w 0 b)) e ∙ (xor_zero_l (carryless w 0 b) ∙ carryless-zero w b)
+
+-- a carryless product of a shifted number
+carryless-shift : (w k q d : ℕ) → carryless w (q * 2 ^ k) d ≡ carryless w q d * 2 ^ k
+unfolding carryless
+carryless-shift zero k q d = sym (zero-times (2 ^ k))
+carryless-shift (suc w) k q d =
+    let term = bit_at d w * (q * 2 ^ w) in
+    let e : bit_at d w * (q * 2 ^ k * 2 ^ w) ≡ term * 2 ^ k = omega arith in
+    ap (λ z. bit_xor z (carryless w (q * 2 ^ k) d)) e
+    ∙ (ap (λ z. bit_xor (term * 2 ^ k) z) (carryless-shift w k q d) ∙ xor-shift k term (carryless w q d))
+
+-- a carryless product of a digit times a number
+carryless-digit : (w s q d : ℕ) → s < 2 → carryless w (s * q) d ≡ s * carryless w q d
+carryless-digit w s q d l = elim (cases_eq s 0) [
+  | inl e ↦ rw (e, zero-times, zero-times) (carryless-zero w d)
+  | inr n ↦ let e : s ≡ 1 = omega arith in rw (e, one-times, one-times) refl
+]
+
+-- two factors of a carryless product in either order
+carryless-swap : (w v q d y : ℕ) → carryless w (carryless v q d) y ≡ carryless v (carryless w q y) d
+unfolding carryless
+carryless-swap zero v q d y = sym (carryless-zero v d)
+carryless-swap (suc w) v q d y =
+    let term = bit_at y w * (q * 2 ^ w) in
+    let e : carryless v term d ≡ bit_at y w * (carryless v q d * 2 ^ w) =
+    carryless-digit v (bit_at y w) (q * 2 ^ w) d (omega arith) ∙ ap (λ z. bit_at y w * z) (carryless-shift v w q d) in
+    ap (λ z. bit_xor (bit_at y w * (carryless v q d * 2 ^ w)) z) (carryless-swap w v q d y)
+    ∙ (ap (λ z. bit_xor z (carryless v (carryless w q y) d)) (sym e) ∙ sym (carryless-xor v term (carryless w q y) d))
 
 -- a digit times a number is not greater
 digit-lt : (d x m : ℕ) → d < 2 → x < m → d * x < m
@@ -113,20 +141,15 @@ pub record IsCongruent (n divisor x y : ℕ) : Type 0 where
 pub congruent-same : (n d x : ℕ) → IsCongruent n d x x
 congruent-same n d x = record { quotient = 0; whole = xor_self x ∙ sym (carryless-zero (n + 1) d) }
 
+-- two numbers in the other order
+pub congruent-turned : (n d x y : ℕ) → IsCongruent n d x y → IsCongruent n d y x
+congruent-turned n d x y c = record { quotient = c.quotient; whole = xor_comm y x ∙ c.whole }
+
 -- a sum of two multiples
 multiple-xor : (n d x y q r : ℕ) → x ≡ carryless (n + 1) q d → y ≡ carryless (n + 1) r d →
     bit_xor x y ≡ carryless (n + 1) (bit_xor q r) d
 multiple-xor n d x y q r e f =
     ap (λ t. bit_xor t y) e ∙ (ap (λ t. bit_xor (carryless (n + 1) q d) t) f ∙ sym (carryless-xor (n + 1) q r d))
-
--- sums of congruent numbers
-pub congruent-xor : (n d x y z w : ℕ) → IsCongruent n d x y → IsCongruent n d z w →
-    IsCongruent n d (bit_xor x z) (bit_xor y w)
-congruent-xor n d x y z w a b =
-    record {
-      quotient = bit_xor a.quotient b.quotient;
-      whole = xor-swap x z y w ∙ multiple-xor n d (bit_xor x y) (bit_xor z w) a.quotient b.quotient a.whole b.whole;
-    }
 
 -- what stands between two numbers is added twice
 xor-between : (x y z : ℕ) → bit_xor (bit_xor x y) (bit_xor y z) ≡ bit_xor x z
@@ -147,6 +170,16 @@ congruent-double n d x y a =
     record {
       quotient = 2 * a.quotient;
       whole = xor-double x y ∙ (ap (λ t. 2 * t) a.whole ∙ sym (carryless-double (n + 1) a.quotient d));
+    }
+
+-- congruent numbers times a number of w bits
+pub congruent-times : (n d w x y b : ℕ) → IsCongruent n d x y → IsCongruent n d (carryless w x b) (carryless w y b)
+congruent-times n d w x y b c =
+    record {
+      quotient = carryless w c.quotient b;
+      whole =
+          sym (carryless-xor w x y b)
+          ∙ (ap (λ t. carryless w t b) c.whole ∙ carryless-swap w (n + 1) c.quotient d b);
     }
 
 -- the digits above and below a place

@@ -1,11 +1,11 @@
--- What a computation at each of the 256 bytes shows of products.
-use Rattle.std.proofs.Common.{◌≡◌, ℕ, zero, suc, ◌*◌, ◌<◌, ◌≤◌, Bool, true, false, ◌&&◌, cond, eqb, ltb, refl, sym, ap, ◌∙◌, subst, inl, inr, arith, bit_xor}
+-- What is computed at each number below a bound, and what it shows of the products of bytes.
+use Rattle.std.proofs.Common.{◌≡◌, ℕ, zero, suc, ◌*◌, ◌<◌, Bool, true, false, ◌&&◌, eqb, refl, subst, inl, inr, arith}
 use Rattle.std.proofs.lemmas.Bool.Decides.{nat_tests}
 use Rattle.std.proofs.lemmas.Bool.{cases_lt}
-use Rattle.qr_field.specs.Bits.{carryless, prime_modulus, product, remainder_of}
+use Rattle.qr_field.specs.Bits.{carryless, product, remainder_of}
 
 -- a test at each number below n
-abbrev below : ℕ → (ℕ → Bool) → Bool
+abbrev pub below : ℕ → (ℕ → Bool) → Bool
 below zero p = true
 below (suc n) p = p n && below n p
 
@@ -20,7 +20,7 @@ pub &&-right : (a b : Bool) → (a && b) ≡ true → b ≡ true
 &&-right false b h = cc
 
 -- what passes below n passes at each number below n
-below-at : (n : ℕ) (p : ℕ → Bool) → below n p ≡ true → (k : ℕ) → k < n → p k ≡ true
+pub below-at : (n : ℕ) (p : ℕ → Bool) → below n p ≡ true → (k : ℕ) → k < n → p k ≡ true
 below-at zero p h k l = absurd (omega arith)
 below-at (suc n) p h k l = elim (cases_lt k n) [
   | inl m ↦ below-at n p (&&-right (p n) _ h) k m
@@ -31,44 +31,53 @@ below-at (suc n) p h k l = elim (cases_lt k n) [
 eqb-same : (x y : ℕ) → eqb x y ≡ true → x ≡ y
 eqb-same x y h = grind (arith, nat_tests)
 
--- twice an element by one shift, reduced where it leaves the byte
-abbrev doubled : ℕ → ℕ
-doubled a = cond (ltb (2 * a) 256) (2 * a) (bit_xor (2 * a) prime_modulus)
+-- functions that test equal below n are equal at each number below n
+pub same-below : (n : ℕ) (f g : ℕ → ℕ) → below n (λ k. eqb (f k) (g k)) ≡ true → (k : ℕ) → k < n → f k ≡ g k
+same-below n f g h k l = eqb-same (f k) (g k) (below-at n (λ i. eqb (f i) (g i)) h k l)
 
--- the three tests at an element
-abbrev tests : ℕ → Bool
-tests a = eqb (doubled a) (product 2 a) && eqb (product a 1) a && eqb (carryless 8 2 a) (2 * a)
+-- ---- products
 
--- each element passes them
-tests-pass : below 256 tests ≡ true
+-- products by 1, computed
+times-one : below 256 (λ a. eqb (product a 1) a) ≡ true
 unfolding carryless product remainder_of
-tests-pass = refl
+times-one = refl
 
--- one element passes them
-tests-at : (a : ℕ) → a < 256 → tests a ≡ true
-tests-at a l = below-at 256 tests tests-pass a l
+-- products of 1, computed
+one-times_each : below 256 (λ a. eqb (product 1 a) a) ≡ true
+unfolding carryless product remainder_of
+one-times_each = refl
 
--- twice an element is its product by 2
-doubled-at : (a : ℕ) → a < 256 → doubled a ≡ product 2 a
-doubled-at a l = eqb-same (doubled a) (product 2 a) (&&-left _ _ (&&-left _ _ (tests-at a l)))
+-- products by 0, computed
+times-zero : below 256 (λ a. eqb (product a 0) 0) ≡ true
+unfolding carryless product remainder_of
+times-zero = refl
+
+-- products of 0, computed
+zero-times_each : below 256 (λ a. eqb (product 0 a) 0) ≡ true
+unfolding carryless product remainder_of
+zero-times_each = refl
+
+-- carryless products by 2, computed
+times-two : below 256 (λ a. eqb (carryless 8 2 a) (2 * a)) ≡ true
+unfolding carryless
+times-two = refl
 
 -- 1 is the unit
 pub product-by_one : (a : ℕ) → a < 256 → product a 1 ≡ a
-product-by_one a l = eqb-same (product a 1) a (&&-right (eqb (doubled a) (product 2 a)) _ (&&-left _ _ (tests-at a l)))
+product-by_one = same-below 256 (λ a. product a 1) (λ a. a) times-one
+
+-- 1 is the unit on the other side
+pub product-of_one : (a : ℕ) → a < 256 → product 1 a ≡ a
+product-of_one = same-below 256 (λ a. product 1 a) (λ a. a) one-times_each
+
+-- a product by 0 is 0
+pub product-by_zero : (a : ℕ) → a < 256 → product a 0 ≡ 0
+product-by_zero = same-below 256 (λ a. product a 0) (λ a. 0) times-zero
+
+-- a product of 0 is 0
+pub product-of_zero : (a : ℕ) → a < 256 → product 0 a ≡ 0
+product-of_zero = same-below 256 (λ a. product 0 a) (λ a. 0) zero-times_each
 
 -- a carryless product by 2 is a shift
 pub carryless-two : (a : ℕ) → a < 256 → carryless 8 2 a ≡ 2 * a
-carryless-two a l =
-    eqb-same (carryless 8 2 a) (2 * a) (&&-right (eqb (doubled a) (product 2 a) && eqb (product a 1) a) _ (tests-at a l))
-
--- a product by 2 that stays within the byte
-pub double-small : (a : ℕ) → 2 * a < 256 → 2 * a ≡ product 2 a
-double-small a l =
-    let t : ltb (2 * a) 256 ≡ true = grind (arith, nat_tests) in
-    sym (ap (λ z. cond z (2 * a) (bit_xor (2 * a) prime_modulus)) t) ∙ doubled-at a (omega arith)
-
--- a product by 2 that leaves the byte
-pub double-large : (a : ℕ) → a < 256 → 256 ≤ 2 * a → bit_xor (2 * a) prime_modulus ≡ product 2 a
-double-large a l h =
-    let t : ltb (2 * a) 256 ≡ false = grind (arith, nat_tests) in
-    sym (ap (λ z. cond z (2 * a) (bit_xor (2 * a) prime_modulus)) t) ∙ doubled-at a l
+carryless-two = same-below 256 (λ a. carryless 8 2 a) (λ a. 2 * a) times-two

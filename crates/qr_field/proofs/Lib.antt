@@ -2,4 +2,5 @@ mod BitLemmas
 mod ByteLemmas
 mod ListLemmas
 pub mod PolynomialLemmas
+mod PowerLemmas
 mod ProductLemmas

@@ -5,20 +5,7 @@
 ghost use Rattle.std.specs.Prelude.{◌≡◌, ℕ};
 ghost use Rattle.qr_field.specs.Bits.{IsProduct, product};
 
-// x^8 + x^4 + x^3 + x^2 + 1
-const PRIME_MODULUS: u16 = 0x11D;
-
-// Two times an element, in the field.
-fn double(a: u8) -> u8
-    ensures { result ≡ product 2 a }
-{
-    let wide = u16::from(a) << 1;
-    if wide >= 256 {
-        (wide ^ PRIME_MODULUS) as u8
-    } else {
-        wide as u8
-    }
-}
+use crate::logarithm::{logarithm, power_of};
 
 /// The product of two elements of the field (ISO/IEC 18004:2015, 7.5.2).
 pub fn mul(a: u8, b: u8) -> u8
@@ -26,15 +13,11 @@ pub fn mul(a: u8, b: u8) -> u8
     ensures only { (p : ℕ) → IsProduct a b p → p ≡ result }
     ensures value { result ≡ product a b }
 {
-    let mut sum = 0;
-    let mut shifted = a;
-    for i in 0..u8::BITS {
-        if (b >> i) & 1 == 1 {
-            sum ^= shifted;
-        }
-        shifted = double(shifted);
+    if a == 0 || b == 0 {
+        return 0;
     }
-    sum
+    let exponent = u16::from(logarithm(a)) + u16::from(logarithm(b));
+    power_of((exponent % 255) as u8)
 }
 
 #[cfg(test)]

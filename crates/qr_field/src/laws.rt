@@ -1,11 +1,13 @@
 //! The laws of products, generator polynomials and error correction codewords (ISO/IEC 18004:2015, 7.5.2 and
 //! Annex A). Each function does nothing: its contract is the law.
 
-ghost use Rattle.std.specs.Prelude.{◌≡◌, ◌≤◌, ℕ, List, [], ◌∷◌, All, map};
+ghost use Rattle.std.specs.Prelude.{◌≡◌, ◌<◌, ◌≤◌, ℕ, ◌-◌, List, [], ◌∷◌, All, map, length, slice_index};
 ghost use Rattle.qr_field.specs.Bits.{IsProduct, product};
 ghost use Rattle.qr_field.specs.Polynomials.{IsByte, power, generator_of, IsCorrection, HasCorrection};
 ghost use Rattle.qr_field.specs.Worked.{lengths_in_use, printed_exponents};
 ghost use Rattle.qr_field.specs.Worked.{eight_digits, eight_digits_correction};
+
+use crate::logarithm::{LOGARITHMS, POWERS};
 
 /// Two elements have exactly one product, and `product` names it.
 pub fn product_is_one()
@@ -17,6 +19,16 @@ pub fn product_is_one()
 pub fn correction_is_one()
     ensures some { (d : List ℕ) (n : ℕ) → 1 ≤ n → All IsByte d → HasCorrection d n }
     ensures only { (d e f : List ℕ) (n : ℕ) → IsCorrection d n e → IsCorrection d n f → e ≡ f }
+{}
+
+/// The tables by which products are computed are what they are named for: entry i of the powers is 2 to the power i,
+/// and entry a - 1 of the logarithms is the exponent below 255 whose power of 2 the element a is.
+pub fn tables_are_powers()
+    ensures power_count { length POWERS ≡ 255 }
+    ensures powers { (i : ℕ) → i < 255 → slice_index POWERS i ≡ power i }
+    ensures logarithm_count { length LOGARITHMS ≡ 255 }
+    ensures exponents { (a : ℕ) → 1 ≤ a → IsByte a → slice_index LOGARITHMS (a - 1) < 255 }
+    ensures logarithms { (a : ℕ) → 1 ≤ a → IsByte a → power (slice_index LOGARITHMS (a - 1)) ≡ a }
 {}
 
 /// The definition of a product computes one that is reduced, and one by 0.

@@ -4,6 +4,7 @@
 
 mod galois;
 pub mod laws;
+mod logarithm;
 mod polynomial;
 
 pub use galois::mul;

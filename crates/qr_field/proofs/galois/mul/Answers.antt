@@ -1,52 +1,36 @@
-use Rattle.std.proofs.Common.{◌<◌, ℕ, ◌+◌, ◌*◌, ◌^◌, sym, ◌∙◌, subst, arith}
-use Rattle.std.proofs.lemmas.Nat.{xor_of_8}
-use Rattle.std.proofs.lemmas.Nat.Bits.{shr_and_one}
-use Rattle.qr_field.specs.Bits.{carryless, product}
-use Rattle.qr_field.proofs.ProductLemmas.{IsSame, mul-start, mul-start_shifted, mul-shift, mul-one, mul-none, mul-whole, product-is, product-one, product-lt}
+use Rattle.std.proofs.Common.{◌≡◌, ◌⊎◌, ◌+◌, ◌%◌, inl, inr, ap, ◌∙◌, arith}
+use Rattle.qr_field.specs.Bits.{product}
+use Rattle.qr_field.proofs.ProductLemmas.{product-none, product-definition, product-only}
+use Rattle.qr_field.proofs.PowerLemmas.{product-of_powers}
 use Rattle.qr_field.proofs.galois.mul.Goals as goal
-use Rattle.qr_field.proofs.galois.mul.Goals.{then-b-i-eq1, else-b-i-eq1}
 
-pub loop-i-init : goal.loop-i-init
-loop-i-init c = (omega arith, omega arith, mul-start c.args.a c.args.b, mul-start_shifted c.args.a)
-
-pub loop-i-preserved : goal.loop-i-preserved
-loop-i-preserved c =
-    let i = c.loop-i.i in
-    let inv = c.loop-i.invariant in
+pub returns-then-a-eq0 : goal.returns-then-a-eq0
+returns-then-a-eq0 c =
     let a = c.args.a in
     let b = c.args.b in
-    let shifted = c.loop-i.shifted in
-    let sum = c.loop-i.sum in
-    let bit = shr_and_one b i in
-    let small : c.if-b-i-eq1.sum < 256 = elim c.if-b-i-eq1.branch [
-      | then-b-i-eq1 w ↦ let r = xor_of_8 sum shifted (omega arith) (omega arith) in omega (arith, w.sum-is, r)
-      | else-b-i-eq1 w ↦ omega (arith, w.sum-is)
-    ] in
-    let same : IsSame (carryless (i + 1) a b) c.if-b-i-eq1.sum = elim c.if-b-i-eq1.branch [
-      | then-b-i-eq1 w ↦
-          subst (λ (z : ℕ). IsSame (carryless (i + 1) a b) z) (sym w.sum-is)
-          (mul-one a b i shifted sum (sym bit ∙ w.if-b-i-eq1.true) inv.2 inv.3)
-      | else-b-i-eq1 w ↦
-          subst (λ (z : ℕ). IsSame (carryless (i + 1) a b) z) (sym w.sum-is)
-          (mul-none a b i sum (omega (arith, bit, w.if-b-i-eq1.false)) inv.2)
-    ] in
-    let e = c.double-shifted.ensures in
-    let l = product-lt 2 shifted (omega arith) in
-    let next : IsSame (a * 2 ^ (i + 1)) c.double-shifted.result =
-    subst (λ (z : ℕ). IsSame (a * 2 ^ (i + 1)) z) (sym e) (mul-shift a i shifted (omega arith) inv.3) in
-    (small, omega (arith, e, l), same, next)
+    let either : (a ≡ 0) ⊎ (b ≡ 0) = elim c.then-a-eq0.either [ inl h ↦ inl h | inr h ↦ inr h.1 ] in
+    let e = product-none a b (omega arith) (omega arith) either in
+    record {
+      definition = product-definition a b 0 (omega arith) e;
+      only = product-only a b 0 (omega arith) e;
+      value = e;
+    }
 
-pub returns-clause-definition : goal.returns-clause-definition
-returns-clause-definition c =
-    mul-whole c.args.a c.args.b c.loop-i.i c.loop-i.sum (omega arith) (omega arith) c.loop-i.invariant.2
-
-pub returns-clause-only : goal.returns-clause-only
-returns-clause-only c =
-    λ p h. product-one c.args.a c.args.b p c.loop-i.sum h
-    (mul-whole c.args.a c.args.b c.loop-i.i c.loop-i.sum (omega arith) (omega arith) c.loop-i.invariant.2)
-
-pub returns-clause-value : goal.returns-clause-value
-returns-clause-value c =
-    product-one c.args.a c.args.b c.loop-i.sum (product c.args.a c.args.b)
-    (mul-whole c.args.a c.args.b c.loop-i.i c.loop-i.sum (omega arith) (omega arith) c.loop-i.invariant.2)
-    (product-is c.args.a c.args.b (omega arith))
+pub returns : goal.returns
+returns c =
+    let a = c.args.a in
+    let b = c.args.b in
+    let i = c.logarithm.result in
+    let j = c.logarithm-2.result in
+    let k : (c.from.result + c.from-2.result) % 255 ≡ (i + j) % 255 =
+    ap (λ t. (t + c.from-2.result) % 255) c.from.ensures ∙ ap (λ t. (i + t) % 255) c.from-2.ensures in
+    let first = c.logarithm.ensures in
+    let second = c.logarithm-2.ensures in
+    let e : c.power_of.result ≡ product a b =
+    c.power_of.ensures
+    ∙ product-of_powers a b i j ((c.from.result + c.from-2.result) % 255) first.exponent first.element second.exponent second.element k in
+    record {
+      definition = product-definition a b c.power_of.result (omega arith) e;
+      only = product-only a b c.power_of.result (omega arith) e;
+      value = e;
+    }
