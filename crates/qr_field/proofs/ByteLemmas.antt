@@ -38,46 +38,46 @@ same-below n f g h k l = eqb-same (f k) (g k) (below-at n (λ i. eqb (f i) (g i)
 -- ---- products
 
 -- products by 1, computed
-times-one : below 256 (λ a. eqb (product a 1) a) ≡ true
+right-unit : below 256 (λ a. eqb (product a 1) a) ≡ true
 unfolding carryless product remainder_of
-times-one = refl
+right-unit = refl
 
 -- products of 1, computed
-one-times_each : below 256 (λ a. eqb (product 1 a) a) ≡ true
+left-unit : below 256 (λ a. eqb (product 1 a) a) ≡ true
 unfolding carryless product remainder_of
-one-times_each = refl
+left-unit = refl
 
 -- products by 0, computed
-times-zero : below 256 (λ a. eqb (product a 0) 0) ≡ true
+right-zero : below 256 (λ a. eqb (product a 0) 0) ≡ true
 unfolding carryless product remainder_of
-times-zero = refl
+right-zero = refl
 
 -- products of 0, computed
-zero-times_each : below 256 (λ a. eqb (product 0 a) 0) ≡ true
+left-zero : below 256 (λ a. eqb (product 0 a) 0) ≡ true
 unfolding carryless product remainder_of
-zero-times_each = refl
+left-zero = refl
 
 -- carryless products by 2, computed
-times-two : below 256 (λ a. eqb (carryless 8 2 a) (2 * a)) ≡ true
+doubles : below 256 (λ a. eqb (carryless 8 2 a) (2 * a)) ≡ true
 unfolding carryless
-times-two = refl
+doubles = refl
 
 -- 1 is the unit
 pub product-by_one : (a : ℕ) → a < 256 → product a 1 ≡ a
-product-by_one = same-below 256 (λ a. product a 1) (λ a. a) times-one
+product-by_one = same-below 256 (λ a. product a 1) (λ a. a) right-unit
 
 -- 1 is the unit on the other side
 pub product-of_one : (a : ℕ) → a < 256 → product 1 a ≡ a
-product-of_one = same-below 256 (λ a. product 1 a) (λ a. a) one-times_each
+product-of_one = same-below 256 (λ a. product 1 a) (λ a. a) left-unit
 
 -- a product by 0 is 0
 pub product-by_zero : (a : ℕ) → a < 256 → product a 0 ≡ 0
-product-by_zero = same-below 256 (λ a. product a 0) (λ a. 0) times-zero
+product-by_zero = same-below 256 (λ a. product a 0) (λ a. 0) right-zero
 
 -- a product of 0 is 0
 pub product-of_zero : (a : ℕ) → a < 256 → product 0 a ≡ 0
-product-of_zero = same-below 256 (λ a. product 0 a) (λ a. 0) zero-times_each
+product-of_zero = same-below 256 (λ a. product 0 a) (λ a. 0) left-zero
 
 -- a carryless product by 2 is a shift
 pub carryless-two : (a : ℕ) → a < 256 → carryless 8 2 a ≡ 2 * a
-carryless-two = same-below 256 (λ a. carryless 8 2 a) (λ a. 2 * a) times-two
+carryless-two = same-below 256 (λ a. carryless 8 2 a) (λ a. 2 * a) doubles

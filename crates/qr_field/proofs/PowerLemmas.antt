@@ -73,7 +73,8 @@ logarithms-inverse = refl
 
 -- an entry of the table of logarithms is an exponent
 pub logarithms-lt : (i : ℕ) → i < 255 → get_or LOGARITHMS i 0 < 255
-logarithms-lt i l = ltb-true (get_or LOGARITHMS i 0) 255 (below-at 255 (λ k. ltb (get_or LOGARITHMS k 0) 255) logarithms-small i l)
+logarithms-lt i l =
+    ltb-true (get_or LOGARITHMS i 0) 255 (below-at 255 (λ k. ltb (get_or LOGARITHMS k 0) 255) logarithms-small i l)
 
 -- an element is the power of 2 to its entry in the table of logarithms
 pub logarithms-at : (a i : ℕ) → 1 ≤ a → a < 256 → i ≡ a - 1 → power (get_or LOGARITHMS i 0) ≡ a

@@ -44,12 +44,17 @@ product-same a b l = let p = product-is a b l in record { quotient = p.quotient;
 same-product : (a b p : ℕ) → a < 256 → p < 256 → IsSame (carryless 8 a b) p → product a b ≡ p
 same-product a b p l m c =
     product-one a b (product a b) p (product-is a b l)
-    (record { degree_least = omega arith; degree_most = omega arith; small = m; quotient = c.quotient; whole = c.whole })
+    (record {
+      degree_least = omega arith;
+      degree_most = omega arith;
+      small = m;
+      quotient = c.quotient;
+      whole = c.whole;
+    })
 
 -- twice an element is the same as its product by 2
 double-same : (s : ℕ) → s < 256 → IsSame (2 * s) (product 2 s)
-double-same s l =
-    subst (λ (t : ℕ). IsSame t (product 2 s)) (carryless-two s l) (product-same 2 s (lit< tt))
+double-same s l = subst (λ (t : ℕ). IsSame t (product 2 s)) (carryless-two s l) (product-same 2 s (lit< tt))
 
 -- twice an element times another is twice their product
 pub product-double : (a b : ℕ) → a < 256 → product (product 2 a) b ≡ product 2 (product a b)
@@ -58,7 +63,8 @@ product-double a b l =
     let c = product a b in
     let small : c < 256 = product-lt a b l in
     let one : IsSame (carryless 8 twice b) (carryless 8 (2 * a) b) =
-    congruent-times 8 prime_modulus 8 twice (2 * a) b (congruent-turned 8 prime_modulus (2 * a) twice (double-same a l)) in
+    congruent-times 8 prime_modulus 8 twice (2 * a) b
+    (congruent-turned 8 prime_modulus (2 * a) twice (double-same a l)) in
     let two : IsSame (carryless 8 (2 * a) b) (2 * c) =
     subst (λ (t : ℕ). IsSame t (2 * c)) (sym (carryless-double 8 a b))
     (congruent-double 8 prime_modulus (carryless 8 a b) c (product-same a b l)) in

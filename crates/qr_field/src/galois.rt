@@ -16,8 +16,9 @@ pub fn mul(a: u8, b: u8) -> u8
     if a == 0 || b == 0 {
         return 0;
     }
-    let exponent = u16::from(logarithm(a)) + u16::from(logarithm(b));
-    power_of((exponent % 255) as u8)
+    let sum = u16::from(logarithm(a)) + u16::from(logarithm(b));
+    let exponent = if sum < 255 { sum } else { sum - 255 };
+    power_of(exponent as u8)
 }
 
 #[cfg(test)]

@@ -1,8 +1,9 @@
-use Rattle.std.proofs.Common.{◌≡◌, ◌⊎◌, ◌+◌, ◌%◌, inl, inr, ap, ◌∙◌, arith}
+use Rattle.std.proofs.Common.{◌≡◌, ◌⊎◌, ◌+◌, ◌%◌, inl, inr, ◌∙◌, arith}
 use Rattle.qr_field.specs.Bits.{product}
 use Rattle.qr_field.proofs.ProductLemmas.{product-none, product-definition, product-only}
 use Rattle.qr_field.proofs.PowerLemmas.{product-of_powers}
 use Rattle.qr_field.proofs.galois.mul.Goals as goal
+use Rattle.qr_field.proofs.galois.mul.Goals.{then-sum-lt255, else-sum-lt255}
 
 pub returns-then-a-eq0 : goal.returns-then-a-eq0
 returns-then-a-eq0 c =
@@ -22,13 +23,15 @@ returns c =
     let b = c.args.b in
     let i = c.logarithm.result in
     let j = c.logarithm-2.result in
-    let k : (c.from.result + c.from-2.result) % 255 ≡ (i + j) % 255 =
-    ap (λ t. (t + c.from-2.result) % 255) c.from.ensures ∙ ap (λ t. (i + t) % 255) c.from-2.ensures in
     let first = c.logarithm.ensures in
     let second = c.logarithm-2.ensures in
+    let k : c.if-sum-lt255.exponent ≡ (i + j) % 255 = elim c.if-sum-lt255.branch [
+      | then-sum-lt255 w ↦ omega (arith, w.exponent-is)
+      | else-sum-lt255 w ↦ omega (arith, w.exponent-is)
+    ] in
     let e : c.power_of.result ≡ product a b =
     c.power_of.ensures
-    ∙ product-of_powers a b i j ((c.from.result + c.from-2.result) % 255) first.exponent first.element second.exponent second.element k in
+    ∙ product-of_powers a b i j c.if-sum-lt255.exponent first.exponent first.element second.exponent second.element k in
     record {
       definition = product-definition a b c.power_of.result (omega arith) e;
       only = product-only a b c.power_of.result (omega arith) e;
