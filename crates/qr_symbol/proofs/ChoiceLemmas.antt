@@ -3,9 +3,9 @@ use Rattle.std.proofs.Common.{◌≡◌, ℕ, ◌+◌, ◌<◌, ◌≤◌, inl, 
 use Rattle.std.proofs.lemmas.Bool.{cases_lt}
 use Rattle.qr_layout.specs.declared.level.Level.{Level}
 use Rattle.qr_layout.specs.Versions.{side_of}
-use Rattle.qr_symbol.specs.Grid.{Grid, colour}
+use Rattle.qr_matrix.specs.Grid.{Grid, colour}
 use Rattle.qr_symbol.specs.Choice.{IsFirstLeast, IsMask, mask_penalty}
-use Rattle.qr_symbol.specs.Penalty.{penalty_of}
+use Rattle.qr_matrix.specs.Penalty.{penalty_of}
 use Rattle.qr_symbol.specs.Drawing.{masked_penalty, region_grid, plain_grid}
 use Rattle.qr_symbol.proofs.DrawingLemmas.{masked-all}
 

@@ -17,11 +17,11 @@ use Rattle.qr_layout.proofs.OrderLemmas.{order-has, order-mem, number-at}
 use Rattle.qr_layout.proofs.RegionLemmas.{row-in, col-in}
 use Rattle.qr_layout.proofs.RoleLaws.{region-role, role-region, version-only, format-only}
 use Rattle.qr_bits.specs.Bits.{codeword_bit}
-use Rattle.qr_symbol.specs.Grid.{Grid, square, colour, painted, IsSquare}
+use Rattle.qr_matrix.specs.Grid.{Grid, square, colour, painted, IsSquare}
 use Rattle.qr_symbol.specs.Masks.{inverts, inverted}
 use Rattle.qr_symbol.specs.Colour.{word_bit, colour_by, colour_of, grid_of}
 use Rattle.qr_symbol.specs.Drawing.{fixed_colour, inverts_under, placed_colour, is_region, format_or, masked_colour, masked_grid, region_grid, plain_grid}
-use Rattle.qr_symbol.proofs.GridLemmas.{same-place, square-same, colour-square, colour-painted-here, colour-painted-there}
+use Rattle.qr_matrix.proofs.GridLemmas.{same-place, square-same, colour-square, colour-painted-here, colour-painted-there}
 
 -- the module in a row and a column
 abbrev pub at : ℕ → ℕ → Module

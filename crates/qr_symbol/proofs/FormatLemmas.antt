@@ -13,10 +13,10 @@ use Rattle.qr_layout.specs.Words.{remainder_of, format_with, five_bits, level_bi
 use Rattle.qr_layout.specs.Roles.{first_place}
 use Rattle.qr_layout.proofs.TableLemmas.{below, below-at, eqb-same}
 use Rattle.qr_layout.proofs.RoleLaws.{format-first}
-use Rattle.qr_symbol.specs.Grid.{Grid}
+use Rattle.qr_matrix.specs.Grid.{Grid}
 use Rattle.qr_symbol.specs.Colour.{colour_by, colour_of, grid_of}
 use Rattle.qr_symbol.specs.Reading.{IsFormat}
-use Rattle.qr_symbol.proofs.GridLemmas.{colour-square}
+use Rattle.qr_matrix.proofs.GridLemmas.{colour-square}
 
 -- a word gives back its five bits, and has fifteen
 gives-back : ℕ → Bool

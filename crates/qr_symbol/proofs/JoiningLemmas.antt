@@ -6,7 +6,7 @@ use Rattle.qr_bits.specs.Parse.{Content}
 use Rattle.qr_symbol.specs.declared.fault.ReadFault.{ReadFault}
 use Rattle.qr_symbol.specs.declared.fault.ReadFault.TheVariants as fault
 use Rattle.qr_symbol.specs.declared.symbol.Symbol.{Symbol}
-use Rattle.qr_symbol.specs.Grid.{Grid}
+use Rattle.qr_matrix.specs.Grid.{Grid}
 use Rattle.qr_symbol.specs.Reading.{IsReading, IsUnread}
 use Rattle.qr_symbol.specs.Series.{squares_of}
 use Rattle.qr_symbol.specs.Joining.{AreReadings, bytes_of_all, HaveHeaders, BelongTogether, IsJoined, IsFirstUnread, IsNoSeries, IsUnjoined}

@@ -1,15 +1,9 @@
-pub mod GridLemmas
 pub mod BitLemmas
 pub mod DrawingLemmas
 pub mod TagLemmas
 pub mod CheckLemmas
 pub mod RankLemmas
 pub mod MessageLemmas
-pub mod SumLemmas
-pub mod RunLemmas
-pub mod WindowLemmas
-pub mod LineLemmas
-pub mod SquareLemmas
 pub mod ChoiceLemmas
 pub mod GatherLemmas
 pub mod FitLemmas

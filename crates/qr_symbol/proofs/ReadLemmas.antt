@@ -20,12 +20,12 @@ use Rattle.qr_bits.specs.Bits.{field, bits_of, codeword_bit}
 use Rattle.qr_bits.specs.Parse.{bytes_of}
 use Rattle.qr_bits.proofs.BitLists.{length-field, length-bits_of, bits_at}
 use Rattle.qr_bits.proofs.Values.{bytes_takes}
-use Rattle.qr_symbol.specs.Grid.{Grid}
+use Rattle.qr_matrix.specs.Grid.{Grid}
 use Rattle.qr_symbol.specs.Masks.{inverts, inverted}
 use Rattle.qr_symbol.specs.Colour.{colour_by, colour_of, grid_of}
 use Rattle.qr_symbol.specs.Interleaving.{IsInterleaved}
 use Rattle.qr_symbol.specs.Reading.{unmasked, read_bits, IsRead, IsMessage}
-use Rattle.qr_symbol.proofs.GridLemmas.{colour-square}
+use Rattle.qr_matrix.proofs.GridLemmas.{colour-square}
 use Rattle.qr_symbol.proofs.DrawingLemmas.{in-square, whole-push, Mem-mid}
 use Rattle.qr_symbol.proofs.MessageLemmas.{append-front, data-one, data-cut-whole}
 

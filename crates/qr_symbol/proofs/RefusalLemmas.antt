@@ -8,7 +8,7 @@ use Rattle.qr_bits.specs.Bits.{bits_of}
 use Rattle.qr_bits.specs.Parse.{Content, parse}
 use Rattle.qr_symbol.specs.declared.fault.ReadFault.{ReadFault}
 use Rattle.qr_symbol.specs.declared.fault.ReadFault.TheVariants as fault
-use Rattle.qr_symbol.specs.Grid.{Grid}
+use Rattle.qr_matrix.specs.Grid.{Grid}
 use Rattle.qr_symbol.specs.Reading.{IsFormat, IsMessage, IsReading, IsOfVersion, IsNotParsed, IsUnread}
 use Rattle.qr_symbol.proofs.ReadLemmas.{message-one}
 use Rattle.qr_symbol.proofs.FormatLemmas.{format-one}

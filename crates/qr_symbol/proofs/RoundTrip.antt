@@ -12,7 +12,7 @@ use Rattle.qr_bits.specs.declared.header.Header.{Header}
 use Rattle.qr_bits.specs.Bits.{bits_of}
 use Rattle.qr_bits.specs.Parse.{Content, parse}
 use Rattle.qr_bits.proofs.DataLaws.{data_again, length-data}
-use Rattle.qr_symbol.specs.Grid.{Grid}
+use Rattle.qr_matrix.specs.Grid.{Grid}
 use Rattle.qr_symbol.specs.Interleaving.{start_of, codeword_at, data_cut, check_at, IsFinalMessage}
 use Rattle.qr_symbol.specs.Reading.{IsFormat, IsMessage, IsReading}
 use Rattle.qr_symbol.specs.Symbols.{IsSymbolAt}

@@ -8,7 +8,7 @@ use Rattle.qr_bits.specs.Stream.{parity_of}
 use Rattle.qr_bits.proofs.Counts.{fitting_short}
 use Rattle.qr_bits.proofs.Mirror.{empty_fits}
 use Rattle.qr_symbol.specs.declared.symbol.Symbol.{Symbol}
-use Rattle.qr_symbol.specs.Grid.{Grid}
+use Rattle.qr_matrix.specs.Grid.{Grid}
 use Rattle.qr_symbol.specs.Symbols.{FitsVersion, HasNoVersion}
 use Rattle.qr_symbol.specs.Series.{squares_of, AreParts, IsSymbolOf, AreSymbolsFrom, IsSplit, IsLone, IsSeries}
 use Rattle.qr_symbol.specs.Parts.{AreLengths, parts_of}

@@ -7,7 +7,7 @@ use Rattle.qr_layout.specs.Versions.{side_of}
 use Rattle.qr_bits.specs.Letters.{HasFit, Covers, runs_of}
 use Rattle.qr_bits.specs.Data.{capacity_of}
 use Rattle.qr_symbol.specs.declared.symbol.Symbol.{Symbol}
-use Rattle.qr_symbol.specs.Grid.{Grid}
+use Rattle.qr_matrix.specs.Grid.{Grid}
 use Rattle.qr_symbol.specs.Symbols.{FitsVersion}
 use Rattle.qr_symbol.specs.Series.{squares_of, AreParts, AreSymbolsFrom, IsSeries}
 

@@ -9,7 +9,7 @@ use Rattle.qr_bits.specs.declared.header.Header.{Header}
 use Rattle.qr_bits.specs.Letters.{runs_of, rank, NotAfter, IsLeastSegmentation}
 use Rattle.qr_bits.specs.Data.{IsData}
 use Rattle.qr_bits.proofs.DataLaws.{data_one}
-use Rattle.qr_symbol.specs.Grid.{Grid}
+use Rattle.qr_matrix.specs.Grid.{Grid}
 use Rattle.qr_symbol.specs.Interleaving.{IsInterleaved}
 use Rattle.qr_symbol.specs.Colour.{grid_of}
 use Rattle.qr_symbol.specs.Choice.{IsFirstLeast, IsMask, mask_penalty}

@@ -12,7 +12,7 @@ use Rattle.qr_bits.proofs.SegmentLists.{least_fits}
 use Rattle.qr_symbol.specs.declared.fault.EncodeFault.{EncodeFault}
 use Rattle.qr_symbol.specs.declared.fault.EncodeFault.TheVariants as fault
 use Rattle.qr_symbol.specs.declared.symbol.Symbol.{Symbol}
-use Rattle.qr_symbol.specs.Grid.{Grid}
+use Rattle.qr_matrix.specs.Grid.{Grid}
 use Rattle.qr_symbol.specs.Colour.{grid_of}
 use Rattle.qr_symbol.specs.Choice.{IsMask}
 use Rattle.qr_symbol.specs.Interleaving.{IsInterleaved}

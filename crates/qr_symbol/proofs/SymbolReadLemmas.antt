@@ -15,7 +15,7 @@ use Rattle.qr_bits.specs.Bits.{field, bits_of}
 use Rattle.qr_bits.proofs.BitLists.{length-field, length-bits_of}
 use Rattle.qr_symbol.specs.declared.fault.ReadFault.{ReadFault}
 use Rattle.qr_symbol.specs.declared.fault.ReadFault.TheVariants as fault
-use Rattle.qr_symbol.specs.Grid.{Grid, colour}
+use Rattle.qr_matrix.specs.Grid.{Grid, colour}
 use Rattle.qr_symbol.specs.Masks.{inverts, inverted}
 use Rattle.qr_symbol.specs.Interleaving.{IsInterleaved}
 use Rattle.qr_symbol.specs.Reading.{unmasked, IsRead, IsFormat, IsOfVersion, IsUnread}

@@ -2,9 +2,9 @@
 use Rattle.std.specs.Prelude.{◌≡◌, ℕ, ◌<◌, ◌≤◌, ◌⊎◌, List}
 use Rattle.qr_layout.specs.declared.level.Level.{Level}
 use Rattle.qr_layout.specs.Versions.{side_of}
-use Rattle.qr_symbol.specs.Grid.{colour}
+use Rattle.qr_matrix.specs.Grid.{colour}
 use Rattle.qr_symbol.specs.Colour.{grid_of}
-use Rattle.qr_symbol.specs.Penalty.{penalty_of}
+use Rattle.qr_matrix.specs.Penalty.{penalty_of}
 
 -- of the numbers below n, m has the least measure f, and it is the smallest among equals [own]
 pub record IsFirstLeast (n : ℕ) (f : ℕ → ℕ) (m : ℕ) : Type 0 where

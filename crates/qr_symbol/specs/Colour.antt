@@ -8,7 +8,7 @@ use Rattle.qr_layout.specs.Words.{format_word_of, version_word_of}
 use Rattle.qr_layout.specs.Order.{number_of}
 use Rattle.qr_layout.specs.Roles.{role_of}
 use Rattle.qr_bits.specs.Bits.{codeword_bit}
-use Rattle.qr_symbol.specs.Grid.{Grid, square}
+use Rattle.qr_matrix.specs.Grid.{Grid, square}
 use Rattle.qr_symbol.specs.Masks.{inverts, inverted}
 
 -- bit i of a word is 1, bit 0 being the lowest (ISO/IEC 18004:2015, 7.9.1, 7.10)

@@ -9,10 +9,10 @@ use Rattle.qr_layout.specs.Order.{number_of}
 use Rattle.qr_layout.specs.Region.{is_in_region}
 use Rattle.qr_layout.specs.Roles.{role_of}
 use Rattle.qr_bits.specs.Bits.{codeword_bit}
-use Rattle.qr_symbol.specs.Grid.{Grid, square, colour}
+use Rattle.qr_matrix.specs.Grid.{Grid, square, colour}
 use Rattle.qr_symbol.specs.Masks.{inverts, inverted}
 use Rattle.qr_symbol.specs.Colour.{word_bit}
-use Rattle.qr_symbol.specs.Penalty.{penalty_of}
+use Rattle.qr_matrix.specs.Penalty.{penalty_of}
 
 -- the colour of a module outside the encoding region, with the words of format and version information
 unfoldable pub fixed_colour : ℕ → ℕ → Role → Bool

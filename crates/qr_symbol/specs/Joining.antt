@@ -5,7 +5,7 @@ use Rattle.qr_bits.specs.Parse.{Content}
 use Rattle.qr_bits.specs.Stream.{parity_of}
 use Rattle.qr_symbol.specs.declared.fault.ReadFault.{ReadFault}
 use Rattle.qr_symbol.specs.declared.fault.ReadFault.TheVariants as unread
-use Rattle.qr_symbol.specs.Grid.{Grid}
+use Rattle.qr_matrix.specs.Grid.{Grid}
 use Rattle.qr_symbol.specs.Reading.{IsReading, IsUnread}
 
 -- the squares are read as these contents, one by one (ISO/IEC 18004:2015, 12)

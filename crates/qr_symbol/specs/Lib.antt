@@ -1,11 +1,7 @@
-pub mod Grid
 pub mod Masks
 pub mod Worked
 pub mod Colour
 pub mod Drawing
-pub mod Penalty
-pub mod Runs
-pub mod Lines
 pub mod Choice
 pub mod Symbols
 pub mod Parts

@@ -6,7 +6,7 @@ use Rattle.qr_bits.specs.Letters.{IsLongestFit}
 use Rattle.qr_bits.specs.Data.{room_of}
 use Rattle.qr_bits.specs.Stream.{parity_of}
 use Rattle.qr_symbol.specs.declared.symbol.Symbol.{Symbol}
-use Rattle.qr_symbol.specs.Grid.{Grid}
+use Rattle.qr_matrix.specs.Grid.{Grid}
 use Rattle.qr_symbol.specs.Symbols.{FitsVersion, IsSymbolAt}
 
 -- the squares of symbols [own]

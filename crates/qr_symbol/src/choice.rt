@@ -3,17 +3,16 @@
 ghost use Rattle.std.specs.Prelude.{◌≡◌, ◌<◌, length, IfOk, IfErr};
 ghost use Rattle.qr_layout.specs.Versions.{side_of, total_codewords_of};
 ghost use Rattle.qr_symbol.specs.declared.fault.EncodeFault.{EncodeFault};
-ghost use Rattle.qr_symbol.specs.Grid.{IsSquare};
+ghost use Rattle.qr_matrix.specs.Grid.{IsSquare};
 ghost use Rattle.qr_symbol.specs.Colour.{grid_of};
 ghost use Rattle.qr_symbol.specs.Choice.{IsFirstLeast, IsMask};
 ghost use Rattle.qr_symbol.specs.Drawing.{masked_penalty};
 
 use crate::drawing::{draw_codewords, draw_fixed, draw_masked, draw_region};
 use crate::fault::EncodeFault;
-use crate::matrix::Matrix;
-use crate::penalties::penalty;
 use crate::symbol::Symbol;
 use qr_layout::{Level, Version};
+use qr_matrix::{Matrix, penalty};
 use std::alloc::Global;
 
 // How many masks there are (Table 10).

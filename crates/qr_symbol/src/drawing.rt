@@ -6,14 +6,14 @@ ghost use Rattle.qr_layout.specs.Versions.{side_of};
 ghost use Rattle.qr_layout.specs.Roles.{role_of};
 ghost use Rattle.qr_layout.specs.Words.{format_word_of, version_word_of};
 ghost use Rattle.qr_bits.specs.Bits.{codeword_bit};
-ghost use Rattle.qr_symbol.specs.Grid.{square, colour, light, IsSquare};
+ghost use Rattle.qr_matrix.specs.Grid.{square, colour, light, IsSquare};
 ghost use Rattle.qr_symbol.specs.Masks.{inverts, inverted};
 ghost use Rattle.qr_symbol.specs.Colour.{word_bit};
 ghost use Rattle.qr_symbol.specs.Drawing.{fixed_colour, inverts_under, placed_colour, is_region, format_or, masked_colour, masked_grid, region_grid};
 
 use crate::mask::inverts;
-use crate::matrix::Matrix;
 use qr_layout::{Level, Role, Version, cell, format_word, walk};
+use qr_matrix::Matrix;
 
 // Bit `number` of the codewords, the highest bit of a codeword first, and light past their end.
 fn bit_at(codewords: &[u8], number: usize) -> bool

@@ -100,10 +100,10 @@ pub fn read_series(alloc: Global, symbols: &[Symbol]) -> Result<Vec<u8>, ReadFau
 #[cfg(test)]
 mod tests {
     use super::*;
-    use crate::matrix::Matrix;
     use crate::samples::{byte_codewords, byte_symbol};
     use qr_bits::Header;
     use qr_layout::{Level, Version};
+    use qr_matrix::Matrix;
     use std::test::Fail;
 
     // A part of the series of `ABCDEFGH` at 1-H: `ABCDE` or `FGH`.

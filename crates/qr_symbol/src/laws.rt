@@ -8,7 +8,7 @@ ghost use Rattle.qr_bits.specs.Bits.{bits_of};
 ghost use Rattle.qr_bits.specs.Parse.{Content};
 ghost use Rattle.qr_symbol.specs.declared.fault.ReadFault.{ReadFault};
 ghost use Rattle.qr_symbol.specs.declared.symbol.Symbol.{Symbol};
-ghost use Rattle.qr_symbol.specs.Grid.{Grid};
+ghost use Rattle.qr_matrix.specs.Grid.{Grid};
 ghost use Rattle.qr_symbol.specs.Colour.{grid_of};
 ghost use Rattle.qr_symbol.specs.Reading.{read_bits, IsRead, IsMessage, IsFormat, IsReading, IsUnread};
 ghost use Rattle.qr_symbol.specs.Symbols.{IsSymbol, HasNoVersion, SymbolsAreOne};

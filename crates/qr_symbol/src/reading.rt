@@ -11,10 +11,10 @@ ghost use Rattle.qr_symbol.specs.Reading.{IsFormat, IsRead, IsReading, IsUnread}
 use crate::drawing::is_bit_set;
 use crate::fault::ReadFault;
 use crate::mask::inverts;
-use crate::matrix::Matrix;
 use crate::message::deinterleave;
 use qr_bits::{ParseFault, Parsed, parse};
 use qr_layout::{Level, Module, Version, format_word, walk};
+use qr_matrix::Matrix;
 use std::alloc::{AllocError, Global};
 
 // How many bits format information has.

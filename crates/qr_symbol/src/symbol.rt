@@ -7,8 +7,8 @@ ghost use Rattle.qr_symbol.specs.Colour.{grid_of};
 
 use crate::drawing::{draw_codewords, draw_fixed};
 use crate::fault::EncodeFault;
-use crate::matrix::Matrix;
 use qr_layout::{Level, Version, format_word};
+use qr_matrix::Matrix;
 use std::alloc::Global;
 
 /// A symbol: its modules, and the version, the level and the mask, from 0 to 7, that it was made with.

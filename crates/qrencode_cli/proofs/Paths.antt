@@ -6,8 +6,8 @@ use Rattle.std.specs.List.{prefix_len, range_with_len}
 use Rattle.std.proofs.lemmas.Bool.Decides.{nat_tests}
 use Rattle.std.proofs.lemmas.List.{get_or-map, length-map}
 use Rattle.std.proofs.lemmas.List.Elements.{All-get_or}
-use Rattle.qr_symbol.specs.Grid.{Grid, colour, light}
-use Rattle.qr_symbol.specs.Runs.{IsRunEnd}
+use Rattle.qr_matrix.specs.Grid.{Grid, colour, light}
+use Rattle.qr_matrix.specs.Runs.{IsRunEnd}
 use Rattle.qr_symbol.specs.declared.symbol.Symbol.{Symbol}
 use Rattle.qrencode_cli.specs.Device.{Writer}
 use Rattle.qr_symbol.specs.Series.{squares_of}

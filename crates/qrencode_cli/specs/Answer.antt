@@ -6,7 +6,7 @@ use Rattle.std.specs.String.{string_bytes}
 use Rattle.std.specs.Io.KnownBytes.{Appends, Consumes}
 use Rattle.clap.specs.Walk.{Text}
 use Rattle.qr_bits.specs.declared.segment.TheConstants.{INPUT_MAX}
-use Rattle.qr_symbol.specs.Grid.{Grid}
+use Rattle.qr_matrix.specs.Grid.{Grid}
 use Rattle.qr_symbol.specs.Joining.{IsJoined}
 use Rattle.qrencode_cli.specs.declared.pen.TheConstants.{PIECE}
 use Rattle.qrencode_cli.specs.Device.{AppendsBeginning, IsReadWithin, IsWrittenWithin, Reader, Writer, counted, is_read_fault, is_write_fault, no_reads, no_writes}

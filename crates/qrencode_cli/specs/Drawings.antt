@@ -1,7 +1,7 @@
 -- The drawings, as texts of a finished picture. Public clauses cite this file.
 use Rattle.std.specs.Prelude.{◌≡◌, ℕ, ◌+◌, ◌*◌, ◌/◌, Bool, not, if◌then◌else◌, List, [], ◌∷◌, ◌++◌}
 use Rattle.std.specs.List.{All, flat_map}
-use Rattle.qr_symbol.specs.Grid.{Grid}
+use Rattle.qr_matrix.specs.Grid.{Grid}
 use Rattle.qrencode_cli.specs.declared.drawing.Drawing.{Drawing}
 use Rattle.qrencode_cli.specs.declared.drawing.Drawing.TheVariants.{Ascii, AsciiInverse, Utf8, Svg}
 use Rattle.qrencode_cli.specs.Rasters.{is_dark_at, raster_width, texts_below}

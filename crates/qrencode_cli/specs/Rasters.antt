@@ -2,7 +2,7 @@
 -- this file.
 use Rattle.std.specs.Prelude.{ℕ, ◌+◌, ◌-◌, ◌*◌, Bool, ◌&&◌, nat_le, nat_lt, List}
 use Rattle.std.specs.List.{flat_map, range_with_len}
-use Rattle.qr_symbol.specs.Grid.{Grid, colour}
+use Rattle.qr_matrix.specs.Grid.{Grid, colour}
 
 -- the texts of the places below n, one after the other [own]
 unfoldable pub texts_below : ℕ → (ℕ → List ℕ) → List ℕ

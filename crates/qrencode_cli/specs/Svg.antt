@@ -1,7 +1,7 @@
 -- The SVG document of symbols, one below the other, as a function of their rasters. Public clauses cite this file.
 use Rattle.std.specs.Prelude.{ℕ, ◌+◌, ◌-◌, ◌*◌, ◌==◌, Bool, not, ◌&&◌, ◌||◌, if◌then◌else◌, List, [], ◌++◌, length, slice_index_or, codes, decimal}
 use Rattle.std.specs.List.{prefix_len, range_with_len}
-use Rattle.qr_symbol.specs.Grid.{Grid, light}
+use Rattle.qr_matrix.specs.Grid.{Grid, light}
 use Rattle.qrencode_cli.specs.Rasters.{is_dark_at, raster_width, texts_below}
 
 -- a text, and a number in decimal digits behind it [own]

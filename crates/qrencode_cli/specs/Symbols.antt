@@ -1,7 +1,7 @@
 -- The symbols that the settings ask for of an input. Public clauses cite this file.
 use Rattle.std.specs.Prelude.{◌≡◌, ℕ, Bool, true, false, List, [], ◌∷◌, unwrap_or}
 use Rattle.qr_symbol.specs.declared.symbol.Symbol.{Symbol}
-use Rattle.qr_symbol.specs.Grid.{Grid}
+use Rattle.qr_matrix.specs.Grid.{Grid}
 use Rattle.qr_symbol.specs.Symbols.{HasNoVersion, IsSymbol}
 use Rattle.qr_symbol.specs.Series.{HasNoSeries, IsSeries, squares_of}
 use Rattle.qrencode_cli.specs.Settings.{Seen}

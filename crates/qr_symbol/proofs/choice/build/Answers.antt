@@ -2,7 +2,7 @@ use Rattle.std.proofs.Common.{false, ◌∙◌, ap, arith}
 use Rattle.qr_layout.specs.Roles.{role_of}
 use Rattle.qr_layout.specs.Versions.{side_of}
 use Rattle.qr_layout.specs.Words.{version_word_of}
-use Rattle.qr_symbol.specs.Grid.{light}
+use Rattle.qr_matrix.specs.Grid.{light}
 use Rattle.qr_symbol.specs.Drawing.{fixed_colour}
 use Rattle.qr_symbol.proofs.DrawingLemmas.{square-is, plain-over, masked-all}
 use Rattle.qr_symbol.proofs.ChoiceLemmas.{mask-is}

@@ -5,7 +5,7 @@ use Rattle.qr_layout.specs.declared.region.Module.{Module}
 use Rattle.qr_layout.specs.Versions.{side_of}
 use Rattle.qr_layout.specs.Order.{IsOrder}
 use Rattle.qr_layout.proofs.OrderLemmas.{order-small}
-use Rattle.qr_symbol.specs.Grid.{Grid}
+use Rattle.qr_matrix.specs.Grid.{Grid}
 use Rattle.qr_bits.specs.Bits.{codeword_bit}
 use Rattle.qr_symbol.specs.Masks.{inverted}
 use Rattle.qr_symbol.specs.Drawing.{inverts_under}

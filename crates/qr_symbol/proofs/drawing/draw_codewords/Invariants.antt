@@ -1,7 +1,7 @@
 use Rattle.std.proofs.Common.{◌≡◌, ◌++◌, length}
 use Rattle.qr_layout.specs.Versions.{side_of}
 use Rattle.qr_layout.specs.Order.{IsOrder}
-use Rattle.qr_symbol.specs.Grid.{IsSquare}
+use Rattle.qr_matrix.specs.Grid.{IsSquare}
 use Rattle.qr_symbol.proofs.DrawingLemmas.{Done}
 use Rattle.qr_symbol.proofs.drawing.draw_codewords.Given as goal
 

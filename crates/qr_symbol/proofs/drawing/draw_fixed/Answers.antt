@@ -1,9 +1,9 @@
 use Rattle.std.proofs.Common.{◌≡◌, ℕ, false, sym, ◌∙◌, ap, arith}
 use Rattle.qr_layout.specs.Words.{version_word_of}
 use Rattle.qr_layout.specs.Roles.{role_of}
-use Rattle.qr_symbol.specs.Grid.{square, light}
+use Rattle.qr_matrix.specs.Grid.{square, light}
 use Rattle.qr_symbol.specs.Drawing.{fixed_colour}
-use Rattle.qr_symbol.proofs.GridLemmas.{filled, fill-none, fill-step, fill-row, fill-all}
+use Rattle.qr_matrix.proofs.GridLemmas.{filled, fill-none, fill-step, fill-row, fill-all}
 use Rattle.qr_symbol.proofs.DrawingLemmas.{word-of-version, word-or-none}
 use Rattle.qr_symbol.proofs.drawing.draw_fixed.Goals as goal
 

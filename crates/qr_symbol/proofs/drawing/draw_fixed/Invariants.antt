@@ -3,7 +3,7 @@ use Rattle.qr_layout.specs.Versions.{side_of}
 use Rattle.qr_layout.specs.Words.{version_word_of}
 use Rattle.qr_layout.specs.Roles.{role_of}
 use Rattle.qr_symbol.specs.Drawing.{fixed_colour}
-use Rattle.qr_symbol.proofs.GridLemmas.{filled}
+use Rattle.qr_matrix.proofs.GridLemmas.{filled}
 use Rattle.qr_symbol.proofs.drawing.draw_fixed.Given as goal
 
 abbrev pub invariant-loop-col : goal.invariant-loop-col

@@ -1,9 +1,9 @@
 use Rattle.std.proofs.Common.{◌≡◌, ℕ, sym, ◌∙◌, ap, arith}
 use Rattle.qr_layout.specs.Versions.{side_of}
 use Rattle.qr_layout.specs.Roles.{role_of}
-use Rattle.qr_symbol.specs.Grid.{square, colour}
+use Rattle.qr_matrix.specs.Grid.{square, colour}
 use Rattle.qr_symbol.specs.Drawing.{format_or, masked_colour}
-use Rattle.qr_symbol.proofs.GridLemmas.{filled, fill-none, fill-step, fill-row, fill-all}
+use Rattle.qr_matrix.proofs.GridLemmas.{filled, fill-none, fill-step, fill-row, fill-all}
 use Rattle.qr_symbol.proofs.drawing.draw_masked.Goals as goal
 
 pub loop-row-init : goal.loop-row-init

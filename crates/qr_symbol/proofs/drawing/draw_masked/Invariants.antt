@@ -1,9 +1,9 @@
 use Rattle.std.proofs.Common.{◌≡◌}
 use Rattle.qr_layout.specs.Versions.{side_of}
 use Rattle.qr_layout.specs.Words.{format_word_of}
-use Rattle.qr_symbol.specs.Grid.{colour}
+use Rattle.qr_matrix.specs.Grid.{colour}
 use Rattle.qr_symbol.specs.Drawing.{masked_colour}
-use Rattle.qr_symbol.proofs.GridLemmas.{filled}
+use Rattle.qr_matrix.proofs.GridLemmas.{filled}
 use Rattle.qr_symbol.proofs.drawing.draw_masked.Given as goal
 
 abbrev pub invariant-loop-col : goal.invariant-loop-col

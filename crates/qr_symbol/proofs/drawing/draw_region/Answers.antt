@@ -1,8 +1,8 @@
 use Rattle.std.proofs.Common.{◌≡◌, ℕ, false, sym, ◌∙◌, ap, arith}
 use Rattle.qr_layout.specs.Region.{is_in_region}
-use Rattle.qr_symbol.specs.Grid.{square, light}
+use Rattle.qr_matrix.specs.Grid.{square, light}
 use Rattle.qr_symbol.specs.Drawing.{is_region}
-use Rattle.qr_symbol.proofs.GridLemmas.{filled, fill-none, fill-step, fill-row, fill-all}
+use Rattle.qr_matrix.proofs.GridLemmas.{filled, fill-none, fill-step, fill-row, fill-all}
 use Rattle.qr_symbol.proofs.DrawingLemmas.{region-test}
 use Rattle.qr_symbol.proofs.drawing.draw_region.Goals as goal
 

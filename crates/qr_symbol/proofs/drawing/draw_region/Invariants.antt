@@ -1,7 +1,7 @@
 use Rattle.std.proofs.Common.{◌≡◌, false}
 use Rattle.qr_layout.specs.Versions.{side_of}
 use Rattle.qr_layout.specs.Region.{is_in_region}
-use Rattle.qr_symbol.proofs.GridLemmas.{filled}
+use Rattle.qr_matrix.proofs.GridLemmas.{filled}
 use Rattle.qr_symbol.proofs.drawing.draw_region.Given as goal
 
 abbrev pub invariant-loop-col : goal.invariant-loop-col

@@ -1,5 +1,5 @@
 use Rattle.std.proofs.Common.{◌≡◌, Bool, ◌&&◌, sym, ◌∙◌, ap}
-use Rattle.qr_symbol.specs.Grid.{colour}
+use Rattle.qr_matrix.specs.Grid.{colour}
 use Rattle.qr_symbol.specs.Masks.{inverts, inverted}
 use Rattle.qr_symbol.proofs.BitLemmas.{differs-inverted}
 use Rattle.qr_symbol.proofs.drawing.masked.Goals as goal

@@ -1,6 +1,6 @@
 use Rattle.std.proofs.Common.{◌≡◌, ℕ, ◌<◌}
 use Rattle.qr_layout.specs.Roles.{first_place}
-use Rattle.qr_symbol.specs.Grid.{colour}
+use Rattle.qr_matrix.specs.Grid.{colour}
 use Rattle.qr_symbol.specs.Colour.{word_bit}
 use Rattle.qr_symbol.proofs.reading.has_format.Given as goal
 

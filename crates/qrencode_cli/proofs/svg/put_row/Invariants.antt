@@ -1,5 +1,5 @@
 use Rattle.std.proofs.Common.{◌≢◌, ◌≤◌, ◌<◌, ◌+◌, ◌-◌, ◌++◌}
-use Rattle.qr_symbol.specs.Grid.{colour}
+use Rattle.qr_matrix.specs.Grid.{colour}
 use Rattle.qrencode_cli.specs.Device.{writer}
 use Rattle.qrencode_cli.specs.Rasters.{texts_below}
 use Rattle.qrencode_cli.specs.Svg.{run_path}

@@ -1,0 +1,6 @@
+pub mod GridLemmas
+mod SumLemmas
+mod RunLemmas
+mod WindowLemmas
+mod LineLemmas
+mod SquareLemmas

@@ -1,0 +1,5 @@
+pub mod Grid
+pub mod Runs
+pub mod Sums
+pub mod Penalty
+pub mod Lines

@@ -1,0 +1,82 @@
+-- The penalty of a square of modules. A line is a row or a column, as the colours of its places; true is dark. Public
+-- clauses cite penalty_of.
+use Rattle.std.specs.Prelude.{ℕ, ◌+◌, ◌-◌, ◌*◌, ◌/◌, ◌&&◌, ◌||◌, not, Bool, true, false, nat_lt, nat_le, ◌==◌, if◌then◌else◌, List, [], ◌∷◌}
+use Prim.Native.Nat.{zero, suc}
+use Rattle.qr_matrix.specs.Sums.{sum_below}
+
+-- how many numbers below n pass the test [own]
+abbrev pub count_below : ℕ → (ℕ → Bool) → ℕ
+count_below n p = sum_below n (λ k. if p k then 1 else 0)
+
+-- every number below n passes the test [own]
+abbrev pub all_below : ℕ → (ℕ → Bool) → Bool
+all_below zero p = true
+all_below (suc n) p = p n && all_below n p
+
+-- the two colours are equal [own]
+abbrev pub is_same : Bool → Bool → Bool
+is_same true b = b
+is_same false b = not b
+
+-- in a line of s places the k places from a on are a maximal run: they are of one colour, and no place can be joined to
+-- them at either end (ISO/IEC 18004:2015, 7.8.3, adjacent modules of the same colour)
+unfoldable pub is_run : ℕ → (ℕ → Bool) → ℕ → ℕ → Bool
+is_run s line a k =
+    nat_le (a + k) s
+    && all_below k (λ i. is_same (line (a + i)) (line a))
+    && (a == 0 || not (is_same (line (a - 1)) (line a)))
+    && (a + k == s || not (is_same (line (a + k)) (line a)))
+
+-- each maximal run of k modules, five or more, costs k - 2 (ISO/IEC 18004:2015, 7.8.3.1, Table 11)
+unfoldable pub run_cost : ℕ → (ℕ → Bool) → ℕ
+run_cost s line = sum_below s (λ a. sum_below (s + 1) (λ k. if nat_le 5 k && is_run s line a k then k - 2 else 0))
+
+-- from place c on the line has these colours [own]
+abbrev pub reads : (ℕ → Bool) → ℕ → List Bool → Bool
+reads line c [] = true
+reads line c (b ∷ bs) = is_same (line c) b && reads line (c + 1) bs
+
+-- the ratio 1 : 1 : 3 : 1 : 1 of a finder pattern before four light modules (ISO/IEC 18004:2015, 7.8.3.1, Table 11)
+abbrev pub tail_window : List Bool
+tail_window = true ∷ false ∷ true ∷ true ∷ true ∷ false ∷ true ∷ false ∷ false ∷ false ∷ false ∷ []
+
+-- the same after four light modules (ISO/IEC 18004:2015, 7.8.3.1, Table 11)
+abbrev pub head_window : List Bool
+head_window = false ∷ false ∷ false ∷ false ∷ true ∷ false ∷ true ∷ true ∷ true ∷ false ∷ true ∷ []
+
+-- one of the two begins at place c of a line of s places (ISO/IEC 18004:2015, 7.8.3.1, Table 11)
+unfoldable pub is_window : ℕ → (ℕ → Bool) → ℕ → Bool
+is_window s line c = nat_le (c + 11) s && (reads line c tail_window || reads line c head_window)
+
+-- how many of them a line has [own]
+unfoldable pub window_count : ℕ → (ℕ → Bool) → ℕ
+window_count s line = count_below s (is_window s line)
+
+-- the modules at (r, c), to the right of it, below it and between these are of one colour
+-- (ISO/IEC 18004:2015, 7.8.3.1, Table 11, block of modules in same colour)
+unfoldable pub is_block : ℕ → (ℕ → ℕ → Bool) → ℕ → ℕ → Bool
+is_block s dark r c =
+    nat_lt (r + 1) s && nat_lt (c + 1) s
+    && is_same (dark r c) (dark r (c + 1)) && is_same (dark r c) (dark (r + 1) c) && is_same (dark r c) (dark (r + 1) (c + 1))
+
+-- how many blocks of two by two modules there are, those that overlap counted each [own]
+unfoldable pub block_count : ℕ → (ℕ → ℕ → Bool) → ℕ
+block_count s dark = sum_below s (λ r. count_below s (is_block s dark r))
+
+-- how many modules are dark [own]
+unfoldable pub dark_count : ℕ → (ℕ → ℕ → Bool) → ℕ
+dark_count s dark = sum_below s (λ r. count_below s (dark r))
+
+-- 10 for each whole twentieth by which the part of the dark modules differs from a half
+-- (ISO/IEC 18004:2015, 7.8.3.1, Table 11, proportion of dark modules)
+unfoldable pub dark_cost : ℕ → ℕ → ℕ
+dark_cost s dark = 10 * (((20 * dark - 10 * (s * s)) + (10 * (s * s) - 20 * dark)) / (s * s))
+
+-- the sum of a measure over all rows and all columns [own]
+unfoldable pub over_lines : ℕ → (ℕ → ℕ → Bool) → ((ℕ → Bool) → ℕ) → ℕ
+over_lines s dark f = sum_below s (λ r. f (dark r)) + sum_below s (λ c. f (λ r. dark r c))
+
+-- the penalty of a square of s rows and columns: its runs, 3 for each block, 40 for each finder-like window, and its
+-- part of dark modules (ISO/IEC 18004:2015, 7.8.3.1, Table 11)
+unfoldable pub penalty_of : ℕ → (ℕ → ℕ → Bool) → ℕ
+penalty_of s dark = over_lines s dark (run_cost s) + 3 * block_count s dark + 40 * over_lines s dark (window_count s) + dark_cost s (dark_count s dark)
