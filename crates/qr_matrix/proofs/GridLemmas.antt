@@ -1,11 +1,8 @@
 -- Squares by their places.
-use Rattle.std.proofs.Common.{◌≡◌, ℕ, zero, suc, ◌+◌, ◌*◌, ◌<◌, ◌≤◌, Bool, true, false, cond, eqb, ltb, ◌&&◌, ◌||◌, List, [], ◌∷◌, length, get_or, map, set, refl, sym, ◌∙◌, ap, inl, inr, ◌⊎◌, arith}
+use Rattle.std.proofs.Common.{◌≡◌, ℕ, zero, suc, ◌+◌, ◌<◌, ◌≤◌, Bool, true, false, cond, eqb, ltb, ◌&&◌, ◌||◌, List, [], ◌∷◌, get_or, map, refl, sym, ◌∙◌, ap, inl, inr, ◌⊎◌, arith}
 use Rattle.std.proofs.lemmas.Bool.Decides.{nat_tests}
 use Rattle.std.proofs.lemmas.List.FromFn.{get_or-map-range_with_len, length-range_with_len}
-use Rattle.std.proofs.lemmas.Nat.{mul-add-lt}
-use Rattle.std.proofs.Math.Nat.{mul_comm}
 use Rattle.std.proofs.lemmas.Bool.{cases_lt}
-use Rattle.std.proofs.lemmas.List.{get_or-set_same, get_or-set_other, get_or_read}
 use Rattle.std.proofs.lemmas.List.{length-map}
 use Rattle.std.proofs.Math.ListN.{get_or-eq_default}
 use Rattle.std.specs.List.{range_with_len}
@@ -45,26 +42,6 @@ colour-outside s f r c (inr l) = elim (cases_lt r s) [
   | inr k ↦ colour-under s f r c k
 ]
 
--- ---- places in rows one after another
-
--- the item of a list of colours
-abbrev at : List Bool → ℕ → ℕ → Bool
-at xs s k = get_or xs k false
-
--- places in rows one after another are told apart
-one_place : (s row col r c : ℕ) → col < s → c < s → r * s + c ≡ row * s + col → (r ≡ row) × (c ≡ col)
-one_place s row col r c l m e = elim (cases_lt r row) [
-  | inl k ↦ absurd (omega (arith, mul-add-lt r s c row k m, mul_comm s row))
-  | inr k ↦ elim (cases_lt row r) [
-    | inl j ↦ absurd (omega (arith, mul-add-lt row s col r j l, mul_comm s r))
-    | inr j ↦ let f : r ≡ row = omega arith in (f, let g = ap (λ (x : ℕ). x * s) f in omega arith)
-  ]
-]
-
--- a place that is read
-pub read-place : (s : ℕ) (xs : List Bool) (g : Grid) (r c : ℕ) → square s (λ r c. get_or xs (r * s + c) false) ≡ g → r < s → c < s → get_or xs (r * s + c) false ≡ colour g r c
-read-place s xs g r c e l m = sym (colour-square s (λ r c. get_or xs (r * s + c) false) r c l m) ∙ ap (λ (h : Grid). colour h r c) e
-
 -- two places are one or are told apart
 eqb-true : (x y : ℕ) → eqb x y ≡ true → x ≡ y
 eqb-true x y h = grind (arith, nat_tests)
@@ -93,12 +70,6 @@ painted-by s f h row col d e o = square-same s h (λ r c. cond (eqb r row && eqb
   | inr w ↦ let t = w.1 in rw t (o r c l m w.0 ∙ sym (colour-square s f r c l m))
 ])
 
--- a place that is written
-pub write-place : (s : ℕ) (xs : List Bool) (row col : ℕ) (d : Bool) → row < s → col < s → length xs ≡ s * s → square s (λ r c. get_or (set xs (row * s + col) d) (r * s + c) false) ≡ painted (square s (λ r c. get_or xs (r * s + c) false)) row col d
-write-place s xs row col d l m n =
-    painted-by s (λ r c. get_or xs (r * s + c) false) (λ r c. get_or (set xs (row * s + col) d) (r * s + c) false) row col d (get_or-set_same xs (row * s + col) d false (omega (arith, mul-add-lt row s col s l m)))
-    (λ r c k j o. get_or-set_other xs (row * s + col) (r * s + c) d false (λ e. o (one_place s row col r c m j e)))
-
 -- the colour of a place after a change
 pub colour-painted-here : (g : Grid) (row col : ℕ) (d : Bool) → row < g.side → col < g.side → colour (painted g row col d) row col ≡ d
 colour-painted-here g row col d l m = elim (same-place row col row col) [
@@ -112,28 +83,6 @@ colour-painted-there g row col r c d l m o = elim (same-place row col r c) [
   | inl w ↦ absurd (o w.0)
   | inr w ↦ colour-square g.side (λ r c. cond (eqb r row && eqb c col) d (colour g r c)) r c l m ∙ rw w.1 refl
 ]
-
--- ---- the steps of a matrix
-
--- the index of a place is in the list
-pub index-in : (s row col i j k n : ℕ) (g : Grid) (f : ℕ → ℕ → Bool) → square s f ≡ g → i ≡ row → j ≡ s → k ≡ col → row < g.side → col < g.side → n ≡ s * s → i * j + k < n
-index-in s row col i j k n g f e a b d l m o =
-    let t : s ≡ g.side = ap (λ (h : Grid). h.side) e in
-    let w = mul-add-lt row s col s (omega arith) (omega arith) in
-    rw (a, b, d, o) w
-
--- reading one place
-pub read-step : (s : ℕ) (xs : List Bool) (g : Grid) (row col i j k : ℕ) (x : Bool) → square s (λ r c. get_or xs (r * s + c) false) ≡ g → i ≡ row → j ≡ s → k ≡ col → row < g.side → col < g.side → length xs ≡ s * s → x ≡ get_or xs (i * j + k) x → x ≡ colour g row col
-read-step s xs g row col i j k x e a b d l m o q =
-    let t : s ≡ g.side = ap (λ (h : Grid). h.side) e in
-    let inside = index-in s row col i j k (length xs) g (λ r c. get_or xs (r * s + c) false) e a b d l m o in
-    get_or_read xs (i * j + k) x inside q false ∙ rw (a, b, d) (read-place s xs g row col e (omega arith) (omega arith))
-
--- writing one place
-pub write-step : (s : ℕ) (xs : List Bool) (g : Grid) (row col i j k : ℕ) (x : Bool) → square s (λ r c. get_or xs (r * s + c) false) ≡ g → i ≡ row → j ≡ s → k ≡ col → row < g.side → col < g.side → length xs ≡ s * s → square s (λ r c. get_or (set xs (i * j + k) x) (r * s + c) false) ≡ painted g row col x
-write-step s xs g row col i j k x e a b d l m o =
-    let t : s ≡ g.side = ap (λ (h : Grid). h.side) e in
-    rw (a, b, d) (write-place s xs row col x (omega arith) (omega arith) o ∙ ap (λ (h : Grid). painted h row col x) e)
 
 -- ---- filling a square row by row
 

@@ -1,6 +1,12 @@
+mod BoolLemmas
 pub mod GridLemmas
 mod SumLemmas
+mod WordLemmas
+mod PlaceLemmas
+mod RowLemmas
 mod RunLemmas
+mod ColumnLemmas
+mod BlockLemmas
 mod WindowLemmas
-mod LineLemmas
-mod SquareLemmas
+mod MatrixLemmas
+mod PenaltyLemmas

@@ -1,20 +1,13 @@
--- The cost of the maximal runs of a line is what its places add, each by the length to which its run has come.
-use Rattle.std.proofs.Common.{◌≡◌, ℕ, zero, suc, ◌+◌, ◌-◌, ◌<◌, ◌≤◌, ◌⊎◌, inl, inr, eqb, ltb, leb, Bool, true, false, not, ◌&&◌, ◌||◌, cond, refl, sym, ap, ◌∙◌, subst, arith}
+-- The cost of the maximal runs is the cost place by place.
+use Rattle.std.proofs.Common.{◌≡◌, ℕ, zero, suc, ◌+◌, ◌-◌, ◌*◌, ◌<◌, ◌≤◌, ◌⊎◌, inl, inr, eqb, ltb, leb, Bool, true, false, not, ◌&&◌, ◌||◌, cond, refl, sym, ap, ◌∙◌, subst, arith}
 use Rattle.std.proofs.lemmas.Bool.{cases_lt, false≢true}
 use Rattle.std.proofs.lemmas.Bool.Decides.{nat_tests}
-use Rattle.qr_matrix.specs.Sums.{sum_below}
 use Rattle.qr_matrix.specs.Penalty.{all_below, is_same, is_run, run_cost}
-use Rattle.qr_matrix.specs.Lines.{run_share}
-use Rattle.qr_matrix.proofs.SumLemmas.{sum_below-same, sum_below-one}
-
--- the next place is in the line and has the same colour
-unfoldable joins : ℕ → (ℕ → Bool) → ℕ → Bool
-joins s line c = ltb (c + 1) s && is_same (line c) (line (c + 1))
-
--- the last place is joined to none
-joins-past : (s : ℕ) (line : ℕ → Bool) (c : ℕ) → s ≤ c + 1 → joins s line c ≡ false
-unfolding joins
-joins-past s line c h = let e : ltb (c + 1) s ≡ false = grind (arith, nat_tests) in ap (λ z. z && is_same (line c) (line (c + 1))) e
+use Rattle.qr_matrix.specs.Sums.{sum_below}
+use Rattle.qr_matrix.specs.Places.{joins, begins_five, begins_run, place_cost}
+use Rattle.qr_matrix.proofs.SumLemmas.{sum_below-same, sum_below-add, sum_below-scale, sum_below-one}
+use Rattle.qr_matrix.proofs.BoolLemmas.{and-false}
+use Rattle.qr_matrix.proofs.RowLemmas.{joins-past}
 
 -- a test is true or false
 true_or_false : (b : Bool) → (b ≡ true) ⊎ (b ≡ false)
@@ -27,11 +20,6 @@ true_or_false false = inr refl
 all_below-true : (k : ℕ) (p : ℕ → Bool) → ((i : ℕ) → i < k → p i ≡ true) → all_below k p ≡ true
 all_below-true zero p h = refl
 all_below-true (suc k) p h = ap (λ z. z && all_below k p) (h k (omega arith)) ∙ all_below-true k p (λ i l. h i (omega arith))
-
--- a conjunction with what is false
-and-false : (a b : Bool) → b ≡ false → (a && b) ≡ false
-and-false true b e = e
-and-false false b e = refl
 
 -- one number does not pass
 all_below-false : (k : ℕ) (p : ℕ → Bool) (i : ℕ) → i < k → p i ≡ false → all_below k p ≡ false
@@ -81,12 +69,12 @@ joins-false s line a h = elim (cases_lt (a + 1) s) [
   | inr l ↦ inl l
 ]
 
--- one place more
+-- a place that is joined has one more ahead than the next
 ahead-true : (j : ℕ → Bool) (n a : ℕ) → j a ≡ true → ahead j (suc n) a ≡ suc (ahead j n (a + 1))
 unfolding ahead
 ahead-true j n a e = ap (λ z. cond z (suc (ahead j n (a + 1))) 0) e
 
--- none
+-- a place that is not has none
 ahead-false : (j : ℕ → Bool) (n a : ℕ) → j a ≡ false → ahead j n a ≡ 0
 unfolding ahead
 ahead-false j zero a e = refl
@@ -141,15 +129,15 @@ stretch-end s line (suc n) a e p = elim (true_or_false (joins s line a)) [
 
 -- ---- the maximal run from a place, if one begins there
 
--- a run can begin here: there is no place before, or it differs
+-- no place before this one is of its run
 abbrev heads : (ℕ → Bool) → ℕ → Bool
 heads line a = eqb a 0 || not (is_same (line (a - 1)) (line a))
 
--- the length of the run from place a on
+-- how long the run is that begins at this place
 abbrev run_len : ℕ → (ℕ → Bool) → ℕ → ℕ
 run_len s line a = suc (ahead (joins s line) (s - a) a)
 
--- four tests of which three are true
+-- of four tests three are passed
 four : (p q h r : Bool) → p ≡ true → q ≡ true → r ≡ true → (((p && q) && h) && r) ≡ h
 four p q h r a b c = subst (λ z. (((z && q) && h) && r) ≡ h) (sym a) (subst (λ z. ((z && h) && r) ≡ h) (sym b) (subst (λ z. (h && z) ≡ h) (sym c) (last h)))
   where
@@ -157,7 +145,7 @@ four p q h r a b c = subst (λ z. (((z && q) && h) && r) ≡ h) (sym a) (subst (
     last true = refl
     last false = refl
 
--- a maximal run from place a has just that length
+-- a maximal run of k places begins at a place just where none before it is of its run and k is its length
 is_run-is : (s : ℕ) (line : ℕ → Bool) (a k : ℕ) → a < s → is_run s line a k ≡ (heads line a && eqb k (run_len s line a))
 unfolding is_run
 is_run-is s line a k l =
@@ -212,7 +200,7 @@ is_run-is s line a k l =
 
 -- ---- the sum over the lengths
 
--- the sum over all lengths is that of one
+-- of all lengths only that of the run counts
 run_at : (s : ℕ) (line : ℕ → Bool) (a : ℕ) → a < s → sum_below (s + 1) (λ k. cond (leb 5 k && is_run s line a k) (k - 2) 0) ≡ cond (leb 5 (run_len s line a) && heads line a) (run_len s line a - 2) 0
 run_at s line a l =
     let m = run_len s line a in
@@ -235,7 +223,7 @@ run_at s line a l =
 abbrev left : ℕ → (ℕ → Bool) → ℕ → ℕ
 left s line a = ahead (joins s line) (s - a) a
 
--- how many places are left, by whether the next one is joined
+-- the places ahead of one that is joined are those ahead of the next and the next
 left-is : (s : ℕ) (line : ℕ → Bool) (a : ℕ) → left s line a ≡ cond (joins s line a) (suc (left s line (a + 1))) 0
 unfolding ahead
 left-is s line a = elim (cases_lt a s) [
@@ -250,7 +238,25 @@ left-is s line a = elim (cases_lt a s) [
     step : (j : ℕ → Bool) (n a : ℕ) → ahead j (suc n) a ≡ cond (j a) (suc (ahead j n (a + 1))) 0
     step j n a = refl
 
--- a run begins where the place before is not joined
+-- four joins one after another are four places ahead
+five-from : (a b c d e : ℕ) (i j k l : Bool) → a ≡ cond i (suc b) 0 → b ≡ cond j (suc c) 0 → c ≡ cond k (suc d) 0 → d ≡ cond l (suc e) 0 → ((i && j) && (k && l)) ≡ leb 4 a
+five-from a b c d e true true true true p q r s = grind (arith, nat_tests)
+five-from a b c d e true true true false p q r s = grind (arith, nat_tests)
+five-from a b c d e true true false l p q r s = grind (arith, nat_tests)
+five-from a b c d e true false k l p q r s = grind (arith, nat_tests)
+five-from a b c d e false j k l p q r s = grind (arith, nat_tests)
+
+-- five places begin where four are ahead
+five-is : (s : ℕ) (line : ℕ → Bool) (a : ℕ) → begins_five s line a ≡ leb 4 (left s line a)
+unfolding begins_five
+five-is s line a =
+    five-from (left s line a) (left s line (a + 1)) (left s line (a + 2)) (left s line (a + 3)) (left s line (a + 4)) (joins s line a) (joins s line (a + 1)) (joins s line (a + 2)) (joins s line (a + 3))
+    (left-is s line a) (next 1 2 (omega arith)) (next 2 3 (omega arith)) (next 3 4 (omega arith))
+  where
+    next : (i k : ℕ) → a + i + 1 ≡ a + k → left s line (a + i) ≡ cond (joins s line (a + i)) (suc (left s line (a + k))) 0
+    next i k e = left-is s line (a + i) ∙ ap (λ z. cond (joins s line (a + i)) (suc (left s line z)) 0) e
+
+-- no place before is of its run where none is joined to it
 heads-is : (s : ℕ) (line : ℕ → Bool) (a : ℕ) → a < s → heads line a ≡ not (ltb 0 a && joins s line (a - 1))
 unfolding joins
 heads-is s line a h = elim (cases_lt 0 a) [
@@ -273,143 +279,72 @@ heads-is s line a h = elim (cases_lt 0 a) [
 abbrev cost_at : ℕ → (ℕ → Bool) → ℕ → ℕ
 cost_at s line a = cond (leb 5 (run_len s line a) && heads line a) (run_len s line a - 2) 0
 
--- ---- by the length to which a run has come
+-- what a place adds
+abbrev place_at : ℕ → (ℕ → Bool) → ℕ → ℕ
+place_at s line a = cond (begins_five s line a) 1 0 + 2 * cond (begins_run s line a) 1 0
 
--- how many places up to this one are of its colour
-abbrev pub ending : (ℕ → Bool) → ℕ → ℕ
-ending line zero = 1
-ending line (suc k) = cond (is_same (line k) (line (suc k))) (suc (ending line k)) 1
+-- the fives that are still to come of the run that place a goes on
+abbrev open_at : ℕ → (ℕ → Bool) → ℕ → ℕ
+open_at s line a = cond (ltb 0 a && joins s line (a - 1)) (left s line a - 3) 0
 
--- what a run of k places costs
-abbrev whole_cost : ℕ → ℕ
-whole_cost k = cond (leb 5 k) (k - 2) 0
+-- a place adds what its run still has to come less what the next one has
+balance : (a b : ℕ) (j f : Bool) → a ≡ cond j (suc b) 0 → cond (leb 4 a) 1 0 + 2 * cond (leb 4 a && not f) 1 0 + cond j (b - 3) 0 ≡ cond (leb 5 (suc a) && not f) (suc a - 2) 0 + cond f (a - 3) 0
+balance a b true true e = grind (arith, nat_tests)
+balance a b true false e = grind (arith, nat_tests)
+balance a b false true e = grind (arith, nat_tests)
+balance a b false false e = grind (arith, nat_tests)
 
--- one place more of a run
-one-more : (k : ℕ) → whole_cost (suc k) ≡ run_share (suc k) + whole_cost k
-unfolding run_share
-one-more k = grind (arith, nat_tests)
+-- what is still to come at the next place
+open-next : (s : ℕ) (line : ℕ → Bool) (a : ℕ) → open_at s line (a + 1) ≡ cond (joins s line a) (left s line (a + 1) - 3) 0
+open-next s line a =
+    let e : ltb 0 (a + 1) ≡ true = grind (arith, nat_tests) in
+    let f : a + 1 - 1 ≡ a = omega arith in
+    ap (λ z. cond (z && joins s line (a + 1 - 1)) (left s line (a + 1) - 3) 0) e ∙ ap (λ z. cond (joins s line z) (left s line (a + 1) - 3) 0) f
 
--- what the runs that were begun cost, up to here and as a whole
-abbrev up_to : (ℕ → Bool) → ℕ → ℕ
-up_to line zero = 0
-up_to line (suc m) = whole_cost (ending line m)
+-- a run begins where four places are ahead and none before is joined
+begins_run-is : (s : ℕ) (line : ℕ → Bool) (a : ℕ) → begins_run s line a ≡ (leb 4 (left s line a) && not (ltb 0 a && joins s line (a - 1)))
+unfolding begins_run
+begins_run-is s line a = ap (λ z. z && not (ltb 0 a && joins s line (a - 1))) (five-is s line a)
 
--- what the runs that were begun cost as a whole
-abbrev as_whole : ℕ → (ℕ → Bool) → ℕ → ℕ
-as_whole s line zero = 0
-as_whole s line (suc m) = whole_cost (ending line m + left s line m)
+-- equal tests count the same
+as-number : (a b : Bool) → a ≡ b → cond {A = ℕ} a 1 0 ≡ cond {A = ℕ} b 1 0
+as-number a b e = ap (λ z. cond {A = ℕ} z 1 0) e
 
--- the run goes on
-goes-on : (a b k l m n : ℕ) → l ≡ suc n → m ≡ suc k → a + whole_cost k ≡ b + whole_cost (k + l) → a + 0 + whole_cost m ≡ b + run_share m + whole_cost (m + n)
-goes-on a b k l m n e f h =
-    let g : whole_cost m ≡ run_share m + whole_cost k = ap whole_cost f ∙ (one-more k ∙ ap (λ z. run_share z + whole_cost k) (sym f)) in
-    let i : k + l ≡ m + n = omega arith in
-    let j = ap whole_cost i in
+-- one place more
+place-step : (s : ℕ) (line : ℕ → Bool) (a : ℕ) → a < s → place_at s line a + open_at s line (a + 1) ≡ cost_at s line a + open_at s line a
+place-step s line a h =
+    let f = ltb 0 a && joins s line (a - 1) in
+    let b = balance (left s line a) (left s line (a + 1)) (joins s line a) (ltb 0 a && joins s line (a - 1)) (left-is s line a) in
+    let p = as-number (begins_five s line a) _ (five-is s line a) in
+    let q = as-number (begins_run s line a) _ (begins_run-is s line a) in
+    let r = open-next s line a in
+    let t = ap (λ z. cond (leb 5 (run_len s line a) && z) (run_len s line a - 2) 0) (heads-is s line a h) in
     omega arith
 
--- the run ends and another one begins
-ends-here : (a b k l m n : ℕ) → l ≡ 0 → m ≡ 1 → a + whole_cost k ≡ b + whole_cost (k + l) → a + whole_cost (suc n) + whole_cost m ≡ b + run_share m + whole_cost (m + n)
-unfolding run_share
-ends-here a b k l m n e f h =
-    let i : k + l ≡ k = omega arith in
-    let j = ap whole_cost i in
-    let p : whole_cost m ≡ 0 = ap whole_cost f in
-    let q : run_share m ≡ 0 = ap run_share f in
-    let r : m + n ≡ suc n = omega arith in
-    let t = ap whole_cost r in
+-- the first n places
+places-sum : (s : ℕ) (line : ℕ → Bool) (n : ℕ) → n ≤ s → sum_below n (place_at s line) + open_at s line n ≡ sum_below n (cost_at s line)
+places-sum s line zero h = refl
+places-sum s line (suc n) h =
+    let a = places-sum s line n (omega arith) in
+    let b = place-step s line n (omega arith) in
+    let e : n + 1 ≡ suc n = omega arith in
+    let f = ap (open_at s line) e in
     omega arith
 
--- inside a run none begins
-cost-none : (s : ℕ) (line : ℕ → Bool) (m : ℕ) → suc m < s → joins s line m ≡ true → cost_at s line (suc m) ≡ 0
-cost-none s line m l t =
-    let e : suc m - 1 ≡ m = omega arith in
-    let f : ltb 0 (suc m) ≡ true = grind (arith, nat_tests) in
-    let h : heads line (suc m) ≡ false = heads-is s line (suc m) l ∙ (ap (λ z. not (z && joins s line (suc m - 1))) f ∙ (ap (λ z. not (joins s line z)) e ∙ ap not t)) in
-    ap (λ z. cond (leb 5 (run_len s line (suc m)) && z) (run_len s line (suc m) - 2) 0) h ∙ none (leb 5 (run_len s line (suc m))) (run_len s line (suc m) - 2)
-  where
-    none : (b : Bool) (x : ℕ) → cond {A = ℕ} (b && false) x 0 ≡ 0
-    none true x = refl
-    none false x = refl
+-- nothing is still to come past the last place
+open-end : (s : ℕ) (line : ℕ → Bool) → open_at s line s ≡ 0
+open-end s line = elim (cases_lt 0 s) [
+  | inl h ↦ ap (λ z. cond z (left s line s - 3) 0) (and-false (ltb 0 s) (joins s line (s - 1)) (joins-past s line (s - 1) (omega arith)))
+  | inr h ↦ let e : ltb 0 s ≡ false = grind (arith, nat_tests) in ap (λ z. cond (z && joins s line (s - 1)) (left s line s - 3) 0) e
+]
 
--- a run that begins costs by its length
-cost-whole : (s : ℕ) (line : ℕ → Bool) (n : ℕ) → heads line n ≡ true → cost_at s line n ≡ whole_cost (suc (left s line n))
-cost-whole s line n h =
-    ap (λ z. cond (leb 5 (run_len s line n) && z) (run_len s line n - 2) 0) h ∙ whole (leb 5 (run_len s line n)) (run_len s line n - 2)
-  where
-    whole : (b : Bool) (x : ℕ) → cond {A = ℕ} (b && true) x 0 ≡ cond {A = ℕ} b x 0
-    whole true x = refl
-    whole false x = refl
-
--- inside the line, joined means equal
-next-equal : (s : ℕ) (line : ℕ → Bool) (m : ℕ) → suc m < s → joins s line m ≡ is_same (line m) (line (suc m))
-unfolding joins
-next-equal s line m l =
-    let e : m + 1 ≡ suc m = omega arith in
-    let t : ltb (m + 1) s ≡ true = grind (arith, nat_tests) in
-    ap (λ z. z && is_same (line m) (line (m + 1))) t ∙ ap (λ z. is_same (line m) (line z)) e
-
--- a run begins at the first place
-heads-first : (line : ℕ → Bool) → heads line 0 ≡ true
-heads-first line = refl
-
--- a run begins after a place that is not joined
-heads-after : (s : ℕ) (line : ℕ → Bool) (m : ℕ) → suc m < s → joins s line m ≡ false → heads line (suc m) ≡ true
-heads-after s line m l t =
-    let e : suc m - 1 ≡ m = omega arith in
-    let f : ltb 0 (suc m) ≡ true = grind (arith, nat_tests) in
-    heads-is s line (suc m) l ∙ (ap (λ z. not (z && joins s line (suc m - 1))) f ∙ (ap (λ z. not (joins s line z)) e ∙ ap not t))
-
--- one place adds nothing
-share-one : run_share 1 ≡ 0
-unfolding run_share
-share-one = refl
-
--- the runs begun so far cost what their places added and are still to add
-balanced : (s : ℕ) (line : ℕ → Bool) (n : ℕ) → n ≤ s → sum_below n (cost_at s line) + up_to line n ≡ sum_below n (λ k. run_share (ending line k)) + as_whole s line n
-balanced s line zero l = refl
-balanced s line (suc zero) l =
-    let c = cost-whole s line 0 (heads-first line) in
-    let e = first (left s line 0) in
-    let f = share-one in
-    omega arith
-  where
-    first : (n : ℕ) → whole_cost (1 + n) ≡ whole_cost (suc n)
-    first n = let e : 1 + n ≡ suc n = omega arith in ap whole_cost e
-balanced s line (suc (suc m)) l =
-    let i = balanced s line (suc m) (omega arith) in
-    let n = suc m in
-    let step = left-is s line m in
-    let w : m + 1 ≡ n = omega arith in
-    let later = ap (left s line) w in
-    let same = next-equal s line m (omega arith) in
-    elim (true_or_false (joins s line m)) [
-      | inl t ↦
-          let a : left s line m ≡ suc (left s line n) = step ∙ (ap (λ z. cond z (suc (left s line (m + 1))) 0) t ∙ ap suc later) in
-          let b : ending line n ≡ suc (ending line m) = ap (λ z. cond z (suc (ending line m)) 1) (sym same ∙ t) in
-          let c = cost-none s line m (omega arith) t in
-          let g = goes-on (sum_below n (cost_at s line)) (sum_below n (λ k. run_share (ending line k))) (ending line m) (left s line m) (ending line n) (left s line n) a b i in
-          omega arith
-      | inr t ↦
-          let a : left s line m ≡ 0 = step ∙ ap (λ z. cond z (suc (left s line (m + 1))) 0) t in
-          let b : ending line n ≡ 1 = ap (λ z. cond z (suc (ending line m)) 1) (sym same ∙ t) in
-          let c = cost-whole s line n (heads-after s line m (omega arith) t) in
-          let g = ends-here (sum_below n (cost_at s line)) (sum_below n (λ k. run_share (ending line k))) (ending line m) (left s line m) (ending line n) (left s line n) a b i in
-          omega arith
-    ]
-
--- at the end of the line all runs have ended
-all-ended : (s : ℕ) (line : ℕ → Bool) → up_to line s ≡ as_whole s line s
-all-ended zero line = refl
-all-ended (suc m) line =
-    let a : left (suc m) line m ≡ 0 = left-is (suc m) line m ∙ ap (λ z. cond z (suc (left (suc m) line (m + 1))) 0) (joins-past (suc m) line m (omega arith)) in
-    let e : ending line m ≡ ending line m + left (suc m) line m = omega arith in
-    ap whole_cost e
-
--- each place adds 3 where its run comes to five places, 1 where it has come to more, and else nothing
-pub runs-by-places : (s : ℕ) (line : ℕ → Bool) → sum_below s (λ k. run_share (ending line k)) ≡ run_cost s line
-unfolding run_cost
+-- the maximal runs cost 1 for each place where five equal ones begin, and 2 more where the one before is not equal or there is none
+pub runs-by-places : (s : ℕ) (line : ℕ → Bool) → run_cost s line ≡ place_cost s line
+unfolding run_cost place_cost
 runs-by-places s line =
     let a = sum_below-same s (λ a. sum_below (s + 1) (λ k. cond (leb 5 k && is_run s line a k) (k - 2) 0)) (cost_at s line) (λ a h. run_at s line a h) in
-    let b = balanced s line s (omega arith) in
-    let c = all-ended s line in
+    let b = places-sum s line s (omega arith) in
+    let c = open-end s line in
+    let d = sum_below-add s (λ a. cond (begins_five s line a) 1 0) (λ a. 2 * cond (begins_run s line a) 1 0) in
+    let e = sum_below-scale 2 s (λ a. cond (begins_run s line a) 1 0) in
     omega arith

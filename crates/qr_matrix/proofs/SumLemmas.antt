@@ -1,8 +1,9 @@
 -- Sums over the numbers below a bound.
-use Rattle.std.proofs.Common.{◌≡◌, ℕ, zero, suc, ◌+◌, ◌*◌, ◌<◌, true, false, cond, eqb, inl, inr, refl, ap, ◌∙◌, arith}
+use Rattle.std.proofs.Common.{◌≡◌, ℕ, zero, suc, ◌+◌, ◌-◌, ◌*◌, ◌<◌, ◌≤◌, Bool, true, false, cond, eqb, inl, inr, refl, sym, ap, ◌∙◌, arith}
 use Rattle.std.proofs.lemmas.Bool.{cases_lt}
 use Rattle.std.proofs.lemmas.Bool.Decides.{nat_tests}
 use Rattle.qr_matrix.specs.Sums.{sum_below}
+use Rattle.qr_matrix.specs.Penalty.{count_below}
 
 -- sums of equal terms are equal
 pub sum_below-same : (n : ℕ) (f g : ℕ → ℕ) → ((k : ℕ) → k < n → f k ≡ g k) → sum_below n f ≡ sum_below n g
@@ -10,7 +11,7 @@ sum_below-same zero f g e = refl
 sum_below-same (suc n) f g e = let a = e n (omega arith) in let b = sum_below-same n f g (λ k l. e k (omega arith)) in omega arith
 
 -- a sum of nothing
-pub sum_below-zero : (n : ℕ) → sum_below n (λ k. 0) ≡ 0
+sum_below-zero : (n : ℕ) → sum_below n (λ k. 0) ≡ 0
 sum_below-zero zero = refl
 sum_below-zero (suc n) = let a = sum_below-zero n in omega arith
 
@@ -43,17 +44,31 @@ sum_below-one (suc n) m f h = elim (cases_lt m n) [
       omega arith
 ]
 
--- the terms below a, and the n from a on
-pub sum_below-join : (a n : ℕ) (f : ℕ → ℕ) → sum_below (a + n) f ≡ sum_below a f + sum_below n (λ k. f (a + k))
-sum_below-join a zero f = let e : a + 0 ≡ a = omega arith in ap (λ z. sum_below z f) e ∙ (let o : sum_below a f ≡ sum_below a f + 0 = omega arith in o)
-sum_below-join a (suc n) f = let e : a + suc n ≡ suc (a + n) = omega arith in ap (λ z. sum_below z f) e ∙ (let i = sum_below-join a n f in omega arith)
+-- rows first or columns first
+pub sum_below-swap : (n m : ℕ) (f : ℕ → ℕ → ℕ) → sum_below n (λ r. sum_below m (λ c. f r c)) ≡ sum_below m (λ c. sum_below n (λ r. f r c))
+sum_below-swap zero m f = sym (sum_below-zero m)
+sum_below-swap (suc n) m f = let a = sum_below-swap n m f in let b = sum_below-add m (f n) (λ c. sum_below n (λ r. f r c)) in omega arith
 
--- row by row, where each row has s terms
-pub sum_below-rows : (n s : ℕ) (f : ℕ → ℕ) → sum_below (n * s) f ≡ sum_below n (λ r. sum_below s (λ c. f (r * s + c)))
-sum_below-rows zero s f = let e : 0 * s ≡ 0 = omega arith in ap (λ z. sum_below z f) e
-sum_below-rows (suc n) s f =
-    let e : suc n * s ≡ n * s + s = omega arith in
-    ap (λ z. sum_below z f) e ∙ (sum_below-join (n * s) s f ∙ (let i = sum_below-rows n s f in omega arith))
+-- terms that are 0 add nothing
+sum_below-cut : (s d : ℕ) (f : ℕ → ℕ) → ((k : ℕ) → s ≤ k → f k ≡ 0) → sum_below (d + s) f ≡ sum_below s f
+sum_below-cut s zero f e = ap (λ z. sum_below z f) (plain s)
+  where
+    plain : (s : ℕ) → 0 + s ≡ s
+    plain s = omega arith
+sum_below-cut s (suc d) f e = ap (λ z. sum_below z f) (step s d) ∙ (let a = sum_below-cut s d f e in let b = e (d + s) (omega arith) in omega arith)
+  where
+    step : (s d : ℕ) → suc d + s ≡ suc (d + s)
+    step s d = omega arith
+
+-- tests that agree are passed as often
+pub count_below-same : (n : ℕ) (p q : ℕ → Bool) → ((k : ℕ) → k < n → p k ≡ q k) → count_below n p ≡ count_below n q
+count_below-same n p q e = sum_below-same n (λ k. cond (p k) 1 0) (λ k. cond (q k) 1 0) (λ k l. ap (λ b. cond b 1 0) (e k l))
+
+-- a test that agrees with one below n, and that fails from s on, is passed as often below s
+pub count_below-cut : (n s : ℕ) (p q : ℕ → Bool) → s ≤ n → ((c : ℕ) → c < n → p c ≡ q c) → ((c : ℕ) → s ≤ c → q c ≡ false) → count_below n p ≡ count_below s q
+count_below-cut n s p q l e f =
+    let d : n - s + s ≡ n = omega arith in
+    count_below-same n p q e ∙ (ap (λ z. count_below z q) (sym d) ∙ sum_below-cut s (n - s) (λ c. cond (q c) 1 0) (λ c k. ap (λ b. cond b 1 0) (f c k)))
 
 -- a loop's step
 pub sum_below-more : (n a b d : ℕ) (f : ℕ → ℕ) → a ≡ sum_below n f → b ≡ f n → d ≡ a + b → d ≡ sum_below (n + 1) f

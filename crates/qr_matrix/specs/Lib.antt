@@ -2,4 +2,5 @@ pub mod Grid
 pub mod Runs
 pub mod Sums
 pub mod Penalty
+pub mod Places
 pub mod Lines

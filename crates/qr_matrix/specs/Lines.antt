@@ -1,19 +1,25 @@
--- Lines and places of a square that is listed row by row, and what a place adds to the cost of its line. No public
--- clause rests on how this is written.
-use Rattle.std.specs.Prelude.{ℕ, ◌+◌, ◌*◌, Bool, false, ◌&&◌, ◌||◌, nat_lt, nat_le, ◌==◌, if◌then◌else◌, List, slice_index_or}
+-- Lines of 192 places as three words, the lowest bit of the first word being place 0, and rows of them. Public clauses
+-- cite dark_in.
+use Rattle.std.specs.Prelude.{ℕ, ◌+◌, ◌*◌, ◌^◌, Bool, ◌==◌, List, slice_index, slice_index_or, []}
+use Rattle.std.specs.Int.{bit_at}
+use Rattle.qr_matrix.specs.Penalty.{count_below}
 
--- the colour of a place, light outside the square
-unfoldable pub cell_at : ℕ → List Bool → ℕ → ℕ → Bool
-cell_at s places r c = if nat_lt r s then (if nat_lt c s then slice_index_or places (r * s + c) false else false) else false
+-- the three words as one number [own]
+unfoldable pub line_of : List ℕ → ℕ
+line_of words = (slice_index words 2 * 2 ^ 64 + slice_index words 1) * 2 ^ 64 + slice_index words 0
 
--- the line of s places that begins at the place `first`, each `step` after the one before
-unfoldable pub line_at : ℕ → List Bool → ℕ → ℕ → ℕ → Bool
-line_at s places first step i = if nat_lt i s then slice_index_or places (first + i * step) false else false
+-- bit c of a number is 1 [own]
+unfoldable pub has_bit : ℕ → ℕ → Bool
+has_bit n c = bit_at n c == 1
 
--- what a run adds to the cost when it has come to k places
-unfoldable pub run_share : ℕ → ℕ
-run_share k = if k == 5 then 3 else (if nat_lt 5 k then 1 else 0)
+-- the line has place c: its bit is 1 [own]
+unfoldable pub has : List ℕ → ℕ → Bool
+has words c = has_bit (line_of words) c
 
--- what the eleven places that end at place i add, as the number that they make
-unfoldable pub window_share : ℕ → ℕ → ℕ
-window_share i window = if nat_le 10 i && (window == 0x5D0 || window == 0x05D) then 40 else 0
+-- how many places a line has [own]
+unfoldable pub size_of : List ℕ → ℕ
+size_of words = count_below 192 (has words)
+
+-- the module in row r and column c of rows of words is dark; below the rows all is light [own]
+unfoldable pub dark_in : List (List ℕ) → ℕ → ℕ → Bool
+dark_in rows r c = has (slice_index_or rows r []) c

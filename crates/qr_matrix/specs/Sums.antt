@@ -1,4 +1,4 @@
--- Sums over the numbers below a bound. Public clauses cite this file.
+-- Sums over the numbers below a bound. Public clauses rest on this file by the counts of the penalty.
 use Rattle.std.specs.Prelude.{ℕ, ◌+◌}
 use Prim.Native.Nat.{zero, suc}
 

@@ -1,8 +1,12 @@
-//! The square of modules that makes a symbol, and its penalty.
+//! The square of modules that makes a symbol, in rows of words, and its penalty, counted on the words.
 #![tactic(auto)]
 
+mod blocks;
+mod line;
 mod matrix;
 mod penalties;
+mod runs;
+mod windows;
 
 pub use matrix::Matrix;
 pub use penalties::penalty;

@@ -1,9 +1,11 @@
 //! The square of modules that makes a symbol, without its quiet zone (ISO/IEC 18004:2015, 6.3.2).
 
-ghost use Rattle.std.specs.Prelude.{◌≡◌, ◌+◌, ◌*◌, ◌<◌, ◌≤◌, false, length, slice_index_or, IfOk};
+ghost use Rattle.std.specs.Prelude.{◌≡◌, ℕ, ◌<◌, ◌≤◌, false, length, IfOk};
 ghost use Rattle.qr_matrix.specs.Grid.{square, colour, painted, light};
+ghost use Rattle.qr_matrix.specs.Lines.{dark_in};
 ghost use Rattle.qr_matrix.specs.Runs.{IsRunEnd};
 
+use crate::line::{at, put};
 use std::alloc::{AllocError, Global};
 use std::marker::Model;
 
@@ -11,18 +13,21 @@ use std::marker::Model;
 #[derive(Drop)]
 pub struct Matrix {
     side: u8,
-    places: Vec<bool>,
+    // Each row as a line of bits, column 0 the lowest, with none from the side on.
+    rows: Vec<[u64; 3]>,
 }
 
 impl Model for Matrix {
-    ghost use Rattle.std.specs.Prelude.{◌≡◌, ◌+◌, ◌*◌, ◌≤◌, false, length, slice_index_or};
+    ghost use Rattle.std.specs.Prelude.{◌≡◌, ℕ, ◌≤◌, false, length};
     ghost use Rattle.qr_matrix.specs.Grid.{Grid, square};
+    ghost use Rattle.qr_matrix.specs.Lines.{dark_in};
 
     ghost Value = { Grid };
 
-    ghost view = { λ m. square m.side (λ r c. slice_index_or m.places.items (r * m.side + c) false) };
+    ghost view = { λ m. square m.side (dark_in m.rows.items) };
 
-    ghost invariant = { λ m. (1 ≤ m.side) × (m.side ≤ 177) × (length m.places.items ≡ m.side * m.side) };
+    ghost invariant = { λ m. (1 ≤ m.side) × (m.side ≤ 177) × (length m.rows.items ≡ m.side)
+        × ((r c : ℕ) → m.side ≤ c → dark_in m.rows.items r c ≡ false) };
 }
 
 impl Matrix {
@@ -32,9 +37,8 @@ impl Matrix {
         requires most { side ≤ 177 }
         ensures { IfOk result (λ m. m ≡ light side) }
     {
-        let many = usize::from(side) * usize::from(side);
-        let places = vec![in alloc; false; many]?;
-        Ok(Matrix { side, places })
+        let rows = vec![in alloc; [0u64; 3]; usize::from(side)]?;
+        Ok(Matrix { side, rows })
     }
 
     /// How many modules are on a side.
@@ -52,7 +56,7 @@ impl Matrix {
         requires col_in { col < self.now.side }
         ensures { result ≡ colour self.now row col }
     {
-        self.places[usize::from(row) * usize::from(self.side) + usize::from(col)]
+        at(&self.rows[usize::from(row)], col)
     }
 
     /// Where the run of equal modules that begins at `col` ends: the least column after `col` whose
@@ -71,13 +75,13 @@ impl Matrix {
         end
     }
 
-    // The modules row by row.
-    pub(crate) fn places(&self) -> &[bool]
-        ensures cells { square self.now.side
-            (λ r c. slice_index_or result.now (r * self.now.side + c) false) ≡ self.now }
-        ensures whole { length result.now ≡ self.now.side * self.now.side }
+    // The rows, each a line of bits.
+    pub(crate) fn rows(&self) -> &[[u64; 3]]
+        ensures view { square self.now.side (dark_in result.now) ≡ self.now }
+        ensures long { length result.now ≡ self.now.side }
+        ensures inside { (r c : ℕ) → self.now.side ≤ c → dark_in result.now r c ≡ false }
     {
-        self.places.as_slice()
+        self.rows.as_slice()
     }
 
     /// Gives one module its colour.
@@ -86,7 +90,7 @@ impl Matrix {
         requires col_in { col < self.old.side }
         ensures { self.new ≡ painted self.old row col dark }
     {
-        self.places[usize::from(row) * usize::from(self.side) + usize::from(col)] = dark;
+        put(&mut self.rows[usize::from(row)], col, dark);
     }
 }
 

@@ -1,151 +1,44 @@
 //! The penalty of a symbol, by which its mask is chosen (ISO/IEC 18004:2015, 7.8.3).
 
-ghost use Rattle.std.specs.Prelude.{◌≡◌, ℕ, ◌+◌, ◌-◌, ◌*◌, ◌/◌, ◌<◌, ◌≤◌, false, length, slice_index_or};
+ghost use Rattle.std.specs.Prelude.{◌≡◌, ℕ, ◌+◌, ◌-◌, ◌*◌, ◌/◌, ◌<◌, ◌≤◌, false, length};
 ghost use Rattle.qr_matrix.specs.Grid.{colour};
-ghost use Rattle.qr_matrix.specs.Penalty.{run_cost, window_count, count_below, is_block, block_count, penalty_of, over_lines};
-ghost use Rattle.qr_matrix.specs.Lines.{cell_at, line_at, run_share, window_share};
+ghost use Rattle.qr_matrix.specs.Penalty.{dark_count, penalty_of};
+ghost use Rattle.qr_matrix.specs.Lines.{dark_in};
 
+use crate::blocks::block_count;
+use crate::line::count;
 use crate::matrix::Matrix;
+use crate::runs::runs_cost;
+use crate::windows::window_count;
 
-// The points of Table 11: for the first five modules of a run, for a block, for a window, and for each twentieth by
-// which the dark modules are more or fewer than half.
-const RUN_POINTS: u32 = 3;
-
+// The points of Table 11: for a block, for a window, and for each twentieth by which the dark modules are more or fewer
+// than half.
 const BLOCK_POINTS: u32 = 3;
 
 const WINDOW_POINTS: u32 = 40;
 
 const BALANCE_POINTS: u32 = 10;
 
-const LEAST_RUN: u32 = 5;
-
-// A window is a line of a finder pattern with four light modules at one end: eleven modules, read as bits.
-const WINDOW_LEN: usize = 11;
-
-const WINDOW_BEFORE_LIGHT: u16 = 0b10111010000;
-
-const WINDOW_AFTER_LIGHT: u16 = 0b00001011101;
-
-const WINDOW_LIMIT: u16 = 0b100000000000;
-
-// What a run adds to the cost when it has come to `len` modules.
-#[tactic(auto, unfolding(crate::specs::Lines::run_share))]
-fn run_share(len: u32) -> u32
-    ensures value { result ≡ run_share len }
-    ensures most { result ≤ 3 }
+// How many modules are dark.
+fn dark_count(side: u8, rows: &[[u64; 3]]) -> u32
+    requires few { side ≤ 177 }
+    requires long { length rows.now ≡ side }
+    requires inside { (r c : ℕ) → side ≤ c → dark_in rows.now r c ≡ false }
+    ensures value { result ≡ dark_count side (dark_in rows.now) }
+    ensures bound { result ≤ 192 * side }
 {
-    if len == LEAST_RUN {
-        RUN_POINTS
-    } else if len > LEAST_RUN {
-        1
-    } else {
-        0
+    let mut total = 0;
+    for line in rows {
+        total += count(*line);
     }
-}
-
-// What the eleven modules that end at place `i` of a line add to the cost.
-#[tactic(auto, unfolding(crate::specs::Lines::window_share))]
-fn window_share(i: usize, window: u16) -> u32
-    ensures value { result ≡ window_share i window }
-    ensures most { result ≤ 40 }
-{
-    if i < WINDOW_LEN - 1 {
-        return 0;
-    }
-    if window == WINDOW_BEFORE_LIGHT || window == WINDOW_AFTER_LIGHT {
-        WINDOW_POINTS
-    } else {
-        0
-    }
-}
-
-// The cost of the runs and windows of one line: of `side` modules, the first at `first` and each `step` after the one
-// before.
-fn line_cost(places: &[bool], side: usize, first: usize, step: usize) -> u32
-    requires small { side ≤ 177 }
-    requires inside { (i : ℕ) → i < side → first + i * step < length places.now }
-    ensures value { result ≡ run_cost side (line_at side places.now first step)
-        + 40 * window_count side (line_at side places.now first step) }
-    ensures most { result ≤ 43 * side }
-{
-    let (mut cost, mut run, mut window, mut last) = (0, 0, 0, false);
-    for i in 0..side {
-        let dark = places[first + i * step];
-        run = if dark == last { run + 1 } else { 1 };
-        window = (2 * window + u16::from(dark)) % WINDOW_LIMIT;
-        cost += run_share(run) + window_share(i, window);
-        last = dark;
-    }
-    cost
-}
-
-// The cost of all rows and columns.
-fn lines_cost(places: &[bool], side: usize) -> u32
-    requires small { side ≤ 177 }
-    requires whole { length places.now ≡ side * side }
-    ensures value { result ≡ over_lines side (cell_at side places.now) (run_cost side)
-        + 40 * over_lines side (cell_at side places.now) (window_count side) }
-    ensures most { result ≤ 15222 * side }
-{
-    let mut cost = 0;
-    for line in 0..side {
-        cost += line_cost(places, side, line * side, 1) + line_cost(places, side, line, side);
-    }
-    cost
-}
-
-// How many blocks of two by two modules of one colour lie in a row and the one below.
-fn row_blocks(places: &[bool], side: usize, row: usize) -> u32
-    requires small { side ≤ 177 }
-    requires row_in { row + 1 < side }
-    requires whole { length places.now ≡ side * side }
-    ensures value { result ≡ count_below side (is_block side (cell_at side places.now) row) }
-    ensures most { result ≤ side }
-{
-    let upper = row * side;
-    let lower = upper + side;
-    let mut count = 0;
-    for col in 0..side - 1 {
-        let colour = places[upper + col];
-        let right = places[upper + col + 1] == colour;
-        let below = places[lower + col] == colour;
-        count += u32::from(right & below & (places[lower + col + 1] == colour));
-    }
-    count
-}
-
-fn block_count(places: &[bool], side: usize) -> u32
-    requires some { 1 ≤ side }
-    requires small { side ≤ 177 }
-    requires whole { length places.now ≡ side * side }
-    ensures value { result ≡ block_count side (cell_at side places.now) }
-    ensures most { result ≤ 177 * side }
-{
-    let mut count = 0;
-    for row in 0..side - 1 {
-        count += row_blocks(places, side, row);
-    }
-    count
-}
-
-fn dark_count(places: &[bool]) -> u32
-    requires small { length places.now ≤ 31329 }
-    ensures value { result
-        ≡ count_below (length places.now) (λ k. slice_index_or places.now k false) }
-    ensures most { result ≤ 31329 }
-{
-    let mut count = 0;
-    for dark in places {
-        count += u32::from(*dark);
-    }
-    count
+    total
 }
 
 // The cost of a part of dark modules that is not a half.
 fn balance_cost(modules: u32, dark: u32) -> u32
     requires some { 0 < modules }
     requires most { modules ≤ 31329 }
-    requires fits { dark ≤ 31329 }
+    requires fits { dark ≤ 33984 }
     ensures value { result
         ≡ 10 * (((20 * dark - 10 * modules) + (10 * modules - 20 * dark)) / modules) }
     ensures bound { result ≤ 7000000 }
@@ -158,12 +51,13 @@ fn balance_cost(modules: u32, dark: u32) -> u32
 pub fn penalty(m: &Matrix) -> u32
     ensures { result ≡ penalty_of m.now.side (colour m.now) }
 {
-    let side = usize::from(m.side());
-    let places = m.places();
-    let dark = dark_count(places);
-    lines_cost(places, side)
-        + BLOCK_POINTS * block_count(places, side)
-        + balance_cost(places.len() as u32, dark)
+    let side = m.side();
+    let rows = m.rows();
+    let modules = u32::from(side) * u32::from(side);
+    runs_cost(side, rows)
+        + BLOCK_POINTS * block_count(side, rows)
+        + WINDOW_POINTS * window_count(side, rows)
+        + balance_cost(modules, dark_count(side, rows))
 }
 
 #[cfg(test)]
@@ -176,38 +70,52 @@ mod tests {
         Light,
         Dark,
         Chequered,
-        FirstRow(u16),
+        // The window before four light modules, in the first row from this column on.
+        WindowFrom(u8),
+    }
+
+    const WINDOW: [bool; 11] = [
+        true, false, true, true, true, false, true, false, false, false, false,
+    ];
+
+    // Whether a pattern has a dark module in this row and column.
+    fn is_dark(pattern: Pattern, row: u8, col: u8) -> bool {
+        match pattern {
+            Pattern::Light => false,
+            Pattern::Dark => true,
+            Pattern::Chequered => (u16::from(row) + u16::from(col)) % 2 == 0,
+            Pattern::WindowFrom(first) => {
+                row == 0 && col >= first && col - first < 11 && WINDOW[usize::from(col - first)]
+            }
+        }
     }
 
     #[test]
     fn penalties(rt: HostRuntime) -> Result<(), Fail> {
+        // Rows of one word, of two and of three, and runs and a window over the borders of words.
         let rows = [
             ("all light", 21u8, Pattern::Light, 2098),
             ("a chequered square", 21, Pattern::Chequered, 0),
-            (
-                "a window in the first row",
-                11,
-                Pattern::FirstRow(0b10111010000),
-                593,
-            ),
+            ("a window in the first row", 11, Pattern::WindowFrom(0), 593),
             ("one light module", 1, Pattern::Light, 100),
             ("five by five dark modules", 5, Pattern::Dark, 178),
+            ("a side of one word", 64, Pattern::Light, 19943),
+            ("a side of a word and a bit", 65, Pattern::Light, 20578),
+            ("the largest side", 177, Pattern::Light, 154978),
+            (
+                "a window over the border of two words",
+                75,
+                Pattern::WindowFrom(60),
+                27510,
+            ),
         ];
         for (name, side, pattern, points) in rows {
-            assert!(rt; side >= 1 && side <= 21, "{name}");
+            assert!(rt; side >= 1 && side <= 177, "{name}");
             let mut matrix = Matrix::new(rt.alloc(), side)?;
             for row in 0..side {
                 for col in 0..side {
                     assert!(rt; row < matrix.side() && col < matrix.side());
-                    let dark = match pattern {
-                        Pattern::Light => false,
-                        Pattern::Dark => true,
-                        Pattern::Chequered => (u16::from(row) + u16::from(col)) % 2 == 0,
-                        Pattern::FirstRow(bits) => row == 0
-                            && col < 11
-                            && bits >> (10 - col) & 1 == 1,
-                    };
-                    matrix.set(row, col, dark);
+                    matrix.set(row, col, is_dark(pattern, row, col));
                 }
             }
             assert_eq!(rt; penalty(&matrix), points, "{name}");

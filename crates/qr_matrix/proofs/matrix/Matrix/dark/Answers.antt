@@ -1,14 +1,20 @@
-use Rattle.std.proofs.Common.{◌+◌, ◌*◌, false, get_or, ◌∙◌}
-use Rattle.qr_matrix.proofs.GridLemmas.{index-in, read-step}
+use Rattle.std.proofs.Common.{ap, arith}
+use Rattle.qr_matrix.specs.Grid.{Grid}
+use Rattle.qr_matrix.proofs.MatrixLemmas.{read-step}
 use Rattle.qr_matrix.proofs.matrix.Matrix.dark.Goals as goal
 
 pub index-requires : goal.index-requires
 index-requires c =
     let m = c.self.inside in
-    let xs = m.places.items in
-    index-in m.side c.args.row c.args.col c.from.result c.from-2.result c.from-3.result _ c.args.self.now (λ r k. get_or xs (r * m.side + k) false) c.self.view_is c.from.ensures c.from-2.ensures c.from-3.ensures c.requires.row_in c.requires.col_in (m.places.ok.0 ∙ c.self.invariant.2)
+    let e = ap (λ (g : Grid). g.side) c.self.view_is in
+    omega (arith, m.rows.ok.0, c.self.invariant.2)
+
+pub at-requires : goal.at-requires
+at-requires c =
+    let e = ap (λ (g : Grid). g.side) c.self.view_is in
+    omega (arith, c.self.invariant.1)
 
 pub returns : goal.returns
 returns c =
     let m = c.self.inside in
-    read-step m.side m.places.items c.args.self.now c.args.row c.args.col c.from.result c.from-2.result c.from-3.result c.index.result.now c.self.view_is c.from.ensures c.from-2.ensures c.from-3.ensures c.requires.row_in c.requires.col_in c.self.invariant.2 c.index.ensures
+    read-step m.side c.args.row c.args.col c.from.result m.rows.items c.index.result.now c.args.self.now c.at.result c.self.view_is c.from.ensures c.requires.row_in c.requires.col_in c.self.invariant.2 c.index.ensures c.at.ensures

@@ -1,14 +1,34 @@
-use Rattle.std.proofs.Common.{◌+◌, ◌*◌, false, get_or, ◌∙◌}
-use Rattle.qr_matrix.proofs.GridLemmas.{index-in, write-step}
+use Rattle.std.proofs.Common.{set, ap, ◌∙◌, arith}
+use Rattle.std.proofs.Math.ListN.{length-set}
+use Rattle.qr_matrix.specs.Grid.{Grid}
+use Rattle.qr_matrix.proofs.MatrixLemmas.{rows-set, inside-set, write-step}
 use Rattle.qr_matrix.proofs.matrix.Matrix.set.Goals as goal
 
 pub index_mut-requires : goal.index_mut-requires
 index_mut-requires c =
     let m = c.self.inside in
-    let xs = m.places.items in
-    index-in m.side c.args.row c.args.col c.from.result c.from-2.result c.from-3.result _ c.args.self.now (λ r k. get_or xs (r * m.side + k) false) c.self.view_is c.from.ensures c.from-2.ensures c.from-3.ensures c.requires.row_in c.requires.col_in (m.places.ok.0 ∙ c.self.invariant.2)
+    let e = ap (λ (g : Grid). g.side) c.self.view_is in
+    omega (arith, m.rows.ok.0, c.self.invariant.2)
+
+pub put-requires : goal.put-requires
+put-requires c =
+    let e = ap (λ (g : Grid). g.side) c.self.view_is in
+    omega (arith, c.self.invariant.1)
+
+pub invariant_of-self : goal.invariant_of-self
+invariant_of-self c =
+    let m = c.self.inside in
+    let e = ap (λ (g : Grid). g.side) c.self.view_is in
+    let h = rows-set m.side c.args.row c.args.col c.from.result m.rows.items c.index_mut.result.now c.put.new.line c.args.dark c.from.ensures (omega (arith, c.self.invariant.2)) c.index_mut.ensures.value c.put.ensures in (
+      c.self.invariant.0,
+      c.self.invariant.1,
+      length-set m.rows.items c.from.result c.put.new.line ∙ c.self.invariant.2,
+      inside-set m.side c.args.row c.args.col m.rows.items (set m.rows.items c.from.result c.put.new.line) c.args.dark (omega arith) h c.self.invariant.3,
+    )
 
 pub returns : goal.returns
 returns c =
     let m = c.self.inside in
-    write-step m.side m.places.items c.args.self.now c.args.row c.args.col c.from.result c.from-2.result c.from-3.result c.args.dark c.self.view_is c.from.ensures c.from-2.ensures c.from-3.ensures c.requires.row_in c.requires.col_in c.self.invariant.2
+    let e = ap (λ (g : Grid). g.side) c.self.view_is in
+    let h = rows-set m.side c.args.row c.args.col c.from.result m.rows.items c.index_mut.result.now c.put.new.line c.args.dark c.from.ensures (omega (arith, c.self.invariant.2)) c.index_mut.ensures.value c.put.ensures in
+    write-step m.side c.args.row c.args.col m.rows.items (set m.rows.items c.from.result c.put.new.line) c.args.self.now c.args.dark c.self.view_is h

@@ -1,0 +1,16 @@
+-- Tests.
+use Rattle.std.proofs.Common.{◌≡◌, Bool, true, false, not, ◌&&◌, refl, sym, subst}
+
+-- a conjunction with what is false is false
+pub and-false : (a b : Bool) → b ≡ false → (a && b) ≡ false
+and-false true b e = e
+and-false false b e = refl
+
+-- a conjunction of what is false is false
+pub false-and : (a b : Bool) → a ≡ false → (a && b) ≡ false
+false-and a b e = subst (λ z. (z && b) ≡ false) (sym e) refl
+
+-- what is not false is true
+pub not-not : (b : Bool) → not (not b) ≡ b
+not-not true = refl
+not-not false = refl

@@ -1,0 +1,96 @@
+-- Words of neighbouring rows against the tests of a column.
+use Rattle.std.proofs.Common.{◌≡◌, ℕ, ◌+◌, ◌-◌, ◌*◌, ◌<◌, ◌≤◌, List, [], ◌∷◌, eqb, ltb, Bool, true, false, not, ◌&&◌, cond, refl, sym, ap, ◌∙◌, subst, arith}
+use Rattle.std.proofs.lemmas.Bool.Decides.{nat_tests}
+use Rattle.std.proofs.lemmas.Nat.Bits.{bit_at-zero}
+use Rattle.qr_matrix.specs.Lines.{has, has_bit, line_of, size_of}
+use Rattle.qr_matrix.specs.Penalty.{count_below, is_same}
+use Rattle.qr_matrix.specs.Sums.{sum_below}
+use Rattle.qr_matrix.specs.Places.{joins, begins_five, begins_run, place_cost, row_share}
+use Rattle.qr_matrix.proofs.SumLemmas.{count_below-same, sum_below-swap, sum_below-add, sum_below-scale}
+use Rattle.qr_matrix.proofs.RowLemmas.{size-is, joins-past}
+use Rattle.qr_matrix.proofs.BoolLemmas.{and-false, not-not}
+
+-- the line of no bits has no place
+pub has-nothing : (c : ℕ) → has (0 ∷ 0 ∷ 0 ∷ []) c ≡ false
+unfolding has line_of has_bit
+has-nothing c = ap (λ z. eqb z 1) (bit_at-zero c)
+
+-- the places that do not differ from the one below are joined to it
+pub joins-down-bit : (s : ℕ) (line : ℕ → Bool) (c r : ℕ) (x i d : Bool) → r + 1 < s → x ≡ (i && not d) → i ≡ ltb c s → d ≡ not (is_same (line r) (line (r + 1))) → x ≡ (ltb c s && joins s line r)
+unfolding joins
+joins-down-bit s line c r x i d h e f g =
+    let t : ltb (r + 1) s ≡ true = grind (arith, nat_tests) in
+    e ∙ (ap (λ z. z && not d) f ∙ (ap (λ z. ltb c s && not z) g ∙ (ap (λ z. ltb c s && z) (not-not (is_same (line r) (line (r + 1)))) ∙ ap (λ z. ltb c s && (z && is_same (line r) (line (r + 1)))) (sym t))))
+
+-- no place of the last row is joined to one below
+pub joins-down-none : (s : ℕ) (line : ℕ → Bool) (c r : ℕ) (x : Bool) → s ≤ r + 1 → x ≡ false → x ≡ (ltb c s && joins s line r)
+joins-down-none s line c r x h e = e ∙ sym (and-false (ltb c s) (joins s line r) (joins-past s line r h))
+
+-- no place from s on is below s
+past : (s c : ℕ) (b : Bool) → s ≤ c → (ltb c s && b) ≡ false
+past s c b h = let e : ltb c s ≡ false = grind (arith, nat_tests) in ap (λ z. z && b) e
+
+-- a guard of four tests guards them together
+guarded-five : (u a b d e : Bool) → (((u && a) && (u && b)) && ((u && d) && (u && e))) ≡ (u && ((a && b) && (d && e)))
+guarded-five true a b d e = refl
+guarded-five false a b d e = refl
+
+-- five places of a column begin at four joins one below another
+pub five-down-bit : (s : ℕ) (line : ℕ → Bool) (c r : ℕ) (x y z p q m n : Bool) → x ≡ (y && z) → y ≡ (p && q) → z ≡ (m && n) → p ≡ (ltb c s && joins s line r) → q ≡ (ltb c s && joins s line (r + 1)) → m ≡ (ltb c s && joins s line (r + 2)) → n ≡ (ltb c s && joins s line (r + 3)) → x ≡ (ltb c s && begins_five s line r)
+unfolding begins_five
+five-down-bit s line c r x y z p q m n ex ey ez ep eq em en =
+    let e = guarded-five (ltb c s) (joins s line r) (joins s line (r + 1)) (joins s line (r + 2)) (joins s line (r + 3)) in
+    cc
+
+-- a guard of two tests guards them together
+guarded-run : (u f j t : Bool) → t ≡ true → ((u && f) && not (u && j)) ≡ (u && (f && not (t && j)))
+guarded-run true f j t e = subst (λ z. (f && not j) ≡ (f && not (z && j))) (sym e) refl
+guarded-run false f j t e = refl
+
+-- a run of a column begins where five places begin and no join comes before
+pub run-down-bit : (s : ℕ) (line : ℕ → Bool) (c r : ℕ) (x f j : Bool) → 0 < r → x ≡ (f && not j) → f ≡ (ltb c s && begins_five s line r) → j ≡ (ltb c s && joins s line (r - 1)) → x ≡ (ltb c s && begins_run s line r)
+unfolding begins_run
+run-down-bit s line c r x f j h ex ef ej =
+    let e = guarded-run (ltb c s) (begins_five s line r) (joins s line (r - 1)) (ltb 0 r) (grind (arith, nat_tests)) in
+    cc
+
+-- in the first row a run begins where five places do
+pub run-down-first : (s : ℕ) (line : ℕ → Bool) (c r : ℕ) (f : Bool) → r ≡ 0 → f ≡ (ltb c s && begins_five s line r) → f ≡ (ltb c s && begins_run s line r)
+unfolding begins_run
+run-down-first s line c r f h e =
+    let t : ltb 0 r ≡ false = grind (arith, nat_tests) in
+    e ∙ ap (λ z. ltb c s && z) (keep (begins_five s line r) (ltb 0 r) (joins s line (r - 1)) t)
+  where
+    keep : (f t j : Bool) → t ≡ false → f ≡ (f && not (t && j))
+    keep true t j e = subst (λ z. true ≡ not (z && j)) (sym e) refl
+    keep false t j e = refl
+
+-- a line whose places are those below s that pass a test has as many as pass it
+pub guarded-size : (s : ℕ) (words : List ℕ) (p : ℕ → Bool) → s ≤ 192 → ((c : ℕ) → has words c ≡ (ltb c s && p c)) → size_of words ≡ count_below s p
+guarded-size s words p l h =
+    size-is s words (λ c. ltb c s && p c) l (λ c k. h c) (λ c k. past s c (p c) k)
+    ∙ count_below-same s (λ c. ltb c s && p c) p (λ c k. let e : ltb c s ≡ true = grind (arith, nat_tests) in ap (λ z. z && p c) e)
+
+-- what a row adds to the runs of the columns, counted on its words
+pub share-of : (s : ℕ) (dark : ℕ → ℕ → Bool) (r a b : ℕ) (f x : List ℕ) → s ≤ 192 → ((c : ℕ) → has f c ≡ (ltb c s && begins_five s (λ i. dark i c) r)) → ((c : ℕ) → has x c ≡ (ltb c s && begins_run s (λ i. dark i c) r)) → a ≡ size_of f → b ≡ size_of x → a + 2 * b ≡ row_share s dark r
+unfolding row_share
+share-of s dark r a b f x l hf hx ea eb =
+    let p = guarded-size s f (λ c. begins_five s (λ i. dark i c) r) l hf in
+    let q = guarded-size s x (λ c. begins_run s (λ i. dark i c) r) l hx in
+    omega arith
+
+-- two counts are summed row by row or column by column
+shares-swap : (s : ℕ) (f g : ℕ → ℕ → ℕ) → sum_below s (λ r. sum_below s (f r) + 2 * sum_below s (g r)) ≡ sum_below s (λ c. sum_below s (λ r. f r c) + 2 * sum_below s (λ r. g r c))
+shares-swap s f g =
+    let a = sum_below-add s (λ r. sum_below s (f r)) (λ r. 2 * sum_below s (g r)) in
+    let b = sum_below-scale 2 s (λ r. sum_below s (g r)) in
+    let d = sum_below-swap s s f in
+    let e = sum_below-swap s s g in
+    let h = sum_below-add s (λ c. sum_below s (λ r. f r c)) (λ c. 2 * sum_below s (λ r. g r c)) in
+    let i = sum_below-scale 2 s (λ c. sum_below s (λ r. g r c)) in
+    omega arith
+
+-- the shares of the rows are the costs of the columns
+pub shares-are-columns : (s : ℕ) (dark : ℕ → ℕ → Bool) → sum_below s (row_share s dark) ≡ sum_below s (λ c. place_cost s (λ r. dark r c))
+unfolding row_share place_cost
+shares-are-columns s dark = shares-swap s (λ r c. cond (begins_five s (λ i. dark i c) r) 1 0) (λ r c. cond (begins_run s (λ i. dark i c) r) 1 0)

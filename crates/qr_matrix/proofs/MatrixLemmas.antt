@@ -1,0 +1,103 @@
+-- Rows of words as a square.
+use Rattle.std.proofs.Common.{◌≡◌, ℕ, ◌<◌, ◌≤◌, Bool, true, false, ◌&&◌, cond, eqb, List, [], ◌∷◌, length, get_or, set, replicate, sym, ap, ◌∙◌, inl, inr, arith}
+use mathlib.Core.Path.{fun_ext}
+use Rattle.std.proofs.lemmas.Bool.{cases_lt, cases_eq}
+use Rattle.std.proofs.lemmas.Bool.Decides.{nat_tests}
+use Rattle.std.proofs.lemmas.List.{get_or_past, get_or_read, get_or-replicate, length-replicate, get_or-set_same, get_or-set_other}
+use Rattle.std.proofs.lemmas.Nat.Bits.{bit_at-zero}
+use Rattle.qr_matrix.specs.Grid.{Grid, square, colour, painted}
+use Rattle.qr_matrix.specs.Lines.{has, has_bit, line_of, dark_in}
+use Rattle.qr_matrix.proofs.BoolLemmas.{and-false}
+use Rattle.qr_matrix.proofs.ColumnLemmas.{has-nothing}
+use Rattle.qr_matrix.proofs.GridLemmas.{square-same, colour-square, colour-outside}
+
+-- the line of no words has no place
+has-none : (c : ℕ) → has [] c ≡ false
+unfolding has has_bit line_of
+has-none c = ap (λ z. eqb z 1) (bit_at-zero c)
+
+-- below the rows all is light
+dark-under : (rows : List (List ℕ)) (r c : ℕ) → length rows ≤ r → dark_in rows r c ≡ false
+unfolding dark_in
+dark-under rows r c l = ap (λ z. has z c) (get_or_past rows r [] l) ∙ has-none c
+
+-- the colours of the square are those of the rows, outside it too
+colour-is : (s : ℕ) (rows : List (List ℕ)) (r c : ℕ) → length rows ≡ s → ((r c : ℕ) → s ≤ c → dark_in rows r c ≡ false) → colour (square s (dark_in rows)) r c ≡ dark_in rows r c
+colour-is s rows r c e h = elim (cases_lt r s) [
+  | inl l ↦ elim (cases_lt c s) [
+    | inl m ↦ colour-square s (dark_in rows) r c l m
+    | inr m ↦ colour-outside s (dark_in rows) r c (inr m) ∙ sym (h r c m)
+  ]
+  | inr l ↦ colour-outside s (dark_in rows) r c (inl l) ∙ sym (dark-under rows r c (omega arith))
+]
+
+-- so they are one function
+pub colours-are : (s : ℕ) (rows : List (List ℕ)) (g : Grid) → square s (dark_in rows) ≡ g → length rows ≡ s → ((r c : ℕ) → s ≤ c → dark_in rows r c ≡ false) → dark_in rows ≡ colour g
+colours-are s rows g v e h = sym (fun_ext (λ r. fun_ext (λ c. colour-is s rows r c e h))) ∙ ap colour v
+
+-- ---- the steps of a matrix
+
+-- a module that is read
+pub read-step : (s row col i : ℕ) (rows : List (List ℕ)) (words : List ℕ) (g : Grid) (x : Bool) → square s (dark_in rows) ≡ g → i ≡ row → row < g.side → col < g.side → length rows ≡ s → words ≡ get_or rows i words → x ≡ has words col → x ≡ colour g row col
+unfolding dark_in
+read-step s row col i rows words g x v e l m o q h =
+    let t : s ≡ g.side = ap (λ (z : Grid). z.side) v in
+    let w : words ≡ get_or rows row [] = get_or_read rows i words (omega arith) q [] ∙ ap (λ z. get_or rows z []) e in
+    h ∙ (ap (λ z. has z col) w ∙ (sym (colour-square s (dark_in rows) row col (omega arith) (omega arith)) ∙ ap (λ (z : Grid). colour z row col) v))
+
+-- the colours after a line is written
+dark-set : (rows : List (List ℕ)) (row col : ℕ) (words : List ℕ) (b : Bool) → row < length rows → ((i : ℕ) → has words i ≡ cond (eqb i col) b (has (get_or rows row []) i)) → (r c : ℕ) → dark_in (set rows row words) r c ≡ cond (eqb r row && eqb c col) b (dark_in rows r c)
+unfolding dark_in
+dark-set rows row col words b l h r c = elim (cases_eq r row) [
+  | inl e ↦
+      let t : eqb r row ≡ true = grind (arith, nat_tests) in
+      ap (λ z. has (get_or (set rows row words) z []) c) e ∙ (ap (λ z. has z c) (get_or-set_same rows row words [] l)
+      ∙ (h c ∙ (ap (λ z. cond (eqb c col) b (has (get_or rows z []) c)) (sym e) ∙ ap (λ z. cond (z && eqb c col) b (has (get_or rows r []) c)) (sym t))))
+  | inr e ↦
+      let t : eqb r row ≡ false = grind (arith, nat_tests) in
+      ap (λ z. has z c) (get_or-set_other rows row r words [] e) ∙ ap (λ z. cond (z && eqb c col) b (has (get_or rows r []) c)) (sym t)
+]
+
+-- the colours after a module is given one
+pub rows-set : (s row col i : ℕ) (rows : List (List ℕ)) (words new : List ℕ) (b : Bool) → i ≡ row → row < length rows → words ≡ get_or rows i words → ((k : ℕ) → has new k ≡ cond (eqb k col) b (has words k)) → (r c : ℕ) → dark_in (set rows i new) r c ≡ cond (eqb r row && eqb c col) b (dark_in rows r c)
+rows-set s row col i rows words new b e l q h r c =
+    let w : words ≡ get_or rows row [] = get_or_read rows i words (omega arith) q [] ∙ ap (λ z. get_or rows z []) e in
+    ap (λ z. dark_in (set rows z new) r c) e ∙ dark-set rows row col new b l (λ k. h k ∙ ap (λ z. cond (eqb k col) b (has z k)) w) r c
+
+-- no bit stands past the side after it
+pub inside-set : (s row col : ℕ) (rows new : List (List ℕ)) (b : Bool) → col < s → ((r c : ℕ) → dark_in new r c ≡ cond (eqb r row && eqb c col) b (dark_in rows r c)) → ((r c : ℕ) → s ≤ c → dark_in rows r c ≡ false) → (r c : ℕ) → s ≤ c → dark_in new r c ≡ false
+inside-set s row col rows new b l h i r c k =
+    let e : eqb c col ≡ false = grind (arith, nat_tests) in
+    h r c ∙ (ap (λ z. cond z b (dark_in rows r c)) (and-false (eqb r row) (eqb c col) e) ∙ i r c k)
+
+-- the square after it
+pub write-step : (s row col : ℕ) (rows new : List (List ℕ)) (g : Grid) (b : Bool) → square s (dark_in rows) ≡ g → ((r c : ℕ) → dark_in new r c ≡ cond (eqb r row && eqb c col) b (dark_in rows r c)) → square s (dark_in new) ≡ painted g row col b
+write-step s row col rows new g b v h =
+    square-same s (dark_in new) (λ r c. cond (eqb r row && eqb c col) b (colour (square s (dark_in rows)) r c)) (λ r c l m. h r c ∙ ap (λ z. cond (eqb r row && eqb c col) b z) (sym (colour-square s (dark_in rows) r c l m)))
+    ∙ ap (λ (z : Grid). painted z row col b) v
+
+-- ---- the light square
+
+-- a list of three words that are 0
+pub three-zeros : (ys : List ℕ) → length ys ≡ 3 → get_or ys 0 0 ≡ 0 → get_or ys 1 0 ≡ 0 → get_or ys 2 0 ≡ 0 → ys ≡ 0 ∷ 0 ∷ 0 ∷ []
+three-zeros [] e a b d = absurd (omega arith)
+three-zeros (x ∷ []) e a b d = absurd (omega arith)
+three-zeros (x ∷ y ∷ []) e a b d = absurd (omega arith)
+three-zeros (x ∷ y ∷ z ∷ []) e a b d = λ i. a i ∷ b i ∷ d i ∷ []
+three-zeros (x ∷ y ∷ z ∷ w ∷ ws) e a b d = absurd (omega arith)
+
+-- how many rows there are
+pub rows-long : (n : ℕ) (rows : List (List ℕ)) → rows ≡ replicate n (0 ∷ 0 ∷ 0 ∷ []) → length rows ≡ n
+rows-long n rows e = ap (λ (z : List (List ℕ)). length z) e ∙ length-replicate n (0 ∷ 0 ∷ 0 ∷ [])
+
+-- rows of no bits are light
+pub dark-replicate : (n : ℕ) (rows : List (List ℕ)) (r c : ℕ) → rows ≡ replicate n (0 ∷ 0 ∷ 0 ∷ []) → dark_in rows r c ≡ false
+unfolding dark_in
+dark-replicate n rows r c e = elim (cases_lt r n) [
+  | inl l ↦ ap (λ z. has z c) (ap (λ z. get_or z r []) e ∙ get_or-replicate n r (0 ∷ 0 ∷ 0 ∷ []) [] l) ∙ has-nothing c
+  | inr l ↦ let f = rows-long n rows e in dark-under rows r c (omega arith)
+]
+
+-- so is their square
+pub light-square : (s : ℕ) (rows : List (List ℕ)) → ((r c : ℕ) → dark_in rows r c ≡ false) → square s (dark_in rows) ≡ square s (λ _ _. false)
+light-square s rows h = square-same s (dark_in rows) (λ _ _. false) (λ r c _ _. h r c)

@@ -1,0 +1,66 @@
+-- Lines of words against the tests of a row.
+use Rattle.std.proofs.Common.{◌≡◌, ℕ, ◌+◌, ◌-◌, ◌*◌, ◌<◌, ◌≤◌, List, ltb, Bool, false, not, ◌&&◌, ap, ◌∙◌, arith}
+use Rattle.std.proofs.lemmas.Bool.Decides.{nat_tests}
+use Rattle.qr_matrix.specs.Lines.{has, size_of}
+use Rattle.qr_matrix.specs.Penalty.{count_below, is_same}
+use Rattle.qr_matrix.specs.Places.{joins, begins_five, begins_run, place_cost}
+use Rattle.qr_matrix.proofs.SumLemmas.{count_below-cut}
+use Rattle.qr_matrix.proofs.BoolLemmas.{false-and, not-not}
+
+-- ---- the size of a line
+
+-- a line whose places are those below s that pass a test has as many as pass it
+pub size-is : (s : ℕ) (words : List ℕ) (q : ℕ → Bool) → s ≤ 192 → ((c : ℕ) → c < 192 → has words c ≡ q c) → ((c : ℕ) → s ≤ c → q c ≡ false) → size_of words ≡ count_below s q
+unfolding size_of
+size-is s words q l e f = count_below-cut 192 s (has words) q l e f
+
+-- ---- neighbours of one colour
+
+-- the places that do not differ from the next, but for the last, are joined to it
+pub joins-bit : (s : ℕ) (line : ℕ → Bool) (c : ℕ) (r i d y : Bool) → 0 < s → r ≡ (i && not d) → i ≡ ltb c (s - 1) → d ≡ not (is_same (line c) y) → y ≡ line (c + 1) → r ≡ joins s line c
+unfolding joins
+joins-bit s line c r i d y h e f g k =
+    let l : ltb c (s - 1) ≡ ltb (c + 1) s = grind (arith, nat_tests) in
+    let m : not d ≡ is_same (line c) (line (c + 1)) = ap not g ∙ (not-not (is_same (line c) y) ∙ ap (is_same (line c)) k) in
+    let n : i ≡ ltb (c + 1) s = f ∙ l in
+    e ∙ (ap (λ z. z && not d) n ∙ ap (λ z. ltb (c + 1) s && z) m)
+
+-- the last place is joined to none
+pub joins-past : (s : ℕ) (line : ℕ → Bool) (c : ℕ) → s ≤ c + 1 → joins s line c ≡ false
+unfolding joins
+joins-past s line c h = false-and (ltb (c + 1) s) (is_same (line c) (line (c + 1))) (grind (arith, nat_tests))
+
+-- no five places begin past the last
+five-past : (s : ℕ) (line : ℕ → Bool) (c : ℕ) → s ≤ c → begins_five s line c ≡ false
+unfolding begins_five
+five-past s line c h =
+    false-and (joins s line c && joins s line (c + 1)) (joins s line (c + 2) && joins s line (c + 3)) (false-and (joins s line c) (joins s line (c + 1)) (joins-past s line c (omega arith)))
+
+-- no run begins past the last
+run-past : (s : ℕ) (line : ℕ → Bool) (c : ℕ) → s ≤ c → begins_run s line c ≡ false
+unfolding begins_run
+run-past s line c h = false-and (begins_five s line c) (not (ltb 0 c && joins s line (c - 1))) (five-past s line c h)
+
+-- five places begin at four joins one after another
+five-bit : (s : ℕ) (line j : ℕ → Bool) (c : ℕ) (f : Bool) → ((c : ℕ) → j c ≡ joins s line c) → f ≡ ((j c && j (c + 1)) && (j (c + 2) && j (c + 3))) → f ≡ begins_five s line c
+unfolding begins_five
+five-bit s line j c f h e =
+    let a = h c in
+    let b = h (c + 1) in
+    let d = h (c + 2) in
+    let g = h (c + 3) in
+    cc
+
+-- a run begins where five places begin and no join comes before
+run-bit : (s : ℕ) (line j : ℕ → Bool) (c : ℕ) (r f u : Bool) → ((c : ℕ) → j c ≡ joins s line c) → f ≡ begins_five s line c → u ≡ (ltb 0 c && j (c - 1)) → r ≡ (f && not u) → r ≡ begins_run s line c
+unfolding begins_run
+run-bit s line j c r f u h e g k = let a = h (c - 1) in cc
+
+-- the cost of the runs of a row from its words
+pub row_cost : (s a b : ℕ) (line : ℕ → Bool) (j f u r : List ℕ) → s ≤ 192 → ((c : ℕ) → has j c ≡ joins s line c) → ((c : ℕ) → has f c ≡ ((has j c && has j (c + 1)) && (has j (c + 2) && has j (c + 3)))) → ((c : ℕ) → c < 192 → has u c ≡ (ltb 0 c && has j (c - 1))) → ((c : ℕ) → has r c ≡ (has f c && not (has u c))) → a ≡ size_of f → b ≡ size_of r → a + 2 * b ≡ place_cost s line
+unfolding place_cost
+row_cost s a b line j f u r l hj hf hu hr ea eb =
+    let five : (c : ℕ) → has f c ≡ begins_five s line c = λ c. five-bit s line (has j) c (has f c) hj (hf c) in
+    let p = size-is s f (begins_five s line) l (λ c k. five c) (λ c k. five-past s line c k) in
+    let q = size-is s r (begins_run s line) l (λ c k. run-bit s line (has j) c (has r c) (has f c) (has u c) hj (five c) (hu c k) (hr c)) (λ c k. run-past s line c k) in
+    omega arith

@@ -1,0 +1,116 @@
+-- Operations on three words, as operations on one number.
+use Rattle.std.proofs.Common.{◌≡◌, ℕ, ◌+◌, ◌-◌, ◌*◌, ◌/◌, ◌%◌, ◌^◌, ◌<◌, bit_and, bit_or, bit_xor, count_ones, sym, ap, ◌∙◌, subst, arith}
+use Rattle.std.proofs.lemmas.Nat.{and_block, or_block, xor_block, ones_cat, shr_high, mod_low, or_shifted, or_comm, pow-add, pow_pos, shl_below, shr_below, shr_split, mod_below}
+use Rattle.std.proofs.Math.Nat.{mul-add-mod_self_right}
+
+-- three words as one number, the lowest first
+abbrev pub three : ℕ → ℕ → ℕ → ℕ
+three a b c = (c * 2 ^ 64 + b) * 2 ^ 64 + a
+
+-- the conjunction of lines word by word
+pub three-and : (a b c d e f : ℕ) → a < 2 ^ 64 → b < 2 ^ 64 → d < 2 ^ 64 → e < 2 ^ 64 → three (bit_and a d) (bit_and b e) (bit_and c f) ≡ bit_and (three a b c) (three d e f)
+three-and a b c d e f ha hb hd he =
+    sym (and_block 64 (c * 2 ^ 64 + b) (f * 2 ^ 64 + e) a d ha hd ∙ ap (λ z. z * 2 ^ 64 + bit_and a d) (and_block 64 c f b e hb he))
+
+-- the exclusive or of lines word by word
+pub three-xor : (a b c d e f : ℕ) → a < 2 ^ 64 → b < 2 ^ 64 → d < 2 ^ 64 → e < 2 ^ 64 → three (bit_xor a d) (bit_xor b e) (bit_xor c f) ≡ bit_xor (three a b c) (three d e f)
+three-xor a b c d e f ha hb hd he =
+    sym (xor_block 64 (c * 2 ^ 64 + b) (f * 2 ^ 64 + e) a d ha hd ∙ ap (λ z. z * 2 ^ 64 + bit_xor a d) (xor_block 64 c f b e hb he))
+
+-- the disjunction of lines word by word
+pub three-or : (a b c d e f : ℕ) → a < 2 ^ 64 → b < 2 ^ 64 → d < 2 ^ 64 → e < 2 ^ 64 → three (bit_or a d) (bit_or b e) (bit_or c f) ≡ bit_or (three a b c) (three d e f)
+three-or a b c d e f ha hb hd he =
+    sym (or_block 64 (c * 2 ^ 64 + b) (f * 2 ^ 64 + e) a d ha hd ∙ ap (λ z. z * 2 ^ 64 + bit_or a d) (or_block 64 c f b e hb he))
+
+-- the bits of a line that are 1 are those of its words
+pub three-ones : (a b c : ℕ) → a < 2 ^ 64 → b < 2 ^ 64 → count_ones a + count_ones b + count_ones c ≡ count_ones (three a b c)
+three-ones a b c ha hb =
+    let p = ones_cat 64 (c * 2 ^ 64 + b) a ha in
+    let q = ones_cat 64 c b hb in
+    omega arith
+
+-- a line is below 2 to the 192
+pub three-below : (a b c : ℕ) → a < 2 ^ 64 → b < 2 ^ 64 → c < 2 ^ 64 → three a b c < 2 ^ 192
+three-below a b c ha hb hc = omega arith
+
+-- of two words shifted down the lower one takes the lowest bits of the higher
+two-down : (j k h l : ℕ) → l < 2 ^ (j + k) → (h * 2 ^ (j + k) + l) / 2 ^ k ≡ h / 2 ^ k * 2 ^ (j + k) + bit_or (l / 2 ^ k) (h * 2 ^ j % 2 ^ (j + k))
+two-down j k h l hl =
+    let p = pow-add 2 j k in
+    let q = h / 2 ^ k in
+    let m = h % 2 ^ k in
+    let hm : m < 2 ^ k = mod_below h (2 ^ k) (pow_pos k) in
+    let hs = shr_split h k in
+    let ls = shr_split l k in
+    let lm = mod_below l (2 ^ k) (pow_pos k) in
+    let e : h * 2 ^ j ≡ q * 2 ^ (j + k) + m * 2 ^ j = ap (λ z. z * 2 ^ j) (sym hs) ∙ product q m (2 ^ j) (2 ^ k) (2 ^ (j + k)) p in
+    let below : m * 2 ^ j < 2 ^ (j + k) = subst (λ z. m * 2 ^ j < 2 ^ z) (swap k j) (shl_below m k j hm) in
+    let f : h * 2 ^ j % 2 ^ (j + k) ≡ m * 2 ^ j = ap (λ z. z % 2 ^ (j + k)) e ∙ mod_low q (j + k) (m * 2 ^ j) below in
+    let g : bit_or (l / 2 ^ k) (m * 2 ^ j) ≡ m * 2 ^ j + l / 2 ^ k = or_comm (l / 2 ^ k) (m * 2 ^ j) ∙ or_shifted m j (l / 2 ^ k) (shr_below l j k hl) in
+    let s : h * 2 ^ (j + k) + l ≡ (h * 2 ^ j + l / 2 ^ k) * 2 ^ k + l % 2 ^ k = whole h l (2 ^ j) (2 ^ k) (2 ^ (j + k)) (l / 2 ^ k) (l % 2 ^ k) p ls in
+    let t = ap (λ z. z / 2 ^ k) s ∙ shr_high (h * 2 ^ j + l / 2 ^ k) k (l % 2 ^ k) lm in
+    let u = ap (λ z. bit_or (l / 2 ^ k) z) f in
+    omega arith
+  where
+    swap : (k j : ℕ) → k + j ≡ j + k
+    swap k j = omega arith
+
+    product : (q m J K W : ℕ) → W ≡ J * K → (q * K + m) * J ≡ q * W + m * J
+    product q m J K W e = let f = ap (λ z. q * z) e in omega arith
+
+    whole : (h l J K W x y : ℕ) → W ≡ J * K → x * K + y ≡ l → h * W + l ≡ (h * J + x) * K + y
+    whole h l J K W x y e f = let g = ap (λ z. h * z) e in omega arith
+
+-- the same for words of 64 bits
+at-64 : (j k h l : ℕ) → j + k ≡ 64 → l < 2 ^ 64 → (h * 2 ^ 64 + l) / 2 ^ k ≡ h / 2 ^ k * 2 ^ 64 + bit_or (l / 2 ^ k) (h * 2 ^ j % 2 ^ 64)
+at-64 j k h l e = subst (λ z. l < 2 ^ z → (h * 2 ^ z + l) / 2 ^ k ≡ h / 2 ^ k * 2 ^ z + bit_or (l / 2 ^ k) (h * 2 ^ j % 2 ^ z)) e (two-down j k h l)
+
+-- a line is shifted down word by word
+pub three-down : (a b c k : ℕ) → k < 64 → a < 2 ^ 64 → b < 2 ^ 64 → three (bit_or (a / 2 ^ k) (b * 2 ^ (64 - k) % 2 ^ 64)) (bit_or (b / 2 ^ k) (c * 2 ^ (64 - k) % 2 ^ 64)) (c / 2 ^ k) ≡ three a b c / 2 ^ k
+three-down a b c k hk ha hb =
+    let e : 64 - k + k ≡ 64 = omega arith in
+    let p = at-64 (64 - k) k (c * 2 ^ 64 + b) a e ha in
+    let q = at-64 (64 - k) k c b e hb in
+    let r : (c * 2 ^ 64 + b) * 2 ^ (64 - k) % 2 ^ 64 ≡ b * 2 ^ (64 - k) % 2 ^ 64 = ap (λ z. z % 2 ^ 64) (spread c b (2 ^ (64 - k))) ∙ mul-add-mod_self_right (c * 2 ^ (64 - k)) (2 ^ 64) (b * 2 ^ (64 - k)) in
+    sym (p ∙ (ap (λ z. z * 2 ^ 64 + bit_or (a / 2 ^ k) ((c * 2 ^ 64 + b) * 2 ^ (64 - k) % 2 ^ 64)) q ∙ ap (λ z. (c / 2 ^ k * 2 ^ 64 + bit_or (b / 2 ^ k) (c * 2 ^ (64 - k) % 2 ^ 64)) * 2 ^ 64 + bit_or (a / 2 ^ k) z) r))
+  where
+    spread : (c b J : ℕ) → (c * 2 ^ 64 + b) * J ≡ c * J * 2 ^ 64 + b * J
+    spread c b J = omega arith
+
+-- ---- the n lowest bits
+
+-- the n lowest bits where they end in the low word
+pub three-low : (n x : ℕ) → x ≡ 2 ^ n - 1 → three x 0 0 ≡ 2 ^ n - 1
+three-low n x e = omega arith
+
+-- the n lowest bits where they end in the middle word
+pub three-middle : (n m x : ℕ) → m + 64 ≡ n → x ≡ 2 ^ m - 1 → three (2 ^ 64 - 1) x 0 ≡ 2 ^ n - 1
+three-middle n m x e f =
+    let p = pow-add 2 m 64 in
+    let q = pow_pos m in
+    let g = ap (λ z. 2 ^ z) e in
+    omega arith
+
+-- the n lowest bits where they end in the high word
+pub three-high : (n m x : ℕ) → m + 128 ≡ n → x ≡ 2 ^ m - 1 → three (2 ^ 64 - 1) (2 ^ 64 - 1) x ≡ 2 ^ n - 1
+three-high n m x e f =
+    let p = pow-add 2 m 128 in
+    let q = pow_pos m in
+    let g = ap (λ z. 2 ^ z) e in
+    omega arith
+
+-- ---- one place up
+
+-- a word shifted up takes the highest bit of the one below
+up-low : (b a : ℕ) → a < 2 ^ 64 → bit_or (b * 2 % 2 ^ 64) (a / 2 ^ 63) ≡ b * 2 % 2 ^ 64 + a / 2 ^ 63
+up-low b a h =
+    let e : b * 2 % 2 ^ 64 ≡ b % 2 ^ 63 * 2 ^ 1 = omega arith in
+    let f : a / 2 ^ 63 < 2 ^ 1 = omega arith in
+    ap (λ z. bit_or z (a / 2 ^ 63)) e ∙ (or_shifted (b % 2 ^ 63) 1 (a / 2 ^ 63) f ∙ ap (λ z. z + a / 2 ^ 63) (sym e))
+
+-- a line is shifted up word by word
+pub three-up : (a b c : ℕ) → a < 2 ^ 64 → b < 2 ^ 64 → c < 2 ^ 64 → three (a * 2 % 2 ^ 64) (bit_or (b * 2 % 2 ^ 64) (a / 2 ^ 63)) (bit_or (c * 2 % 2 ^ 64) (b / 2 ^ 63)) ≡ three a b c * 2 % 2 ^ 192
+three-up a b c ha hb hc =
+    let p = up-low b a ha in
+    let q = up-low c b hb in
+    omega arith
