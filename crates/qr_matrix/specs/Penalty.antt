@@ -1,5 +1,5 @@
 -- The penalty of a square of modules. A line is a row or a column, as the colours of its places; true is dark. Public
--- clauses cite penalty_of.
+-- clauses cite penalty_of, and laws its run_cost, block_count and window_count.
 use Rattle.std.specs.Prelude.{ℕ, ◌+◌, ◌-◌, ◌*◌, ◌/◌, ◌&&◌, ◌||◌, not, Bool, true, false, nat_lt, nat_le, ◌==◌, if◌then◌else◌, List, [], ◌∷◌}
 use Prim.Native.Nat.{zero, suc}
 use Rattle.qr_matrix.specs.Sums.{sum_below}

@@ -2,6 +2,7 @@
 #![tactic(auto)]
 
 mod blocks;
+pub mod laws;
 mod line;
 mod matrix;
 mod penalties;
