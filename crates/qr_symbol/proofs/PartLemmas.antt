@@ -1,15 +1,19 @@
 -- The parts of bytes: how long a front fits, and the lengths that are found one after the other.
-use Rattle.std.proofs.Common.{◌≡◌, ℕ, zero, suc, ◌+◌, ◌*◌, ◌<◌, ◌≤◌, min, Bool, List, [], ◌∷◌, ◌++◌, take, drop, length, get_or, Some, refl, sym, ◌∙◌, ap, subst, append_assoc, arith}
-use Rattle.std.proofs.lemmas.List.{length-take, length-drop}
-use Rattle.std.proofs.Math.Seq.{drop-cons}
+use Rattle.std.proofs.Common.{◌≡◌, ℕ, zero, suc, ◌+◌, ◌-◌, ◌*◌, ◌<◌, ◌≤◌, min, Bool, All, List, [], ◌∷◌, ◌++◌, take, drop, length, get_or, Some, refl, sym, ◌∙◌, ap, subst, append_assoc, inl, inr, arith}
+use Rattle.std.specs.List.{concat}
+use Rattle.std.proofs.lemmas.List.{length-take, length-drop, append-nil, take-append-drop, drop-append-le, length-append}
+use Rattle.std.proofs.lemmas.List.Elements.{All-nil, All-cons, All-head, All-tail}
+use Rattle.std.proofs.lemmas.Bool.{cases_lt}
+use Rattle.std.proofs.Math.Seq.{drop-cons, drop-nil, drop-append-add, take-append_seam}
 use Rattle.qr_layout.specs.declared.level.Level.{Level}
 use Rattle.qr_bits.specs.declared.segment.Mode.TheVariants.{Byte}
 use Rattle.qr_bits.specs.Letters.{runs_of, Covers, HasFit, IsLongestFit}
 use Rattle.qr_bits.specs.Data.{room_of}
 use Rattle.qr_bits.proofs.SegmentLists.{count_width_bound}
 use Rattle.qr_bits.proofs.Counts.{capacity_least, fitting_short}
+use Rattle.qr_bits.proofs.Pieces.{piece}
 use Rattle.qr_symbol.specs.declared.symbol.Symbol.{Symbol}
-use Rattle.qr_symbol.specs.Series.{AreParts, IsSymbolOf, AreSymbolsFrom}
+use Rattle.qr_symbol.specs.Series.{AreParts, FitParts, NeedsParts, IsSymbolOf, AreSymbolsFrom}
 use Rattle.qr_symbol.specs.Parts.{AreLengths, parts_of}
 
 -- ---- how long a front fits
@@ -103,15 +107,6 @@ parts-one v l b x (p ∷ ps) (q ∷ qs) h k =
     let rest = parts-one v l b (drop k.0 x) ps qs (subst (λ (n : ℕ). AreParts v l b (drop n x) ps) same h.4) k.4 in
     λ i. here i ∷ rest i
 
--- the parts of bytes are one more than those of the rest behind their longest front
-pub parts-more : (v : ℕ) (l : Level) (b : Bool) (x : List ℕ) (n : ℕ) (ps : List (List ℕ)) → 0 < length x → IsLongestFit v b x (room_of v l) n → AreParts v l b x ps
-    → (qs : List (List ℕ)) × AreParts v l b (drop n x) qs × (length ps ≡ 1 + length qs)
-unfolding AreParts
-parts-more v l b x n [] some fit h = absurd (omega (arith, ap length h))
-parts-more v l b x n (p ∷ ps) some fit h =
-    let same = longest-one v b x (room_of v l) h.0 n h.2 fit in
-    (ps, subst (λ (m : ℕ). AreParts v l b (drop m x) ps) same h.4, omega arith)
-
 -- bytes have a part
 pub parts-some : (v : ℕ) (l : Level) (b : Bool) (x : List ℕ) (ps : List (List ℕ)) → AreParts v l b x ps → 0 < length x → 0 < length ps
 unfolding AreParts
@@ -127,6 +122,73 @@ parts-long v l b x (p ∷ ps) i j h =
     let within = h.2.inside in
     let rest = parts-long v l b (drop h.0 x) ps i j h.4 in
     omega (arith, length-take h.0 x, length-drop h.0 x)
+
+-- ---- no fewer parts
+
+-- what is left behind the first of two lists
+behind-all : {X : Type 0} (k : ℕ) (xs ys : List X) → length xs ≤ k → drop k (xs ++ ys) ≡ drop (k - length xs) ys
+behind-all k xs ys i =
+    let sum : k ≡ length xs + (k - length xs) = omega arith in
+    ap (λ (n : ℕ). drop n (xs ++ ys)) sum ∙ drop-append-add xs ys (k - length xs)
+
+-- bytes without a front of them need no more bits
+rest-fits : (v : ℕ) (b : Bool) (k : ℕ) (xs : List ℕ) (n : ℕ) → HasFit v b xs n → HasFit v b (drop k xs) n
+rest-fits v b k xs n fit =
+    let whole : xs ≡ take k xs ++ (drop k xs ++ []) = rw (append-nil (drop k xs)) (sym (take-append-drop k xs)) in
+    let all : HasFit v b (take k xs ++ (drop k xs ++ [])) n = subst (λ (ys : List ℕ). HasFit v b ys n) whole fit in
+    let p = piece v b (take k xs) (drop k xs) [] all.0 all.1 in
+    (p.0, p.1, omega (arith, p.2, all.2))
+
+-- bytes without a front of them are cut into no more parts that fit
+rest-parts : (v : ℕ) (l : Level) (b : Bool) (k : ℕ) (ps : List (List ℕ)) → All (λ p. HasFit v b p (room_of v l)) ps
+    → (qs : List (List ℕ)) × FitParts v l b (drop k (concat ps)) qs × (length qs ≤ length ps)
+rest-parts v l b k [] h = ([], (drop-nil k, h), omega arith)
+rest-parts v l b k (p ∷ ps) h =
+    let fits = λ (q : List ℕ). HasFit v b q (room_of v l) in
+    let here = All-head fits p ps h in
+    let behind = All-tail fits p ps h in
+    elim (cases_lt k (length p)) [
+      | inl i ↦ (drop k p ∷ ps, (drop-append-le k p (concat ps) (omega arith), All-cons fits (drop k p) ps (rest-fits v b k p (room_of v l) here) behind), omega arith)
+      | inr i ↦ (
+          let r = rest-parts v l b (k - length p) ps behind in
+          (r.0, (behind-all k p (concat ps) i ∙ r.1.0, r.1.1), omega (arith, r.2)))
+    ]
+
+-- where the rest behind the longest front needs k parts, the bytes need one more
+pub needs-more : (v : ℕ) (l : Level) (b : Bool) (x : List ℕ) (n k : ℕ) → 0 < length x → IsLongestFit v b x (room_of v l) n → NeedsParts v l b (drop n x) k → NeedsParts v l b x (k + 1)
+needs-more v l b x n k some fit needs [] cut = absurd (omega (arith, ap length cut.0))
+needs-more v l b x n k some fit needs (p ∷ ps) cut =
+    let fits = λ (q : List ℕ). HasFit v b q (room_of v l) in
+    let front : take (length p) x ≡ p = rw cut.0 (take-append_seam p (concat ps)) in
+    let within : length p ≤ length x = omega (arith, ap length cut.0, length-append p (concat ps)) in
+    let least : length p ≤ n = fit.longest (length p) within (subst fits (sym front) (All-head fits p ps cut.1)) in
+    let r = rest-parts v l b (n - length p) ps (All-tail fits p ps cut.1) in
+    let left : drop n x ≡ concat r.0 = ap (λ (ys : List ℕ). drop n ys) cut.0 ∙ (behind-all n p (concat ps) least ∙ r.1.0) in
+    let few = needs r.0 (left, r.1.1) in
+    omega (arith, r.2)
+
+-- bytes need a part
+pub needs-some : (v : ℕ) (l : Level) (b : Bool) (x : List ℕ) → 0 < length x → NeedsParts v l b x 1
+needs-some v l b x some [] cut = absurd (omega (arith, ap length cut.0))
+needs-some v l b x some (p ∷ ps) cut = omega arith
+
+-- bytes need as many parts as they have
+pub needs-parts : (v : ℕ) (l : Level) (b : Bool) (x : List ℕ) (ps : List (List ℕ)) → AreParts v l b x ps → NeedsParts v l b x (length ps)
+unfolding AreParts
+needs-parts v l b x [] h qs cut = omega arith
+needs-parts v l b x (p ∷ ps) h qs cut =
+    let within = h.2.inside in
+    let more = needs-more v l b x h.0 (length ps) (omega arith) h.2 (needs-parts v l b (drop h.0 x) ps h.4) qs cut in omega arith
+
+-- the parts of bytes are parts that fit
+pub parts-fit : (v : ℕ) (l : Level) (b : Bool) (x : List ℕ) (ps : List (List ℕ)) → AreParts v l b x ps → FitParts v l b x ps
+unfolding AreParts
+parts-fit v l b x [] h = (h, All-nil (λ q. HasFit v b q (room_of v l)))
+parts-fit v l b x (p ∷ ps) h =
+    let fits = λ (q : List ℕ). HasFit v b q (room_of v l) in
+    let rest = parts-fit v l b (drop h.0 x) ps h.4 in
+    let whole : p ++ concat ps ≡ x = rw (h.3, ← rest.0) (take-append-drop h.0 x) in
+    (sym whole, All-cons fits p ps (subst fits (sym h.3) h.2.fits) rest.1)
 
 -- ---- the symbols of parts, one after the other
 

@@ -9,7 +9,8 @@ use Rattle.qr_bits.specs.Data.{capacity_of}
 use Rattle.qr_symbol.specs.declared.symbol.Symbol.{Symbol}
 use Rattle.qr_matrix.specs.Grid.{Grid}
 use Rattle.qr_symbol.specs.Symbols.{FitsVersion}
-use Rattle.qr_symbol.specs.Series.{squares_of, AreParts, AreSymbolsFrom, IsSeries}
+use Rattle.qr_symbol.specs.Series.{squares_of, AreParts, NeedsParts, AreSymbolsFrom, IsSeries}
+use Rattle.qr_symbol.proofs.PartLemmas.{needs-some, needs-parts}
 
 -- no bytes need no bits
 empty-fits : (v : ℕ) (bytes_only : Bool) (n : ℕ) → HasFit v bytes_only [] n
@@ -51,6 +52,12 @@ series-some x l b v ss (inr h) =
 pub series-few : (x : List ℕ) (l : Level) (b : Bool) (v : ℕ) (ss : List Symbol) → IsSeries x l b v ss → length ss ≤ 16
 series-few x l b v ss (inl h) = subst (λ (ts : List Symbol). length ts ≤ 16) (sym h.alone) (omega arith)
 series-few x l b v ss (inr h) = let m = h.many in let e = symbols-many v l b _ _ 0 h.parts ss h.made in omega arith
+
+-- bytes need as many parts as their series has symbols
+pub series-shortest : (x : List ℕ) (l : Level) (b : Bool) (v : ℕ) (ss : List Symbol) → 0 < length x → IsSeries x l b v ss → NeedsParts v l b x (length ss)
+series-shortest x l b v ss some (inl h) = subst (λ (ts : List Symbol). NeedsParts v l b x (length ts)) (sym h.alone) (needs-some v l b x some)
+series-shortest x l b v ss some (inr h) =
+    subst (NeedsParts v l b x) (sym (symbols-many v l b _ _ 0 h.parts ss h.made)) (needs-parts v l b x h.parts h.split)
 
 -- the symbols of a series have the version's side
 pub series-side : (x : List ℕ) (l : Level) (b : Bool) (v : ℕ) (ss : List Symbol) → IsSeries x l b v ss → All (λ g. g.side ≡ side_of v) (squares_of ss)

@@ -1,8 +1,9 @@
 -- The series of symbols that an input is encoded as, by structured append. Public clauses cite this file.
 use Rattle.std.specs.Prelude.{◌≡◌, ◌⊎◌, ℕ, ◌+◌, ◌-◌, ◌<◌, ◌≤◌, Bool, List, [], ◌∷◌, length, take, drop, map, Option, None, Some}
+use Rattle.std.specs.List.{All, concat}
 use Rattle.qr_layout.specs.declared.level.Level.{Level}
 use Rattle.qr_bits.specs.declared.header.Header.{Header}
-use Rattle.qr_bits.specs.Letters.{IsLongestFit}
+use Rattle.qr_bits.specs.Letters.{HasFit, IsLongestFit}
 use Rattle.qr_bits.specs.Data.{room_of}
 use Rattle.qr_bits.specs.Stream.{parity_of}
 use Rattle.qr_symbol.specs.declared.symbol.Symbol.{Symbol}
@@ -19,6 +20,14 @@ unfoldable pub AreParts : ℕ → Level → Bool → List ℕ → List (List ℕ
 AreParts v l bytes_only x [] = x ≡ []
 AreParts v l bytes_only x (p ∷ ps) = (n : ℕ) × (0 < n) × IsLongestFit v bytes_only x (room_of v l) n × (p ≡ take n x)
     × AreParts v l bytes_only (drop n x) ps
+
+-- the bytes are cut into these parts, of which each fits a symbol behind a header; a part may be empty [own]
+abbrev pub FitParts : ℕ → Level → Bool → List ℕ → List (List ℕ) → Type 0
+FitParts v l bytes_only x parts = (x ≡ concat parts) × All (λ p. HasFit v bytes_only p (room_of v l)) parts
+
+-- the bytes need n parts: every cut of them into parts that fit has n or more [own]
+abbrev pub NeedsParts : ℕ → Level → Bool → List ℕ → ℕ → Type 0
+NeedsParts v l bytes_only x n = (parts : List (List ℕ)) → FitParts v l bytes_only x parts → n ≤ length parts
 
 -- the symbol is that of the bytes behind a header or none, of version v and level l (ISO/IEC 18004:2015, 7.1, 8.1)
 pub record IsSymbolOf (v : ℕ) (l : Level) (bytes_only : Bool) (x : List ℕ) (h : Option Header) (s : Symbol) : Type 0 where

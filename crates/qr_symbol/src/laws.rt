@@ -12,7 +12,7 @@ ghost use Rattle.qr_matrix.specs.Grid.{Grid};
 ghost use Rattle.qr_symbol.specs.Colour.{grid_of};
 ghost use Rattle.qr_symbol.specs.Reading.{read_bits, IsRead, IsMessage, IsFormat, IsReading, IsUnread};
 ghost use Rattle.qr_symbol.specs.Symbols.{IsSymbol, HasNoVersion, SymbolsAreOne};
-ghost use Rattle.qr_symbol.specs.Series.{squares_of, IsSeries};
+ghost use Rattle.qr_symbol.specs.Series.{squares_of, AreParts, FitParts, NeedsParts, IsSeries};
 ghost use Rattle.qr_symbol.specs.Joining.{IsJoined, IsUnjoined};
 ghost use Rattle.qr_layout.specs.Versions.{total_codewords_of};
 ghost use Rattle.qr_layout.specs.Blocks.{data_codewords_of, blocks_of};
@@ -113,6 +113,16 @@ pub fn symbols_are_read(smallest: Version)
 pub fn series_are_one()
     ensures { (x : List ℕ) (l : Level) (bytes_only : Bool) (v : ℕ) (ss ts : List Symbol)
         → IsSeries x l bytes_only v ss → IsSeries x l bytes_only v ts → ss ≡ ts }
+{}
+
+/// The parts of an input fit behind headers, and no fewer parts do; so its series is the shortest.
+pub fn series_are_shortest()
+    ensures fit { (v : ℕ) (l : Level) (bytes_only : Bool) (x : List ℕ) (parts : List (List ℕ))
+        → AreParts v l bytes_only x parts → FitParts v l bytes_only x parts }
+    ensures parts { (v : ℕ) (l : Level) (bytes_only : Bool) (x : List ℕ) (parts : List (List ℕ))
+        → AreParts v l bytes_only x parts → NeedsParts v l bytes_only x (length parts) }
+    ensures series { (x : List ℕ) (l : Level) (bytes_only : Bool) (v : ℕ) (ss : List Symbol)
+        → 0 < length x → IsSeries x l bytes_only v ss → NeedsParts v l bytes_only x (length ss) }
 {}
 
 /// The symbols of a series are joined to the input.

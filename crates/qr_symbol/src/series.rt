@@ -6,7 +6,7 @@ ghost use Rattle.qr_bits.specs.Data.{room_of};
 ghost use Rattle.qr_bits.specs.Stream.{parity_of};
 ghost use Rattle.qr_symbol.specs.declared.fault.EncodeFault.{EncodeFault};
 ghost use Rattle.qr_symbol.specs.Symbols.{FitsVersion};
-ghost use Rattle.qr_symbol.specs.Series.{squares_of, AreParts, IsSymbolOf, AreSymbolsFrom, IsSeries, HasNoSeries};
+ghost use Rattle.qr_symbol.specs.Series.{squares_of, NeedsParts, IsSymbolOf, AreSymbolsFrom, IsSeries, HasNoSeries};
 ghost use Rattle.qr_symbol.specs.Joining.{IsJoined};
 ghost use Rattle.qr_symbol.specs.Parts.{AreLengths, parts_of};
 
@@ -20,9 +20,10 @@ use std::alloc::Global;
 
 /// The series of symbols of an input, all of one version and level (ISO/IEC 18004:2015, 8). Where the input fits one
 /// symbol, that is a plain symbol, without a header. Else it is cut into parts, and each part is the longest front of
-/// the rest that fits a symbol behind its header. With `bytes_only` each symbol has one byte segment.
+/// the rest that fits a symbol behind its header. No cut into fewer parts fits, so the series is the shortest. With
+/// `bytes_only` each symbol has one byte segment.
 ///
-/// `Empty` where the input has no byte, and `TooMany` where it takes more than 16 symbols.
+/// `Empty` where the input has no byte, and `TooMany` where it takes more than 16 symbols, however it is cut.
 pub fn encode_series(
     alloc: Global,
     input: &[u8],
@@ -33,9 +34,13 @@ pub fn encode_series(
     requires { length input.now ≤ INPUT_MAX }
     ensures series { IfOk result (λ ss. IsSeries input.now level bytes_only version ss.items) }
     ensures joined { IfOk result (λ ss. IsJoined (squares_of ss.items) input.now) }
+    ensures shortest { IfOk result (λ ss. NeedsParts version level bytes_only input.now
+        (length ss.items)) }
     ensures empty { (result ≡ Err EncodeFault.Empty) ↔ (input.now ≡ []) }
     ensures too_many { result ≡ Err EncodeFault.TooMany
         → HasNoSeries input.now level bytes_only version }
+    ensures no_shorter { result ≡ Err EncodeFault.TooMany
+        → NeedsParts version level bytes_only input.now 17 }
     ensures fault { IfErr result (λ e. (e ≡ EncodeFault.Empty) ⊎ (e ≡ EncodeFault.TooMany)
         ⊎ (e ≡ EncodeFault.Memory)) }
 {
@@ -86,8 +91,8 @@ fn part_lengths(
 ) -> Result<ArrayVec<usize, 16>, EncodeFault>
     requires { length input.now ≤ INPUT_MAX }
     ensures parts { IfOk result (λ ns. AreLengths version level bytes_only input.now ns.items) }
-    ensures too_many { result ≡ Err EncodeFault.TooMany → (parts : List (List ℕ))
-        → AreParts version level bytes_only input.now parts → 16 < length parts }
+    ensures too_many { result ≡ Err EncodeFault.TooMany
+        → NeedsParts version level bytes_only input.now 17 }
     ensures fault { IfErr result (λ e. (e ≡ EncodeFault.TooMany) ⊎ (e ≡ EncodeFault.Memory)) }
 {
     let mut lengths = ArrayVec::new();

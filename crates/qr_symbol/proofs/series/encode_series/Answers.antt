@@ -4,8 +4,10 @@ use Rattle.std.proofs.lemmas.Option.{MatchOption-at_some}
 use Rattle.std.proofs.lemmas.Result.{IfOk-weaker}
 use Rattle.qr_symbol.specs.declared.symbol.Symbol.{Symbol}
 use Rattle.qr_symbol.specs.Symbols.{FitsVersion}
-use Rattle.qr_symbol.proofs.PartLemmas.{lengths-some}
+use Rattle.qr_symbol.specs.Series.{NeedsParts}
+use Rattle.qr_symbol.proofs.PartLemmas.{lengths-some, parts-fit}
 use Rattle.qr_symbol.proofs.SeriesLemmas.{lone-series, split-series, series-joined}
+use Rattle.qr_symbol.proofs.SizeLemmas.{series-shortest}
 use Rattle.qr_symbol.proofs.series.encode_series.Goals as goal
 
 pub returns-in-Some-clause-series : goal.returns-in-Some-clause-series
@@ -17,6 +19,15 @@ returns-in-Some-clause-series c =
 pub returns-in-Some-clause-joined : goal.returns-in-Some-clause-joined
 returns-in-Some-clause-joined c =
     series-joined c.args.input.now c.args.level c.args.bytes_only c.args.version c.push.new.self.items (omega arith) (omega arith) (returns-in-Some-clause-series c)
+
+pub returns-in_err-lengths-clause-too_many : goal.returns-in_err-lengths-clause-too_many
+returns-in_err-lengths-clause-too_many c = λ many.
+    let long : FitsVersion c.args.input.now c.args.level c.args.bytes_only c.args.version → ⊥ = search rules in
+    let needs : NeedsParts c.args.version c.args.level c.args.bytes_only c.args.input.now 17 = search rules in
+    record {
+      too_long = long;
+      too_many = λ parts cut. let more = needs parts (parts-fit c.args.version c.args.level c.args.bytes_only c.args.input.now parts cut) in omega arith;
+    }
 
 pub part_symbols-requires-clause-some : goal.part_symbols-requires-clause-some
 part_symbols-requires-clause-some c =
@@ -35,3 +46,11 @@ returns-clause-series c =
 pub returns-clause-joined : goal.returns-clause-joined
 returns-clause-joined c =
     IfOk-weaker c.part_symbols.result _ _ (λ ss series. series-joined c.args.input.now c.args.level c.args.bytes_only c.args.version ss.items (omega arith) (omega arith) series) (returns-clause-series c)
+
+pub returns-in-Some-clause-shortest : goal.returns-in-Some-clause-shortest
+returns-in-Some-clause-shortest c =
+    series-shortest c.args.input.now c.args.level c.args.bytes_only c.args.version c.push.new.self.items (grind (arith, nat_tests)) (returns-in-Some-clause-series c)
+
+pub returns-clause-shortest : goal.returns-clause-shortest
+returns-clause-shortest c =
+    IfOk-weaker c.part_symbols.result _ _ (λ ss series. series-shortest c.args.input.now c.args.level c.args.bytes_only c.args.version ss.items (grind (arith, nat_tests)) series) (returns-clause-series c)

@@ -1,18 +1,17 @@
-use Rattle.std.proofs.Common.{◌<◌, [], ◌∷◌, length, sym, ◌∙◌, length-append, arith}
+use Rattle.std.proofs.Common.{◌+◌, ◌<◌, [], ◌∷◌, length, sym, ◌∙◌, length-append, arith}
 use Rattle.std.proofs.lemmas.Bool.Decides.{nat_tests}
 use Rattle.std.proofs.lemmas.Bool.{eqb-true}
 use Rattle.std.proofs.lemmas.List.{append-nil, nil_from_length, length-drop}
-use Rattle.qr_symbol.proofs.PartLemmas.{lengths-none, lengths-more, parts-some, parts-more}
+use Rattle.qr_symbol.proofs.PartLemmas.{lengths-none, lengths-more, needs-some, needs-more}
 use Rattle.qr_symbol.proofs.series.part_lengths.Goals as goal
 
 pub returns-then-is_full-clause-too_many : goal.returns-then-is_full-clause-too_many
 returns-then-is_full-clause-too_many c =
     λ _ parts cut.
-    let r = c.loop-rest.invariant.parts parts cut in
     let full = eqb-true (length c.loop-rest.lengths.items) _ (sym c.is_full.ensures.value ∙ c.if-is_full.true) in
     let some : 0 < length c.loop-rest.rest.now = grind (arith, nat_tests) in
-    let more = parts-some c.args.version c.args.level c.args.bytes_only c.loop-rest.rest.now r.0 r.1 some in
-    omega (arith, r.2)
+    let more = c.loop-rest.invariant.needs 1 (needs-some c.args.version c.args.level c.args.bytes_only c.loop-rest.rest.now some) parts cut in
+    omega arith
 
 pub loop-rest-preserved : goal.loop-rest-preserved
 loop-rest-preserved c =
@@ -28,10 +27,9 @@ loop-rest-preserved c =
     rw (c.push.ensures.items, c.split_at.ensures.back) (record {
       short = omega (arith, inv.short);
       lengths = lengths-more v l b c.args.input.now found rest n c.in_ok-len.ensures.some c.in_ok-len.ensures.longest inv.lengths;
-      parts = λ ps cut.
-          let r = inv.parts ps cut in
-          let more = parts-more v l b rest n r.0 some c.in_ok-len.ensures.longest r.1 in
-          (more.0, more.1, omega (arith, r.2, more.2, length-append found (n ∷ [])));
+      needs = λ k needs parts cut.
+          let more = inv.needs (k + 1) (needs-more v l b rest n k some c.in_ok-len.ensures.longest needs) parts cut in
+          omega (arith, length-append found (n ∷ []));
     })
 
 pub returns-clause-parts : goal.returns-clause-parts

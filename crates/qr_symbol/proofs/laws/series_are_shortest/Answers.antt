@@ -1,0 +1,6 @@
+use Rattle.qr_symbol.proofs.PartLemmas.{needs-parts, parts-fit}
+use Rattle.qr_symbol.proofs.SizeLemmas.{series-shortest}
+use Rattle.qr_symbol.proofs.laws.series_are_shortest.Goals as goal
+
+pub returns : goal.returns
+returns c = record { fit = parts-fit; parts = needs-parts; series = series-shortest }
