@@ -220,6 +220,8 @@ mod tests {
             &last[..],
             "the sixteenth of the two long blocks"
         );
+        let again = deinterleave(rt.alloc(), version, Level::Q, &sent)?;
+        assert_eq!(rt; &again[..], &message[..], "put back");
         Ok(())
     }
 }

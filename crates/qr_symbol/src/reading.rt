@@ -154,16 +154,10 @@ pub fn read_symbol(alloc: Global, matrix: &Matrix) -> Result<Parsed, ReadFault>
 mod tests {
     use super::*;
     use crate::encoding::encode;
-    use crate::samples::byte_symbol;
+    use crate::samples::{EIGHT_DIGITS, byte_symbol};
     use crate::symbol::build_masked;
     use qr_bits::{Mode, Segment};
     use std::test::Fail;
-
-    // The codewords of `01234567` in version 1-M.
-    static CODEWORDS: [u8; 26] = [
-        0x10, 0x20, 0x0C, 0x56, 0x61, 0x80, 0xEC, 0x11, 0xEC, 0x11, 0xEC, 0x11, 0xEC, 0x11, 0xEC,
-        0x11, 0xA5, 0x24, 0xD4, 0xC1, 0xED, 0x36, 0xC7, 0x87, 0x2C, 0x55,
-    ];
 
     // Whether a square is read as one segment, without a header.
     fn says(rt: &HostRuntime, matrix: &Matrix, mode: Mode, bytes: &[u8]) -> Result<bool, Fail> {
@@ -204,7 +198,7 @@ mod tests {
         let version = Version::new(1).ok_or("version 1")?;
         assert!(rt; version.total_codewords() == 26);
         for (name, (row, col), fault) in rows {
-            let mut symbol = build_masked(rt.alloc(), version, Level::M, &CODEWORDS, 0)?;
+            let mut symbol = build_masked(rt.alloc(), version, Level::M, &EIGHT_DIGITS, 0)?;
             assert!(rt;
                 says(&rt, &symbol.matrix, Mode::Numeric, b"01234567")?,
                 "as drawn"

@@ -1,4 +1,4 @@
-//! Symbols that tests read: of version 1, in one segment of byte mode, behind a header or none.
+//! What tests read: codewords, and symbols of version 1 in one segment of byte mode, behind a header or none.
 
 ghost use Rattle.std.specs.Prelude.{◌<◌, ◌≤◌, length};
 ghost use Rattle.std.specs.Option.{ForSome};
@@ -9,6 +9,12 @@ use crate::symbol::Symbol;
 use qr_bits::{Header, INPUT_MAX, Mode, Segment, codewords, covers};
 use qr_layout::{Level, Version};
 use std::test::Fail;
+
+/// The codewords of `01234567` in version 1-M.
+pub(crate) static EIGHT_DIGITS: [u8; 26] = [
+    0x10, 0x20, 0x0C, 0x56, 0x61, 0x80, 0xEC, 0x11, 0xEC, 0x11, 0xEC, 0x11, 0xEC, 0x11, 0xEC, 0x11,
+    0xA5, 0x24, 0xD4, 0xC1, 0xED, 0x36, 0xC7, 0x87, 0x2C, 0x55,
+];
 
 /// The data codewords of the bytes.
 pub(crate) fn byte_codewords(

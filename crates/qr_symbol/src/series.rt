@@ -187,6 +187,7 @@ fn part_symbol(
 #[cfg(test)]
 mod tests {
     use super::*;
+    use crate::joining::read_series;
     use crate::reading::read_symbol;
     use std::test::Fail;
 
@@ -218,6 +219,8 @@ mod tests {
                 "symbol {position}"
             );
         }
+        let joined = read_series(rt.alloc(), &symbols)?;
+        assert_eq!(rt; joined.as_slice(), b"ABCDEFGH".as_slice());
         Ok(())
     }
 

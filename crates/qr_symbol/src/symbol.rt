@@ -11,12 +11,16 @@ use qr_layout::{Level, Version, format_word};
 use qr_matrix::Matrix;
 use std::alloc::Global;
 
-/// A symbol: its modules, and the version, the level and the mask, from 0 to 7, that it was made with.
+/// A symbol: its modules, and what they were made with.
 #[derive(Drop)]
 pub struct Symbol {
+    /// The version, which tells the side.
     pub version: Version,
+    /// The level of error correction.
     pub level: Level,
+    /// The mask, from 0 to 7.
     pub mask: u8,
+    /// The modules.
     pub matrix: Matrix,
 }
 
@@ -50,14 +54,10 @@ pub fn build_masked(
 #[cfg(test)]
 mod tests {
     use super::*;
+    use crate::samples::EIGHT_DIGITS;
     use std::test::Fail;
 
-    // The codewords of `01234567` in version 1-M, and the symbol that holds them under mask 0.
-    static CODEWORDS: [u8; 26] = [
-        0x10, 0x20, 0x0C, 0x56, 0x61, 0x80, 0xEC, 0x11, 0xEC, 0x11, 0xEC, 0x11, 0xEC, 0x11, 0xEC,
-        0x11, 0xA5, 0x24, 0xD4, 0xC1, 0xED, 0x36, 0xC7, 0x87, 0x2C, 0x55,
-    ];
-
+    // The symbol that holds the codewords of `01234567` in version 1-M under mask 0.
     static ROWS: [u32; 21] = [
         0b111111100011101111111,
         0b100000101110001000001,
@@ -86,7 +86,7 @@ mod tests {
     fn eight_digits_at_1_m(rt: HostRuntime) -> Result<(), Fail> {
         let version = Version::new(1).ok_or("version 1")?;
         assert!(rt; version.total_codewords() == 26);
-        let symbol = build_masked(rt.alloc(), version, Level::M, &CODEWORDS, 0)?;
+        let symbol = build_masked(rt.alloc(), version, Level::M, &EIGHT_DIGITS, 0)?;
         assert!(rt; symbol.matrix.side() == 21);
         assert!(rt; symbol.version == version && symbol.level == Level::M && symbol.mask == 0);
         for row in 0..21u8 {
