@@ -1,7 +1,8 @@
-//! The four types of drawings of one symbol, and of two.
+//! The four types of drawings: lines of them, the runs that they show, the words that ask for them, and writers that fail.
 
 ghost use Rattle.std.specs.Prelude.{◌≡◌, IfOk};
 
+use crate::runs::{Devices, run_with};
 use qr_layout::{Level, Version};
 use qr_symbol::{Symbol, build_masked};
 use qrencode_cli::{Drawing, Manner, Trial, draw};
@@ -144,5 +145,89 @@ fn svg_of_two_symbols(rt: HostRuntime) -> Result<(), Fail> {
             .count(),
         1
     );
+    Ok(())
+}
+
+// Where the runs of the first row end: a finder pattern's, the light one beside it, and the last finder pattern's.
+#[test]
+fn runs_of_the_first_row(rt: HostRuntime) -> Result<(), Fail> {
+    let symbol = symbol(rt.alloc())?;
+    assert!(rt; symbol.matrix.side() == 21);
+    for (col, end) in [(0, 7), (7, 10), (14, 21)] {
+        assert_eq!(rt; symbol.matrix.run_end(0, col), end, "column {col}");
+    }
+    Ok(())
+}
+
+#[test]
+fn by_words(rt: HostRuntime) -> Result<(), Fail> {
+    let rows = [
+        (
+            ["-t", "utf8", "-l", "h", "A"].as_slice(),
+            "half blocks",
+            15usize,
+        ),
+        (
+            [
+                "-l", "Q", "-v", "2", "-m", "0", "-8", "-S", "-t", "svg", "A",
+            ]
+            .as_slice(),
+            "a series in a document",
+            5,
+        ),
+        (
+            ["-t", "asciiI", "-m", "0", "A"].as_slice(),
+            "light and dark exchanged",
+            21,
+        ),
+        (
+            ["-t", "ASCII", "-m", "100", "--", "-8"].as_slice(),
+            "a string that begins with a hyphen",
+            221,
+        ),
+    ];
+    for (words, name, lines) in rows {
+        let devices = Devices {
+            out_room: 100_000,
+            ..Devices::WELL
+        };
+        let r = run_with(rt.alloc(), words, b"", devices)?;
+        assert_eq!(rt; r.status, 0, "{name}");
+        assert_eq!(rt; line_count(r.out.bytes()), lines, "{name}");
+        assert!(rt; r.err.bytes().is_empty(), "{name}");
+    }
+    Ok(())
+}
+
+// A writer of 100 bytes a call that fails at each call in turn, until none does, holds a beginning of the drawing.
+#[test]
+fn writers_fail_in_turn(rt: HostRuntime) -> Result<(), Fail> {
+    let symbols = [symbol(rt.alloc())?];
+    for kind in [
+        Drawing::Ascii,
+        Drawing::AsciiInverse,
+        Drawing::Utf8,
+        Drawing::Svg,
+    ] {
+        let whole = one(rt.alloc(), kind, 4)?;
+        for call in 0..40u64 {
+            let manner = Manner {
+                at_most: 100,
+                fails_from: call,
+                ..Manner::WELL
+            };
+            let mut out = Trial::writer(rt.alloc(), 8000, manner)?;
+            let drawn = draw(&symbols, kind, 4, &mut out);
+            assert!(rt;
+                whole.bytes().starts_with(out.bytes()),
+                "{kind:?}, call {call}"
+            );
+            assert_eq!(rt;
+                drawn.is_ok(),
+                out.bytes().len() == whole.bytes().len(),
+                "{kind:?}, call {call}"
+            );
+        }
+    }
     Ok(())
 }

@@ -139,6 +139,7 @@ fn of_a_long_input(rt: HostRuntime) -> Result<(), Fail> {
     assert_eq!(rt; r.status, 1);
     assert_eq!(rt; r.err.bytes(), b"qrencode: input does not fit\n".as_slice());
     assert_eq!(rt; r.input.reads().given, 113_425);
+    assert_eq!(rt; r.input.reads().calls, 28, "reads of 4,096 bytes");
     Ok(())
 }
 
@@ -162,5 +163,46 @@ fn told_to_a_full_device(rt: HostRuntime) -> Result<(), Fail> {
     let r = run_with(rt.alloc(), &DRAW, b"", devices)?;
     assert_eq!(rt; r.status, 1);
     assert!(rt; r.err.bytes().is_empty());
+    Ok(())
+}
+
+// The line is tried again after as many interruptions as may be, and given up at one more.
+#[test]
+fn told_to_an_interrupted_device(rt: HostRuntime) -> Result<(), Fail> {
+    for (interruptions, line) in [(999, "qrencode: input is empty\n"), (1000, "")] {
+        let devices = Devices {
+            err: Manner {
+                interruptions,
+                ..Manner::WELL
+            },
+            ..Devices::WELL
+        };
+        let r = run_with(rt.alloc(), &DRAW, b"", devices)?;
+        assert_eq!(rt; r.status, 1);
+        assert_eq!(rt;
+            r.err.bytes(),
+            line.as_bytes(),
+            "{interruptions} interruptions"
+        );
+    }
+    Ok(())
+}
+
+// Where the words are at fault, or hold the input, the reader is not asked.
+#[test]
+fn beside_a_failing_reader(rt: HostRuntime) -> Result<(), Fail> {
+    let devices = Devices {
+        input: Manner {
+            fails_from: 0,
+            ..Manner::WELL
+        },
+        ..Devices::WELL
+    };
+    let r = run_with(rt.alloc(), &["-S", "-t", "ASCII"], b"A", devices)?;
+    assert_eq!(rt; r.status, 1);
+    assert_eq!(rt; r.err.bytes(), b"qrencode: -S needs -v\n".as_slice());
+    let r = run_with(rt.alloc(), &["-t", "ASCII", "A"], b"A", devices)?;
+    assert_eq!(rt; r.status, 0);
+    assert_eq!(rt; r.input.reads().calls, 0);
     Ok(())
 }

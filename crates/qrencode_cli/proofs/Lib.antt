@@ -1,3 +1,4 @@
+mod AnswerLemmas
 mod Asking
 mod Lines
 mod Matching

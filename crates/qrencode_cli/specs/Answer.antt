@@ -62,6 +62,29 @@ IsFault words given fault.TooMany = Refuses words given IsTooMany
 IsFault words given fault.Memory = Unit {0}
 IsFault words given fault.Write = (drawing : List ℕ) × Asks words given drawing
 
+-- the fault is that of the words or of the input, not of memory or a device [own]
+abbrev pub is_of_words_and_input : Fault → Bool
+is_of_words_and_input (fault.Usage (usage.Words text)) = true
+is_of_words_and_input (fault.Usage usage.Level) = true
+is_of_words_and_input (fault.Usage usage.Kind) = true
+is_of_words_and_input (fault.Usage usage.NeedsVersion) = true
+is_of_words_and_input (fault.Usage usage.Memory) = false
+is_of_words_and_input fault.Read = false
+is_of_words_and_input fault.Empty = true
+is_of_words_and_input fault.TooLong = true
+is_of_words_and_input fault.TooMany = true
+is_of_words_and_input fault.Memory = false
+is_of_words_and_input fault.Write = false
+
+-- The words and the input ask for one drawing at most [own].
+abbrev pub AnswersAreOne : Type 0
+AnswersAreOne = (words : List Text) (given d e : List ℕ) → Asks words given d → Asks words given e → d ≡ e
+
+-- Where they ask for a drawing, they are not at fault [own].
+abbrev pub RefusalsExcludeDrawings : Type 0
+RefusalsExcludeDrawings = (words : List Text) (given d : List ℕ) (f : Fault) → Asks words given d → IsFault words given f
+    → is_of_words_and_input f ≡ false
+
 -- the whole drawing was written, and after its last byte the writer was flushed once [own]
 pub record Draws (old new : Writer) (drawing : List ℕ) : Type 0 where
   pub grows : Appends old.taken new.taken drawing
@@ -116,27 +139,29 @@ usage_line usage.NeedsVersion = codes "qrencode: -S needs -v\n"
 usage_line usage.Memory = codes "qrencode: out of memory\n"
 
 -- the line that tells of a fault [own]
-abbrev pub line_of : Fault → List ℕ
-line_of (fault.Usage u) = usage_line u
-line_of fault.Read = codes "qrencode: read error\n"
-line_of fault.Empty = codes "qrencode: input is empty\n"
-line_of fault.TooLong = codes "qrencode: input does not fit\n"
-line_of fault.TooMany = codes "qrencode: more than 16 symbols\n"
-line_of fault.Memory = codes "qrencode: out of memory\n"
-line_of fault.Write = codes "qrencode: write error\n"
+abbrev pub fault_line : Fault → List ℕ
+fault_line (fault.Usage u) = usage_line u
+fault_line fault.Read = codes "qrencode: read error\n"
+fault_line fault.Empty = codes "qrencode: input is empty\n"
+fault_line fault.TooLong = codes "qrencode: input does not fit\n"
+fault_line fault.TooMany = codes "qrencode: more than 16 symbols\n"
+fault_line fault.Memory = codes "qrencode: out of memory\n"
+fault_line fault.Write = codes "qrencode: write error\n"
 
--- standard error got a beginning of a line, the whole unless a write of it met a cause of a fault; it was not flushed [own]
+-- standard error got a beginning of a line, the whole and no byte more unless a write of it met a cause of a fault; it was
+-- not flushed [own]
 abbrev pub IsTold : Writer → Writer → List ℕ → Type 0
 IsTold old new line = AppendsBeginning old.taken new.taken line
     × (old.counts ≡ no_writes → is_write_fault new.counts ≡ false → Appends old.taken new.taken line)
+    × (old.counts ≡ no_writes → is_write_fault new.counts ≡ false → new.counts.taken ≡ counted (length line))
     × (new.counts.flushes ≡ old.counts.flushes)
 
 -- what standard error got: nothing, or the line of the fault [own]
 abbrev pub Tells : Writer → Writer → {T : Type 0} → Result T Fault → Type 0
 Tells old new (Ok t) = new ≡ old
-Tells old new (Err f) = IsTold old new (line_of f)
+Tells old new (Err f) = IsTold old new (fault_line f)
 
--- the outcome is a read fault
+-- the outcome is a read fault [own]
 abbrev pub is_read : {T : Type 0} → Result T Fault → Bool
 is_read (Ok t) = false
 is_read (Err (fault.Usage u)) = false
@@ -147,7 +172,7 @@ is_read (Err fault.TooMany) = false
 is_read (Err fault.Memory) = false
 is_read (Err fault.Write) = false
 
--- the outcome is a write fault
+-- the outcome is a write fault [own]
 abbrev pub is_write : {T : Type 0} → Result T Fault → Bool
 is_write (Ok t) = false
 is_write (Err (fault.Usage u)) = false

@@ -113,10 +113,10 @@ pub record Writer : Type 0 where
   pub taken : Option (List ℕ)
   pub counts : WriteCounts
 
--- the reader of these bytes and counts
+-- the reader of these bytes and counts [own]
 abbrev pub reader : Option (List ℕ) → ReadCounts → Reader
 reader remaining counts = record { remaining = remaining; counts = counts }
 
--- the writer of these bytes and counts
+-- the writer of these bytes and counts [own]
 abbrev pub writer : Option (List ℕ) → WriteCounts → Writer
 writer taken counts = record { taken = taken; counts = counts }

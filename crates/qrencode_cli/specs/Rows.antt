@@ -2,80 +2,46 @@
 use Rattle.std.specs.Prelude.{◌≡◌, List, [], ◌∷◌, codes, Some, None, Ok, Err, true, false}
 use Rattle.clap.specs.Walk.{Text}
 use Rattle.qr_layout.specs.declared.level.Level.TheVariants.{H, L, M, Q}
-use Rattle.qrencode_cli.specs.Settings.{Refusal, needs_version, no_matches, settings_for, unknown_level, unknown_type}
+use Rattle.qrencode_cli.specs.Settings.{Refusal, Seen, needs_version, no_matches, settings_for, unknown_level, unknown_type}
 use Rattle.qrencode_cli.specs.declared.drawing.Drawing.TheVariants.{Ascii, AsciiInverse, Svg, Utf8}
 
--- the words are refused, the program's name left aside
+-- the settings of words that ask for an ASCII drawing and for nothing else [own]
+abbrev pub by_default : Seen
+by_default = record {
+  level = L;
+  smallest = None;
+  kind = Ascii;
+  margin = 4;
+  bytes_only = false;
+  structured = false;
+  string = None;
+}
+
+-- the words give these settings, the program's name left aside [own]
+abbrev pub Taken : List Text → Seen → Type 0
+Taken words settings = settings_for (codes "qrencode" ∷ words) ≡ Ok settings
+
+-- the words are refused, the program's name left aside [own]
 abbrev pub Refused : List Text → Refusal → Type 0
 Refused words why = settings_for (codes "qrencode" ∷ words) ≡ Err why
 
 -- what the words of some command lines ask for [own]
 pub record RowsOfWords : Type 0 where
-  pub plain : settings_for (codes "qrencode" ∷ codes "-t" ∷ codes "ASCII" ∷ []) ≡ Ok (record {
-    level = L;
-    smallest = None;
-    kind = Ascii;
-    margin = 4;
-    bytes_only = false;
-    structured = false;
-    string = None;
-  })
-  pub in_bytes : settings_for (codes "qrencode" ∷ codes "-8" ∷ codes "-v" ∷ codes "1" ∷ codes "-t" ∷ codes "ascii" ∷ []) ≡ Ok (record {
-    level = L;
-    smallest = Some 1;
-    kind = Ascii;
-    margin = 4;
-    bytes_only = true;
-    structured = false;
-    string = None;
-  })
-  pub automatic : settings_for (codes "qrencode" ∷ codes "-tAscii" ∷ codes "-v0" ∷ []) ≡ Ok (record {
-    level = L;
-    smallest = None;
-    kind = Ascii;
-    margin = 4;
-    bytes_only = false;
-    structured = false;
-    string = None;
-  })
-  pub highest : settings_for (codes "qrencode" ∷ codes "-t" ∷ codes "ascii" ∷ codes "-l" ∷ codes "h" ∷ codes "-v" ∷ codes "40" ∷ []) ≡ Ok (record {
-    level = H;
-    smallest = Some 40;
-    kind = Ascii;
-    margin = 4;
-    bytes_only = false;
-    structured = false;
-    string = None;
-  })
-  pub of_a_string : settings_for (codes "qrencode" ∷ codes "-m" ∷ codes "0" ∷ codes "-t" ∷ codes "ascii" ∷ codes "--" ∷ codes "-8" ∷ []) ≡ Ok (record {
-    level = L;
-    smallest = None;
-    kind = Ascii;
-    margin = 0;
-    bytes_only = false;
-    structured = false;
-    string = Some (codes "-8");
-  })
-  pub of_an_empty_string : settings_for (codes "qrencode" ∷ codes "-m" ∷ codes "100" ∷ codes "-t" ∷ codes "ascii" ∷ codes "" ∷ []) ≡ Ok (record {
-    level = L;
-    smallest = None;
-    kind = Ascii;
-    margin = 100;
-    bytes_only = false;
-    structured = false;
-    string = Some (codes "");
-  })
-  pub in_half_blocks : settings_for (codes "qrencode" ∷ codes "-t" ∷ codes "utf8" ∷ codes "-l" ∷ codes "h" ∷ codes "A" ∷ []) ≡ Ok (record {
-    level = H;
-    smallest = None;
-    kind = Utf8;
-    margin = 4;
-    bytes_only = false;
-    structured = false;
-    string = Some (codes "A");
-  })
-  pub in_a_series : settings_for (codes "qrencode" ∷ codes "-l" ∷ codes "Q" ∷ codes "-v" ∷ codes "2" ∷ codes "-m" ∷ codes "0" ∷ codes "-8" ∷ codes "-S"
-      ∷ codes "-t" ∷ codes "svg" ∷ codes "A" ∷ []) ≡ Ok (record {
+  pub plain : Taken (codes "-t" ∷ codes "ASCII" ∷ []) by_default
+  pub in_bytes : Taken (codes "-8" ∷ codes "-v" ∷ codes "1" ∷ codes "-t" ∷ codes "ascii" ∷ [])
+      (record by_default { smallest = Some 1; bytes_only = true })
+  pub automatic : Taken (codes "-tAscii" ∷ codes "-v0" ∷ []) by_default
+  pub highest : Taken (codes "-t" ∷ codes "ascii" ∷ codes "-l" ∷ codes "h" ∷ codes "-v" ∷ codes "40" ∷ [])
+      (record by_default { level = H; smallest = Some 40 })
+  pub of_a_string : Taken (codes "-m" ∷ codes "0" ∷ codes "-t" ∷ codes "ascii" ∷ codes "--" ∷ codes "-8" ∷ [])
+      (record by_default { margin = 0; string = Some (codes "-8") })
+  pub of_an_empty_string : Taken (codes "-m" ∷ codes "100" ∷ codes "-t" ∷ codes "ascii" ∷ codes "" ∷ [])
+      (record by_default { margin = 100; string = Some (codes "") })
+  pub in_half_blocks : Taken (codes "-t" ∷ codes "utf8" ∷ codes "-l" ∷ codes "h" ∷ codes "A" ∷ [])
+      (record by_default { level = H; kind = Utf8; string = Some (codes "A") })
+  pub in_a_series : Taken (codes "-l" ∷ codes "Q" ∷ codes "-v" ∷ codes "2" ∷ codes "-m" ∷ codes "0" ∷ codes "-8" ∷ codes "-S"
+      ∷ codes "-t" ∷ codes "svg" ∷ codes "A" ∷ [])
+      (record {
         level = Q;
         smallest = Some 2;
         kind = Svg;
@@ -84,15 +50,8 @@ pub record RowsOfWords : Type 0 where
         structured = true;
         string = Some (codes "A");
       })
-  pub inverse : settings_for (codes "qrencode" ∷ codes "-l" ∷ codes "m" ∷ codes "-t" ∷ codes "asciiI" ∷ []) ≡ Ok (record {
-    level = M;
-    smallest = None;
-    kind = AsciiInverse;
-    margin = 4;
-    bytes_only = false;
-    structured = false;
-    string = None;
-  })
+  pub inverse : Taken (codes "-l" ∷ codes "m" ∷ codes "-t" ∷ codes "asciiI" ∷ [])
+      (record by_default { level = M; kind = AsciiInverse })
   pub no_words : settings_for [] ≡ Err no_matches
   pub name_alone : Refused [] no_matches
   pub no_type : Refused (codes "-8" ∷ []) no_matches

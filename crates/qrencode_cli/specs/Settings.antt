@@ -27,7 +27,7 @@ pub record Seen : Type 0 where
   pub structured : Bool
   pub string : Option Text
 
--- the level that a word names, in either case of its letter (ISO/IEC 18004:2015, 7.5.1)
+-- the level that a word names, in either case of its letter [own]
 abbrev pub level_named : Text → Option Level
 level_named t =
     if str_eq_ignore_ascii_case t (codes "l") then Some level.L else

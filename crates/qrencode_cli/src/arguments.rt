@@ -71,9 +71,7 @@ fn word<'a>(alloc: Global, id: &'a str, value: &'a str, help: &'a str) -> Arg<'a
 fn bare<'a>(alloc: Global) -> Command<'a>
     ensures { app_of result ≡ new_app (codes "qrencode") }
 {
-    Command::new(alloc, "qrencode").about(
-        "Draws standard input as QR Code symbols on standard output",
-    )
+    Command::new(alloc, "qrencode").about("Draws its input as QR Code symbols on standard output")
 }
 
 const LEVEL: Name<'static> = Name {

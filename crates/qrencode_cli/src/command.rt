@@ -4,7 +4,7 @@ ghost use Rattle.std.specs.Prelude.{◌≡◌, ◌≤◌, ◌<◌, ◌+◌, ◌�
 ghost use Rattle.std.specs.Prelude.{MatchResult, Result};
 ghost use Rattle.std.specs.Io.KnownBytes.{Appends};
 ghost use Rattle.std.specs.String.{string_bytes};
-ghost use Rattle.qrencode_cli.specs.Answer.{Breaks, Draws, IsDrawing, Runs, is_read, is_write, line_of};
+ghost use Rattle.qrencode_cli.specs.Answer.{Breaks, Draws, IsDrawing, Runs, is_read, is_write, fault_line};
 ghost use Rattle.qrencode_cli.specs.Device.{IsReadWithin, IsWrittenWithin, is_read_fault, is_write_fault, no_reads, no_writes, reader, writer};
 ghost use Rattle.qrencode_cli.specs.Steps.{AreDrawnFor, Attempts, IsInputFault, Prepares, drawing_of};
 ghost use Rattle.qrencode_cli.specs.Usage.{seen};
@@ -36,7 +36,7 @@ pub(crate) enum Fault {
 impl Fault {
     // The line that tells of it.
     fn line(&self) -> &[u8]
-        ensures { result.now ≡ line_of self.now }
+        ensures { result.now ≡ fault_line self.now }
     {
         match self {
             Fault::Usage(UsageFault::Words(text)) => text.as_bytes(),

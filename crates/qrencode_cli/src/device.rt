@@ -14,14 +14,18 @@ ghost use Rattle.qrencode_cli.specs.declared.device.WriteCounts.{WriteCounts};
 pub enum Trouble {
     /// The call may be tried again.
     Interrupted,
+    /// It may not.
     Failed,
 }
 
 /// How the reads of a device went. Each count stops at `u64::MAX`.
 #[derive(Clone, Copy, Debug, PartialEq, Eq)]
 pub struct ReadCounts {
+    /// All reads.
     pub calls: u64,
+    /// The reads that failed.
     pub failed: u64,
+    /// The reads that were interrupted.
     pub interrupted: u64,
     /// The bytes given.
     pub given: u64,
@@ -60,8 +64,11 @@ impl ReadCounts {
 /// How the writes and flushes of a device went. Each count stops at `u64::MAX`.
 #[derive(Clone, Copy, Debug, PartialEq, Eq)]
 pub struct WriteCounts {
+    /// All writes and flushes.
     pub calls: u64,
+    /// The writes that failed, and the flushes that failed or were interrupted.
     pub failed: u64,
+    /// The writes that were interrupted.
     pub interrupted: u64,
     /// The writes of some bytes of which none was taken.
     pub zeros: u64,
@@ -69,6 +76,7 @@ pub struct WriteCounts {
     pub taken: u64,
     /// The greatest length of a write.
     pub offered: usize,
+    /// All flushes.
     pub flushes: u64,
     /// Whether the last call was a flush that went well.
     pub settled: bool,

@@ -51,6 +51,7 @@ pub enum UsageFault {
     /// A series is asked for, and no version.
     #[error("-S needs -v")]
     NeedsVersion,
+    /// Memory was refused.
     #[error("out of memory")]
     Memory,
 }
@@ -116,7 +117,7 @@ fn drawing_in(matches: &ArgMatches<'_>) -> Option<Drawing>
     }
 }
 
-// Whether a flag stands.
+// Whether a flag stands. Its text is asked for, since that is what is known of matches.
 fn flag_in(matches: &ArgMatches<'_>, id: &str) -> bool
     ensures { result ≡ flag_at (first_of id.now (rows_of (found_of matches.now))) }
 {
@@ -133,6 +134,7 @@ fn number_in(matches: &ArgMatches<'_>, id: &str, otherwise: u8) -> u8
     match matches.try_get_one::<u8>(id) {
         Ok(Some(number)) => number,
         Ok(None) => otherwise,
+        // Never met: words with another text there are not taken.
         Err(_) => 0,
     }
 }

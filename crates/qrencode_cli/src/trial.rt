@@ -17,6 +17,7 @@ pub struct Manner {
     pub fails_from: u64,
     /// The call from which on each write answers 0.
     pub stops_from: u64,
+    /// Whether each flush fails.
     pub flush_fails: bool,
 }
 
