@@ -256,4 +256,23 @@ mod tests {
         );
         Ok(())
     }
+
+    // How many of all pairs of codewords are read, end too early, and have an indicator of no mode: none has room for a
+    // value.
+    #[test]
+    fn all_pairs_of_codewords(rt: HostRuntime) -> Result<(), Fail> {
+        let (mut read, mut cut, mut no_mode) = (0u32, 0u32, 0u32);
+        for first in 0..=255u8 {
+            for second in 0..=255u8 {
+                match fault(&rt, &[first, second])? {
+                    None => read = read.saturating_add(1),
+                    Some(ParseFault::Cut) => cut = cut.saturating_add(1),
+                    Some(ParseFault::BadMode) => no_mode = no_mode.saturating_add(1),
+                    Some(other) => return Err(other.into()),
+                }
+            }
+        }
+        assert_eq!(rt; (read, cut, no_mode), (4109, 16359, 45068));
+        Ok(())
+    }
 }

@@ -28,7 +28,8 @@ mod tests {
     #[test]
     fn products(rt: HostRuntime) {
         let rows = [
-            ("the product that is first reduced", 0x80u8, 2u8, 0x1Du8),
+            ("the first product that is reduced", 0x80u8, 2u8, 0x1Du8),
+            ("two elements that are each other's inverse", 0x8E, 2, 1),
             ("nothing times all bits", 0, 0xFF, 0),
         ];
         for (name, a, b, product) in rows {

@@ -10,7 +10,7 @@ joins s line c = nat_lt (c + 1) s && is_same (line c) (line (c + 1))
 unfoldable pub begins_five : ℕ → (ℕ → Bool) → ℕ → Bool
 begins_five s line c = (joins s line c && joins s line (c + 1)) && (joins s line (c + 2) && joins s line (c + 3))
 
--- and the place before them has the other colour, or there is none [own]
+-- five places of one colour begin at place c, and the place before them has the other colour, or there is none [own]
 unfoldable pub begins_run : ℕ → (ℕ → Bool) → ℕ → Bool
 begins_run s line c = begins_five s line c && not (nat_lt 0 c && joins s line (c - 1))
 

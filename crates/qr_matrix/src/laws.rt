@@ -1,5 +1,6 @@
 //! The laws of the penalty's counts (ISO/IEC 18004:2015, 7.8.3.1, Table 11): what is counted on rows of words is what
-//! the definitions count module by module, for every side up to 177. Bits past the side count for nothing.
+//! the definitions count module by module, for every side up to 177. Bits past the side count for nothing. The first
+//! function does nothing, its contract is the law; the others count, and their contracts say what.
 
 ghost use Rattle.std.specs.Prelude.{◌≡◌, ℕ, ◌≤◌, Bool, length};
 ghost use Rattle.qr_matrix.specs.Penalty.{over_lines, run_cost, block_count, window_count};

@@ -59,7 +59,7 @@ impl Matrix {
         at(&self.rows[usize::from(row)], col)
     }
 
-    /// Where the run of equal modules that begins at `col` ends: the least column after `col` whose
+    /// Where the run of equal modules from `col` on ends: the least column after `col` whose
     /// colour in that row differs from that at `col`, or the side where there is none.
     pub fn run_end(&self, row: u8, col: u8) -> u8
         requires row_in { row < self.now.side }

@@ -34,7 +34,7 @@ fn dark_count(side: u8, rows: &[[u64; 3]]) -> u32
     total
 }
 
-// The cost of a part of dark modules that is not a half.
+// 10 points for each whole twentieth by which the dark modules are more or fewer than half.
 fn balance_cost(modules: u32, dark: u32) -> u32
     requires some { 0 < modules }
     requires most { modules ≤ 31329 }

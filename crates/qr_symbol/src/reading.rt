@@ -218,6 +218,53 @@ mod tests {
         Ok(())
     }
 
+    // Of the modules of a symbol of version 1 the first format information has 15 and the codewords 208; the others are
+    // not looked at.
+    #[test]
+    fn each_module_inverted(rt: HostRuntime) -> Result<(), Fail> {
+        let version = Version::new(1).ok_or("version 1")?;
+        assert!(rt; version.total_codewords() == 26);
+        let mut symbol = build_masked(rt.alloc(), version, Level::M, &EIGHT_DIGITS, 0)?;
+        let (mut format, mut check, mut read) = (0u32, 0u32, 0u32);
+        for row in 0..21u8 {
+            for col in 0..21u8 {
+                assert!(rt; row < symbol.matrix.side() && col < symbol.matrix.side());
+                let dark = symbol.matrix.dark(row, col);
+                symbol.matrix.set(row, col, !dark);
+                match read_symbol(rt.alloc(), &symbol.matrix) {
+                    Err(ReadFault::Format) => format = format.saturating_add(1),
+                    Err(ReadFault::Check) => check = check.saturating_add(1),
+                    Err(fault) => return Err(fault.into()),
+                    Ok(parsed) => {
+                        assert_eq!(rt; parsed.bytes.as_slice(), b"01234567".as_slice());
+                        read = read.saturating_add(1);
+                    }
+                }
+                assert!(rt; row < symbol.matrix.side() && col < symbol.matrix.side());
+                symbol.matrix.set(row, col, dark);
+            }
+        }
+        assert_eq!(rt; (format, check, read), (15, 208, 218));
+        Ok(())
+    }
+
+    // The seven modules of version 2 behind its 44 codewords.
+    #[test]
+    fn remainder_bits_inverted(rt: HostRuntime) -> Result<(), Fail> {
+        let version = Version::new(2).ok_or("version 2")?;
+        let mut symbol = encode(rt.alloc(), b"A", Level::L, version, false)?;
+        let mut inverted = 0u32;
+        for module in walk(version).skip(8 * 44) {
+            assert!(rt; module.row < symbol.matrix.side() && module.col < symbol.matrix.side());
+            let dark = symbol.matrix.dark(module.row, module.col);
+            symbol.matrix.set(module.row, module.col, !dark);
+            assert!(rt; says(&rt, &symbol.matrix, Mode::Alphanumeric, b"A")?);
+            inverted = inverted.saturating_add(1);
+        }
+        assert_eq!(rt; inverted, 7);
+        Ok(())
+    }
+
     #[test]
     fn light_squares(rt: HostRuntime) -> Result<(), Fail> {
         for (side, fault) in [

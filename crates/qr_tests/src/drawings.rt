@@ -210,7 +210,8 @@ fn writers_fail_in_turn(rt: HostRuntime) -> Result<(), Fail> {
         Drawing::Svg,
     ] {
         let whole = one(rt.alloc(), kind, 4)?;
-        for call in 0..40u64 {
+        let mut last = false;
+        for call in 0..80u64 {
             let manner = Manner {
                 at_most: 100,
                 fails_from: call,
@@ -227,7 +228,9 @@ fn writers_fail_in_turn(rt: HostRuntime) -> Result<(), Fail> {
                 out.bytes().len() == whole.bytes().len(),
                 "{kind:?}, call {call}"
             );
+            last = drawn.is_ok();
         }
+        assert!(rt; last, "{kind:?}: the last call is well");
     }
     Ok(())
 }

@@ -1,4 +1,4 @@
-//! Drawing symbols as a Scalable Vector Graphics document: one path goes round each run of dark modules.
+//! Drawing symbols as a Scalable Vector Graphics document: one path that goes round each run of dark modules.
 
 ghost use Rattle.std.specs.Prelude.{◌≡◌, ◌≤◌, ◌<◌, ◌+◌, ◌*◌, length};
 ghost use Rattle.qrencode_cli.specs.Device.{writer};
@@ -46,8 +46,7 @@ fn put_box<W: Sink>(
     pen.put_all(out, b"z")
 }
 
-// Puts the paths of a row of a symbol whose raster's top is at this height: that of 16 rasters of
-// fewer than 1,000 modules each, at most.
+// Puts the paths of a row of a symbol; `top` is the height of the rasters above it.
 fn put_row<W: Sink>(
     pen: &mut Pen,
     out: &mut W,
@@ -74,7 +73,7 @@ fn put_row<W: Sink>(
     Ok(())
 }
 
-// Puts the paths of a symbol whose raster's top is at this height, at most as above.
+// Puts the paths of a symbol; `top` is the height of the rasters above it.
 fn put_symbol<W: Sink>(
     pen: &mut Pen,
     out: &mut W,
