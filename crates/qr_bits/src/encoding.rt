@@ -311,6 +311,20 @@ mod tests {
             0x11, 0xEC, 0x11, 0xEC, 0x11,
         ];
         assert_eq!(rt; data.as_slice(), wanted.as_slice(), "a byte at 1-L");
+        let pairs = Segment {
+            mode: Mode::Kanji,
+            len: 4,
+        };
+        let data = encode(&rt, b"\x93\x5F\xE4\xAA", pairs, None, Level::L)?;
+        let wanted = [
+            0x80, 0x26, 0xCF, 0xEA, 0xA8, 0x00, 0xEC, 0x11, 0xEC, 0x11, 0xEC, 0x11, 0xEC, 0x11,
+            0xEC, 0x11, 0xEC, 0x11, 0xEC,
+        ];
+        assert_eq!(rt;
+            data.as_slice(),
+            wanted.as_slice(),
+            "two kanji pairs at 1-L"
+        );
         Ok(())
     }
 

@@ -194,6 +194,11 @@ mod tests {
             says(&rt, &[0x20, 0x17, 0xE8], None, two, b"::")?,
             "the last pair"
         );
+        let pair = segment(Mode::Kanji, 2);
+        assert!(rt;
+            says(&rt, &[0x80, 0x10, 0x5E, 0x00], None, pair, b"\x81\xFC")?,
+            "the last low byte of a pair"
+        );
         let header = Some(Header {
             position: 1,
             last: 1,
@@ -230,6 +235,11 @@ mod tests {
             fault(&rt, &[0x20, 0x0D, 0xA0])?,
             bad_value,
             "a single of 45"
+        );
+        assert_eq!(rt;
+            fault(&rt, &[0x80, 0x10, 0x5E, 0x80])?,
+            bad_value,
+            "a low byte of BD"
         );
         assert_eq!(rt;
             fault(&rt, &[0x40, 0x20, 0x41])?,
