@@ -19,18 +19,21 @@ use Rattle.qr_symbol.proofs.SeriesLemmas.{long-has-no-series}
 use Rattle.qr_symbol.proofs.SizeLemmas.{series-few, series-side, series-some}
 use Rattle.qrencode_cli.specs.Answer.{Asks, Gives, IsDrawing, IsFault, Reads, ReadsFor, input_for}
 use Rattle.qrencode_cli.specs.Device.{Reader}
+use Rattle.qrencode_cli.specs.Faults.{fault_of_input, fault_of_words}
 use Rattle.qrencode_cli.specs.Input.{IsInputOf}
-use Rattle.qrencode_cli.specs.Settings.{Refusal, Seen, settings_for}
-use Rattle.qrencode_cli.specs.Steps.{AreDrawnFor, IsEarly, IsInputFault, Prepares, drawing_of, told}
+use Rattle.qrencode_cli.specs.Settings.{IsUsageFault, Reason, SettingsView, settings_for}
+use Rattle.qrencode_cli.specs.Steps.{AreDrawnFor, IsEarly, IsInputFault, Prepares, drawing_of}
 use Rattle.qr_symbol.specs.Symbols.{HasNoVersion, IsSymbol}
 use Rattle.qr_bits.proofs.Counts.{fitting_short}
 use Rattle.std.proofs.lemmas.Grind.{common_steps}
 use Rattle.qrencode_cli.specs.Symbols.{AreSquares, IsSquareOf, smallest_of}
-use Rattle.qrencode_cli.specs.Usage.{IsUsageFault}
-use Rattle.qrencode_cli.specs.declared.command.Fault.{Fault}
-use Rattle.qrencode_cli.specs.declared.command.Fault.TheVariants as fault
+use Rattle.qrencode_cli.specs.declared.fault.Fault.{Fault}
+use Rattle.qrencode_cli.specs.declared.fault.Fault.TheVariants as fault
+use Rattle.qrencode_cli.specs.declared.fault.Refusal.{Refusal}
+use Rattle.qrencode_cli.specs.declared.fault.Refusal.TheVariants as refusal
 use Rattle.qrencode_cli.specs.declared.picture.Picture.{Picture}
 use Rattle.qrencode_cli.specs.declared.settings.UsageFault.{UsageFault}
+use Rattle.qrencode_cli.specs.declared.settings.UsageFault.TheVariants as usage
 
 -- some input that the reader may give
 any_input : (remaining : Option (List ℕ)) → (given : List ℕ) × IsInputOf remaining given
@@ -38,14 +41,14 @@ any_input None = ([], tt)
 any_input (Some xs) = (take INPUT_MAX xs, refl)
 
 -- the string of the words, cut to what is read
-pub input_for-string : (s : Seen) (text given buf : List ℕ) (n : ℕ) → s.string ≡ Some text → buf ≡ text → n ≡ min INPUT_MAX (length buf)
+pub input_for-string : (s : SettingsView) (text given buf : List ℕ) (n : ℕ) → s.string ≡ Some text → buf ≡ text → n ≡ min INPUT_MAX (length buf)
     → input_for s given ≡ take n buf
 input_for-string s text given buf n e is cut =
     let whole : take n buf ≡ take INPUT_MAX text = rw (cut, is) (take_min INPUT_MAX text) in
     rw e (sym whole)
 
 -- what the reader gave
-pub input_for-reader : (s : Seen) (given : List ℕ) → s.string ≡ None → input_for s given ≡ given
+pub input_for-reader : (s : SettingsView) (given : List ℕ) → s.string ≡ None → input_for s given ≡ given
 input_for-reader s given e = rw e refl
 
 -- a symbol that is read as the input is joined to it
@@ -66,7 +69,7 @@ one-side (g ∷ gs) side h =
     subst (λ (n : ℕ). All (λ k. k.side ≡ n) (g ∷ gs)) (sym e) h
 
 -- the one symbol of an input is what the settings ask for
-pub drawn-for-one : (s : Seen) (input : List ℕ) (version : ℕ) (symbol : Symbol) (symbols : List Symbol) → s.structured ≡ false → 1 ≤ version
+pub drawn-for-one : (s : SettingsView) (input : List ℕ) (version : ℕ) (symbol : Symbol) (symbols : List Symbol) → s.structured ≡ false → 1 ≤ version
     → version ≡ smallest_of s → (input ≡ [] → ⊥) → IsSymbol input s.level version s.bytes_only symbol.version symbol.mask symbol.matrix
     → IsReadBack input symbol.version s.bytes_only symbol.matrix → symbols ≡ symbol ∷ [] → AreDrawnFor s input symbols
 drawn-for-one s input version symbol symbols one least e some made read alone =
@@ -84,16 +87,16 @@ drawn-for-one s input version symbol symbols one least e some made read alone =
     })
 
 -- why there is no one symbol is why the input has no drawing
-pub told-one : (s : Seen) (input : List ℕ) (e : EncodeFault) → s.structured ≡ false → (e ≡ encode.Empty → input ≡ [])
+pub told-one : (s : SettingsView) (input : List ℕ) (e : EncodeFault) → s.structured ≡ false → (e ≡ encode.Empty → input ≡ [])
     → (e ≡ encode.TooLong → HasNoVersion input s.level (smallest_of s) s.bytes_only)
-    → (e ≡ encode.Empty) ⊎ ((e ≡ encode.TooLong) ⊎ (e ≡ encode.Memory)) → IsInputFault s input (told e)
+    → (e ≡ encode.Empty) ⊎ ((e ≡ encode.TooLong) ⊎ (e ≡ encode.Memory)) → IsInputFault s input (fault_of_input e)
 told-one s input encode.Empty one empty long only = empty refl
 told-one s input encode.TooLong one empty long only = (one, long refl)
 told-one s input encode.TooMany one empty long only = elim only [ inl e ↦ absurd (cc) | inr w ↦ elim w [ inl e ↦ absurd (cc) | inr e ↦ absurd (cc) ] ]
 told-one s input encode.Memory one empty long only = tt
 
 -- the series of an input is what the settings ask for
-pub drawn-for-series : (s : Seen) (input : List ℕ) (version : ℕ) (symbols : List Symbol) → s.structured ≡ true → 1 ≤ version → version ≤ 40
+pub drawn-for-series : (s : SettingsView) (input : List ℕ) (version : ℕ) (symbols : List Symbol) → s.structured ≡ true → 1 ≤ version → version ≤ 40
     → version ≡ smallest_of s → (input ≡ [] → ⊥) → IsSeries input s.level s.bytes_only version symbols
     → IsJoined (squares_of symbols) input → AreDrawnFor s input symbols
 drawn-for-series s input version symbols many least most e some series joined = record {
@@ -110,38 +113,51 @@ drawn-for-series s input version symbols many least most e some series joined = 
 }
 
 -- where nothing was read, nothing was read for the words
-reads-nothing : (o : Result Seen Refusal) (in0 : Reader) (given : List ℕ) (u : UsageFault)
-    → ReadsFor o in0 in0 given {T = Picture} (Err (fault.Usage u))
-reads-nothing (Err r) in0 given u = refl
-reads-nothing (Ok s) in0 given u = nothing s.string
+reads-nothing : (o : Result SettingsView Reason) (in0 : Reader) (given : List ℕ)
+    → ReadsFor o in0 in0 given {T = Picture} (Err fault.Memory)
+reads-nothing (Err r) in0 given = refl
+reads-nothing (Ok s) in0 given = nothing s.string
   where
-    nothing : (o : Option Text) → MatchOption o (in0 ≡ in0) (λ _. in0 ≡ in0)
-    nothing None = refl
+    nothing : (o : Option Text) → MatchOption o (Unit {0}) (λ _. in0 ≡ in0)
+    nothing None = tt
     nothing (Some t) = refl
 
 -- words that are not taken
-pub prepares-usage : (words : List Text) (in0 : Reader) (u : UsageFault) → IsUsageFault (settings_for words) u
-    → Prepares words in0 in0 (Err (fault.Usage u))
-prepares-usage words in0 u h = let i = any_input in0.remaining in record {
+refused : (words : List Text) (in0 : Reader) (why : Reason) (r : Refusal) → settings_for words ≡ Err why
+    → (settings_for words ≡ Err why → IsFault words (any_input in0.remaining).0 (fault.Refused r))
+    → Prepares words in0 in0 (Err (fault.Refused r))
+refused words in0 why r e is = let i = any_input in0.remaining in record {
   given = i.0;
   is_input = i.1;
-  reads = reads-nothing (settings_for words) in0 i.0 u;
-  answer = (h, tt);
+  reads = rw e refl;
+  answer = (is e, tt);
 }
 
-module _ (words : List Text) (s : Seen) (taken : settings_for words ≡ Ok s) where
+-- words that have no settings
+pub prepares-usage : (words : List Text) (in0 : Reader) (u : UsageFault) → IsUsageFault (settings_for words) u
+    → Prepares words in0 in0 (Err (fault_of_words u))
+prepares-usage words in0 (usage.Words text) h = refused words in0 _ (refusal.Words text) h (λ e. e)
+prepares-usage words in0 usage.Level h = refused words in0 _ refusal.Level h (λ e. e)
+prepares-usage words in0 usage.Kind h = refused words in0 _ refusal.Kind h (λ e. e)
+prepares-usage words in0 usage.NeedsVersion h = refused words in0 _ refusal.NeedsVersion h (λ e. e)
+prepares-usage words in0 usage.Memory h = let i = any_input in0.remaining in record {
+  given = i.0;
+  is_input = i.1;
+  reads = reads-nothing (settings_for words) in0 i.0;
+  answer = (tt, tt);
+}
+
+module _ (words : List Text) (s : SettingsView) (taken : settings_for words ≡ Ok s) where
   -- the answer for the input that is encoded
   answer-for : (given input : List ℕ) (r : Result Picture Fault) → input_for s given ≡ input
       → MatchResult r (λ p. IsDrawing s input (drawing_of p)) (IsInputFault s input)
       → MatchResult r (λ p. Asks words given (drawing_of p)) (λ f. IsFault words given f × IsEarly f)
   answer-for given input (Ok p) e h = record { settings = s; taken = taken; is_drawing = rw e h }
-  answer-for given input (Err (fault.Usage u)) e h = absurd h
-  answer-for given input (Err fault.Read) e h = absurd h
-  answer-for given input (Err fault.Empty) e h = (record { settings = s; taken = taken; because = rw e h }, tt)
-  answer-for given input (Err fault.TooLong) e h = (record { settings = s; taken = taken; because = rw e h }, tt)
-  answer-for given input (Err fault.TooMany) e h = (record { settings = s; taken = taken; because = rw e h }, tt)
+  answer-for given input (Err (fault.Refused refusal.Empty)) e h = (record { settings = s; taken = taken; because = rw e h }, tt)
+  answer-for given input (Err (fault.Refused refusal.TooLong)) e h = (record { settings = s; taken = taken; because = rw e h }, tt)
+  answer-for given input (Err (fault.Refused refusal.TooMany)) e h = (record { settings = s; taken = taken; because = rw e h }, tt)
   answer-for given input (Err fault.Memory) e h = (tt, tt)
-  answer-for given input (Err fault.Write) e h = absurd h
+  answer-for given input (Err _) e h = absurd h
 
   -- what was done to the reader, where the words are taken
   reads-taken : (in0 in1 : Reader) (given : List ℕ) (r : Result Picture Fault) → ReadsFor (Ok s) in0 in1 given r → ReadsFor (settings_for words) in0 in1 given r
@@ -173,28 +189,24 @@ module _ (words : List Text) (s : Seen) (taken : settings_for words ≡ Ok s) wh
       gives-for : (r : Result Picture Fault) → MatchResult r (λ p. IsDrawing s buf (drawing_of p)) (IsInputFault s buf)
           → Reads in0 in1 bytes r
       gives-for (Ok p) h = gives
-      gives-for (Err (fault.Usage u)) h = absurd h
-      gives-for (Err fault.Read) h = absurd h
-      gives-for (Err fault.Empty) h = gives
-      gives-for (Err fault.TooLong) h = gives
-      gives-for (Err fault.TooMany) h = gives
+      gives-for (Err fault.Read) h = tt
       gives-for (Err fault.Memory) h = tt
-      gives-for (Err fault.Write) h = absurd h
+      gives-for (Err _) h = gives
 
-  -- the reader was at fault
-  pub prepares-read_fault : (in0 in1 : Reader) → s.string ≡ None → Prepares words in0 in1 (Err fault.Read)
-  prepares-read_fault in0 in1 string = let i = any_input in0.remaining in record {
+  -- the reader was at fault, or there was no memory for the input
+  pub prepares-unread : (in0 in1 : Reader) (f : Fault) → s.string ≡ None → (f ≡ fault.Read) ⊎ (f ≡ fault.Memory)
+      → Prepares words in0 in1 (Err f)
+  prepares-unread in0 in1 fault.Read string only = let i = any_input in0.remaining in record {
     given = i.0;
     is_input = i.1;
     reads = reads-taken in0 in1 i.0 (Err fault.Read) (rw string tt);
     answer = (record { settings = s; taken = taken; no_string = string }, tt);
   }
-
-  -- there was no memory for the input
-  pub prepares-memory : (in0 in1 : Reader) → s.string ≡ None → Prepares words in0 in1 (Err fault.Memory)
-  prepares-memory in0 in1 string = let i = any_input in0.remaining in record {
+  prepares-unread in0 in1 fault.Memory string only = let i = any_input in0.remaining in record {
     given = i.0;
     is_input = i.1;
     reads = reads-taken in0 in1 i.0 (Err fault.Memory) (rw string tt);
     answer = (tt, tt);
   }
+  prepares-unread in0 in1 (fault.Refused r) string only = absurd (elim only [ inl e ↦ cc | inr e ↦ cc ])
+  prepares-unread in0 in1 fault.Write string only = absurd (elim only [ inl e ↦ cc | inr e ↦ cc ])

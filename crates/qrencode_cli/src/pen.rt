@@ -34,9 +34,9 @@ fn send<W: Sink>(out: &mut W, bytes: &[u8], interrupted: u16) -> Result<u16, Dra
     requires few { interrupted < 1000 }
     requires short { length bytes.now ≤ 1200 }
     ensures writes { MatchResult result
-        (λ tries. Writes (writer (W.taken out.old) (W.counts out.old)) (writer (W.taken out.new) (W.counts out.new))
+        (λ tries. Writes (W.device out.old) (W.device out.new)
         interrupted tries bytes.now [])
-        (λ _. Stops (writer (W.taken out.old) (W.counts out.old)) (writer (W.taken out.new) (W.counts out.new))
+        (λ _. Stops (W.device out.old) (W.device out.new)
         interrupted bytes.now) }
     ensures few { MatchResult result (λ tries. tries < 1000) (λ _. Unit {0}) }
 {
@@ -64,7 +64,6 @@ fn send<W: Sink>(out: &mut W, bytes: &[u8], interrupted: u16) -> Result<u16, Dra
 
 impl Pen {
     ghost use Rattle.std.specs.Prelude.{◌≡◌, ◌∷◌, []};
-    ghost use Rattle.qrencode_cli.specs.Device.{writer};
     ghost use Rattle.qrencode_cli.specs.Pens.{Finishes, Puts};
 
     pub(crate) fn new() -> Self
@@ -79,7 +78,7 @@ impl Pen {
 
     /// Puts a byte behind what is held, which is written first where there is no room.
     pub(crate) fn put<W: Sink>(&mut self, out: &mut W, byte: u8) -> Result<(), DrawFault>
-        ensures { Puts (writer (W.taken out.old) (W.counts out.old)) (writer (W.taken out.new) (W.counts out.new))
+        ensures { Puts (W.device out.old) (W.device out.new)
             self.old self.new (byte ∷ []) result }
     {
         if self.piece.is_full() {
@@ -92,7 +91,7 @@ impl Pen {
 
     /// Puts a text.
     pub(crate) fn put_all<W: Sink>(&mut self, out: &mut W, text: &[u8]) -> Result<(), DrawFault>
-        ensures { Puts (writer (W.taken out.old) (W.counts out.old)) (writer (W.taken out.new) (W.counts out.new))
+        ensures { Puts (W.device out.old) (W.device out.new)
             self.old self.new text.now result }
     {
         for byte in text {
@@ -103,7 +102,7 @@ impl Pen {
 
     /// Writes what is held.
     pub(crate) fn finish<W: Sink>(self, out: &mut W) -> Result<(), DrawFault>
-        ensures { Finishes (writer (W.taken out.old) (W.counts out.old)) (writer (W.taken out.new) (W.counts out.new))
+        ensures { Finishes (W.device out.old) (W.device out.new)
             self result }
     {
         send(out, self.piece.as_slice(), self.interrupted)?;
@@ -113,13 +112,13 @@ impl Pen {
 
 /// Writes a text.
 pub(crate) fn write_text<W: Sink>(text: &[u8], out: &mut W) -> Result<(), DrawFault>
-    ensures ok { OnOk result (Appends (W.taken out.old) (W.taken out.new) text.now) }
-    ensures err { OnErr result (AppendsBeginning (W.taken out.old) (W.taken out.new) text.now) }
-    ensures fault { W.counts out.old ≡ no_writes → is_write_fault (W.counts out.new) ≡ is_err result }
-    ensures taken { W.counts out.old ≡ no_writes → OnOk result ((W.counts out.new).taken ≡ counted (length text.now)) }
-    ensures within { W.counts out.old ≡ no_writes → IsWrittenWithin (W.counts out.new) }
-    ensures offered { (W.counts out.new).offered ≤ max (W.counts out.old).offered PIECE }
-    ensures flushes { (W.counts out.new).flushes ≡ (W.counts out.old).flushes }
+    ensures ok { OnOk result (Appends (W.device out.old).taken (W.device out.new).taken text.now) }
+    ensures err { OnErr result (AppendsBeginning (W.device out.old).taken (W.device out.new).taken text.now) }
+    ensures fault { (W.device out.old).counts ≡ no_writes → is_write_fault (W.device out.new).counts ≡ is_err result }
+    ensures taken { (W.device out.old).counts ≡ no_writes → OnOk result ((W.device out.new).counts.taken ≡ counted (length text.now)) }
+    ensures within { (W.device out.old).counts ≡ no_writes → IsWrittenWithin (W.device out.new).counts }
+    ensures offered { (W.device out.new).counts.offered ≤ max (W.device out.old).counts.offered PIECE }
+    ensures flushes { (W.device out.new).counts.flushes ≡ (W.device out.old).counts.flushes }
 {
     let mut pen = Pen::new();
     pen.put_all(out, text)?;

@@ -20,7 +20,7 @@ fn put_numbered<W: Sink>(
     text: &[u8],
     number: u16,
 ) -> Result<(), DrawFault>
-    ensures { Puts (writer (W.taken out.old) (W.counts out.old)) (writer (W.taken out.new) (W.counts out.new))
+    ensures { Puts (W.device out.old) (W.device out.new)
         pen.old pen.new (numbered text.now number) result }
 {
     let mut digits = Buffer::new();
@@ -36,7 +36,7 @@ fn put_box<W: Sink>(
     y: u16,
     modules: u16,
 ) -> Result<(), DrawFault>
-    ensures { Puts (writer (W.taken out.old) (W.counts out.old)) (writer (W.taken out.new) (W.counts out.new))
+    ensures { Puts (W.device out.old) (W.device out.new)
         pen.old pen.new (box_path x y modules) result }
 {
     put_numbered(pen, out, b"M", x)?;
@@ -57,7 +57,7 @@ fn put_row<W: Sink>(
 ) -> Result<(), DrawFault>
     requires row_in { row < matrix.now.side }
     requires top { top ≤ 16 * 1000 }
-    ensures { Puts (writer (W.taken out.old) (W.counts out.old)) (writer (W.taken out.new) (W.counts out.new))
+    ensures { Puts (W.device out.old) (W.device out.new)
         pen.old pen.new (row_path top margin matrix.now (margin + row)) result }
 {
     let left = u16::from(margin);
@@ -82,7 +82,7 @@ fn put_symbol<W: Sink>(
     matrix: &Matrix,
 ) -> Result<(), DrawFault>
     requires { top ≤ 16 * 1000 }
-    ensures { Puts (writer (W.taken out.old) (W.counts out.old)) (writer (W.taken out.new) (W.counts out.new))
+    ensures { Puts (W.device out.old) (W.device out.new)
         pen.old pen.new (symbol_path top margin matrix.now) result }
 {
     for row in 0..matrix.side() {
@@ -100,7 +100,7 @@ fn put_stack<W: Sink>(
 ) -> Result<(), DrawFault>
     requires few { length symbols.now ≤ 16 }
     requires one_side { HaveOneSide (squares_of symbols.now) }
-    ensures { Puts (writer (W.taken out.old) (W.counts out.old)) (writer (W.taken out.new) (W.counts out.new))
+    ensures { Puts (W.device out.old) (W.device out.new)
         pen.old pen.new (stack_path margin (squares_of symbols.now)) result }
 {
     let mut top = 0;
@@ -118,7 +118,7 @@ fn put_opening<W: Sink>(
     width: u16,
     height: u16,
 ) -> Result<(), DrawFault>
-    ensures { Puts (writer (W.taken out.old) (W.counts out.old)) (writer (W.taken out.new) (W.counts out.new))
+    ensures { Puts (W.device out.old) (W.device out.new)
         pen.old pen.new (opening width height) result }
 {
     put_numbered(
@@ -138,7 +138,7 @@ fn put_background<W: Sink>(
     width: u16,
     height: u16,
 ) -> Result<(), DrawFault>
-    ensures { Puts (writer (W.taken out.old) (W.counts out.old)) (writer (W.taken out.new) (W.counts out.new))
+    ensures { Puts (W.device out.old) (W.device out.new)
         pen.old pen.new (background width height) result }
 {
     put_numbered(pen, out, b"<rect x=\"0\" y=\"0\" width=\"", width)?;
@@ -155,7 +155,7 @@ fn put_foreground<W: Sink>(
 ) -> Result<(), DrawFault>
     requires few { length symbols.now ≤ 16 }
     requires one_side { HaveOneSide (squares_of symbols.now) }
-    ensures { Puts (writer (W.taken out.old) (W.counts out.old)) (writer (W.taken out.new) (W.counts out.new))
+    ensures { Puts (W.device out.old) (W.device out.new)
         pen.old pen.new (foreground margin (squares_of symbols.now)) result }
 {
     pen.put_all(out, b"<path fill=\"#000000\" d=\"")?;
@@ -173,7 +173,7 @@ pub(crate) fn put_document<W: Sink>(
     requires some { 0 < length symbols.now }
     requires few { length symbols.now ≤ 16 }
     requires one_side { HaveOneSide (squares_of symbols.now) }
-    ensures { Puts (writer (W.taken out.old) (W.counts out.old)) (writer (W.taken out.new) (W.counts out.new))
+    ensures { Puts (W.device out.old) (W.device out.new)
         pen.old pen.new (svg_document margin (squares_of symbols.now)) result }
 {
     let width = raster_width(&symbols[0].matrix, margin);

@@ -81,7 +81,7 @@ fn put_cells<W: Sink>(
     y: u16,
 ) -> Result<(), DrawFault>
     requires { y < 1000 }
-    ensures { Puts (writer (W.taken out.old) (W.counts out.old)) (writer (W.taken out.new) (W.counts out.new))
+    ensures { Puts (W.device out.old) (W.device out.new)
         pen.old pen.new (line_of cells margin matrix.now y) result }
 {
     for x in 0..raster_width(matrix, margin) {
@@ -100,7 +100,7 @@ fn put_line<W: Sink>(
     y: u16,
 ) -> Result<(), DrawFault>
     requires { y < 1000 }
-    ensures { Puts (writer (W.taken out.old) (W.counts out.old)) (writer (W.taken out.new) (W.counts out.new))
+    ensures { Puts (W.device out.old) (W.device out.new)
         pen.old pen.new (line_of cells margin matrix.now y ++ 10 ∷ []) result }
 {
     put_cells(pen, out, cells, matrix, margin, y)?;
@@ -115,7 +115,7 @@ fn put_lines<W: Sink>(
     matrix: &Matrix,
     margin: u8,
 ) -> Result<(), DrawFault>
-    ensures { Puts (writer (W.taken out.old) (W.counts out.old)) (writer (W.taken out.new) (W.counts out.new))
+    ensures { Puts (W.device out.old) (W.device out.new)
         pen.old pen.new (text_drawing cells margin matrix.now) result }
 {
     for y in 0..line_count(cells, raster_width(matrix, margin)) {
@@ -132,7 +132,7 @@ pub(crate) fn put_texts<W: Sink>(
     symbols: &[Symbol],
     margin: u8,
 ) -> Result<(), DrawFault>
-    ensures { Puts (writer (W.taken out.old) (W.counts out.old)) (writer (W.taken out.new) (W.counts out.new))
+    ensures { Puts (W.device out.old) (W.device out.new)
         pen.old pen.new (flat_map (text_drawing cells margin) (squares_of symbols.now)) result }
 {
     for symbol in symbols {
