@@ -7,6 +7,7 @@ use Rattle.std.proofs.lemmas.List.Elements.{All-cons, All-head, All-nil}
 use Rattle.qrencode_cli.specs.Drawings.{HaveOneSide}
 use Rattle.clap.specs.Walk.{Text}
 use Rattle.qr_bits.specs.declared.segment.TheConstants.{INPUT_MAX}
+use Rattle.qr_bits.specs.declared.segment.Rule.{Rule}
 use Rattle.qr_layout.specs.Versions.{side_of}
 use Rattle.qr_symbol.specs.declared.fault.EncodeFault.{EncodeFault}
 use Rattle.qr_symbol.specs.declared.fault.EncodeFault.TheVariants as encode
@@ -17,11 +18,11 @@ use Rattle.qr_symbol.specs.Reading.{IsReadBack}
 use Rattle.qr_symbol.specs.Series.{IsSeries, squares_of}
 use Rattle.qr_symbol.proofs.SeriesLemmas.{long-has-no-series}
 use Rattle.qr_symbol.proofs.SizeLemmas.{series-few, series-side, series-some}
-use Rattle.qrencode_cli.specs.Answer.{Asks, Gives, IsDrawing, IsFault, Reads, ReadsFor, input_for}
+use Rattle.qrencode_cli.specs.Answer.{Asks, Gives, IsDrawing, IsFault, Reads, ReadsFor, held, input_for}
 use Rattle.qrencode_cli.specs.Device.{Reader}
 use Rattle.qrencode_cli.specs.Faults.{fault_of_input, fault_of_words}
 use Rattle.qrencode_cli.specs.Input.{IsInputOf}
-use Rattle.qrencode_cli.specs.Settings.{IsUsageFault, Reason, SettingsView, settings_for}
+use Rattle.qrencode_cli.specs.Settings.{IsUsageFault, Reason, SettingsView, rule_for, settings_for}
 use Rattle.qrencode_cli.specs.Steps.{AreDrawnFor, IsEarly, IsInputFault, Prepares, drawing_of}
 use Rattle.qr_symbol.specs.Symbols.{HasNoVersion, IsSymbol}
 use Rattle.qr_bits.proofs.Counts.{fitting_short}
@@ -52,7 +53,7 @@ pub input_for-reader : (s : SettingsView) (given : List ℕ) → s.string ≡ No
 input_for-reader s given e = rw e refl
 
 -- a symbol that is read as the input is joined to it
-joined-one : (input : List ℕ) (v : ℕ) (b : Bool) (g : Grid) → IsReadBack input v b g → IsJoined (g ∷ []) input
+joined-one : (input : List ℕ) (v : ℕ) (b : Rule) (g : Grid) → IsReadBack input v b g → IsJoined (g ∷ []) input
 unfolding AreReadings
 joined-one input v b g h = record {
   contents = record { header = None; segments = h.0; bytes = input } ∷ [];
@@ -69,16 +70,16 @@ one-side (g ∷ gs) side h =
     subst (λ (n : ℕ). All (λ k. k.side ≡ n) (g ∷ gs)) (sym e) h
 
 -- the one symbol of an input is what the settings ask for
-pub drawn-for-one : (s : SettingsView) (input : List ℕ) (version : ℕ) (symbol : Symbol) (symbols : List Symbol) → s.structured ≡ false → 1 ≤ version
-    → version ≡ smallest_of s → (input ≡ [] → ⊥) → IsSymbol input s.level version s.bytes_only symbol.version symbol.mask symbol.matrix
-    → IsReadBack input symbol.version s.bytes_only symbol.matrix → symbols ≡ symbol ∷ [] → AreDrawnFor s input symbols
-drawn-for-one s input version symbol symbols one least e some made read alone =
+pub drawn-for-one : (s : SettingsView) (rule : Rule) (input : List ℕ) (version : ℕ) (symbol : Symbol) (symbols : List Symbol) → s.structured ≡ false → 1 ≤ version
+    → version ≡ smallest_of s → rule ≡ rule_for s → (input ≡ [] → ⊥) → IsSymbol input s.level version rule symbol.version symbol.mask symbol.matrix
+    → IsReadBack input symbol.version rule symbol.matrix → symbols ≡ symbol ∷ [] → AreDrawnFor s input symbols
+drawn-for-one s rule input version symbol symbols one least e same some made read alone =
     let from = made.version.least in
-    let few : length input ≤ 7089 = fitting_short symbol.version s.level s.bytes_only input (omega arith) made.version.most made.version.fits in
-    let square : IsSquareOf s input symbol.matrix = record { version = symbol.version; mask = symbol.mask; symbol = rw (← e) made } in
+    let few : length input ≤ 7089 = fitting_short symbol.version s.level rule input (omega arith) made.version.most made.version.fits in
+    let square : IsSquareOf s input symbol.matrix = record { version = symbol.version; mask = symbol.mask; symbol = rw (← e, ← same) made } in
     rw alone (record {
       asked = subst (λ (b : Bool). AreSquares b s input (symbol.matrix ∷ [])) (sym one) (symbol.matrix, square, refl);
-      joined = joined-one input symbol.version s.bytes_only symbol.matrix read;
+      joined = joined-one input symbol.version rule symbol.matrix read;
       nonempty = grind (arith, common_steps);
       short = omega arith;
       some = omega arith;
@@ -88,7 +89,7 @@ drawn-for-one s input version symbol symbols one least e some made read alone =
 
 -- why there is no one symbol is why the input has no drawing
 pub told-one : (s : SettingsView) (input : List ℕ) (e : EncodeFault) → s.structured ≡ false → (e ≡ encode.Empty → input ≡ [])
-    → (e ≡ encode.TooLong → HasNoVersion input s.level (smallest_of s) s.bytes_only)
+    → (e ≡ encode.TooLong → HasNoVersion input s.level (smallest_of s) (rule_for s))
     → (e ≡ encode.Empty) ⊎ ((e ≡ encode.TooLong) ⊎ (e ≡ encode.Memory)) → IsInputFault s input (fault_of_input e)
 told-one s input encode.Empty one empty long only = empty refl
 told-one s input encode.TooLong one empty long only = (one, long refl)
@@ -96,20 +97,20 @@ told-one s input encode.TooMany one empty long only = elim only [ inl e ↦ absu
 told-one s input encode.Memory one empty long only = tt
 
 -- the series of an input is what the settings ask for
-pub drawn-for-series : (s : SettingsView) (input : List ℕ) (version : ℕ) (symbols : List Symbol) → s.structured ≡ true → 1 ≤ version → version ≤ 40
-    → version ≡ smallest_of s → (input ≡ [] → ⊥) → IsSeries input s.level s.bytes_only version symbols
+pub drawn-for-series : (s : SettingsView) (rule : Rule) (input : List ℕ) (version : ℕ) (symbols : List Symbol) → s.structured ≡ true → 1 ≤ version → version ≤ 40
+    → version ≡ smallest_of s → rule ≡ rule_for s → (input ≡ [] → ⊥) → IsSeries input s.level rule version symbols
     → IsJoined (squares_of symbols) input → AreDrawnFor s input symbols
-drawn-for-series s input version symbols many least most e some series joined = record {
-  asked = subst (λ (b : Bool). AreSquares b s input (squares_of symbols)) (sym many) (record { symbols = symbols; series = rw (← e) series; theirs = refl });
+drawn-for-series s rule input version symbols many least most e same some series joined = record {
+  asked = subst (λ (b : Bool). AreSquares b s input (squares_of symbols)) (sym many) (record { symbols = symbols; series = rw (← e, ← same) series; theirs = refl });
   joined = joined;
   nonempty = grind (arith, common_steps);
   short = elim (cases_lt (length input) INPUT_MAX) [
     | inl i ↦ i
-    | inr i ↦ absurd (long-has-no-series input s.level s.bytes_only version symbols least most (omega arith) series)
+    | inr i ↦ absurd (long-has-no-series input s.level rule version symbols least most (omega arith) series)
   ];
-  some = series-some input s.level s.bytes_only version symbols series;
-  few = series-few input s.level s.bytes_only version symbols series;
-  one_side = one-side (squares_of symbols) (side_of version) (series-side input s.level s.bytes_only version symbols series);
+  some = series-some input s.level rule version symbols series;
+  few = series-few input s.level rule version symbols series;
+  one_side = one-side (squares_of symbols) (side_of version) (series-side input s.level rule version symbols series);
 }
 
 -- where nothing was read, nothing was read for the words
@@ -150,7 +151,7 @@ prepares-usage words in0 usage.Memory h = let i = any_input in0.remaining in rec
 module _ (words : List Text) (s : SettingsView) (taken : settings_for words ≡ Ok s) where
   -- the answer for the input that is encoded
   answer-for : (given input : List ℕ) (r : Result Picture Fault) → input_for s given ≡ input
-      → MatchResult r (λ p. IsDrawing s input (drawing_of p)) (IsInputFault s input)
+      → MatchResult r (λ p. IsDrawing s (held s input) (drawing_of p)) (IsInputFault s (held s input))
       → MatchResult r (λ p. Asks words given (drawing_of p)) (λ f. IsFault words given f × IsEarly f)
   answer-for given input (Ok p) e h = record { settings = s; taken = taken; is_drawing = rw e h }
   answer-for given input (Err (fault.Refused refusal.Empty)) e h = (record { settings = s; taken = taken; because = rw e h }, tt)
@@ -165,7 +166,7 @@ module _ (words : List Text) (s : SettingsView) (taken : settings_for words ≡ 
 
   -- the input is the words' string
   pub prepares-string : (in0 : Reader) (text buf : List ℕ) (n : ℕ) (r : Result Picture Fault) → s.string ≡ Some text → buf ≡ text → n ≡ min INPUT_MAX (length buf)
-      → MatchResult r (λ p. IsDrawing s (take n buf) (drawing_of p)) (IsInputFault s (take n buf))
+      → MatchResult r (λ p. IsDrawing s (held s (take n buf)) (drawing_of p)) (IsInputFault s (held s (take n buf)))
       → Prepares words in0 in0 r
   prepares-string in0 text buf n r string is cut h = let i = any_input in0.remaining in record {
     given = i.0;
@@ -177,7 +178,7 @@ module _ (words : List Text) (s : SettingsView) (taken : settings_for words ≡ 
   -- the input is what the reader gave
   pub prepares-reader : (in0 in1 : Reader) (bytes buf : List ℕ) (r : Result Picture Fault) → s.string ≡ None → buf ≡ bytes
       → IsInputOf in0.remaining bytes → Gives in0 in1 bytes
-      → MatchResult r (λ p. IsDrawing s buf (drawing_of p)) (IsInputFault s buf)
+      → MatchResult r (λ p. IsDrawing s (held s buf) (drawing_of p)) (IsInputFault s (held s buf))
       → Prepares words in0 in1 r
   prepares-reader in0 in1 bytes buf r string is input gives h = record {
     given = bytes;
@@ -186,7 +187,7 @@ module _ (words : List Text) (s : SettingsView) (taken : settings_for words ≡ 
     answer = answer-for bytes buf r (input_for-reader s bytes string ∙ sym is) h;
   }
     where
-      gives-for : (r : Result Picture Fault) → MatchResult r (λ p. IsDrawing s buf (drawing_of p)) (IsInputFault s buf)
+      gives-for : (r : Result Picture Fault) → MatchResult r (λ p. IsDrawing s (held s buf) (drawing_of p)) (IsInputFault s (held s buf))
           → Reads in0 in1 bytes r
       gives-for (Ok p) h = gives
       gives-for (Err fault.Read) h = tt

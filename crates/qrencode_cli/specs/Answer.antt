@@ -1,10 +1,11 @@
 -- What the command answers to its words and its input, and what a run of it does to its devices. Public clauses cite
 -- this file.
-use Rattle.std.specs.Prelude.{◌≡◌, ◌≤◌, ◌<◌, ◌+◌, ◌⊎◌, ℕ, List, [], length, take, max, MatchOption, None, IfErr, Result, Ok, Err, true, false}
+use Rattle.std.specs.Prelude.{◌≡◌, ◌≤◌, ◌<◌, ◌+◌, ◌⊎◌, ℕ, List, [], length, take, max, MatchOption, None, IfErr, Result, Ok, Err, true, false, if◌then◌else◌}
 use Rattle.std.specs.Option.{option_map_or}
 use Rattle.std.specs.Io.KnownBytes.{Appends, Consumes}
 use Rattle.clap.specs.Walk.{Text}
 use Rattle.qr_bits.specs.declared.segment.TheConstants.{INPUT_MAX}
+use Rattle.qr_bits.specs.Folding.{folded}
 use Rattle.qr_matrix.specs.Grid.{Grid}
 use Rattle.qr_symbol.specs.Joining.{IsJoined}
 use Rattle.qrencode_cli.specs.declared.pen.TheConstants.{PIECE}
@@ -12,7 +13,7 @@ use Rattle.qrencode_cli.specs.Device.{AppendsBeginning, IsReadWithin, IsWrittenW
 use Rattle.qrencode_cli.specs.Drawings.{drawn}
 use Rattle.qrencode_cli.specs.Faults.{fault_line, is_read, is_write}
 use Rattle.qrencode_cli.specs.Input.{IsInputOf}
-use Rattle.qrencode_cli.specs.Settings.{Reason, SettingsView, needs_version, no_matches, settings_for, unknown_level, unknown_type}
+use Rattle.qrencode_cli.specs.Settings.{Reason, SettingsView, needs_version, no_matches, rule_for, settings_for, unknown_level, unknown_type}
 use Rattle.qrencode_cli.specs.Symbols.{AreSymbols, IsTooLong, IsTooMany}
 use Rattle.qrencode_cli.specs.declared.fault.Fault.{Fault}
 use Rattle.qrencode_cli.specs.declared.fault.Fault.TheVariants as fault
@@ -22,6 +23,10 @@ use Rattle.qrencode_cli.specs.declared.fault.Refusal.TheVariants as refusal
 -- the input that is encoded: the words' string, or what the reader gives; no more of it than is read [own]
 abbrev pub input_for : SettingsView → List ℕ → List ℕ
 input_for s given = option_map_or (λ text. take INPUT_MAX text) s.string given
+
+-- the input as the symbols hold it: under -i with its small letters as capitals, by the rule of modes [own]
+abbrev pub held : SettingsView → List ℕ → List ℕ
+held s input = if s.fold then folded (rule_for s) input else input
 
 -- the settings ask for this drawing of an input: that of its symbols. They are read and joined to the input, and the
 -- input is shorter than what is read, so nothing of it was cut [own]
@@ -37,13 +42,13 @@ pub record IsDrawing (s : SettingsView) (input drawing : List ℕ) : Type 0 wher
 pub record Asks (words : List Text) (given drawing : List ℕ) : Type 0 where
   pub settings : SettingsView
   pub taken : settings_for words ≡ Ok settings
-  pub is_drawing : IsDrawing settings (input_for settings given) drawing
+  pub is_drawing : IsDrawing settings (held settings (input_for settings given)) drawing
 
 -- the words and the input ask for what cannot be drawn, for this reason [own]
 pub record Refuses (words : List Text) (given : List ℕ) (why : SettingsView → List ℕ → Type 0) : Type 0 where
   pub settings : SettingsView
   pub taken : settings_for words ≡ Ok settings
-  pub because : why settings (input_for settings given)
+  pub because : why settings (held settings (input_for settings given))
 
 -- the words are taken, and the reader is to give the input [own]
 pub record AsksReader (words : List Text) : Type 0 where

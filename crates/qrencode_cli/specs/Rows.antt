@@ -13,6 +13,8 @@ by_default = record {
   kind = Ascii;
   margin = 4;
   bytes_only = false;
+  kanji = false;
+  fold = false;
   structured = false;
   string = None;
 }
@@ -47,6 +49,8 @@ pub record RowsOfWords : Type 0 where
         kind = Svg;
         margin = 0;
         bytes_only = true;
+        kanji = false;
+        fold = false;
         structured = true;
         string = Some (codes "A");
       })
@@ -69,8 +73,12 @@ pub record RowsOfWords : Type 0 where
   pub no_version : IsRefused (codes "-S" ∷ codes "-t" ∷ codes "ASCII" ∷ []) needs_version
   pub version_0 : IsRefused (codes "-S" ∷ codes "-v" ∷ codes "0" ∷ codes "-t" ∷ codes "ASCII" ∷ []) needs_version
   pub series_twice : IsRefused (codes "-S" ∷ codes "-S" ∷ codes "-v" ∷ codes "1" ∷ codes "-t" ∷ codes "ASCII" ∷ []) no_matches
-  pub kanji : IsRefused (codes "-k" ∷ codes "-t" ∷ codes "ASCII" ∷ []) no_matches
-  pub folding : IsRefused (codes "-i" ∷ codes "-t" ∷ codes "ASCII" ∷ []) no_matches
+  pub with_kanji : IsTaken (codes "-k" ∷ codes "-t" ∷ codes "ASCII" ∷ []) (record by_default { kanji = true })
+  pub folding : IsTaken (codes "-i" ∷ codes "-t" ∷ codes "ASCII" ∷ []) (record by_default { fold = true })
+  pub both_and_bytes : IsTaken (codes "-8ki" ∷ codes "-t" ∷ codes "ASCII" ∷ [])
+      (record by_default { bytes_only = true; kanji = true; fold = true })
+  pub kanji_twice : IsRefused (codes "-k" ∷ codes "-k" ∷ codes "-t" ∷ codes "ASCII" ∷ []) no_matches
+  pub folding_twice : IsRefused (codes "-ii" ∷ codes "-t" ∷ codes "ASCII" ∷ []) no_matches
   pub long_name : IsRefused (codes "--type" ∷ codes "ASCII" ∷ []) no_matches
   pub help : IsRefused (codes "-h" ∷ []) no_matches
   pub long_help : IsRefused (codes "--help" ∷ []) no_matches

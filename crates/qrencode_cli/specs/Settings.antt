@@ -4,6 +4,8 @@ use Rattle.std.specs.Option.{is_none, option_map_or}
 use Rattle.std.specs.Str.{bytes_eq, str_eq_ignore_ascii_case}
 use Rattle.clap.specs.Words.{Kinds, first_of, one_of}
 use Rattle.clap.specs.Walk.{Row, Text, byte_or_zero}
+use Rattle.qr_bits.specs.declared.segment.Rule.{Rule}
+use Rattle.qr_bits.specs.declared.segment.Rule.TheVariants.{Auto, BytesOnly, WithKanji}
 use Rattle.qr_layout.specs.declared.level.Level.{Level}
 use Rattle.qr_layout.specs.declared.level.Level.TheVariants as level
 use Rattle.qrencode_cli.specs.Arguments.{faults_for, rows_for}
@@ -26,8 +28,14 @@ pub record SettingsView : Type 0 where
   pub kind : Drawing
   pub margin : ℕ
   pub bytes_only : Bool
+  pub kanji : Bool
+  pub fold : Bool
   pub structured : Bool
   pub string : Option Text
+
+-- which modes the settings allow: bytes alone under -8, and without it kanji mode too under -k [own]
+abbrev pub rule_for : SettingsView → Rule
+rule_for s = if s.bytes_only then BytesOnly else (if s.kanji then WithKanji else Auto)
 
 -- the level that a word names, in either case of its letter [own]
 abbrev pub level_named : Text → Option Level
@@ -79,6 +87,8 @@ settings_with rows level kind = record {
   kind = kind;
   margin = number_at 4 (one_of (codes "margin") rows);
   bytes_only = flag_at (first_of (codes "bytes-only") rows);
+  kanji = flag_at (first_of (codes "kanji") rows);
+  fold = flag_at (first_of (codes "fold") rows);
   structured = flag_at (first_of (codes "structured") rows);
   string = first_of (codes "string") rows;
 }

@@ -111,6 +111,20 @@ const BYTES_ONLY: Name<'static> = Name {
     help: "Encode the whole input in byte mode",
 };
 
+const KANJI: Name<'static> = Name {
+    id: "kanji",
+    short: 'k',
+    value: "",
+    help: "Encode pairs of bytes that are Shift JIS characters in kanji mode, if that is shorter; -8 switches it off",
+};
+
+const FOLD: Name<'static> = Name {
+    id: "fold",
+    short: 'i',
+    value: "",
+    help: "Encode the letters a to z as capitals; -8 switches it off, and with -k kanji stay as they are",
+};
+
 const STRUCTURED: Name<'static> = Name {
     id: "structured",
     short: 'S',
@@ -127,7 +141,9 @@ fn described<'a>(alloc: Global) -> Result<Command<'a>, AllocError>
     let with_type = with_version.arg(required(alloc, TYPE))?;
     let with_margin = with_type.arg(number(alloc, MARGIN, 100))?;
     let with_bytes_only = with_margin.arg(flag(alloc, BYTES_ONLY))?;
-    let with_structured = with_bytes_only.arg(flag(alloc, STRUCTURED))?;
+    let with_kanji = with_bytes_only.arg(flag(alloc, KANJI))?;
+    let with_fold = with_kanji.arg(flag(alloc, FOLD))?;
+    let with_structured = with_fold.arg(flag(alloc, STRUCTURED))?;
     with_structured.arg(word(
         alloc,
         "string",

@@ -4,7 +4,7 @@ ghost use Rattle.std.specs.Prelude.{◌≡◌, ◌≤◌, ◌<◌, ◌+◌, ◌�
 ghost use Rattle.std.specs.Prelude.{MatchResult, Result};
 ghost use Rattle.std.specs.Io.KnownBytes.{Appends};
 ghost use Rattle.std.specs.String.{string_bytes};
-ghost use Rattle.qrencode_cli.specs.Answer.{Breaks, Draws, IsDrawing, Runs};
+ghost use Rattle.qrencode_cli.specs.Answer.{Breaks, Draws, IsDrawing, Runs, held};
 ghost use Rattle.qrencode_cli.specs.Device.{IsReadWithin, IsWrittenWithin, is_read_fault, is_write_fault, no_reads, no_writes};
 ghost use Rattle.qrencode_cli.specs.Faults.{is_read, is_write};
 ghost use Rattle.qrencode_cli.specs.Steps.{AreDrawnFor, Attempts, IsInputFault, Prepares, drawing_of};
@@ -17,7 +17,7 @@ use crate::input::read_input;
 use crate::pen::{PIECE, write_text};
 use crate::picture::Picture;
 use crate::settings::{Settings, options};
-use qr_bits::INPUT_MAX;
+use qr_bits::{INPUT_MAX, fold};
 use qr_layout::Version;
 use qr_symbol::{Symbol, encode, encode_series};
 use std::alloc::Global;
@@ -32,17 +32,18 @@ fn symbols_for(alloc: Global, input: &[u8], settings: &Settings) -> Result<Vec<S
         unreachable!()
     };
     let version = settings.smallest.unwrap_or(first);
+    let rule = settings.rule();
     if settings.structured {
-        let symbols = encode_series(alloc, input, version, settings.level, settings.bytes_only)?;
+        let symbols = encode_series(alloc, input, version, settings.level, rule)?;
         return Ok(symbols);
     }
-    let symbol = encode(alloc, input, settings.level, version, settings.bytes_only)?;
+    let symbol = encode(alloc, input, settings.level, version, rule)?;
     let symbols = Vec::from_array(alloc, [symbol])?;
     Ok(symbols)
 }
 
-// The picture of an input under the settings.
-fn make_picture(alloc: Global, input: &[u8], settings: &Settings) -> Result<Picture, Fault>
+// The picture of what the symbols hold.
+fn picture_of(alloc: Global, input: &[u8], settings: &Settings) -> Result<Picture, Fault>
     requires { length input.now ≤ INPUT_MAX }
     ensures { MatchResult result (λ p. IsDrawing settings.now input.now (drawing_of p))
         (IsInputFault settings.now input.now) }
@@ -52,6 +53,19 @@ fn make_picture(alloc: Global, input: &[u8], settings: &Settings) -> Result<Pict
         kind: settings.kind,
         margin: settings.margin,
     })
+}
+
+// The picture of an input under the settings.
+fn make_picture(alloc: Global, input: &[u8], settings: &Settings) -> Result<Picture, Fault>
+    requires { length input.now ≤ INPUT_MAX }
+    ensures { MatchResult result (λ p. IsDrawing settings.now (held settings.now input.now) (drawing_of p))
+        (IsInputFault settings.now (held settings.now input.now)) }
+{
+    if settings.fold {
+        let folded = fold(alloc, input, settings.rule())?;
+        return picture_of(alloc, folded.as_slice(), settings);
+    }
+    picture_of(alloc, input, settings)
 }
 
 // The picture that the words and the input ask for.

@@ -4,11 +4,12 @@ ghost use Rattle.std.specs.Prelude.{◌≡◌, Ok, IfOk, MatchResult, map, codes
 ghost use Rattle.std.specs.String.{string_bytes};
 ghost use Rattle.clap.specs.Words.{first_of, found_of, one_of};
 ghost use Rattle.clap.specs.Walk.{rows_of};
-ghost use Rattle.qrencode_cli.specs.Settings.{IsUsageFault, drawing_at, drawing_named, flag_at, level_at, level_named, number_at, settings_for, settings_of, version_at};
+ghost use Rattle.qrencode_cli.specs.Settings.{IsUsageFault, drawing_at, drawing_named, flag_at, level_at, level_named, number_at, rule_for, settings_for, settings_of, version_at};
 
 use crate::arguments::matches;
 use crate::drawing::Drawing;
 use clap::ArgMatches;
+use qr_bits::Rule;
 use qr_layout::{Level, Version};
 use std::alloc::{AllocError, Global};
 use std::marker::Model;
@@ -30,6 +31,10 @@ pub struct Settings {
     pub margin: u8,
     /// Whether the whole input is encoded in byte mode.
     pub bytes_only: bool,
+    /// Whether kanji mode may be used, unless the whole input is encoded in byte mode.
+    pub kanji: bool,
+    /// Whether the letters a to z are encoded as capitals, unless the whole input is encoded in byte mode.
+    pub fold: bool,
     /// Whether a series of symbols is drawn where one does not hold the input.
     pub structured: bool,
     /// The input, where the words hold it.
@@ -49,9 +54,26 @@ impl Model for Settings {
       kind = s.kind;
       margin = s.margin;
       bytes_only = s.bytes_only;
+      kanji = s.kanji;
+      fold = s.fold;
       structured = s.structured;
       string = option_map string_bytes s.string;
     } };
+}
+
+impl Settings {
+    // Which modes the segments may have.
+    pub(crate) fn rule(&self) -> Rule
+        ensures { result ≡ rule_for self.now }
+    {
+        if self.bytes_only {
+            Rule::BytesOnly
+        } else if self.kanji {
+            Rule::WithKanji
+        } else {
+            Rule::Auto
+        }
+    }
 }
 
 /// Why the words ask for nothing that can be drawn. The first of these that holds is answered.
@@ -198,6 +220,8 @@ fn settings_in(alloc: Global, matches: &ArgMatches<'_>) -> Result<Settings, Usag
         kind,
         margin: number_in(matches, "margin", QUIET_ZONE),
         bytes_only: flag_in(matches, "bytes-only"),
+        kanji: flag_in(matches, "kanji"),
+        fold: flag_in(matches, "fold"),
         structured,
         string: string_in(alloc, matches)?,
     })
