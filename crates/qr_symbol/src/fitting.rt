@@ -3,17 +3,24 @@
 //! The bits of segments depend on the version by the widths of the character count indicators alone, and these change
 //! only behind the versions 9 and 26. So an input is cut into segments once for each of the three ranges of versions.
 
-ghost use Rattle.std.specs.Prelude.{◌≡◌, ◌≤◌, ◌<◌, ℕ, length, IfOk, MatchOption};
+ghost use Rattle.std.specs.Prelude.{◌≡◌, ◌≤◌, ◌<◌, ℕ, List, length, IfOk, MatchOption};
 ghost use Rattle.qr_bits.specs.declared.segment.Rule.{Rule};
 ghost use Rattle.qr_bits.specs.declared.fault.BitFault.{BitFault};
 ghost use Rattle.qr_bits.specs.declared.segment.Mode.{Mode};
 ghost use Rattle.qr_bits.specs.Letters.{count_width, IsLeastSegmentation};
 ghost use Rattle.qr_bits.specs.Data.{capacity_of};
-ghost use Rattle.qr_symbol.specs.Symbols.{IsVersion, HasNoVersion};
+ghost use Rattle.qr_layout.specs.declared.level.Level.{Level};
+ghost use Rattle.qr_symbol.specs.Symbols.{FitsVersion, IsVersion, HasNoVersion};
 
 use qr_bits::{BitFault, INPUT_MAX, Rule, Segment, bit_len, segments};
 use qr_layout::{Level, Version};
 use std::alloc::Global;
+
+// No symbol up to version 9 holds more bytes than this: three digits in ten bits (7.4.3).
+const SMALL_BYTES: usize = 556;
+
+// No symbol up to version 26 holds more bytes than this.
+const MEDIUM_BYTES: usize = 3288;
 
 // A version that an input fits, and the segments of the input in it.
 #[derive(Drop)]
@@ -34,6 +41,22 @@ fn last_of_width(version: Version) -> u8
         10..=26 => 26,
         _ => 40,
     }
+}
+
+// The first version that may hold so many bytes: the ranges whose symbols all hold fewer are passed over.
+fn first_for(len: usize) -> u8
+    ensures first { 1 ≤ result }
+    ensures last { result ≤ 40 }
+    ensures none { (v : ℕ) (l : Level) (r : Rule) (xs : List ℕ) → length xs ≡ len
+        → 1 ≤ v → v < result → FitsVersion xs l r v → ⊥ }
+{
+    if len > MEDIUM_BYTES {
+        return 27;
+    }
+    if len > SMALL_BYTES {
+        return 10;
+    }
+    1
 }
 
 // The least version from `first` to `last` whose data codewords hold so many bits.
@@ -68,7 +91,7 @@ pub(crate) fn least_fit(
     ensures too_long { result ≡ Err BitFault.TooLong
         → HasNoVersion input.now level smallest rule }
 {
-    let mut first = smallest;
+    let mut first = Version::new(smallest.number().max(first_for(input.len()))).unwrap();
     loop {
         let last = last_of_width(first);
         let segments = segments(alloc, input, first, rule)?;

@@ -1,9 +1,22 @@
-use Rattle.std.proofs.Common.{◌≡◌, ℕ, inl, inr, sym, ◌∙◌, ap, ◌+◌, arith}
+use Rattle.std.proofs.Common.{◌≡◌, ◌≤◌, ℕ, Option, inl, inr, refl, sym, ◌∙◌, ap, subst, ◌+◌, arith}
+use Rattle.std.specs.Option.{SomeIff}
+use Rattle.qr_layout.specs.declared.version.Version.{Version}
 use Rattle.std.proofs.lemmas.Bool.{cases_lt}
 use Rattle.qr_bits.specs.Letters.{bits}
 use Rattle.qr_bits.proofs.SegmentLists.{least_fits, covers_all}
 use Rattle.qr_symbol.proofs.FitLemmas.{segmentation-same, version-found, none-fits}
 use Rattle.qr_symbol.proofs.fitting.least_fit.Goals as goal
+
+pub loop-segments-init : goal.loop-segments-init
+loop-segments-init c =
+    let first = c.unwrap-first.result in
+    let found = subst (λ (o : Option Version). SomeIff o ((1 ≤ c.max.result) × (c.max.result ≤ 40)) c.max.result) c.unwrap-first.ensures c.new.ensures in
+    let e : first ≡ c.max.result = found.1 in
+    let least = c.number.ensures.least in
+    record {
+      from = omega arith;
+      none = λ v a b fits. c.first_for.ensures.none v c.args.level c.args.rule c.args.input.now refl (omega arith) (omega arith) fits;
+    }
 
 pub bit_len-requires-clause-nonempty : goal.bit_len-requires-clause-nonempty
 bit_len-requires-clause-nonempty c =
