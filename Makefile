@@ -1,15 +1,21 @@
-# Builds the proved program, and puts it and its manual page under PREFIX.
+# Builds the proved program, and puts it and its manual page under PREFIX, by the name NAME.
 PREFIX = /usr/local
+NAME = qrencode
 PROGRAM = crates/qrencode/out/qrencode
+BINARY = $(DESTDIR)$(PREFIX)/bin/$(NAME)
+MANUAL = $(DESTDIR)$(PREFIX)/share/man/man1/$(NAME).1
 
 all:
 	./qrencode -t ASCII A >/dev/null
 
+check:
+	@tests/all
+
 install: all
-	install -D -m 755 $(PROGRAM) $(DESTDIR)$(PREFIX)/bin/qrencode
-	install -D -m 644 docs/qrencode.1 $(DESTDIR)$(PREFIX)/share/man/man1/qrencode.1
+	install -D -m 755 $(PROGRAM) "$(BINARY)"
+	install -D -m 644 docs/qrencode.1 "$(MANUAL)"
 
 uninstall:
-	rm -f $(DESTDIR)$(PREFIX)/bin/qrencode $(DESTDIR)$(PREFIX)/share/man/man1/qrencode.1
+	rm -f "$(BINARY)" "$(MANUAL)"
 
-.PHONY: all install uninstall
+.PHONY: all check install uninstall

@@ -1,5 +1,7 @@
 //! Why no symbol is made, and why a symbol is not read.
 
+ghost use Rattle.std.specs.Prelude.{◌≡◌};
+
 use qr_bits::{BitFault, ParseFault};
 use std::alloc::{AllocError, AllocFailed};
 use thiserror::Error;
@@ -9,16 +11,16 @@ use thiserror::Error;
 pub enum EncodeFault {
     /// The input has no byte.
     #[error("the input is empty")]
-    Empty,
+    Empty = 1,
     /// No version that may be taken holds the input.
     #[error("the input does not fit")]
-    TooLong,
+    TooLong = 2,
     /// The input takes more than 16 symbols.
     #[error("the input takes more than 16 symbols")]
-    TooMany,
+    TooMany = 3,
     /// Memory was refused.
     #[error("out of memory")]
-    Memory,
+    Memory = 4,
 }
 
 impl From<AllocError> for EncodeFault {
@@ -78,6 +80,24 @@ pub enum ReadFault {
     /// The symbols are no series.
     #[error("the symbols are no series")]
     Series,
+}
+
+impl ReadFault {
+    ghost use Rattle.qr_symbol.specs.Faults.{read_fault_number};
+
+    /// Its number, which stays what it is.
+    pub fn number(&self) -> u8
+        ensures { result ≡ read_fault_number self.now }
+    {
+        match self {
+            ReadFault::Memory => 1,
+            ReadFault::Side => 2,
+            ReadFault::Format => 3,
+            ReadFault::Check => 4,
+            ReadFault::Segments(_) => 5,
+            ReadFault::Series => 6,
+        }
+    }
 }
 
 impl From<AllocError> for ReadFault {

@@ -128,3 +128,11 @@ IsUsageFault o usage.Level = o ≡ Err unknown_level
 IsUsageFault o usage.Kind = o ≡ Err unknown_type
 IsUsageFault o usage.NeedsVersion = o ≡ Err needs_version
 IsUsageFault o usage.Memory = Unit {0}
+
+-- the number of a fault of words, in the order in which they are looked for [own]
+abbrev pub usage_fault_number : UsageFault → ℕ
+usage_fault_number (usage.Words text) = 1
+usage_fault_number usage.Level = 2
+usage_fault_number usage.Kind = 3
+usage_fault_number usage.NeedsVersion = 4
+usage_fault_number usage.Memory = 5

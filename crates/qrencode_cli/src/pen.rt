@@ -18,7 +18,7 @@ pub(crate) const PIECE: usize = 1200;
 pub enum DrawFault {
     /// The writer failed, took none of some bytes, or was interrupted for the 1,000th time.
     #[error("write error")]
-    Write,
+    Write = 1,
 }
 
 /// The piece of a text that is not written yet, and how many writes were interrupted so far.

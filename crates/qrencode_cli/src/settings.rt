@@ -96,6 +96,23 @@ pub enum UsageFault {
     Memory,
 }
 
+impl UsageFault {
+    ghost use Rattle.qrencode_cli.specs.Settings.{usage_fault_number};
+
+    /// Its number, which stays what it is.
+    pub fn number(&self) -> u8
+        ensures { result ≡ usage_fault_number self.now }
+    {
+        match self {
+            UsageFault::Words(_) => 1,
+            UsageFault::Level => 2,
+            UsageFault::Kind => 3,
+            UsageFault::NeedsVersion => 4,
+            UsageFault::Memory => 5,
+        }
+    }
+}
+
 impl From<AllocError> for UsageFault {
     ghost use Rattle.std.specs.Prelude.{◌≡◌};
     ghost use Rattle.qrencode_cli.specs.declared.settings.UsageFault.{UsageFault};

@@ -1,0 +1,79 @@
+//! The calls on segments and bits, with `HELLO WORLD` in version 1-M: one segment, and its data codewords.
+
+ghost use Rattle.std.specs.Prelude.{◌≡◌};
+
+use crate::answer::Answer;
+use qr_bits::{
+    BitFault, Mode, ParseFault, Segment, codewords, covers, longest_fit, parse, segments,
+};
+use qr_layout::{Level, Version};
+use std::alloc::{AllocError, Global};
+
+pub static HELLO_WORLD: [u8; 11] = *b"HELLO WORLD";
+
+pub static SEGMENT: Segment = Segment {
+    mode: Mode::Alphanumeric,
+    len: 11,
+};
+
+/// The data codewords.
+pub static DATA: [u8; 16] = [
+    0x20, 0x5B, 0x0B, 0x78, 0xD1, 0x72, 0xDC, 0x4D, 0x43, 0x40, 0xEC, 0x11, 0xEC, 0x11, 0xEC, 0x11,
+];
+
+const BITS_OUT: Answer = Answer::Memory("BitFault::Memory, arguments unchanged");
+
+/// Version 1.
+pub fn version_1() -> Version
+    ensures { result ≡ 1 }
+{
+    let Some(version) = Version::new(1) else {
+        unreachable!()
+    };
+    version
+}
+
+pub fn segmented(alloc: Global) -> Result<Answer, AllocError> {
+    let input = Vec::from_slice(alloc, &HELLO_WORLD)?;
+    let answer = match segments(alloc, &input, version_1(), false) {
+        Ok(segs) => Answer::of(segs.as_slice() == [SEGMENT].as_slice()),
+        Err(BitFault::Memory) => BITS_OUT,
+        Err(BitFault::TooLong) => Answer::Other,
+    };
+    Ok(answer.given(input.as_slice() == HELLO_WORLD.as_slice()))
+}
+
+pub fn longest(alloc: Global) -> Result<Answer, AllocError> {
+    let input = Vec::from_slice(alloc, &HELLO_WORLD)?;
+    let answer = match longest_fit(alloc, &input, version_1(), Level::M, false) {
+        Ok(len) => Answer::of(len == 11),
+        Err(BitFault::Memory) => BITS_OUT,
+        Err(BitFault::TooLong) => Answer::Other,
+    };
+    Ok(answer.given(input.as_slice() == HELLO_WORLD.as_slice()))
+}
+
+pub fn encoded(alloc: Global) -> Result<Answer, AllocError> {
+    let input = Vec::from_slice(alloc, &HELLO_WORLD)?;
+    let segs = Vec::from_slice(alloc, &[SEGMENT])?;
+    if !covers(&input, &segs) {
+        return Ok(Answer::Other);
+    }
+    let answer = match codewords(alloc, &input, &segs, None, version_1(), Level::M) {
+        Ok(data) => Answer::of(data.as_slice() == DATA.as_slice()),
+        Err(BitFault::Memory) => BITS_OUT,
+        Err(BitFault::TooLong) => Answer::Other,
+    };
+    let is_same = input.as_slice() == HELLO_WORLD.as_slice();
+    Ok(answer.given(is_same && segs.as_slice() == [SEGMENT].as_slice()))
+}
+
+pub fn parsed(alloc: Global) -> Result<Answer, AllocError> {
+    let data = Vec::from_slice(alloc, &DATA)?;
+    let answer = match parse(alloc, &data, version_1()) {
+        Ok(parsed) => Answer::of(parsed.bytes.as_slice() == HELLO_WORLD.as_slice()),
+        Err(ParseFault::Memory) => Answer::Memory("ParseFault::Memory, arguments unchanged"),
+        Err(_) => Answer::Other,
+    };
+    Ok(answer.given(data.as_slice() == DATA.as_slice()))
+}

@@ -1,0 +1,82 @@
+//! The command over devices in memory.
+
+use crate::answer::Answer;
+use qrencode_cli::{Manner, Trial, UsageFault, options, run};
+use std::alloc::{AllocError, Global};
+
+// The line that tells of memory that was refused.
+static OUT_OF_MEMORY: &str = "qrencode: out of memory\n";
+
+// The words of a command line, the program's name first.
+fn line(alloc: Global, words: &[&str]) -> Result<Vec<String>, AllocError> {
+    let mut list = Vec::new(alloc);
+    list.push(String::from_str(alloc, "qrencode")?)?;
+    for word in words {
+        list.push(String::from_str(alloc, word)?)?;
+    }
+    Ok(list)
+}
+
+// Whether the words are those, behind the program's name.
+fn are(list: &[String], words: &[&str]) -> bool {
+    list.iter()
+        .skip(1)
+        .map(|word| word.as_str())
+        .eq(words.iter().copied())
+}
+
+pub fn settings(alloc: Global) -> Result<Answer, AllocError> {
+    let words = ["-S", "-8", "-v", "1", "-t", "SVG", "ABCDEFGH"];
+    let list = line(alloc, &words)?;
+    let answer = match &options(alloc, &list) {
+        Ok(settings) => Answer::of(settings.structured && settings.margin == 4),
+        Err(UsageFault::Memory) => Answer::Memory("UsageFault::Memory, arguments unchanged"),
+        Err(_) => Answer::Other,
+    };
+    Ok(answer.given(are(&list, &words)))
+}
+
+// Runs the command. With ample memory its status is this, standard output begins like this, and the text on standard
+// error has this part.
+fn ran(
+    alloc: Global,
+    words: &[&str],
+    input: &[u8],
+    status: u8,
+    front: &str,
+    part: &str,
+) -> Result<Answer, AllocError> {
+    let list = line(alloc, words)?;
+    let mut input = Trial::reader(alloc, input, Manner::WELL)?;
+    let mut out = Trial::writer(alloc, 10_000, Manner::WELL)?;
+    let mut err = Trial::writer(alloc, 4000, Manner::WELL)?;
+    let ended = run(alloc, &list, &mut input, &mut out, &mut err);
+    let answer = if err.bytes() == OUT_OF_MEMORY.as_bytes() {
+        if ended == 1 && out.bytes().is_empty() {
+            Answer::Memory("out of memory, status 1, nothing drawn, arguments unchanged")
+        } else {
+            Answer::Other
+        }
+    } else {
+        let told = str::from_utf8(err.bytes()).unwrap_or("");
+        Answer::of(
+            ended == status && out.bytes().starts_with(front.as_bytes()) && told.contains(part),
+        )
+    };
+    Ok(answer.given(are(&list, words)))
+}
+
+pub fn run_of_a_series(alloc: Global) -> Result<Answer, AllocError> {
+    let words = ["-S", "-8", "-v", "1", "-l", "H", "-t", "SVG"];
+    ran(alloc, &words, b"ABCDEFGH", 0, "<?xml", "")
+}
+
+pub fn run_of_no_byte(alloc: Global) -> Result<Answer, AllocError> {
+    let words = ["-t", "ASCII", ""];
+    ran(alloc, &words, b"", 1, "", "qrencode: input is empty\n")
+}
+
+pub fn run_of_refused_words(alloc: Global) -> Result<Answer, AllocError> {
+    let words = ["-v", "41", "-t", "ASCII"];
+    ran(alloc, &words, b"A", 1, "", "0..=40")
+}

@@ -1,0 +1,84 @@
+//! Trials of the calls that take memory. The program's word names a call; it is made once, and a line says what it
+//! returned. `tests/refused_growths` runs each trial with one growth of memory refused.
+//!
+//! What a call is given is made before the call, and compared after it with what it was made from.
+#![tactic(auto)]
+
+mod answer;
+mod bits;
+mod command;
+mod symbols;
+
+use crate::answer::Answer;
+use std::alloc::{AllocError, Global};
+use std::env;
+use std::process::ExitCode;
+
+// The trials, in the order of the crates.
+static NAMES: [&str; 17] = [
+    "Matrix::new",
+    "segments",
+    "longest_fit",
+    "codewords",
+    "parse",
+    "interleave",
+    "deinterleave",
+    "build_masked",
+    "build",
+    "encode",
+    "encode_series",
+    "read_symbol",
+    "read_series",
+    "options",
+    "run_series",
+    "run_empty",
+    "run_words",
+];
+
+// Makes the call of this name. An error is memory refused while what it is given was made.
+fn trial(alloc: Global, name: &str) -> Result<Answer, AllocError> {
+    match name {
+        "Matrix::new" => Ok(symbols::matrix(alloc)),
+        "segments" => bits::segmented(alloc),
+        "longest_fit" => bits::longest(alloc),
+        "codewords" => bits::encoded(alloc),
+        "parse" => bits::parsed(alloc),
+        "interleave" => symbols::interleaved(alloc),
+        "deinterleave" => symbols::deinterleaved(alloc),
+        "build_masked" => symbols::built_masked(alloc),
+        "build" => symbols::built(alloc),
+        "encode" => symbols::encoded(alloc),
+        "encode_series" => symbols::encoded_series(alloc),
+        "read_symbol" => symbols::read(alloc),
+        "read_series" => symbols::read_whole_series(alloc),
+        "options" => command::settings(alloc),
+        "run_series" => command::run_of_a_series(alloc),
+        "run_empty" => command::run_of_no_byte(alloc),
+        "run_words" => command::run_of_refused_words(alloc),
+        _ => Ok(Answer::Other),
+    }
+}
+
+// Says what the call of this name returned.
+fn tell(rt: &HostRuntime, name: &str) -> bool {
+    let text = match trial(rt.alloc(), name) {
+        Ok(answer) => answer.text(),
+        Err(_) => "not prepared",
+    };
+    println!(rt; "{name}: {text}").is_ok()
+}
+
+fn main(rt: HostRuntime) -> ExitCode {
+    let words: Vec<String> = match env::args(&rt) {
+        Ok(args) => match args.collect(rt.alloc()) {
+            Ok(words) => words,
+            Err(_) => return ExitCode::from(1),
+        },
+        Err(_) => return ExitCode::from(1),
+    };
+    let told = match words.get(1) {
+        Some(name) => tell(&rt, name.as_str()),
+        None => NAMES.iter().all(|name| tell(&rt, name)),
+    };
+    ExitCode::from(if told { 0 } else { 1 })
+}

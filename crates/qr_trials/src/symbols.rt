@@ -1,0 +1,160 @@
+//! The calls on symbols: those of `HELLO WORLD` in version 1-M, and the series of `ABCDEFGH` in byte mode in 1-H.
+
+use crate::answer::Answer;
+use crate::bits::{DATA, HELLO_WORLD, version_1};
+use qr_layout::Level;
+use qr_symbol::{
+    EncodeFault, Matrix, ReadFault, Symbol, build, build_masked, deinterleave, encode,
+    encode_series, interleave, read_series, read_symbol,
+};
+use std::alloc::{AllocError, Global};
+
+// The codewords of `HELLO WORLD` in version 1-M: the data codewords, then those of error correction.
+static SENT: [u8; 26] = [
+    0x20, 0x5B, 0x0B, 0x78, 0xD1, 0x72, 0xDC, 0x4D, 0x43, 0x40, 0xEC, 0x11, 0xEC, 0x11, 0xEC, 0x11,
+    0xC4, 0x23, 0x27, 0x77, 0xEB, 0xD7, 0xE7, 0xE2, 0x5D, 0x17,
+];
+
+static LETTERS: [u8; 8] = *b"ABCDEFGH";
+
+const ENCODE_OUT: Answer = Answer::Memory("EncodeFault::Memory, arguments unchanged");
+
+const READ_OUT: Answer = Answer::Memory("ReadFault::Memory, arguments unchanged");
+
+const ALLOC_OUT: Answer = Answer::Memory("AllocError, arguments unchanged");
+
+// Whether two squares have the same modules.
+fn are_equal(a: &Matrix, b: &Matrix) -> bool {
+    let side = a.side();
+    if b.side() != side {
+        return false;
+    }
+    for row in 0..side {
+        for col in 0..side {
+            if a.dark(row, col) != b.dark(row, col) {
+                return false;
+            }
+        }
+    }
+    true
+}
+
+// Whether each symbol has the modules of the other at its place.
+fn are_equal_series(a: &[Symbol], b: &[Symbol]) -> bool {
+    a.len() == b.len()
+        && a.iter()
+            .zip(b)
+            .all(|(x, y)| are_equal(&x.matrix, &y.matrix))
+}
+
+// The symbol of `HELLO WORLD` in version 1-M, or none where no memory was left.
+fn hello(alloc: Global) -> Result<Symbol, AllocError> {
+    encode(alloc, &HELLO_WORLD, Level::M, version_1(), false).map_err(|_| AllocError)
+}
+
+pub fn matrix(alloc: Global) -> Answer {
+    match Matrix::new(alloc, 21) {
+        Ok(matrix) => Answer::of(matrix.side() == 21),
+        Err(_) => ALLOC_OUT,
+    }
+}
+
+pub fn interleaved(alloc: Global) -> Result<Answer, AllocError> {
+    let message = Vec::from_slice(alloc, &DATA)?;
+    let version = version_1();
+    if message.len() != usize::from(version.data_codewords(Level::M)) {
+        return Ok(Answer::Other);
+    }
+    let answer = match interleave(alloc, version, Level::M, &message) {
+        Ok(sent) => Answer::of(sent.as_slice() == SENT.as_slice()),
+        Err(_) => ALLOC_OUT,
+    };
+    Ok(answer.given(message.as_slice() == DATA.as_slice()))
+}
+
+pub fn deinterleaved(alloc: Global) -> Result<Answer, AllocError> {
+    let sent = Vec::from_slice(alloc, &SENT)?;
+    let version = version_1();
+    if sent.len() != usize::from(version.total_codewords()) {
+        return Ok(Answer::Other);
+    }
+    let answer = match deinterleave(alloc, version, Level::M, &sent) {
+        Ok(message) => Answer::of(message.as_slice() == DATA.as_slice()),
+        Err(ReadFault::Memory) => READ_OUT,
+        Err(_) => Answer::Other,
+    };
+    Ok(answer.given(sent.as_slice() == SENT.as_slice()))
+}
+
+pub fn built_masked(alloc: Global) -> Result<Answer, AllocError> {
+    let sent = Vec::from_slice(alloc, &SENT)?;
+    let version = version_1();
+    if sent.len() != usize::from(version.total_codewords()) {
+        return Ok(Answer::Other);
+    }
+    let answer = match build_masked(alloc, version, Level::M, &sent, 0) {
+        Ok(symbol) => Answer::of(symbol.matrix.side() == 21 && symbol.mask == 0),
+        Err(EncodeFault::Memory) => ENCODE_OUT,
+        Err(_) => Answer::Other,
+    };
+    Ok(answer.given(sent.as_slice() == SENT.as_slice()))
+}
+
+pub fn built(alloc: Global) -> Result<Answer, AllocError> {
+    let sent = Vec::from_slice(alloc, &SENT)?;
+    let version = version_1();
+    if sent.len() != usize::from(version.total_codewords()) {
+        return Ok(Answer::Other);
+    }
+    let answer = match build(alloc, version, Level::M, &sent) {
+        Ok(symbol) => Answer::of(symbol.matrix.side() == 21),
+        Err(EncodeFault::Memory) => ENCODE_OUT,
+        Err(_) => Answer::Other,
+    };
+    Ok(answer.given(sent.as_slice() == SENT.as_slice()))
+}
+
+pub fn encoded(alloc: Global) -> Result<Answer, AllocError> {
+    let input = Vec::from_slice(alloc, &HELLO_WORLD)?;
+    let answer = match encode(alloc, &input, Level::M, version_1(), false) {
+        Ok(symbol) => Answer::of(symbol.version.number() == 1),
+        Err(EncodeFault::Memory) => ENCODE_OUT,
+        Err(_) => Answer::Other,
+    };
+    Ok(answer.given(input.as_slice() == HELLO_WORLD.as_slice()))
+}
+
+pub fn encoded_series(alloc: Global) -> Result<Answer, AllocError> {
+    let input = Vec::from_slice(alloc, &LETTERS)?;
+    let answer = match encode_series(alloc, &input, version_1(), Level::H, true) {
+        Ok(symbols) => Answer::of(symbols.len() == 2),
+        Err(EncodeFault::Memory) => ENCODE_OUT,
+        Err(_) => Answer::Other,
+    };
+    Ok(answer.given(input.as_slice() == LETTERS.as_slice()))
+}
+
+pub fn read(alloc: Global) -> Result<Answer, AllocError> {
+    let (symbol, same) = (hello(alloc)?, hello(alloc)?);
+    let answer = match read_symbol(alloc, &symbol.matrix) {
+        Ok(parsed) => Answer::of(parsed.bytes.as_slice() == HELLO_WORLD.as_slice()),
+        Err(ReadFault::Memory) => READ_OUT,
+        Err(_) => Answer::Other,
+    };
+    Ok(answer.given(are_equal(&symbol.matrix, &same.matrix)))
+}
+
+// The series of the eight letters in byte mode in version 1-H: five and three.
+fn series(alloc: Global) -> Result<Vec<Symbol>, AllocError> {
+    encode_series(alloc, &LETTERS, version_1(), Level::H, true).map_err(|_| AllocError)
+}
+
+pub fn read_whole_series(alloc: Global) -> Result<Answer, AllocError> {
+    let (symbols, same) = (series(alloc)?, series(alloc)?);
+    let answer = match read_series(alloc, &symbols) {
+        Ok(bytes) => Answer::of(bytes.as_slice() == LETTERS.as_slice()),
+        Err(ReadFault::Memory) => READ_OUT,
+        Err(_) => Answer::Other,
+    };
+    Ok(answer.given(are_equal_series(&symbols, &same)))
+}

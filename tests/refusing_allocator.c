@@ -1,0 +1,40 @@
+/* An allocator that refuses one growth of memory: the one whose number, counted from 1, stands in REFUSED_GROWTH. It is
+   loaded before a program (LD_PRELOAD) by tests/refused_growths, and linked into nothing. Where it refuses, it writes
+   one byte to the descriptor whose number stands in REFUSAL_TOLD_TO. */
+#define _GNU_SOURCE
+#include <dlfcn.h>
+#include <errno.h>
+#include <stdlib.h>
+#include <unistd.h>
+
+static int is_refused(void)
+{
+    static long growths;
+    const char *refused = getenv("REFUSED_GROWTH"), *told_to = getenv("REFUSAL_TOLD_TO");
+
+    growths += 1;
+    if (!refused || atol(refused) != growths)
+        return 0;
+    if (told_to && write(atoi(told_to), "", 1) != 1)
+        abort();
+    errno = ENOMEM;
+    return 1;
+}
+
+void *malloc(size_t size)
+{
+    static void *(*next)(size_t);
+
+    if (!next)
+        next = (void *(*)(size_t))dlsym(RTLD_NEXT, "malloc");
+    return is_refused() ? NULL : next(size);
+}
+
+void *realloc(void *old, size_t size)
+{
+    static void *(*next)(void *, size_t);
+
+    if (!next)
+        next = (void *(*)(void *, size_t))dlsym(RTLD_NEXT, "realloc");
+    return is_refused() ? NULL : next(old, size);
+}
