@@ -4,7 +4,8 @@ ghost use Rattle.std.specs.Prelude.{◌≡◌};
 
 use crate::answer::Answer;
 use qr_bits::{
-    BitFault, Mode, ParseFault, Segment, codewords, covers, longest_fit, parse, segments,
+    BitFault, Mode, ParseFault, Rule, Segment, codewords, covers, fold, longest_fit, parse,
+    segments,
 };
 use qr_layout::{Level, Version};
 use std::alloc::{AllocError, Global};
@@ -21,6 +22,9 @@ pub static DATA: [u8; 16] = [
     0x20, 0x5B, 0x0B, 0x78, 0xD1, 0x72, 0xDC, 0x4D, 0x43, 0x40, 0xEC, 0x11, 0xEC, 0x11, 0xEC, 0x11,
 ];
 
+// A kanji pair and a small letter.
+static PAIR_AND_LETTER: [u8; 3] = [0x93, 0x61, 0x61];
+
 const BITS_OUT: Answer = Answer::Memory("BitFault::Memory, arguments unchanged");
 
 /// Version 1.
@@ -35,7 +39,7 @@ pub fn version_1() -> Version
 
 pub fn segmented(alloc: Global) -> Result<Answer, AllocError> {
     let input = Vec::from_slice(alloc, &HELLO_WORLD)?;
-    let answer = match segments(alloc, &input, version_1(), false) {
+    let answer = match segments(alloc, &input, version_1(), Rule::Auto) {
         Ok(segs) => Answer::of(segs.as_slice() == [SEGMENT].as_slice()),
         Err(BitFault::Memory) => BITS_OUT,
         Err(BitFault::TooLong) => Answer::Other,
@@ -45,12 +49,21 @@ pub fn segmented(alloc: Global) -> Result<Answer, AllocError> {
 
 pub fn longest(alloc: Global) -> Result<Answer, AllocError> {
     let input = Vec::from_slice(alloc, &HELLO_WORLD)?;
-    let answer = match longest_fit(alloc, &input, version_1(), Level::M, false) {
+    let answer = match longest_fit(alloc, &input, version_1(), Level::M, Rule::Auto) {
         Ok(len) => Answer::of(len == 11),
         Err(BitFault::Memory) => BITS_OUT,
         Err(BitFault::TooLong) => Answer::Other,
     };
     Ok(answer.given(input.as_slice() == HELLO_WORLD.as_slice()))
+}
+
+pub fn folded(alloc: Global) -> Result<Answer, AllocError> {
+    let input = Vec::from_array(alloc, PAIR_AND_LETTER)?;
+    let answer = match fold(alloc, &input, Rule::WithKanji) {
+        Ok(folded) => Answer::of(folded.as_slice() == [0x93, 0x61, 0x41].as_slice()),
+        Err(_) => Answer::Memory("AllocError, arguments unchanged"),
+    };
+    Ok(answer.given(input.as_slice() == PAIR_AND_LETTER.as_slice()))
 }
 
 pub fn encoded(alloc: Global) -> Result<Answer, AllocError> {

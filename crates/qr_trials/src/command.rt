@@ -80,3 +80,15 @@ pub fn run_of_refused_words(alloc: Global) -> Result<Answer, AllocError> {
     let words = ["-v", "41", "-t", "ASCII"];
     ran(alloc, &words, b"A", 1, "", "0..=40")
 }
+
+pub fn run_with_kanji(alloc: Global) -> Result<Answer, AllocError> {
+    let words = ["-k", "-i", "-m", "0", "-t", "ASCII"];
+    ran(
+        alloc,
+        &words,
+        &[0x93, 0x5F, 0xE4, 0xAA, b'a'],
+        0,
+        "##############",
+        "",
+    )
+}

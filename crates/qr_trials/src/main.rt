@@ -15,10 +15,11 @@ use std::env;
 use std::process::ExitCode;
 
 // The trials, in the order of the crates.
-static NAMES: [&str; 17] = [
+static NAMES: [&str; 19] = [
     "Matrix::new",
     "segments",
     "longest_fit",
+    "fold",
     "codewords",
     "parse",
     "interleave",
@@ -33,6 +34,7 @@ static NAMES: [&str; 17] = [
     "run_series",
     "run_empty",
     "run_words",
+    "run_kanji",
 ];
 
 // Makes the call of this name. An error is memory refused while what it is given was made.
@@ -41,6 +43,7 @@ fn trial(alloc: Global, name: &str) -> Result<Answer, AllocError> {
         "Matrix::new" => Ok(symbols::matrix(alloc)),
         "segments" => bits::segmented(alloc),
         "longest_fit" => bits::longest(alloc),
+        "fold" => bits::folded(alloc),
         "codewords" => bits::encoded(alloc),
         "parse" => bits::parsed(alloc),
         "interleave" => symbols::interleaved(alloc),
@@ -55,6 +58,7 @@ fn trial(alloc: Global, name: &str) -> Result<Answer, AllocError> {
         "run_series" => command::run_of_a_series(alloc),
         "run_empty" => command::run_of_no_byte(alloc),
         "run_words" => command::run_of_refused_words(alloc),
+        "run_kanji" => command::run_with_kanji(alloc),
         _ => Ok(Answer::Other),
     }
 }

@@ -2,6 +2,7 @@
 
 use crate::answer::Answer;
 use crate::bits::{DATA, HELLO_WORLD, version_1};
+use qr_bits::Rule;
 use qr_layout::Level;
 use qr_symbol::{
     EncodeFault, Matrix, ReadFault, Symbol, build, build_masked, deinterleave, encode,
@@ -49,7 +50,7 @@ fn are_equal_series(a: &[Symbol], b: &[Symbol]) -> bool {
 
 // The symbol of `HELLO WORLD` in version 1-M, or none where no memory was left.
 fn hello(alloc: Global) -> Result<Symbol, AllocError> {
-    encode(alloc, &HELLO_WORLD, Level::M, version_1(), false).map_err(|_| AllocError)
+    encode(alloc, &HELLO_WORLD, Level::M, version_1(), Rule::Auto).map_err(|_| AllocError)
 }
 
 pub fn matrix(alloc: Global) -> Answer {
@@ -116,7 +117,7 @@ pub fn built(alloc: Global) -> Result<Answer, AllocError> {
 
 pub fn encoded(alloc: Global) -> Result<Answer, AllocError> {
     let input = Vec::from_slice(alloc, &HELLO_WORLD)?;
-    let answer = match encode(alloc, &input, Level::M, version_1(), false) {
+    let answer = match encode(alloc, &input, Level::M, version_1(), Rule::Auto) {
         Ok(symbol) => Answer::of(symbol.version.number() == 1),
         Err(EncodeFault::Memory) => ENCODE_OUT,
         Err(_) => Answer::Other,
@@ -126,7 +127,7 @@ pub fn encoded(alloc: Global) -> Result<Answer, AllocError> {
 
 pub fn encoded_series(alloc: Global) -> Result<Answer, AllocError> {
     let input = Vec::from_slice(alloc, &LETTERS)?;
-    let answer = match encode_series(alloc, &input, version_1(), Level::H, true) {
+    let answer = match encode_series(alloc, &input, version_1(), Level::H, Rule::BytesOnly) {
         Ok(symbols) => Answer::of(symbols.len() == 2),
         Err(EncodeFault::Memory) => ENCODE_OUT,
         Err(_) => Answer::Other,
@@ -146,7 +147,7 @@ pub fn read(alloc: Global) -> Result<Answer, AllocError> {
 
 // The series of the eight letters in byte mode in version 1-H: five and three.
 fn series(alloc: Global) -> Result<Vec<Symbol>, AllocError> {
-    encode_series(alloc, &LETTERS, version_1(), Level::H, true).map_err(|_| AllocError)
+    encode_series(alloc, &LETTERS, version_1(), Level::H, Rule::BytesOnly).map_err(|_| AllocError)
 }
 
 pub fn read_whole_series(alloc: Global) -> Result<Answer, AllocError> {
