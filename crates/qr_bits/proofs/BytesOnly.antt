@@ -2,13 +2,14 @@
 use Rattle.std.proofs.Common.{◌≡◌, ℕ, zero, suc, ◌+◌, true, false, ◌==◌, List, [], ◌∷◌, length, refl, sym, ◌∙◌, ap, subst, arith, inr, lit<}
 use Rattle.std.specs.List.{list_all}
 use Rattle.std.proofs.lemmas.Bool.{and_from, and_parts, eqb-true, false≢true}
-use Rattle.qr_bits.specs.declared.segment.Mode.{Mode}
-use Rattle.qr_bits.specs.declared.segment.Mode.TheVariants.{Numeric, Alphanumeric, Byte, Kanji}
-use Rattle.qr_bits.specs.declared.segment.Rule.TheVariants.{BytesOnly}
-use Rattle.qr_bits.specs.declared.segment.Segment.{Segment}
+use Rattle.qr_bits.specs.declared.modes.Mode.{Mode}
+use Rattle.qr_bits.specs.declared.modes.Mode.TheVariants.{Numeric, Alphanumeric, Byte, Kanji}
+use Rattle.qr_bits.specs.declared.modes.Rule.TheVariants.{BytesOnly}
+use Rattle.qr_bits.specs.declared.segmentation.Segment.{Segment}
 use Rattle.qr_bits.specs.declared.place.Place.{Place}
 use Rattle.qr_bits.specs.declared.place.Place.TheVariants.{Start}
-use Rattle.qr_bits.specs.Letters.{bits, is_kanji_pair, may_use, with_front, runs_of, IsLettering, NotAfter, IsLeastSegmentation}
+use Rattle.qr_bits.specs.Segmentation.{bits, with_front, runs_of, IsLettering, NotAfter, IsLeastSegmentation}
+use Rattle.qr_bits.specs.Modes.{is_kanji_pair, may_use}
 use Rattle.qr_bits.specs.Places.{begins, place_after, may_begin, may_end, may_take, allowed}
 use Rattle.qr_bits.specs.Growing.{byte_segments}
 use Rattle.qr_bits.proofs.Choosing.{take_begin}

@@ -5,9 +5,8 @@ use Rattle.std.proofs.lemmas.Bool.{cases_lt, false≢true, lt-ltb, ltb-true, eqb
 use Rattle.std.proofs.lemmas.List.Folds.{list_any_none, list_any_at}
 use Rattle.std.proofs.lemmas.List.Sums.{fails_before_first, passes_at_first, position_or_len_is}
 use Rattle.std.proofs.lemmas.List.Elements.{All-from_get_or}
-use Rattle.qr_bits.specs.Letters.{characters, is_alphanumeric}
-use Rattle.qr_bits.specs.Stream.{character_value}
-use Rattle.qr_bits.specs.Parse.{character}
+use Rattle.qr_bits.specs.Modes.{characters, is_alphanumeric, character_value}
+use Rattle.qr_bits.specs.Parsing.{character}
 use Rattle.qr_layout.proofs.TableLemmas.{below, below-at}
 
 -- an element that passes has a place

@@ -7,13 +7,14 @@ use Rattle.qr_layout.specs.declared.level.Level.TheVariants.{L, M, Q, H}
 use Rattle.qr_layout.specs.Versions.{total_codewords_of}
 use Rattle.qr_layout.specs.Blocks.{correction_len_of, block_count_of, data_codewords_of}
 use Rattle.qr_layout.proofs.TableLemmas.{below, below-at}
-use Rattle.qr_bits.specs.declared.segment.Mode.{Mode}
-use Rattle.qr_bits.specs.declared.segment.Mode.TheVariants.{Numeric, Alphanumeric, Byte, Kanji}
-use Rattle.qr_bits.specs.declared.segment.Rule.{Rule}
-use Rattle.qr_bits.specs.declared.segment.Segment.{Segment}
-use Rattle.qr_bits.specs.Letters.{count_of, count_width, payload_bits, segment_bits, bits, Covers, runs_of, HasFit}
+use Rattle.qr_bits.specs.declared.modes.Mode.{Mode}
+use Rattle.qr_bits.specs.declared.modes.Mode.TheVariants.{Numeric, Alphanumeric, Byte, Kanji}
+use Rattle.qr_bits.specs.declared.modes.Rule.{Rule}
+use Rattle.qr_bits.specs.declared.segmentation.Segment.{Segment}
+use Rattle.qr_bits.specs.Modes.{count_of, count_width, payload_bits}
+use Rattle.qr_bits.specs.Segmentation.{segment_bits, bits, Covers, runs_of, HasFit}
 use Rattle.qr_bits.specs.Stream.{CountsFit}
-use Rattle.qr_bits.specs.Data.{capacity_of}
+use Rattle.qr_bits.specs.Padding.{capacity_of}
 use Rattle.qr_bits.proofs.SegmentLists.{segment_least, bits_least}
 use Rattle.qr_bits.proofs.Writing.{covers_suits}
 use Rattle.std.proofs.lemmas.List.{length-drop}

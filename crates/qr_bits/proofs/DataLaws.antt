@@ -4,15 +4,16 @@ use Rattle.std.proofs.lemmas.Bool.{lt-ltb, cases_lt, or_right}
 use Rattle.std.proofs.lemmas.List.{length-replicate, drop_all}
 use Rattle.qr_layout.specs.declared.level.Level.{Level}
 use Rattle.qr_layout.specs.Blocks.{data_codewords_of}
-use Rattle.qr_bits.specs.declared.segment.Segment.{Segment}
+use Rattle.qr_bits.specs.declared.segmentation.Segment.{Segment}
 use Rattle.qr_bits.specs.declared.header.Header.{Header}
 use Rattle.qr_bits.specs.Bits.{bits_of}
-use Rattle.qr_bits.specs.Letters.{bits}
-use Rattle.qr_bits.specs.Stream.{header_stream, segments_stream, IsStream}
-use Rattle.qr_bits.specs.Parse.{ends, bytes_of, parse}
-use Rattle.qr_bits.specs.Data.{capacity_of, header_bits, terminated, filled, pads, padded, IsData}
+use Rattle.qr_bits.specs.Segmentation.{bits}
+use Rattle.qr_bits.specs.Header.{header_stream, header_bits}
+use Rattle.qr_bits.specs.Stream.{segments_stream, IsStream}
+use Rattle.qr_bits.specs.Parsing.{ends, bytes_of, parse}
+use Rattle.qr_bits.specs.Padding.{capacity_of, terminated, filled, pads, padded, IsData}
 use Rattle.qr_bits.proofs.BitLists.{length-bits_of}
-use Rattle.qr_bits.proofs.Padding.{length-header_stream}
+use Rattle.qr_bits.proofs.PaddingLemmas.{length-header_stream}
 use Rattle.qr_bits.proofs.Values.{bytes_again, bytes_takes}
 use Rattle.qr_bits.proofs.Writing.{length-segments_stream}
 use Rattle.qr_bits.proofs.StreamReading.{parse_again}

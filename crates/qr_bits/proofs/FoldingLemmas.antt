@@ -2,9 +2,9 @@
 use Rattle.std.proofs.Common.{◌≡◌, ℕ, suc, ◌<◌, ◌≤◌, Bool, true, false, List, [], ◌∷◌, ◌++◌, length, get_or, take, drop, refl, sym, ◌∙◌, ap, ⊎_elim, arith, append_assoc}
 use Rattle.std.proofs.lemmas.List.{length-map}
 use Rattle.std.proofs.lemmas.Bool.{cases_Bool, false≢true}
-use Rattle.qr_bits.specs.declared.segment.Rule.{Rule}
-use Rattle.qr_bits.specs.declared.segment.Rule.TheVariants.{Auto, BytesOnly, WithKanji}
-use Rattle.qr_bits.specs.Letters.{is_kanji_pair}
+use Rattle.qr_bits.specs.declared.modes.Rule.{Rule}
+use Rattle.qr_bits.specs.declared.modes.Rule.TheVariants.{Auto, BytesOnly, WithKanji}
+use Rattle.qr_bits.specs.Modes.{is_kanji_pair}
 use Rattle.qr_bits.specs.Folding.{capital, folded, folded_around_pairs}
 use Rattle.qr_bits.specs.Places.{begins}
 

@@ -2,7 +2,7 @@ pub mod BitLists
 pub mod SegmentLists
 pub mod Characters
 pub mod Writing
-pub mod Padding
+pub mod PaddingLemmas
 pub mod Counts
 pub mod Best
 pub mod LetterBits

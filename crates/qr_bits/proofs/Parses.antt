@@ -2,13 +2,13 @@
 use Rattle.std.proofs.Common.{◌≡◌, ℕ, zero, suc, ◌+◌, ◌≤◌, Bool, true, false, cond, ◌==◌, nat_lt, nat_le, List, [], ◌∷◌, ◌++◌, length, take, drop, Result, Ok, Err, refl, sym, ◌∙◌, ap, ⊎_elim, arith}
 use Rattle.std.proofs.lemmas.Bool.{lt-ltb, le-ltb, ltb-false, or_parts, or_left, and_parts, cases_Bool}
 use Rattle.std.proofs.lemmas.List.{append-nil, append_assoc, length-drop}
-use Rattle.qr_bits.specs.declared.segment.Mode.{Mode}
-use Rattle.qr_bits.specs.declared.segment.Segment.{Segment}
+use Rattle.qr_bits.specs.declared.modes.Mode.{Mode}
+use Rattle.qr_bits.specs.declared.segmentation.Segment.{Segment}
 use Rattle.qr_bits.specs.declared.fault.ParseFault.{ParseFault}
 use Rattle.qr_bits.specs.declared.fault.ParseFault.TheVariants.{Memory, BadMode, Cut, BadValue}
 use Rattle.qr_bits.specs.Bits.{value}
-use Rattle.qr_bits.specs.Letters.{payload_bits, count_width, len_of}
-use Rattle.qr_bits.specs.Parse.{◌>>=◌, Fails, values_of, mode_of, ends, number_at, payload_at, segment_at, segments_at, segments_of, begins_header, header_at}
+use Rattle.qr_bits.specs.Modes.{payload_bits, count_width, len_of}
+use Rattle.qr_bits.specs.Parsing.{◌>>=◌, Fails, values_of, mode_of, ends, number_at, payload_at, segment_at, segments_at, segments_of, begins_header, header_at}
 use borrow.Author.Tests.{leb-true}
 
 -- where two readings succeed, the first does, and the second of what it gave

@@ -3,12 +3,12 @@ use Rattle.std.proofs.Common.{◌≡◌, ℕ, zero, suc, ◌+◌, ◌-◌, ◌/�
 use Rattle.std.proofs.lemmas.Bool.{lt-ltb, le-ltb}
 use Rattle.std.proofs.lemmas.List.{length-take, append_assoc}
 use Rattle.std.proofs.Math.Nat.{pow-le-pow_right}
-use Rattle.qr_bits.specs.declared.segment.Mode.TheVariants.{Numeric, Alphanumeric}
+use Rattle.qr_bits.specs.declared.modes.Mode.TheVariants.{Numeric, Alphanumeric}
 use Rattle.qr_bits.specs.declared.fault.ParseFault.{ParseFault}
 use Rattle.qr_bits.specs.declared.fault.ParseFault.TheVariants.{BadValue}
 use Rattle.qr_bits.specs.Bits.{value}
-use Rattle.qr_bits.specs.Letters.{payload_bits}
-use Rattle.qr_bits.specs.Parse.{◌>>=◌, digit, digits_of, character, characters_of, bytes_of}
+use Rattle.qr_bits.specs.Modes.{payload_bits}
+use Rattle.qr_bits.specs.Parsing.{◌>>=◌, digit, digits_of, character, characters_of, bytes_of}
 use Rattle.qr_bits.proofs.BitLists.{value_below}
 use Rattle.qr_bits.proofs.Writing.{three_more, two_more}
 

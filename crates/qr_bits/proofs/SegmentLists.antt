@@ -6,11 +6,12 @@ use Rattle.std.proofs.lemmas.List.{length-drop, drop_all}
 use Rattle.std.proofs.lemmas.List.Sums.{sum_by-cons}
 use Rattle.std.proofs.lemmas.List.Elements.{All-cons, All-nil, All-head, All-tail}
 use Rattle.std.proofs.Math.Seq.{drop-cons}
-use Rattle.qr_bits.specs.declared.segment.Mode.{Mode}
-use Rattle.qr_bits.specs.declared.segment.Mode.TheVariants.{Numeric, Alphanumeric, Byte, Kanji}
-use Rattle.qr_bits.specs.declared.segment.Rule.{Rule}
-use Rattle.qr_bits.specs.declared.segment.Segment.{Segment}
-use Rattle.qr_bits.specs.Letters.{count_width, payload_bits, segment_bits, bits, rank, suits, Covers, runs_of, NotAfter, IsLeastSegmentation, HasFit}
+use Rattle.qr_bits.specs.declared.modes.Mode.{Mode}
+use Rattle.qr_bits.specs.declared.modes.Mode.TheVariants.{Numeric, Alphanumeric, Byte, Kanji}
+use Rattle.qr_bits.specs.declared.modes.Rule.{Rule}
+use Rattle.qr_bits.specs.declared.segmentation.Segment.{Segment}
+use Rattle.qr_bits.specs.Modes.{count_width, payload_bits, suits}
+use Rattle.qr_bits.specs.Segmentation.{segment_bits, bits, rank, Covers, runs_of, NotAfter, IsLeastSegmentation, HasFit}
 use Rattle.qr_bits.specs.Stream.{Suits}
 
 -- a choice between small numbers is small

@@ -5,15 +5,16 @@ use Rattle.std.proofs.lemmas.List.{length-take-le, length-drop, drop-drop, take-
 use Rattle.std.proofs.lemmas.List.Elements.{All-nil, All-append, All-take, All-drop}
 use Rattle.std.proofs.Math.Seq.{take-append_seam, drop-append_seam}
 use borrow.Author.Tests.{leb-true}
-use Rattle.qr_bits.specs.declared.segment.Mode.{Mode}
-use Rattle.qr_bits.specs.declared.segment.Mode.TheVariants.{Numeric, Alphanumeric, Byte, Kanji}
-use Rattle.qr_bits.specs.declared.segment.Segment.{Segment}
+use Rattle.qr_bits.specs.declared.modes.Mode.{Mode}
+use Rattle.qr_bits.specs.declared.modes.Mode.TheVariants.{Numeric, Alphanumeric, Byte, Kanji}
+use Rattle.qr_bits.specs.declared.segmentation.Segment.{Segment}
 use Rattle.qr_bits.specs.declared.header.Header.{Header}
 use Rattle.qr_bits.specs.declared.fault.ParseFault.TheVariants.{BadMode, Cut}
 use Rattle.qr_bits.specs.Bits.{field, value}
-use Rattle.qr_bits.specs.Letters.{count_of, count_width, is_kanji_pair, len_of, payload_bits, suits}
-use Rattle.qr_bits.specs.Stream.{indicator, header_indicator, payload, segment_stream, segments_stream, header_stream, Suits, CountsFit, HeaderFits, IsStream}
-use Rattle.qr_bits.specs.Parse.{◌>>=◌, values_of, mode_of, ends, number_at, payload_at, segment_at, segments_at, segments_of, begins_header, header_at, first_header, Content, parse}
+use Rattle.qr_bits.specs.Modes.{count_of, count_width, is_kanji_pair, len_of, payload_bits, suits, indicator}
+use Rattle.qr_bits.specs.Header.{header_indicator, header_stream, HeaderFits}
+use Rattle.qr_bits.specs.Stream.{payload, segment_stream, segments_stream, Suits, CountsFit, IsStream}
+use Rattle.qr_bits.specs.Parsing.{◌>>=◌, values_of, mode_of, ends, number_at, payload_at, segment_at, segments_at, segments_of, begins_header, header_at, first_header, Content, parse}
 use Rattle.qr_bits.proofs.BitLists.{length-field}
 use Rattle.qr_bits.proofs.Payloads.{value_take_below}
 use Rattle.qr_bits.proofs.Parses.{bind_ok, bind_all, guard_ok, same_ok, not_ended, ended_empty, segment_shorter, segments_end, segments_step, header_whole}

@@ -8,13 +8,12 @@ use Rattle.std.proofs.lemmas.List.{length-take-le, length-drop, drop-drop, take-
 use Rattle.std.proofs.Math.Seq.{take-append_seam, drop-append_seam}
 use Rattle.std.proofs.lemmas.Nat.{mod-pow-add}
 use Rattle.std.proofs.Math.Nat.{pow-suc, mod-eq_of_lt}
-use Rattle.qr_bits.specs.declared.segment.Mode.TheVariants.{Numeric}
+use Rattle.qr_bits.specs.declared.modes.Mode.TheVariants.{Numeric}
 use Rattle.qr_bits.specs.declared.fault.ParseFault.{ParseFault}
 use Rattle.qr_bits.specs.declared.fault.ParseFault.TheVariants.{BadValue}
 use Rattle.qr_bits.specs.Bits.{field, value_from, value}
-use Rattle.qr_bits.specs.Letters.{payload_bits}
-use Rattle.qr_bits.specs.Parse.{◌>>=◌, digit, digits_of}
-use Rattle.qr_bits.specs.Letters.{is_digit}
+use Rattle.qr_bits.specs.Modes.{payload_bits, is_digit}
+use Rattle.qr_bits.specs.Parsing.{◌>>=◌, digit, digits_of}
 use Rattle.qr_bits.specs.Stream.{digit_bits}
 use Rattle.qr_bits.proofs.BitLists.{length-field, value_below}
 use Rattle.qr_bits.proofs.Writing.{three_more}

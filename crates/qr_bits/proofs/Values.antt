@@ -4,13 +4,13 @@ use Rattle.std.specs.List.{list_all}
 use Rattle.std.proofs.lemmas.Bool.{lt-ltb, ltb-true, and_parts, and_from}
 use Rattle.std.proofs.lemmas.List.{length-drop, drop-drop, take-append-drop}
 use Rattle.std.proofs.lemmas.List.Elements.{All-nil, All-cons, All-head, All-tail}
-use Rattle.qr_bits.specs.declared.segment.Mode.{Mode}
-use Rattle.qr_bits.specs.declared.segment.Mode.TheVariants.{Numeric, Alphanumeric, Byte, Kanji}
+use Rattle.qr_bits.specs.declared.modes.Mode.{Mode}
+use Rattle.qr_bits.specs.declared.modes.Mode.TheVariants.{Numeric, Alphanumeric, Byte, Kanji}
 use Rattle.qr_bits.specs.declared.fault.ParseFault.TheVariants.{BadValue}
 use Rattle.qr_bits.specs.Bits.{field, value, bits_of}
-use Rattle.qr_bits.specs.Letters.{count_of, is_alphanumeric, len_of, payload_bits, suits}
-use Rattle.qr_bits.specs.Stream.{character_value, character_bits, payload}
-use Rattle.qr_bits.specs.Parse.{◌>>=◌, character, characters_of, bytes_of, values_of}
+use Rattle.qr_bits.specs.Modes.{count_of, is_alphanumeric, len_of, payload_bits, suits, character_value}
+use Rattle.qr_bits.specs.Stream.{character_bits, payload}
+use Rattle.qr_bits.specs.Parsing.{◌>>=◌, character, characters_of, bytes_of, values_of}
 use Rattle.qr_bits.proofs.KanjiPairs.{pairs_again, pairs_takes}
 use Rattle.qr_bits.proofs.Characters.{character_found, character_again, character_taken}
 use Rattle.qr_bits.proofs.Payloads.{value_take_below}

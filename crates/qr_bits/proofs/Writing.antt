@@ -4,12 +4,13 @@ use Rattle.std.specs.List.{list_all}
 use Rattle.std.proofs.lemmas.Bool.{and_parts, false≢true}
 use Rattle.std.proofs.lemmas.List.{length-take-le, drop_all}
 use Rattle.std.proofs.Math.Seq.{drop-cons}
-use Rattle.qr_bits.specs.declared.segment.Mode.{Mode}
-use Rattle.qr_bits.specs.declared.segment.Mode.TheVariants.{Numeric, Alphanumeric, Byte, Kanji}
-use Rattle.qr_bits.specs.declared.segment.Segment.{Segment}
+use Rattle.qr_bits.specs.declared.modes.Mode.{Mode}
+use Rattle.qr_bits.specs.declared.modes.Mode.TheVariants.{Numeric, Alphanumeric, Byte, Kanji}
+use Rattle.qr_bits.specs.declared.segmentation.Segment.{Segment}
 use Rattle.qr_bits.specs.Bits.{field}
-use Rattle.qr_bits.specs.Letters.{count_of, count_width, payload_bits, segment_bits, bits, in_twos, is_kanji_pair, suits, Covers}
-use Rattle.qr_bits.specs.Stream.{kanji_value, kanji_bits, digit_bits, character_value, character_bits, payload, segment_stream, segments_stream, Suits}
+use Rattle.qr_bits.specs.Modes.{count_of, count_width, payload_bits, in_twos, is_kanji_pair, suits, kanji_value, character_value}
+use Rattle.qr_bits.specs.Segmentation.{segment_bits, bits, Covers}
+use Rattle.qr_bits.specs.Stream.{kanji_bits, digit_bits, character_bits, payload, segment_stream, segments_stream, Suits}
 use Rattle.qr_bits.proofs.BitLists.{length-field, length-bits_of}
 
 -- each of the first bytes passes where all do, and so does the rest
@@ -165,7 +166,7 @@ pub length-segment_stream : (v n : ℕ) (m : Mode) (xs : List ℕ) → suits m x
 unfolding segment_stream
 length-segment_stream v n m xs h e =
     let count = field (count_width v m) (count_of m (length xs)) in
-    let id = Rattle.qr_bits.specs.Stream.indicator m in
+    let id = Rattle.qr_bits.specs.Modes.indicator m in
     omega (arith, length-append (field 4 id) (count ++ payload m xs), length-append count (payload m xs), length-field 4 id, length-field (count_width v m) (count_of m (length xs)), length-payload m xs h, ap (payload_bits m) e)
 
 -- the stream of segments has their bits

@@ -1,8 +1,8 @@
 -- Folding to capitals: what an input becomes before it is written. Public clauses cite these.
 use Rattle.std.specs.Prelude.{ℕ, ◌-◌, ◌&&◌, nat_le, if◌then◌else◌, List, [], ◌∷◌, map}
-use Rattle.qr_bits.specs.declared.segment.Rule.{Rule}
-use Rattle.qr_bits.specs.declared.segment.Rule.TheVariants.{Auto, BytesOnly, WithKanji}
-use Rattle.qr_bits.specs.Letters.{is_kanji_pair}
+use Rattle.qr_bits.specs.declared.modes.Rule.{Rule}
+use Rattle.qr_bits.specs.declared.modes.Rule.TheVariants.{Auto, BytesOnly, WithKanji}
+use Rattle.qr_bits.specs.Modes.{is_kanji_pair}
 
 -- the capital of a small letter from a to z; any other byte stays [own]
 abbrev pub capital : ℕ → ℕ

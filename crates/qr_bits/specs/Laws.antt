@@ -3,15 +3,17 @@ use Rattle.std.specs.Prelude.{◌≡◌, ℕ, ◌+◌, ◌*◌, ◌<◌, ◌≤�
 use Rattle.std.specs.List.{slice_index_or}
 use Rattle.qr_layout.specs.declared.level.Level.{Level}
 use Rattle.qr_layout.specs.Blocks.{data_codewords_of}
-use Rattle.qr_bits.specs.declared.segment.Mode.TheVariants.{Kanji}
-use Rattle.qr_bits.specs.declared.segment.Rule.{Rule}
-use Rattle.qr_bits.specs.declared.segment.Segment.{Segment}
+use Rattle.qr_bits.specs.declared.modes.Mode.TheVariants.{Kanji}
+use Rattle.qr_bits.specs.declared.modes.Rule.{Rule}
+use Rattle.qr_bits.specs.declared.segmentation.Segment.{Segment}
 use Rattle.qr_bits.specs.declared.header.Header.{Header}
 use Rattle.qr_bits.specs.Bits.{bits_of, codeword_bit}
-use Rattle.qr_bits.specs.Letters.{bits, may_use, Covers, IsLeastSegmentation, HasFit}
+use Rattle.qr_bits.specs.Segmentation.{bits, Covers, IsLeastSegmentation, HasFit}
+use Rattle.qr_bits.specs.Modes.{may_use}
 use Rattle.qr_bits.specs.Stream.{CountsFit, IsStream, Suits}
-use Rattle.qr_bits.specs.Data.{capacity_of, header_bits, IsData}
-use Rattle.qr_bits.specs.Parse.{ends, parse}
+use Rattle.qr_bits.specs.Padding.{capacity_of, IsData}
+use Rattle.qr_bits.specs.Header.{header_bits}
+use Rattle.qr_bits.specs.Parsing.{ends, parse}
 
 -- A parse gives a header, segments and bytes exactly where the bits are their stream and then an end: fewer than four
 -- bits, or the terminator and anything (ISO/IEC 18004:2015, 7.4.1, 7.4.9, 8.1).

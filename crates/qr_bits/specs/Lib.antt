@@ -1,10 +1,12 @@
 pub mod Bits
-pub mod Letters
+pub mod Modes
+pub mod Header
+pub mod Segmentation
 pub mod Stream
-pub mod Data
-pub mod Parse
+pub mod Padding
+pub mod Parsing
+pub mod Folding
 pub mod Places
 pub mod ByPlaces
 pub mod Growing
 pub mod Laws
-pub mod Folding

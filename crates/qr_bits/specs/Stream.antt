@@ -1,23 +1,12 @@
 -- The bit stream of segments, stated from the standard's tables apart from reading. Public clauses cite these.
-use Rattle.std.specs.Prelude.{◌≡◌, ℕ, ◌+◌, ◌-◌, ◌*◌, ◌/◌, ◌%◌, ◌<◌, ◌≤◌, ◌^◌, Bool, List, [], ◌∷◌, ◌++◌, length, take, drop, All, IsTrue, Option, Some, None, ◌==◌, nat_le, if◌then◌else◌, bit_xor, fold}
-use Rattle.std.specs.List.{position_or_len}
-use Rattle.qr_bits.specs.declared.segment.Mode.{Mode}
-use Rattle.qr_bits.specs.declared.segment.Mode.TheVariants.{Numeric, Alphanumeric, Byte, Kanji}
-use Rattle.qr_bits.specs.declared.segment.Segment.{Segment}
+use Rattle.std.specs.Prelude.{◌≡◌, ℕ, ◌+◌, ◌*◌, ◌<◌, ◌≤◌, Bool, List, [], ◌∷◌, length, take, drop, IsTrue, ◌-◌, ◌^◌, ◌++◌, All, Option}
+use Rattle.qr_bits.specs.declared.modes.Mode.{Mode}
+use Rattle.qr_bits.specs.declared.modes.Mode.TheVariants.{Numeric, Alphanumeric, Byte, Kanji}
+use Rattle.qr_bits.specs.declared.segmentation.Segment.{Segment}
 use Rattle.qr_bits.specs.declared.header.Header.{Header}
 use Rattle.qr_bits.specs.Bits.{field, bits_of}
-use Rattle.qr_bits.specs.Letters.{characters, count_of, count_width, suits}
-
--- the mode indicator (ISO/IEC 18004:2015, 7.4.1, Table 2)
-abbrev pub indicator : Mode → ℕ
-indicator Numeric = 1
-indicator Alphanumeric = 2
-indicator Byte = 4
-indicator Kanji = 8
-
--- the indicator of structured append (ISO/IEC 18004:2015, 7.4.1, Table 2)
-abbrev pub header_indicator : ℕ
-header_indicator = 3
+use Rattle.qr_bits.specs.Modes.{count_of, count_width, suits, indicator, character_value, kanji_value}
+use Rattle.qr_bits.specs.Header.{header_stream, HeaderFits}
 
 -- the bits of digits: three in 10 bits, two left over in 7, one in 4 (ISO/IEC 18004:2015, 7.4.3)
 unfoldable pub digit_bits : List ℕ → List Bool
@@ -26,23 +15,11 @@ digit_bits (a ∷ []) = field 4 (a - 48)
 digit_bits (a ∷ b ∷ []) = field 7 (10 * (a - 48) + (b - 48))
 digit_bits (a ∷ b ∷ c ∷ xs) = field 10 (100 * (a - 48) + 10 * (b - 48) + (c - 48)) ++ digit_bits xs
 
--- the value of a character: its place in the table (ISO/IEC 18004:2015, 7.4.4, Table 5)
-unfoldable pub character_value : ℕ → ℕ
-character_value b = position_or_len (λ c. c == b) characters
-
 -- the bits of characters: two in 11 bits, one left over in 6 (ISO/IEC 18004:2015, 7.4.4)
 unfoldable pub character_bits : List ℕ → List Bool
 character_bits [] = []
 character_bits (a ∷ []) = field 6 (character_value a)
 character_bits (a ∷ b ∷ xs) = field 11 (45 * character_value a + character_value b) ++ character_bits xs
-
--- the value of a kanji pair: less 8140 up to 9FFC, less C140 from there on (hexadecimal); then C0 times the high byte of
--- that, and its low byte (ISO/IEC 18004:2015, 7.4.6)
-unfoldable pub kanji_value : ℕ → ℕ → ℕ
-kanji_value high low =
-    let pair = 256 * high + low in
-    let rest = if nat_le pair 0x9FFC then pair - 0x8140 else pair - 0xC140 in
-    0xC0 * (rest / 256) + rest % 256
 
 -- the bits of kanji pairs: each in 13 bits (ISO/IEC 18004:2015, 7.4.6)
 unfoldable pub kanji_bits : List ℕ → List Bool
@@ -66,11 +43,6 @@ unfoldable pub segments_stream : ℕ → List ℕ → List Segment → List Bool
 segments_stream v xs [] = []
 segments_stream v xs (s ∷ ss) = segment_stream v s.mode (take s.len xs) ++ segments_stream v (drop s.len xs) ss
 
--- the bits of a header: the indicator, the position, the number of symbols less 1, the parity (ISO/IEC 18004:2015, 8.1 to 8.3)
-unfoldable pub header_stream : Option Header → List Bool
-header_stream None = []
-header_stream (Some h) = field 4 header_indicator ++ (field 4 h.position ++ (field 4 h.last ++ field 8 h.parity))
-
 -- the segments take all of the bytes, each part suiting its mode; segments may be empty [own]
 unfoldable pub Suits : List ℕ → List Segment → Type 0
 Suits xs [] = xs ≡ []
@@ -81,11 +53,6 @@ unfoldable pub CountsFit : ℕ → List Segment → Type 0
 CountsFit v [] = Unit {0}
 CountsFit v (s ∷ ss) = (count_of s.mode s.len < 2 ^ count_width v s.mode) × CountsFit v ss
 
--- the header's numbers fit their fields (ISO/IEC 18004:2015, 8.2, 8.3)
-abbrev pub HeaderFits : Option Header → Type 0
-HeaderFits None = Unit {0}
-HeaderFits (Some h) = (h.position < 16) × (h.last < 16) × (h.parity < 256)
-
 -- The bits are the stream of these bytes in these segments behind this header: where the segments take the bytes, each
 -- part suits its mode and all numbers fit, the header's bits and then those of the segments (ISO/IEC 18004:2015, 7.4.1, 8.1).
 pub record IsStream (v : ℕ) (xs : List ℕ) (segs : List Segment) (h : Option Header) (stream : List Bool) : Type 0 where
@@ -94,7 +61,3 @@ pub record IsStream (v : ℕ) (xs : List ℕ) (segs : List Segment) (h : Option 
   pub counts : CountsFit v segs
   pub header : HeaderFits h
   pub whole : stream ≡ header_stream h ++ segments_stream v xs segs
-
--- the exclusive or of all bytes (ISO/IEC 18004:2015, 8.3)
-abbrev pub parity_of : List ℕ → ℕ
-parity_of bs = fold bit_xor 0 bs

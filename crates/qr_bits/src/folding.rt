@@ -3,7 +3,7 @@
 ghost use Rattle.std.specs.Prelude.{◌≡◌, ◌++◌, length, map, vec_len, IfOk, OnOk};
 ghost use Rattle.qr_bits.specs.Folding.{capital, folded, folded_around_pairs};
 
-use crate::segment::Rule;
+use crate::modes::Rule;
 use crate::table::begins_with_pair;
 use std::alloc::{AllocError, Global};
 

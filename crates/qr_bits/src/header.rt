@@ -1,7 +1,10 @@
 //! The header of structured append: ISO/IEC 18004:2015, 8.
 
-ghost use Rattle.std.specs.Prelude.{◌≡◌, bit_xor};
-ghost use Rattle.qr_bits.specs.Stream.{parity_of};
+ghost use Rattle.std.specs.Prelude.{◌≡◌};
+ghost use Rattle.qr_bits.specs.Header.{header_bits, parity_of};
+
+// The bits of a header (8.1).
+pub(crate) const HEADER_BITS: u64 = 20;
 
 /// What a symbol of a series says before its segments (8.1).
 #[derive(Clone, Copy, Debug, PartialEq, Eq)]
@@ -12,6 +15,15 @@ pub struct Header {
     pub last: u8,
     /// The parity of the whole input (8.3).
     pub parity: u8,
+}
+
+pub(crate) fn header_bits(header: Option<Header>) -> u64
+    ensures { result ≡ header_bits header }
+{
+    match header {
+        None => 0,
+        Some(_) => HEADER_BITS,
+    }
 }
 
 /// The exclusive or of all bytes (8.3).

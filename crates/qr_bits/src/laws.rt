@@ -1,20 +1,22 @@
 //! Laws of the definitions, which hold for every input.
 
 ghost use Rattle.std.specs.Prelude.{◌≡◌, ◌↔◌, ◌/◌, ◌%◌, ℕ, List, [], ◌∷◌, ◌++◌, true, false, length, map, codes, IsTrue};
-ghost use Rattle.qr_bits.specs.declared.segment.Mode.TheVariants.{Alphanumeric, Byte, Kanji, Numeric};
-ghost use Rattle.qr_bits.specs.declared.segment.Rule.{Rule};
-ghost use Rattle.qr_bits.specs.declared.segment.Segment.{Segment};
+ghost use Rattle.qr_bits.specs.declared.modes.Mode.TheVariants.{Alphanumeric, Byte, Kanji, Numeric};
+ghost use Rattle.qr_bits.specs.declared.modes.Rule.{Rule};
+ghost use Rattle.qr_bits.specs.declared.segmentation.Segment.{Segment};
 ghost use Rattle.qr_bits.specs.Bits.{bits_of, field};
-ghost use Rattle.qr_bits.specs.Data.{padded};
+ghost use Rattle.qr_bits.specs.Padding.{padded};
 ghost use Rattle.qr_bits.specs.Folding.{folded};
-ghost use Rattle.qr_bits.specs.Letters.{IsLeastSegmentation, count_width, is_kanji_pair};
-ghost use Rattle.qr_bits.specs.Parse.{kanji_pair};
-ghost use Rattle.qr_bits.specs.Stream.{character_bits, character_value, digit_bits, kanji_value, segments_stream};
+ghost use Rattle.qr_bits.specs.Segmentation.{IsLeastSegmentation};
+ghost use Rattle.qr_bits.specs.Modes.{count_width, is_kanji_pair, character_value, kanji_value};
+ghost use Rattle.qr_bits.specs.Parsing.{kanji_pair};
+ghost use Rattle.qr_bits.specs.Stream.{character_bits, digit_bits, segments_stream};
 ghost use Rattle.qr_bits.specs.Laws.{BitsAreCodewordBits, CountsFitWhereBitsFit, DataAreOne, DataAreParsed, DataAreThere, DataFillTheSymbol, FittingInputsAreShort, LeastSegmentationsFit, PiecesNeedNoMore, StreamsAreParsed, StreamsHaveTheirBits};
 
 use crate::fault::{BitFault, ParseFault};
 use crate::header::Header;
-use crate::segment::{INPUT_MAX, Mode, Rule, Segment};
+use crate::modes::{INPUT_MAX, Mode, Rule};
+use crate::segmentation::Segment;
 
 /// A parse reads streams, and only streams: any segmentation, empty segments and any padding.
 pub fn streams_are_parsed()
@@ -93,7 +95,7 @@ pub fn widths_compute()
 
 /// The data bits of the standard's examples (7.4.3 to 7.4.5), the values of the last characters (Table 5), and the data
 /// codewords of eight digits in version 1 and level M.
-#[tactic(auto, unfolding(crate::specs::Letters::characters, crate::specs::Stream::digit_bits, crate::specs::Stream::character_value, crate::specs::Stream::character_bits, crate::specs::Stream::payload, crate::specs::Stream::segment_stream, crate::specs::Stream::segments_stream, crate::specs::Data::padded, crate::specs::Data::pads, crate::specs::Bits::field, crate::specs::Bits::bits_of))]
+#[tactic(auto, unfolding(crate::specs::Modes::characters, crate::specs::Stream::digit_bits, crate::specs::Modes::character_value, crate::specs::Stream::character_bits, crate::specs::Stream::payload, crate::specs::Stream::segment_stream, crate::specs::Stream::segments_stream, crate::specs::Padding::padded, crate::specs::Padding::pads, crate::specs::Bits::field, crate::specs::Bits::bits_of))]
 pub fn payloads_compute()
     ensures digits { digit_bits (codes "01234567") ≡ field 10 12 ++ (field 10 345 ++ field 7 67) }
     ensures characters { character_bits (codes "AC-42")
@@ -105,7 +107,7 @@ pub fn payloads_compute()
 {}
 
 /// The values of the standard's kanji and of the last one (7.4.6), and the first and last pairs of each range.
-#[tactic(auto, unfolding(crate::specs::Letters::is_kanji_pair, crate::specs::Stream::kanji_value, crate::specs::Parse::kanji_pair))]
+#[tactic(auto, unfolding(crate::specs::Modes::is_kanji_pair, crate::specs::Modes::kanji_value, crate::specs::Parsing::kanji_pair))]
 pub fn kanji_compute()
     ensures first { kanji_value 0x93 0x5F ≡ 0xD9F }
     ensures second { kanji_value 0xE4 0xAA ≡ 0x1AAA }

@@ -1,28 +1,23 @@
 //! Segments, the bit stream of a symbol, its data codewords, and the parse that reads them back.
 #![tactic(auto)]
 
-mod covering;
-mod encoding;
+mod bits;
 mod fault;
-mod fitting;
 mod folding;
 mod header;
 pub mod laws;
+mod modes;
+mod padding;
 mod parsing;
 mod place;
-mod reader;
-mod reading;
-mod segment;
 mod segmentation;
+mod stream;
 mod table;
-mod writer;
 
-pub use covering::{bit_len, covers};
-pub use encoding::codewords;
 pub use fault::{BitFault, ParseFault};
-pub use fitting::longest_fit;
 pub use folding::fold;
 pub use header::{Header, parity};
+pub use modes::{INPUT_MAX, Mode, Rule};
+pub use padding::codewords;
 pub use parsing::{Parsed, parse};
-pub use segment::{INPUT_MAX, Mode, Rule, Segment};
-pub use segmentation::segments;
+pub use segmentation::{Segment, bit_len, covers, longest_fit, segments};

@@ -1,17 +1,32 @@
-//! The parse of data codewords: ISO/IEC 18004:2015, 7.4.1, 8 and 12.
+//! The parse of data codewords: header, segments, and the data of each (ISO/IEC 18004:2015, 7.4.1 to 7.4.6, 8 and 12).
 
-ghost use Rattle.std.specs.Prelude.{◌≡◌, ℕ, ◌≤◌, ◌++◌, List, length, IfOk, IfErr};
-ghost use Rattle.qr_bits.specs.Bits.{bits_of};
-ghost use Rattle.qr_bits.specs.Parse.{Fails, Gives, first_header, header_at, mode_of, parse, segment_at, segments_of};
+ghost use Rattle.std.specs.Prelude.{IfErr, IfOk, List, OnOk, drop, length, ℕ, ◌%◌, ◌*◌, ◌++◌, ◌+◌, ◌<◌, ◌≡◌, ◌≤◌};
+ghost use Rattle.qr_bits.specs.Modes.{len_of, payload_bits};
+ghost use Rattle.qr_bits.specs.Bits.{bits_of, value};
+ghost use Rattle.qr_bits.specs.Parsing.{Fails, Gives, bytes_of, character, characters_of, digits_of, first_header, header_at, kanji_pair, pairs_of, parse, segment_at, segments_of, values_of};
 
+use crate::bits::BitReader;
 use crate::fault::ParseFault;
 use crate::header::Header;
-use crate::reader::BitReader;
-use crate::reading::values;
-use crate::segment::{Mode, Segment, count_width, len_of, payload_bits};
+use crate::modes::{CHARACTERS, Mode, count_width, len_of, mode_of, payload_bits};
+use crate::segmentation::Segment;
 use qr_layout::Version;
 use std::alloc::Global;
 use std::marker::Model;
+
+// Groups of digits and characters are numbers below these (7.4.3, 7.4.4).
+const THREE_DIGITS: u16 = 1000;
+
+const TWO_DIGITS: u16 = 100;
+
+const ONE_DIGIT: u16 = 10;
+
+const PAIRS: u16 = 2025;
+
+const SINGLES: u16 = 45;
+
+// The low byte of the value of a kanji pair is at most this (7.4.6).
+const LOW_MAX: u16 = 0xBC;
 
 /// What data codewords say: a header or none, the segments in turn, and their bytes.
 #[derive(Debug, Drop)]
@@ -22,7 +37,7 @@ pub struct Parsed {
 }
 
 impl Model for Parsed {
-    ghost use Rattle.qr_bits.specs.Parse.{Content};
+    ghost use Rattle.qr_bits.specs.Parsing.{Content};
 
     ghost Value = { Content };
 
@@ -39,7 +54,7 @@ impl Model for Parsed {
 /// `BadMode` where an indicator is none of the modes, or a header's is not the first; `Cut` where a
 /// header, a count or the data of a segment runs past the end; `BadValue` where a group of digits
 /// or characters is no such number.
-#[tactic(auto, unfolding(crate::specs::Parse::parse))]
+#[tactic(auto, unfolding(crate::specs::Parsing::parse))]
 pub fn parse(alloc: Global, codewords: &[u8], version: Version) -> Result<Parsed, ParseFault>
     requires { length codewords.now ≤ 3706 }
     ensures { Gives result (parse version (bits_of codewords.now)) }
@@ -55,7 +70,7 @@ pub fn parse(alloc: Global, codewords: &[u8], version: Version) -> Result<Parsed
 }
 
 // Reads the header, where its indicator is the first (8.1).
-#[tactic(auto, unfolding(crate::specs::Parse::first_header))]
+#[tactic(auto, unfolding(crate::specs::Parsing::first_header))]
 fn first_header(reader: &mut BitReader) -> Result<Option<Header>, ParseFault>
     ensures ok { IfOk result (λ h. first_header reader.old ≡ Ok (h, reader.new)) }
     ensures err { IfErr result (λ e. Fails e (first_header reader.old)) }
@@ -69,7 +84,7 @@ fn first_header(reader: &mut BitReader) -> Result<Option<Header>, ParseFault>
 }
 
 // Reads a header, behind its indicator (8.1).
-#[tactic(auto, unfolding(crate::specs::Parse::header_at))]
+#[tactic(auto, unfolding(crate::specs::Parsing::header_at))]
 fn header(reader: &mut BitReader) -> Result<Header, ParseFault>
     ensures ok { IfOk result (λ h. header_at reader.old ≡ Ok (h, reader.new)) }
     ensures err { IfErr result (λ e. Fails e (header_at reader.old)) }
@@ -103,7 +118,7 @@ fn segments(
 }
 
 // Reads a segment, and adds its bytes to `out`.
-#[tactic(auto, unfolding(crate::specs::Parse::segment_at, crate::specs::Parse::number_at, crate::specs::Parse::payload_at))]
+#[tactic(auto, unfolding(crate::specs::Parsing::segment_at, crate::specs::Parsing::number_at, crate::specs::Parsing::payload_at))]
 fn segment(
     reader: &mut BitReader,
     version: Version,
@@ -129,17 +144,147 @@ fn segment(
     Ok(Segment { mode, len })
 }
 
-// The mode of an indicator (7.4.1, Table 2).
-#[tactic(auto, unfolding(crate::specs::Parse::mode_of))]
-fn mode_of(indicator: u16) -> Result<Mode, ParseFault>
-    ensures { result ≡ mode_of indicator }
+// Reads the data of a segment, which is there in full, and adds its bytes to `out`. The count is
+// of digits, characters, bytes or kanji pairs.
+#[tactic(auto, unfolding(crate::specs::Parsing::values_of))]
+fn values(
+    reader: &mut BitReader,
+    mode: Mode,
+    count: usize,
+    out: &mut Vec<u8>,
+) -> Result<(), ParseFault>
+    requires { payload_bits mode (len_of mode count) ≤ length reader.old }
+    ensures ok { OnOk result ((xs : List ℕ) × (values_of mode count reader.old ≡ Ok xs)
+        × (out.new.items ≡ out.old.items ++ xs)
+        × (reader.new ≡ drop (payload_bits mode (len_of mode count)) reader.old)) }
+    ensures err { IfErr result (λ e. Fails e (values_of mode count reader.old)) }
 {
-    match indicator {
-        0b0001 => Ok(Mode::Numeric),
-        0b0010 => Ok(Mode::Alphanumeric),
-        0b0100 => Ok(Mode::Byte),
-        0b1000 => Ok(Mode::Kanji),
-        _ => Err(ParseFault::BadMode),
+    match mode {
+        Mode::Numeric => digits(reader, count, out),
+        Mode::Alphanumeric => characters(reader, count, out),
+        Mode::Byte => bytes(reader, count, out),
+        Mode::Kanji => kanji(reader, count, out),
+    }
+}
+
+fn digits(reader: &mut BitReader, count: usize, out: &mut Vec<u8>) -> Result<(), ParseFault>
+    requires { payload_bits Mode.Numeric count ≤ length reader.old }
+    ensures ok { OnOk result ((xs : List ℕ) × (digits_of count reader.old ≡ Ok xs)
+        × (out.new.items ≡ out.old.items ++ xs)
+        × (reader.new ≡ drop (payload_bits Mode.Numeric count) reader.old)) }
+    ensures err { IfErr result (λ e. Fails e (digits_of count reader.old)) }
+{
+    let mut left = count;
+    while left >= 3 {
+        let group = reader.take(10);
+        if group >= THREE_DIGITS {
+            return Err(ParseFault::BadValue);
+        }
+        out.extend_from_slice(&[digit(group / 100), digit(group / 10), digit(group)])?;
+        left -= 3;
+    }
+    if left == 2 {
+        let group = reader.take(7);
+        if group >= TWO_DIGITS {
+            return Err(ParseFault::BadValue);
+        }
+        out.extend_from_slice(&[digit(group / 10), digit(group)])?;
+    } else if left == 1 {
+        let group = reader.take(4);
+        if group >= ONE_DIGIT {
+            return Err(ParseFault::BadValue);
+        }
+        out.push(digit(group))?;
+    }
+    Ok(())
+}
+
+// The last digit of a number, as its byte.
+fn digit(number: u16) -> u8
+    ensures { result ≡ 48 + number % 10 }
+{
+    b'0' + (number % 10) as u8
+}
+
+fn characters(reader: &mut BitReader, count: usize, out: &mut Vec<u8>) -> Result<(), ParseFault>
+    requires { payload_bits Mode.Alphanumeric count ≤ length reader.old }
+    ensures ok { OnOk result ((xs : List ℕ) × (characters_of count reader.old ≡ Ok xs)
+        × (out.new.items ≡ out.old.items ++ xs)
+        × (reader.new ≡ drop (payload_bits Mode.Alphanumeric count) reader.old)) }
+    ensures err { IfErr result (λ e. Fails e (characters_of count reader.old)) }
+{
+    let mut left = count;
+    while left >= 2 {
+        let pair = reader.take(11);
+        if pair >= PAIRS {
+            return Err(ParseFault::BadValue);
+        }
+        out.extend_from_slice(&[character(pair / 45), character(pair % 45)])?;
+        left -= 2;
+    }
+    if left == 1 {
+        let single = reader.take(6);
+        if single >= SINGLES {
+            return Err(ParseFault::BadValue);
+        }
+        out.push(character(single))?;
+    }
+    Ok(())
+}
+
+// The character of a value (7.4.4, Table 5).
+#[tactic(auto, unfolding(crate::specs::Modes::characters, crate::specs::Parsing::character))]
+fn character(value: u16) -> u8
+    requires { value < 45 }
+    ensures { result ≡ character value }
+{
+    CHARACTERS[usize::from(value)]
+}
+
+fn bytes(reader: &mut BitReader, count: usize, out: &mut Vec<u8>) -> Result<(), ParseFault>
+    requires { payload_bits Mode.Byte count ≤ length reader.old }
+    ensures ok { OnOk result ((out.new.items ≡ out.old.items ++ bytes_of count reader.old)
+        × (reader.new ≡ drop (payload_bits Mode.Byte count) reader.old)) }
+    ensures err { IfErr result (λ e. e ≡ ParseFault.Memory) }
+{
+    for _ in 0..count {
+        out.push(reader.take(8) as u8)?;
+    }
+    Ok(())
+}
+
+fn kanji(reader: &mut BitReader, count: usize, out: &mut Vec<u8>) -> Result<(), ParseFault>
+    requires { 13 * count ≤ length reader.old }
+    ensures ok { OnOk result ((xs : List ℕ) × (pairs_of count reader.old ≡ Ok xs)
+        × (out.new.items ≡ out.old.items ++ xs)
+        × (reader.new ≡ drop (13 * count) reader.old)) }
+    ensures err { IfErr result (λ e. Fails e (pairs_of count reader.old)) }
+{
+    let mut left = count;
+    while left > 0 {
+        let value = reader.take(13);
+        if value % 0xC0 > LOW_MAX {
+            return Err(ParseFault::BadValue);
+        }
+        let pair = kanji_pair(value);
+        out.extend_from_slice(&[(pair / 256) as u8, (pair % 256) as u8])?;
+        left -= 1;
+    }
+    Ok(())
+}
+
+// The kanji pair of a value, its first byte the high one (7.4.6).
+#[tactic(auto, unfolding(crate::specs::Parsing::kanji_pair))]
+fn kanji_pair(value: u16) -> u16
+    requires { value < 8192 }
+    ensures { result ≡ kanji_pair value }
+{
+    let high = value / 0xC0;
+    let rest = 256 * high + value % 0xC0;
+    if high <= 0x1E {
+        rest + 0x8140
+    } else {
+        rest + 0xC140
     }
 }
 

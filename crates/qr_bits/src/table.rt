@@ -5,15 +5,16 @@
 //! bytes.
 
 ghost use Rattle.std.specs.Prelude.{◌≡◌, ◌+◌, ◌<◌, ◌≤◌, ℕ, Bool, false, true, length, reverse, IfOk, vec_len};
-ghost use Rattle.qr_bits.specs.declared.segment.Mode.{Mode};
+ghost use Rattle.qr_bits.specs.declared.modes.Mode.{Mode};
 ghost use Rattle.qr_bits.specs.declared.place.Place.{Place};
-ghost use Rattle.qr_bits.specs.Letters.{is_kanji_pair, rank};
-ghost use Rattle.qr_bits.specs.declared.segment.Rule.{Rule};
+ghost use Rattle.qr_bits.specs.Modes.{is_kanji_pair};
+ghost use Rattle.qr_bits.specs.Segmentation.{rank};
+ghost use Rattle.qr_bits.specs.declared.modes.Rule.{Rule};
 ghost use Rattle.qr_bits.specs.Places.{begins, may_begin, place_after, step_bits, IsChoice, IsChosenBelow};
 ghost use Rattle.qr_bits.specs.ByPlaces.{at_place, IsBestTable};
 
+use crate::modes::{INPUT_MAX, Mode, Rule, is_alphanumeric, is_digit, is_kanji_pair, may_use};
 use crate::place::{ByPlace, NO_BITS, Place, after, step_bits};
-use crate::segment::{INPUT_MAX, Mode, Rule, is_alphanumeric, is_digit, is_kanji_pair, may_use};
 use qr_layout::Version;
 use std::alloc::{AllocError, Global};
 

@@ -2,11 +2,12 @@
 use Rattle.std.proofs.Common.{◌≡◌, ℕ, ◌<◌, ◌≤◌, inl, inr, Bool, List, [], ◌∷◌, refl, sym, arith}
 use Rattle.std.proofs.lemmas.Bool.{cases_lt}
 use Rattle.qr_layout.specs.declared.level.Level.{Level}
-use Rattle.qr_bits.specs.declared.segment.Rule.{Rule}
-use Rattle.qr_bits.specs.declared.segment.Mode.{Mode}
-use Rattle.qr_bits.specs.declared.segment.Segment.{Segment}
-use Rattle.qr_bits.specs.Letters.{count_width, bits, runs_of, IsLetters, IsLeastSegmentation}
-use Rattle.qr_bits.specs.Data.{capacity_of}
+use Rattle.qr_bits.specs.declared.modes.Rule.{Rule}
+use Rattle.qr_bits.specs.declared.modes.Mode.{Mode}
+use Rattle.qr_bits.specs.declared.segmentation.Segment.{Segment}
+use Rattle.qr_bits.specs.Modes.{count_width}
+use Rattle.qr_bits.specs.Segmentation.{bits, runs_of, IsLetters, IsLeastSegmentation}
+use Rattle.qr_bits.specs.Padding.{capacity_of}
 use Rattle.qr_bits.proofs.SegmentLists.{least_fits}
 use Rattle.qr_symbol.specs.Symbols.{FitsVersion, IsVersion}
 

@@ -2,7 +2,7 @@
 use Rattle.std.proofs.Common.{◌≡◌, ℕ, ◌+◌, ◌<◌, ◌≤◌, List, [], ◌∷◌, ◌++◌, take, drop, length, get_or, refl, sym, ◌∙◌, ap, subst, inl, inr, ◌⊎◌}
 use Rattle.std.specs.Prelude.{Some}
 use Rattle.std.proofs.lemmas.List.{take_more, take-append-drop, drop_more, drop_all, map-append}
-use Rattle.qr_bits.specs.Parse.{Content}
+use Rattle.qr_bits.specs.Parsing.{Content}
 use Rattle.qr_symbol.specs.declared.fault.ReadFault.{ReadFault}
 use Rattle.qr_symbol.specs.declared.fault.ReadFault.TheVariants as fault
 use Rattle.qr_symbol.specs.declared.symbol.Symbol.{Symbol}

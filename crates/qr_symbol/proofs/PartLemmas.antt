@@ -6,10 +6,11 @@ use Rattle.std.proofs.lemmas.List.Elements.{All-nil, All-cons, All-head, All-tai
 use Rattle.std.proofs.lemmas.Bool.{and_from, cases_lt}
 use Rattle.std.proofs.Math.Seq.{drop-cons, drop-nil, drop-append-add, take-append_seam}
 use Rattle.qr_layout.specs.declared.level.Level.{Level}
-use Rattle.qr_bits.specs.declared.segment.Rule.{Rule}
-use Rattle.qr_bits.specs.declared.segment.Mode.TheVariants.{Byte, Kanji}
-use Rattle.qr_bits.specs.Letters.{runs_of, may_use, Covers, HasFit, IsLongestFit}
-use Rattle.qr_bits.specs.Data.{room_of}
+use Rattle.qr_bits.specs.declared.modes.Rule.{Rule}
+use Rattle.qr_bits.specs.declared.modes.Mode.TheVariants.{Byte, Kanji}
+use Rattle.qr_bits.specs.Segmentation.{runs_of, Covers, HasFit, IsLongestFit}
+use Rattle.qr_bits.specs.Modes.{may_use}
+use Rattle.qr_bits.specs.Padding.{room_of}
 use Rattle.qr_bits.proofs.SegmentLists.{count_width_bound}
 use Rattle.qr_bits.proofs.Counts.{capacity_least, fitting_short}
 use Rattle.qr_bits.proofs.Choosing.{byte_used}

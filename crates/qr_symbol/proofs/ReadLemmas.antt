@@ -17,7 +17,7 @@ use Rattle.qr_layout.proofs.OrderLemmas.{order-mem, order-length, number-at, onl
 use Rattle.qr_layout.proofs.WalkLemmas.{to_come-start}
 use Rattle.qr_layout.proofs.RoleLaws.{region-role}
 use Rattle.qr_bits.specs.Bits.{field, bits_of, codeword_bit}
-use Rattle.qr_bits.specs.Parse.{bytes_of}
+use Rattle.qr_bits.specs.Parsing.{bytes_of}
 use Rattle.qr_bits.proofs.BitLists.{length-field, length-bits_of, bits_at}
 use Rattle.qr_bits.proofs.Values.{bytes_takes}
 use Rattle.qr_matrix.specs.Grid.{Grid}

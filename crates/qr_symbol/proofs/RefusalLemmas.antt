@@ -5,7 +5,7 @@ use Rattle.qr_layout.specs.declared.level.Level.{Level}
 use Rattle.qr_bits.specs.declared.fault.ParseFault.{ParseFault}
 use Rattle.qr_bits.specs.declared.fault.ParseFault.TheVariants as unparsed
 use Rattle.qr_bits.specs.Bits.{bits_of}
-use Rattle.qr_bits.specs.Parse.{Content, parse}
+use Rattle.qr_bits.specs.Parsing.{Content, parse}
 use Rattle.qr_symbol.specs.declared.fault.ReadFault.{ReadFault}
 use Rattle.qr_symbol.specs.declared.fault.ReadFault.TheVariants as fault
 use Rattle.qr_matrix.specs.Grid.{Grid}

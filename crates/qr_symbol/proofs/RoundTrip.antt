@@ -8,10 +8,10 @@ use Rattle.std.proofs.lemmas.List.Elements.{All-append, All-map}
 use Rattle.qr_layout.specs.declared.blocks.Blocks.{Blocks}
 use Rattle.qr_layout.specs.declared.level.Level.{Level}
 use Rattle.qr_layout.specs.Blocks.{blocks_of}
-use Rattle.qr_bits.specs.declared.segment.Rule.{Rule}
+use Rattle.qr_bits.specs.declared.modes.Rule.{Rule}
 use Rattle.qr_bits.specs.declared.header.Header.{Header}
 use Rattle.qr_bits.specs.Bits.{bits_of}
-use Rattle.qr_bits.specs.Parse.{Content, parse}
+use Rattle.qr_bits.specs.Parsing.{Content, parse}
 use Rattle.qr_bits.proofs.DataLaws.{data_again, length-data}
 use Rattle.qr_matrix.specs.Grid.{Grid}
 use Rattle.qr_symbol.specs.Interleaving.{start_of, codeword_at, data_cut, check_at, IsFinalMessage}

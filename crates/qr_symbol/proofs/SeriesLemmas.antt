@@ -2,10 +2,10 @@
 use Rattle.std.proofs.Common.{◌≡◌, ℕ, suc, ◌+◌, ◌-◌, ◌*◌, ◌<◌, ◌≤◌, Bool, List, [], ◌∷◌, ◌++◌, drop, length, None, Some, Option, refl, sym, ◌∙◌, ap, subst, arith, inl, inr}
 use Rattle.std.proofs.lemmas.List.{append-nil, take-append-drop}
 use Rattle.qr_layout.specs.declared.level.Level.{Level}
-use Rattle.qr_bits.specs.declared.segment.Rule.{Rule}
+use Rattle.qr_bits.specs.declared.modes.Rule.{Rule}
 use Rattle.qr_bits.specs.declared.header.Header.{Header}
-use Rattle.qr_bits.specs.Parse.{Content}
-use Rattle.qr_bits.specs.Stream.{parity_of}
+use Rattle.qr_bits.specs.Parsing.{Content}
+use Rattle.qr_bits.specs.Header.{parity_of}
 use Rattle.qr_bits.proofs.Counts.{fitting_short}
 use Rattle.qr_bits.proofs.Mirror.{empty_fits}
 use Rattle.qr_symbol.specs.declared.symbol.Symbol.{Symbol}

@@ -4,10 +4,11 @@ use Rattle.std.specs.List.{All}
 use Rattle.std.proofs.lemmas.List.Elements.{All-cons, All-nil}
 use Rattle.qr_layout.specs.declared.level.Level.{Level}
 use Rattle.qr_layout.specs.Versions.{side_of}
-use Rattle.qr_bits.specs.declared.segment.Mode.TheVariants.{Kanji}
-use Rattle.qr_bits.specs.declared.segment.Rule.{Rule}
-use Rattle.qr_bits.specs.Letters.{HasFit, Covers, may_use, runs_of}
-use Rattle.qr_bits.specs.Data.{capacity_of}
+use Rattle.qr_bits.specs.declared.modes.Mode.TheVariants.{Kanji}
+use Rattle.qr_bits.specs.declared.modes.Rule.{Rule}
+use Rattle.qr_bits.specs.Segmentation.{HasFit, Covers, runs_of}
+use Rattle.qr_bits.specs.Modes.{may_use}
+use Rattle.qr_bits.specs.Padding.{capacity_of}
 use Rattle.qr_symbol.specs.declared.symbol.Symbol.{Symbol}
 use Rattle.qr_matrix.specs.Grid.{Grid}
 use Rattle.qr_symbol.specs.Symbols.{FitsVersion}

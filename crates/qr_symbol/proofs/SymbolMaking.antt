@@ -2,11 +2,12 @@
 use Rattle.std.proofs.Common.{◌≡◌, ℕ, ◌+◌, ◌<◌, ◌≤◌, ◌⊎◌, inl, inr, Bool, List, Option, None, Some, Result, Ok, Err, subst, sym, ◌∙◌, ap, arith}
 use Rattle.std.specs.Prelude.{IfOk, IfErr}
 use Rattle.qr_layout.specs.declared.level.Level.{Level}
-use Rattle.qr_bits.specs.declared.segment.Rule.{Rule}
-use Rattle.qr_bits.specs.declared.segment.Segment.{Segment}
+use Rattle.qr_bits.specs.declared.modes.Rule.{Rule}
+use Rattle.qr_bits.specs.declared.segmentation.Segment.{Segment}
 use Rattle.qr_bits.specs.declared.header.Header.{Header}
-use Rattle.qr_bits.specs.Letters.{bits, HasFit, IsLeastSegmentation}
-use Rattle.qr_bits.specs.Data.{IsData, capacity_of, room_of, header_bits}
+use Rattle.qr_bits.specs.Segmentation.{bits, HasFit, IsLeastSegmentation}
+use Rattle.qr_bits.specs.Padding.{IsData, capacity_of, room_of}
+use Rattle.qr_bits.specs.Header.{header_bits}
 use Rattle.qr_bits.proofs.Counts.{capacity_least}
 use Rattle.qr_bits.proofs.DataLaws.{length-stream}
 use Rattle.qr_bits.proofs.SegmentLists.{least_fits}

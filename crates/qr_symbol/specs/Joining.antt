@@ -1,8 +1,8 @@
 -- What the symbols of a series are joined to, from what each is read as. Public clauses cite this file.
 use Rattle.std.specs.Prelude.{◌≡◌, ◌⊎◌, ℕ, ◌+◌, ◌-◌, ◌<◌, List, [], ◌∷◌, length, None, Some}
 use Rattle.std.specs.List.{flat_map}
-use Rattle.qr_bits.specs.Parse.{Content}
-use Rattle.qr_bits.specs.Stream.{parity_of}
+use Rattle.qr_bits.specs.Parsing.{Content}
+use Rattle.qr_bits.specs.Header.{parity_of}
 use Rattle.qr_symbol.specs.declared.fault.ReadFault.{ReadFault}
 use Rattle.qr_symbol.specs.declared.fault.ReadFault.TheVariants as unread
 use Rattle.qr_matrix.specs.Grid.{Grid}

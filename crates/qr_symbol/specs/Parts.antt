@@ -1,9 +1,9 @@
 -- The lengths of the parts that an input is cut into. No public clause rests on how this is written.
 use Rattle.std.specs.Prelude.{◌≡◌, ℕ, ◌<◌, List, [], ◌∷◌, take, drop}
 use Rattle.qr_layout.specs.declared.level.Level.{Level}
-use Rattle.qr_bits.specs.declared.segment.Rule.{Rule}
-use Rattle.qr_bits.specs.Letters.{IsLongestFit}
-use Rattle.qr_bits.specs.Data.{room_of}
+use Rattle.qr_bits.specs.declared.modes.Rule.{Rule}
+use Rattle.qr_bits.specs.Segmentation.{IsLongestFit}
+use Rattle.qr_bits.specs.Padding.{room_of}
 
 -- the lengths are those of the parts of the bytes
 unfoldable pub AreLengths : ℕ → Level → Rule → List ℕ → List ℕ → Type 0

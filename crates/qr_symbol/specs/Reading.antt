@@ -9,11 +9,11 @@ use Rattle.qr_layout.specs.Blocks.{data_codewords_of}
 use Rattle.qr_layout.specs.Words.{format_word_of}
 use Rattle.qr_layout.specs.Order.{IsOrder}
 use Rattle.qr_layout.specs.Roles.{first_place}
-use Rattle.qr_bits.specs.declared.segment.Rule.{Rule}
-use Rattle.qr_bits.specs.declared.segment.Segment.{Segment}
-use Rattle.qr_bits.specs.Letters.{IsLeastSegmentation}
+use Rattle.qr_bits.specs.declared.modes.Rule.{Rule}
+use Rattle.qr_bits.specs.declared.segmentation.Segment.{Segment}
+use Rattle.qr_bits.specs.Segmentation.{IsLeastSegmentation}
 use Rattle.qr_bits.specs.Bits.{bits_of}
-use Rattle.qr_bits.specs.Parse.{Content, parse}
+use Rattle.qr_bits.specs.Parsing.{Content, parse}
 use Rattle.qr_bits.specs.declared.fault.ParseFault.{ParseFault}
 use Rattle.qr_bits.specs.declared.fault.ParseFault.TheVariants as unparsed
 use Rattle.qr_symbol.specs.declared.fault.ReadFault.{ReadFault}

@@ -2,12 +2,13 @@
 use Rattle.std.specs.Prelude.{◌≡◌, ◌⊎◌, ℕ, ◌+◌, ◌-◌, ◌<◌, ◌≤◌, false, List, [], ◌∷◌, length, take, drop, map, Option, None, Some}
 use Rattle.std.specs.List.{All, concat}
 use Rattle.qr_layout.specs.declared.level.Level.{Level}
-use Rattle.qr_bits.specs.declared.segment.Mode.TheVariants.{Kanji}
-use Rattle.qr_bits.specs.declared.segment.Rule.{Rule}
+use Rattle.qr_bits.specs.declared.modes.Mode.TheVariants.{Kanji}
+use Rattle.qr_bits.specs.declared.modes.Rule.{Rule}
 use Rattle.qr_bits.specs.declared.header.Header.{Header}
-use Rattle.qr_bits.specs.Letters.{HasFit, IsLongestFit, may_use}
-use Rattle.qr_bits.specs.Data.{room_of}
-use Rattle.qr_bits.specs.Stream.{parity_of}
+use Rattle.qr_bits.specs.Segmentation.{HasFit, IsLongestFit}
+use Rattle.qr_bits.specs.Modes.{may_use}
+use Rattle.qr_bits.specs.Padding.{room_of}
+use Rattle.qr_bits.specs.Header.{parity_of}
 use Rattle.qr_symbol.specs.declared.symbol.Symbol.{Symbol}
 use Rattle.qr_matrix.specs.Grid.{Grid}
 use Rattle.qr_symbol.specs.Symbols.{FitsVersion, IsSymbolAt}

@@ -1,11 +1,11 @@
 -- The symbol that an input is encoded as. Public clauses cite this file.
 use Rattle.std.specs.Prelude.{◌≡◌, ℕ, ◌<◌, ◌≤◌, List, Option, None}
 use Rattle.qr_layout.specs.declared.level.Level.{Level}
-use Rattle.qr_bits.specs.declared.segment.Rule.{Rule}
-use Rattle.qr_bits.specs.declared.segment.Segment.{Segment}
+use Rattle.qr_bits.specs.declared.modes.Rule.{Rule}
+use Rattle.qr_bits.specs.declared.segmentation.Segment.{Segment}
 use Rattle.qr_bits.specs.declared.header.Header.{Header}
-use Rattle.qr_bits.specs.Letters.{HasFit, IsLeastSegmentation}
-use Rattle.qr_bits.specs.Data.{capacity_of, IsData}
+use Rattle.qr_bits.specs.Segmentation.{HasFit, IsLeastSegmentation}
+use Rattle.qr_bits.specs.Padding.{capacity_of, IsData}
 use Rattle.qr_matrix.specs.Grid.{Grid}
 use Rattle.qr_symbol.specs.Colour.{grid_of}
 use Rattle.qr_symbol.specs.Interleaving.{IsInterleaved}

@@ -2,9 +2,10 @@
 
 ghost use Rattle.std.specs.Prelude.{◌≡◌, ◌+◌, ◌<◌, ◌≤◌, ◌↔◌, ◌⊎◌, Bool, [], length, Err, IfOk, IfErr};
 ghost use Rattle.std.specs.Option.{ForSome};
-ghost use Rattle.qr_bits.specs.declared.segment.Rule.{Rule};
-ghost use Rattle.qr_bits.specs.Letters.{bits, Covers, IsLeastSegmentation};
-ghost use Rattle.qr_bits.specs.Data.{capacity_of, header_bits};
+ghost use Rattle.qr_bits.specs.declared.modes.Rule.{Rule};
+ghost use Rattle.qr_bits.specs.Segmentation.{bits, Covers, IsLeastSegmentation};
+ghost use Rattle.qr_bits.specs.Padding.{capacity_of};
+ghost use Rattle.qr_bits.specs.Header.{header_bits};
 ghost use Rattle.qr_symbol.specs.declared.fault.EncodeFault.{EncodeFault};
 ghost use Rattle.qr_symbol.specs.Reading.{IsReadBack};
 ghost use Rattle.qr_symbol.specs.Symbols.{HasNoVersion, IsSymbol};

@@ -4,11 +4,12 @@
 //! only behind the versions 9 and 26. So an input is cut into segments once for each of the three ranges of versions.
 
 ghost use Rattle.std.specs.Prelude.{◌≡◌, ◌≤◌, ◌<◌, ℕ, List, length, IfOk, MatchOption};
-ghost use Rattle.qr_bits.specs.declared.segment.Rule.{Rule};
+ghost use Rattle.qr_bits.specs.declared.modes.Rule.{Rule};
 ghost use Rattle.qr_bits.specs.declared.fault.BitFault.{BitFault};
-ghost use Rattle.qr_bits.specs.declared.segment.Mode.{Mode};
-ghost use Rattle.qr_bits.specs.Letters.{count_width, IsLeastSegmentation};
-ghost use Rattle.qr_bits.specs.Data.{capacity_of};
+ghost use Rattle.qr_bits.specs.declared.modes.Mode.{Mode};
+ghost use Rattle.qr_bits.specs.Modes.{count_width};
+ghost use Rattle.qr_bits.specs.Segmentation.{IsLeastSegmentation};
+ghost use Rattle.qr_bits.specs.Padding.{capacity_of};
 ghost use Rattle.qr_layout.specs.declared.level.Level.{Level};
 ghost use Rattle.qr_symbol.specs.Symbols.{FitsVersion, IsVersion, HasNoVersion};
 

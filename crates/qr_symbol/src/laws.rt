@@ -4,10 +4,10 @@ ghost use Rattle.std.specs.Prelude.{◌≡◌, ◌<◌, ◌≤◌, ◌+◌, ◌�
 ghost use Rattle.qr_layout.specs.declared.level.Level.{Level};
 ghost use Rattle.qr_layout.specs.declared.region.Module.{Module};
 ghost use Rattle.qr_layout.specs.Order.{IsOrder};
-ghost use Rattle.qr_bits.specs.declared.segment.Mode.{Mode};
+ghost use Rattle.qr_bits.specs.declared.modes.Mode.{Mode};
 ghost use Rattle.qr_bits.specs.Bits.{bits_of};
-ghost use Rattle.qr_bits.specs.Letters.{may_use};
-ghost use Rattle.qr_bits.specs.Parse.{Content};
+ghost use Rattle.qr_bits.specs.Modes.{may_use};
+ghost use Rattle.qr_bits.specs.Parsing.{Content};
 ghost use Rattle.qr_symbol.specs.declared.fault.ReadFault.{ReadFault};
 ghost use Rattle.qr_symbol.specs.declared.symbol.Symbol.{Symbol};
 ghost use Rattle.qr_matrix.specs.Grid.{Grid};
@@ -18,7 +18,7 @@ ghost use Rattle.qr_symbol.specs.Series.{squares_of, AreParts, FitParts, NeedsPa
 ghost use Rattle.qr_symbol.specs.Joining.{IsJoined, IsUnjoined};
 ghost use Rattle.qr_layout.specs.Versions.{total_codewords_of};
 ghost use Rattle.qr_layout.specs.Blocks.{data_codewords_of, blocks_of};
-ghost use Rattle.qr_bits.specs.declared.segment.Rule.{Rule};
+ghost use Rattle.qr_bits.specs.declared.modes.Rule.{Rule};
 ghost use Rattle.qr_symbol.specs.Interleaving.{count_of, len_of, start_of, cut_len, data_cut, IsInterleaved};
 ghost use Rattle.qr_symbol.specs.Worked.{all_masks, first_rows, computed_rows};
 

@@ -1,11 +1,12 @@
 //! The encoding of an input as a series of symbols, by structured append (ISO/IEC 18004:2015, 8).
 
 ghost use Rattle.std.specs.Prelude.{◌≡◌, ◌-◌, ◌<◌, ◌≤◌, ◌↔◌, ◌⊎◌, ℕ, false, List, [], ◌∷◌, ◌++◌, length, None, Some, Err, OnOk, IfOk, IfErr, MatchOption};
-ghost use Rattle.qr_bits.specs.declared.segment.Rule.{Rule};
-ghost use Rattle.qr_bits.specs.declared.segment.Mode.{Mode};
-ghost use Rattle.qr_bits.specs.Letters.{HasFit, IsLongestFit, may_use};
-ghost use Rattle.qr_bits.specs.Data.{room_of};
-ghost use Rattle.qr_bits.specs.Stream.{parity_of};
+ghost use Rattle.qr_bits.specs.declared.modes.Rule.{Rule};
+ghost use Rattle.qr_bits.specs.declared.modes.Mode.{Mode};
+ghost use Rattle.qr_bits.specs.Segmentation.{HasFit, IsLongestFit};
+ghost use Rattle.qr_bits.specs.Modes.{may_use};
+ghost use Rattle.qr_bits.specs.Padding.{room_of};
+ghost use Rattle.qr_bits.specs.Header.{parity_of};
 ghost use Rattle.qr_symbol.specs.declared.fault.EncodeFault.{EncodeFault};
 ghost use Rattle.qr_symbol.specs.Symbols.{FitsVersion};
 ghost use Rattle.qr_symbol.specs.Series.{squares_of, AreParts, NeedsParts, IsSymbolOf, AreSymbolsFrom, IsSeries, HasNoSeries};

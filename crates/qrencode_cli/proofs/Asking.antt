@@ -6,8 +6,8 @@ use Rattle.std.specs.List.{All}
 use Rattle.std.proofs.lemmas.List.Elements.{All-cons, All-head, All-nil}
 use Rattle.qrencode_cli.specs.Drawings.{HaveOneSide}
 use Rattle.clap.specs.Walk.{Text}
-use Rattle.qr_bits.specs.declared.segment.TheConstants.{INPUT_MAX}
-use Rattle.qr_bits.specs.declared.segment.Rule.{Rule}
+use Rattle.qr_bits.specs.declared.modes.TheConstants.{INPUT_MAX}
+use Rattle.qr_bits.specs.declared.modes.Rule.{Rule}
 use Rattle.qr_bits.specs.Folding.{folded}
 use Rattle.qr_layout.specs.Versions.{side_of}
 use Rattle.qr_symbol.specs.declared.fault.EncodeFault.{EncodeFault}

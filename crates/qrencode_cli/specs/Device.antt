@@ -1,7 +1,7 @@
 -- What a call of a device does to its counts, and when the counts tell of a fault. Public clauses cite this file.
 use Rattle.std.specs.Prelude.{◌≡◌, ◌+◌, ◌-◌, ◌^◌, ◌≤◌, ◌++◌, ◌==◌, ◌||◌, ◌&&◌, ℕ, Bool, true, false, nat_lt, nat_le, min, max, List, Option, Result, Ok, Err, if◌then◌else◌}
 use Rattle.std.specs.Io.KnownBytes.{Appends}
-use Rattle.qr_bits.specs.declared.segment.TheConstants.{INPUT_MAX}
+use Rattle.qr_bits.specs.declared.modes.TheConstants.{INPUT_MAX}
 use Rattle.qrencode_cli.specs.declared.input.TheConstants.{INTERRUPTIONS_MAX}
 use Rattle.qrencode_cli.specs.declared.device.Trouble.{Trouble}
 use Rattle.qrencode_cli.specs.declared.device.Trouble.TheVariants.{Interrupted, Failed}

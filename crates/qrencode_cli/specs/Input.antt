@@ -1,6 +1,6 @@
 -- The input that a device gives. Public clauses cite this file.
 use Rattle.std.specs.Prelude.{◌≡◌, ℕ, List, take, Option, Some, None, ⊤}
-use Rattle.qr_bits.specs.declared.segment.TheConstants.{INPUT_MAX}
+use Rattle.qr_bits.specs.declared.modes.TheConstants.{INPUT_MAX}
 
 -- the input is what the device gives up to its end, no more of it than is read; of a device whose bytes are
 -- unknown this claims nothing [own]

@@ -3,7 +3,7 @@ use Rattle.std.specs.Prelude.{◌≡◌, ◌<◌, ◌≤◌, ℕ, List, [], leng
 use Rattle.clap.specs.Walk.{Text}
 use Rattle.qrencode_cli.specs.Answer.{Asks, IsFault, ReadsFor, Shows}
 use Rattle.qrencode_cli.specs.Device.{Reader, Writer}
-use Rattle.qr_bits.specs.declared.segment.TheConstants.{INPUT_MAX}
+use Rattle.qr_bits.specs.declared.modes.TheConstants.{INPUT_MAX}
 use Rattle.qr_symbol.specs.declared.symbol.Symbol.{Symbol}
 use Rattle.qr_symbol.specs.Joining.{IsJoined}
 use Rattle.qr_symbol.specs.Series.{squares_of}

@@ -1,7 +1,7 @@
 //! Laws of the command. Each function does nothing: its contract is the law.
 
 ghost use Rattle.std.specs.Prelude.{◌≡◌};
-ghost use Rattle.qr_bits.specs.declared.segment.TheConstants.{INPUT_MAX};
+ghost use Rattle.qr_bits.specs.declared.modes.TheConstants.{INPUT_MAX};
 ghost use Rattle.qrencode_cli.specs.declared.input.TheConstants.{INTERRUPTIONS_MAX};
 ghost use Rattle.qrencode_cli.specs.declared.pen.TheConstants.{PIECE};
 ghost use Rattle.qrencode_cli.specs.Answer.{AnswersAreOne, RefusalsExcludeDrawings};

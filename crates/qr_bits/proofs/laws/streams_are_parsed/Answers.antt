@@ -1,5 +1,5 @@
 use Rattle.std.proofs.Common.{◌∙◌, ap}
-use Rattle.qr_bits.specs.Parse.{parse}
+use Rattle.qr_bits.specs.Parsing.{parse}
 use Rattle.qr_bits.proofs.StreamReading.{parse_again, parse_takes}
 use Rattle.qr_bits.proofs.laws.streams_are_parsed.Goals as goal
 

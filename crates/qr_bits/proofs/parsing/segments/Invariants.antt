@@ -1,5 +1,5 @@
 use Rattle.std.proofs.Common.{◌≡◌, length}
-use Rattle.qr_bits.specs.Parse.{segments_of}
+use Rattle.qr_bits.specs.Parsing.{segments_of}
 use Rattle.qr_bits.proofs.Parses.{behind}
 use Rattle.qr_bits.proofs.parsing.segments.Given as goal
 

@@ -1,9 +1,9 @@
 use Rattle.std.proofs.Common.{◌≡◌, List, [], ◌∷◌, ◌++◌, reverse, refl, sym, ◌∙◌, ap, arith, append_assoc}
 use Rattle.std.specs.Prelude.{sum_by}
-use Rattle.qr_bits.specs.declared.segment.Mode.{Mode}
-use Rattle.qr_bits.specs.declared.segment.Segment.{Segment}
+use Rattle.qr_bits.specs.declared.modes.Mode.{Mode}
+use Rattle.qr_bits.specs.declared.segmentation.Segment.{Segment}
 use Rattle.qr_bits.specs.declared.place.Place.TheVariants.{Start}
-use Rattle.qr_bits.specs.Letters.{runs_of}
+use Rattle.qr_bits.specs.Segmentation.{runs_of}
 use Rattle.qr_bits.specs.Growing.{with_back}
 use Rattle.qr_bits.specs.ByPlaces.{follow}
 use Rattle.qr_bits.proofs.Backs.{runs_of-push, sum_by-runs_of}

@@ -1,5 +1,5 @@
 use Rattle.std.proofs.Common.{◌≤◌, ◌<◌, ℕ}
-use Rattle.qr_bits.specs.Data.{capacity_of}
+use Rattle.qr_bits.specs.Padding.{capacity_of}
 use Rattle.qr_symbol.proofs.fitting.first_with_room.Given as goal
 
 abbrev pub invariant-loop-number : goal.invariant-loop-number

@@ -2,7 +2,7 @@ use Rattle.std.proofs.Common.{◌≡◌, ◌≤◌, ℕ, Option, inl, inr, refl,
 use Rattle.std.specs.Option.{SomeIff}
 use Rattle.qr_layout.specs.declared.version.Version.{Version}
 use Rattle.std.proofs.lemmas.Bool.{cases_lt}
-use Rattle.qr_bits.specs.Letters.{bits}
+use Rattle.qr_bits.specs.Segmentation.{bits}
 use Rattle.qr_bits.proofs.SegmentLists.{least_fits, covers_all}
 use Rattle.qr_symbol.proofs.FitLemmas.{segmentation-same, version-found, none-fits}
 use Rattle.qr_symbol.proofs.fitting.least_fit.Goals as goal

@@ -1,7 +1,7 @@
 use Rattle.std.proofs.Common.{◌≡◌, false, ℕ, ◌+◌, ◌≤◌, List, ◌++◌, length}
 use Rattle.qr_symbol.specs.Series.{AreParts, NeedsParts}
-use Rattle.qr_bits.specs.declared.segment.Mode.TheVariants.{Kanji}
-use Rattle.qr_bits.specs.Letters.{may_use}
+use Rattle.qr_bits.specs.declared.modes.Mode.TheVariants.{Kanji}
+use Rattle.qr_bits.specs.Modes.{may_use}
 use Rattle.qr_symbol.specs.Parts.{AreLengths}
 use Rattle.qr_symbol.proofs.series.part_lengths.Given as goal
 

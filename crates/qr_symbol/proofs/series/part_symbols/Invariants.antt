@@ -1,6 +1,6 @@
 use Rattle.std.proofs.Common.{◌≡◌, ◌-◌, ◌≤◌, List, ◌++◌, length, drop}
 use Rattle.std.specs.Prelude.{vec_len}
-use Rattle.qr_bits.specs.Stream.{parity_of}
+use Rattle.qr_bits.specs.Header.{parity_of}
 use Rattle.qr_symbol.specs.declared.symbol.Symbol.{Symbol}
 use Rattle.qr_symbol.specs.Series.{AreSymbolsFrom}
 use Rattle.qr_symbol.specs.Parts.{AreLengths, parts_of}

@@ -1,5 +1,5 @@
 use Rattle.std.proofs.Common.{◌+◌, ◌-◌, vec_len}
-use Rattle.qr_bits.specs.declared.segment.TheConstants.{INPUT_MAX}
+use Rattle.qr_bits.specs.declared.modes.TheConstants.{INPUT_MAX}
 use Rattle.qrencode_cli.proofs.Reading.{IsReading}
 use Rattle.qrencode_cli.proofs.input.read_input.Given as goal
 

@@ -1,0 +1,17 @@
+use Rattle.std.proofs.Common.{◌≡◌, ◌∙◌, refl, sym, arith}
+use Rattle.qr_bits.specs.Modes.{character_value}
+use Rattle.qr_bits.proofs.Characters.{character_found, character_place, same_some}
+use Rattle.qr_bits.proofs.modes.character_value.Goals as goal
+
+pub unwrap-requires : goal.unwrap-requires
+unwrap-requires c = rw (c.place_of.ensures, character_place c.args.character c.requires) refl
+
+pub overflow_cast-result : goal.overflow_cast-result
+overflow_cast-result c =
+    let same = same_some _ _ (sym c.unwrap.ensures ∙ c.place_of.ensures ∙ character_place c.args.character c.requires) in
+    omega (arith, same, character_found c.args.character c.requires)
+
+pub returns : goal.returns
+returns c =
+    let same : c.unwrap.result ≡ character_value c.args.character = same_some _ _ (sym c.unwrap.ensures ∙ c.place_of.ensures ∙ character_place c.args.character c.requires) in
+    record { value = same; most = omega (arith, character_found c.args.character c.requires) }

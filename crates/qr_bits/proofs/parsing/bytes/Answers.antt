@@ -1,0 +1,23 @@
+use Rattle.std.proofs.Common.{◌≡◌, ℕ, ◌+◌, ◌-◌, ◌*◌, List, ◌++◌, drop, sym, ◌∙◌, ap, arith}
+use Rattle.std.proofs.lemmas.List.{length-drop, drop-drop, append-nil}
+use Rattle.qr_bits.proofs.Payloads.{bytes_more, bytes_none}
+use Rattle.qr_bits.proofs.parsing.bytes.Goals as goal
+
+pub loop-preserved : goal.loop-preserved
+loop-preserved c =
+    let i = c.loop.invariant in
+    let left = c.args.count - c.loop.counter in
+    let less : left - 1 ≡ c.args.count - (c.loop.counter + 1) = omega arith in
+    let more = bytes_more c.loop.out.items left c.loop.reader (omega arith) in
+    let eight : 8 + 8 * (left - 1) ≡ 8 * left = omega arith in
+    record {
+      reads = rw (← less, c.take.ensures.rest, c.in_ok-push.ensures.items, c.take.ensures.value) (sym more ∙ i.reads);
+      there = rw (← less, c.take.ensures.rest) (omega (arith, length-drop 8 c.loop.reader, i.there));
+      rest = rw (← less, c.take.ensures.rest) (drop-drop (8 * (left - 1)) 8 c.loop.reader ∙ ap (λ (n : ℕ). drop n c.loop.reader) eight ∙ i.rest);
+    }
+
+pub returns-clause-ok : goal.returns-clause-ok
+returns-clause-ok c =
+    let i = c.loop.invariant in
+    let none : c.args.count - c.loop.counter ≡ 0 = omega arith in
+    (sym (append-nil c.loop.out.items) ∙ ap (λ (r : List ℕ). c.loop.out.items ++ r) (sym (bytes_none c.loop.reader)) ∙ rw none at i.reads, rw none at i.rest)

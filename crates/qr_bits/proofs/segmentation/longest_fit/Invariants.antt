@@ -1,0 +1,20 @@
+use Rattle.std.proofs.Common.{ℕ, ◌*◌, ◌≤◌, List, reverse, take}
+use Rattle.qr_bits.specs.declared.modes.Mode.{Mode}
+use Rattle.qr_bits.specs.declared.place.Place.{Place}
+use Rattle.qr_bits.specs.declared.place.ByPlace.{ByPlace}
+use Rattle.qr_bits.specs.Segmentation.{HasFit}
+use Rattle.qr_bits.specs.Modes.{is_kanji_pair}
+use Rattle.qr_bits.specs.Places.{turned}
+use Rattle.qr_bits.specs.ByPlaces.{at_place, follow}
+use Rattle.qr_bits.proofs.Best.{BestBelow}
+use Rattle.qr_bits.proofs.segmentation.longest_fit.Given as goal
+
+-- the longest so far, and the best rests of the front that was looked at, read backwards
+abbrev pub invariant-loop-i : goal.invariant-loop-i
+invariant-loop-i l = record {
+  inside : l.longest ≤ l.i;
+  fits : HasFit l.version l.rule (take l.longest l.input) l.room;
+  longest : (k : ℕ) → k ≤ l.i → HasFit l.version l.rule (take k l.input) l.room → k ≤ l.longest;
+  small : (p : Place) → at_place l.rest p ≤ 33 * l.i;
+  best : (rows : List (ByPlace Mode)) × BestBelow l.version l.rule (turned is_kanji_pair) (reverse (take l.i l.input)) (λ p. follow p rows) (at_place l.rest);
+}

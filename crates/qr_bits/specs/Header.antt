@@ -1,0 +1,27 @@
+-- The header of structured append: its bits and the parity. Public clauses cite these.
+use Rattle.std.specs.Prelude.{ℕ, ◌+◌, ◌<◌, Bool, List, [], ◌++◌, Option, Some, None, bit_xor, fold}
+use Rattle.qr_bits.specs.declared.header.Header.{Header}
+use Rattle.qr_bits.specs.Bits.{field}
+
+-- the indicator of structured append (ISO/IEC 18004:2015, 7.4.1, Table 2)
+abbrev pub header_indicator : ℕ
+header_indicator = 3
+
+-- the bits of a header: 20, where there is one (ISO/IEC 18004:2015, 8.1)
+abbrev pub header_bits : Option Header → ℕ
+header_bits None = 0
+header_bits (Some h) = 20
+
+-- the header's numbers fit their fields (ISO/IEC 18004:2015, 8.2, 8.3)
+abbrev pub HeaderFits : Option Header → Type 0
+HeaderFits None = Unit {0}
+HeaderFits (Some h) = (h.position < 16) × (h.last < 16) × (h.parity < 256)
+
+-- the bits of a header: the indicator, the position, the number of symbols less 1, the parity (ISO/IEC 18004:2015, 8.1 to 8.3)
+unfoldable pub header_stream : Option Header → List Bool
+header_stream None = []
+header_stream (Some h) = field 4 header_indicator ++ (field 4 h.position ++ (field 4 h.last ++ field 8 h.parity))
+
+-- the exclusive or of all bytes (ISO/IEC 18004:2015, 8.3)
+abbrev pub parity_of : List ℕ → ℕ
+parity_of bs = fold bit_xor 0 bs

@@ -1,0 +1,237 @@
+//! Modes: which bytes each can write, its indicator, the width of its count, and the bits of its data (ISO/IEC
+//! 18004:2015, 7.3 and 7.4.1 to 7.4.6).
+
+ghost use Rattle.std.specs.Prelude.{IsTrue, ◌<◌, ◌==◌, ◌^◌, ◌≡◌, ◌≤◌};
+ghost use Rattle.qr_bits.specs.Modes.{character_value, characters, count_of, count_width, in_twos, indicator, is_alphanumeric, is_digit, is_kanji_pair, kanji_value, len_of, may_use, payload_bits, suits};
+ghost use Rattle.std.specs.List.{list_all, position};
+ghost use Rattle.qr_bits.specs.Parsing.{character, mode_of};
+
+use crate::fault::ParseFault;
+use qr_layout::Version;
+
+/// The most bytes that an input may have: 16 times the 7,089 digits of the largest symbol, and one
+/// more.
+pub const INPUT_MAX: usize = 113_425;
+
+/// How the bytes of a segment are written (7.3.3 to 7.3.6).
+#[derive(Clone, Copy, Debug, PartialEq, Eq)]
+pub enum Mode {
+    /// Digits, three in ten bits.
+    Numeric,
+    /// Digits, capital letters, space and `$%*+-./:`, two in eleven bits.
+    Alphanumeric,
+    /// Any bytes, each in eight bits.
+    Byte,
+    /// Pairs of bytes that are Shift JIS characters, each pair in thirteen bits.
+    Kanji,
+}
+
+/// Which modes segments may be chosen from.
+#[derive(Clone, Copy, Debug, PartialEq, Eq)]
+pub enum Rule {
+    /// All but kanji mode.
+    Auto,
+    BytesOnly,
+    WithKanji,
+}
+
+// The mode indicators, that of a header of structured append, and the terminator (7.4.1, Table 2).
+pub(crate) const TERMINATOR: u16 = 0b0000;
+
+const NUMERIC: u16 = 0b0001;
+
+const ALPHANUMERIC: u16 = 0b0010;
+
+pub(crate) const STRUCTURED_APPEND: u16 = 0b0011;
+
+const BYTE: u16 = 0b0100;
+
+const KANJI: u16 = 0b1000;
+
+// The indicator of a mode.
+pub(crate) fn indicator(mode: Mode) -> u16
+    ensures { result ≡ indicator mode }
+{
+    match mode {
+        Mode::Numeric => NUMERIC,
+        Mode::Alphanumeric => ALPHANUMERIC,
+        Mode::Byte => BYTE,
+        Mode::Kanji => KANJI,
+    }
+}
+
+// The mode of an indicator.
+#[tactic(auto, unfolding(crate::specs::Parsing::mode_of))]
+pub(crate) fn mode_of(indicator: u16) -> Result<Mode, ParseFault>
+    ensures { result ≡ mode_of indicator }
+{
+    match indicator {
+        NUMERIC => Ok(Mode::Numeric),
+        ALPHANUMERIC => Ok(Mode::Alphanumeric),
+        BYTE => Ok(Mode::Byte),
+        KANJI => Ok(Mode::Kanji),
+        _ => Err(ParseFault::BadMode),
+    }
+}
+
+// The width of the character count indicator (7.4.1, Table 3).
+pub(crate) fn count_width(version: Version, mode: Mode) -> u8
+    ensures value { result ≡ count_width version mode }
+    ensures most { result ≤ 16 }
+{
+    let (small, medium, large) = match mode {
+        Mode::Numeric => (10, 12, 14),
+        Mode::Alphanumeric => (9, 11, 13),
+        Mode::Byte => (8, 16, 16),
+        Mode::Kanji => (8, 10, 12),
+    };
+    match version.number() {
+        1..=9 => small,
+        10..=26 => medium,
+        _ => large,
+    }
+}
+
+// The count of the bytes of a segment (7.4.1).
+pub(crate) fn count_of(mode: Mode, len: usize) -> usize
+    ensures { result ≡ count_of mode len }
+{
+    match mode {
+        Mode::Kanji => len / 2,
+        _ => len,
+    }
+}
+
+// The bytes that a segment of this count has (7.4.1).
+pub(crate) fn len_of(mode: Mode, count: usize) -> usize
+    requires { count < 2 ^ 16 }
+    ensures { result ≡ len_of mode count }
+{
+    match mode {
+        Mode::Kanji => 2 * count,
+        _ => count,
+    }
+}
+
+// The bits of the data of a segment (7.4.3 to 7.4.5).
+pub(crate) fn payload_bits(mode: Mode, len: usize) -> usize
+    requires { len < 2 ^ 20 }
+    ensures { result ≡ payload_bits mode len }
+{
+    match mode {
+        Mode::Numeric => {
+            let left_over = match len % 3 {
+                0 => 0,
+                1 => 4,
+                _ => 7,
+            };
+            10 * (len / 3) + left_over
+        }
+        Mode::Alphanumeric => 11 * (len / 2) + 6 * (len % 2),
+        Mode::Byte => 8 * len,
+        Mode::Kanji => 13 * ((len + 1) / 2),
+    }
+}
+
+// The characters of alphanumeric mode, in the order of their values (7.4.4, Table 5).
+pub(crate) const CHARACTERS: [u8; 45] = *b"0123456789ABCDEFGHIJKLMNOPQRSTUVWXYZ $%*+-./:";
+
+pub(crate) fn is_digit(byte: u8) -> bool
+    ensures { result ≡ is_digit byte }
+{
+    b'0' <= byte && byte <= b'9'
+}
+
+#[tactic(auto, unfolding(crate::specs::Modes::is_alphanumeric, crate::specs::Modes::characters))]
+pub(crate) fn is_alphanumeric(byte: u8) -> bool
+    ensures { result ≡ is_alphanumeric byte }
+{
+    CHARACTERS.iter().any(|character| *character == byte)
+}
+
+#[tactic(auto, unfolding(crate::specs::Modes::is_kanji_pair))]
+pub(crate) fn is_kanji_pair(high: u8, low: u8) -> bool
+    ensures { result ≡ is_kanji_pair high low }
+{
+    let pair = 256 * u16::from(high) + u16::from(low);
+    (0x8140 <= pair && pair <= 0x9FFC || 0xE040 <= pair && pair <= 0xEBBF)
+        && (0x40 <= low && low <= 0xFC)
+}
+
+// The value of a character: its place among the 45 (7.4.4, Table 5).
+pub(crate) fn character_value(character: u8) -> u16
+    requires { IsTrue (is_alphanumeric character) }
+    ensures value { result ≡ character_value character }
+    ensures most { result ≤ 44 }
+{
+    place_of(character).unwrap() as u16
+}
+
+#[tactic(auto, unfolding(crate::specs::Modes::characters))]
+fn place_of(character: u8) -> Option<usize>
+    ensures { result ≡ position (λ c. c == character) characters }
+{
+    CHARACTERS.iter().position(|other| *other == character)
+}
+
+// The value of a kanji pair (7.4.6).
+#[tactic(auto, unfolding(crate::specs::Modes::kanji_value))]
+pub(crate) fn kanji_value(high: u8, low: u8) -> u16
+    requires { IsTrue (is_kanji_pair high low) }
+    ensures { result ≡ kanji_value high low }
+{
+    let pair = 256 * u16::from(high) + u16::from(low);
+    let rest = if pair <= 0x9FFC {
+        pair - 0x8140
+    } else {
+        pair - 0xC140
+    };
+    0xC0 * (rest / 256) + rest % 256
+}
+
+pub(crate) fn may_use(rule: Rule, mode: Mode) -> bool
+    ensures { result ≡ may_use rule mode }
+{
+    match mode {
+        Mode::Numeric => !matches!(rule, Rule::BytesOnly),
+        Mode::Alphanumeric => !matches!(rule, Rule::BytesOnly),
+        Mode::Byte => true,
+        Mode::Kanji => matches!(rule, Rule::WithKanji),
+    }
+}
+
+pub(crate) fn suits(mode: Mode, bytes: &[u8]) -> bool
+    ensures { result ≡ suits mode bytes.now }
+{
+    match mode {
+        Mode::Numeric => are_digits(bytes),
+        Mode::Alphanumeric => are_alphanumeric(bytes),
+        Mode::Byte => true,
+        Mode::Kanji => are_kanji_pairs(bytes),
+    }
+}
+
+fn are_digits(bytes: &[u8]) -> bool
+    ensures { result ≡ list_all is_digit bytes.now }
+{
+    bytes.iter().all(|byte| is_digit(*byte))
+}
+
+fn are_alphanumeric(bytes: &[u8]) -> bool
+    ensures { result ≡ list_all is_alphanumeric bytes.now }
+{
+    bytes.iter().all(|byte| is_alphanumeric(*byte))
+}
+
+fn are_kanji_pairs(bytes: &[u8]) -> bool
+    ensures { result ≡ in_twos is_kanji_pair bytes.now }
+{
+    let mut rest = bytes;
+    while let [high, low, after @ ..] = rest {
+        if !is_kanji_pair(*high, *low) {
+            return false;
+        }
+        rest = after;
+    }
+    rest.is_empty()
+}

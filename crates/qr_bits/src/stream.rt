@@ -1,0 +1,157 @@
+//! The bit stream of segments, after a header or none (ISO/IEC 18004:2015, 7.4.1 to 7.4.6 and 8.1).
+
+ghost use Rattle.std.specs.Prelude.{IsTrue, OnOk, length, ◌++◌, ◌+◌, ◌-◌, ◌<◌, ◌^◌, ◌≡◌, ◌≤◌};
+ghost use Rattle.qr_bits.specs.Modes.{characters, in_twos, is_alphanumeric, is_digit, is_kanji_pair, suits};
+ghost use Rattle.qr_bits.specs.Segmentation.{Covers};
+ghost use Rattle.qr_bits.specs.Header.{header_stream};
+ghost use Rattle.std.specs.List.{list_all};
+ghost use Rattle.std.specs.Option.{ForSome};
+ghost use Rattle.qr_bits.specs.Bits.{bits_of};
+ghost use Rattle.qr_bits.specs.Stream.{character_bits, digit_bits, kanji_bits, payload, segment_stream, segments_stream};
+
+use crate::bits::BitWriter;
+use crate::header::Header;
+use crate::modes::{
+    Mode, STRUCTURED_APPEND, character_value, count_of, count_width, indicator, kanji_value,
+};
+use crate::segmentation::Segment;
+use qr_layout::Version;
+use std::alloc::AllocError;
+
+#[tactic(auto, unfolding(crate::specs::Header::header_stream))]
+pub(crate) fn put_header(writer: &mut BitWriter, header: Option<Header>) -> Result<(), AllocError>
+    ensures written { OnOk result (writer.new ≡ writer.old ++ header_stream header) }
+    ensures parity { OnOk result (ForSome header (λ h. h.parity < 256)) }
+{
+    if let Some(header) = header {
+        writer.put(4, STRUCTURED_APPEND)?;
+        writer.put(4, u16::from(header.position))?;
+        writer.put(4, u16::from(header.last))?;
+        writer.put(8, u16::from(header.parity))?;
+    }
+    Ok(())
+}
+
+pub(crate) fn put_segments(
+    writer: &mut BitWriter,
+    input: &[u8],
+    segs: &[Segment],
+    version: Version,
+) -> Result<(), AllocError>
+    requires short { length input.now < 2 ^ 16 }
+    requires covered { Covers input.now segs.now }
+    ensures { OnOk result (writer.new
+        ≡ writer.old ++ segments_stream version input.now segs.now) }
+{
+    let mut rest = input;
+    for segment in segs {
+        let (part, after) = rest.split_at(segment.len);
+        put_segment(writer, version, segment.mode, part)?;
+        rest = after;
+    }
+    Ok(())
+}
+
+// One segment: mode indicator, character count indicator, data (7.4.1).
+#[tactic(auto, unfolding(crate::specs::Stream::segment_stream))]
+fn put_segment(
+    writer: &mut BitWriter,
+    version: Version,
+    mode: Mode,
+    bytes: &[u8],
+) -> Result<(), AllocError>
+    requires short { length bytes.now < 2 ^ 16 }
+    requires suited { IsTrue (suits mode bytes.now) }
+    ensures { OnOk result (writer.new ≡ writer.old ++ segment_stream version mode bytes.now) }
+{
+    writer.put(4, indicator(mode))?;
+    writer.put(
+        count_width(version, mode),
+        count_of(mode, bytes.len()) as u16,
+    )?;
+    put_payload(writer, mode, bytes)
+}
+
+#[tactic(auto, unfolding(crate::specs::Stream::payload))]
+fn put_payload(writer: &mut BitWriter, mode: Mode, bytes: &[u8]) -> Result<(), AllocError>
+    requires { IsTrue (suits mode bytes.now) }
+    ensures { OnOk result (writer.new ≡ writer.old ++ payload mode bytes.now) }
+{
+    match mode {
+        Mode::Numeric => put_digits(writer, bytes),
+        Mode::Alphanumeric => put_characters(writer, bytes),
+        Mode::Byte => put_bytes(writer, bytes),
+        Mode::Kanji => put_kanji(writer, bytes),
+    }
+}
+
+// Three digits in ten bits, two left over in seven, one in four (7.4.3).
+fn put_digits(writer: &mut BitWriter, digits: &[u8]) -> Result<(), AllocError>
+    requires { IsTrue (list_all is_digit digits.now) }
+    ensures { OnOk result (writer.new ≡ writer.old ++ digit_bits digits.now) }
+{
+    let mut rest = digits;
+    while rest.len() >= 3 {
+        let hundreds = 100 * digit_value(rest[0]);
+        writer.put(
+            10,
+            hundreds + 10 * digit_value(rest[1]) + digit_value(rest[2]),
+        )?;
+        let (_, after) = rest.split_at(3);
+        rest = after;
+    }
+    if rest.len() == 2 {
+        writer.put(7, 10 * digit_value(rest[0]) + digit_value(rest[1]))?;
+    } else if rest.len() == 1 {
+        writer.put(4, digit_value(rest[0]))?;
+    }
+    Ok(())
+}
+
+fn digit_value(digit: u8) -> u16
+    requires { IsTrue (is_digit digit) }
+    ensures value { result ≡ digit - 48 }
+    ensures most { result ≤ 9 }
+{
+    u16::from(digit - b'0')
+}
+
+// Two characters in eleven bits, one left over in six (7.4.4).
+fn put_characters(writer: &mut BitWriter, characters: &[u8]) -> Result<(), AllocError>
+    requires { IsTrue (list_all is_alphanumeric characters.now) }
+    ensures { OnOk result (writer.new ≡ writer.old ++ character_bits characters.now) }
+{
+    let mut rest = characters;
+    while rest.len() >= 2 {
+        writer.put(11, 45 * character_value(rest[0]) + character_value(rest[1]))?;
+        let (_, after) = rest.split_at(2);
+        rest = after;
+    }
+    if rest.len() == 1 {
+        writer.put(6, character_value(rest[0]))?;
+    }
+    Ok(())
+}
+
+fn put_bytes(writer: &mut BitWriter, bytes: &[u8]) -> Result<(), AllocError>
+    ensures { OnOk result (writer.new ≡ writer.old ++ bits_of bytes.now) }
+{
+    for byte in bytes {
+        writer.put_byte(*byte)?;
+    }
+    Ok(())
+}
+
+// Each kanji pair in thirteen bits (7.4.6).
+fn put_kanji(writer: &mut BitWriter, bytes: &[u8]) -> Result<(), AllocError>
+    requires { IsTrue (in_twos is_kanji_pair bytes.now) }
+    ensures { OnOk result (writer.new ≡ writer.old ++ kanji_bits bytes.now) }
+{
+    let mut rest = bytes;
+    while rest.len() >= 2 {
+        writer.put(13, kanji_value(rest[0], rest[1]))?;
+        let (_, after) = rest.split_at(2);
+        rest = after;
+    }
+    Ok(())
+}
