@@ -1,7 +1,7 @@
 //! How the modules of a symbol get their colours: the function patterns with the format and version information, and
 //! the codewords' bits along the walk over the encoding region (ISO/IEC 18004:2015, 7.7.2 and 7.7.3).
 
-ghost use Rattle.std.specs.Prelude.{◌≡◌, ◌+◌, ◌<◌, ◌≤◌, ◌==◌, ◌&&◌, if◌then◌else◌, nat_le, nat_lt, false};
+ghost use Rattle.std.specs.Prelude.{◌≡◌, ◌+◌, ◌-◌, ◌<◌, ◌≤◌, ◌==◌, ◌&&◌, if◌then◌else◌, nat_le, nat_lt, false, slice_index};
 ghost use Rattle.std.specs.List.{list_any};
 ghost use Rattle.qr_layout.specs.Versions.{side_of};
 ghost use Rattle.qr_layout.specs.Alignment.{alignment_places, centres_of};
@@ -10,12 +10,12 @@ ghost use Rattle.qr_layout.specs.Roles.{first_place, is_alignment_light, ring_of
 ghost use Rattle.qr_layout.specs.Words.{format_word_of, version_word_of};
 ghost use Rattle.qr_bits.specs.Bits.{codeword_bit};
 ghost use Rattle.qr_matrix.specs.Grid.{square, colour, light, IsSquare};
-ghost use Rattle.qr_symbol.specs.Masks.{inverts, inverted};
+ghost use Rattle.qr_matrix.specs.Lines.{has_bit};
 ghost use Rattle.qr_symbol.specs.Colour.{word_bit};
-ghost use Rattle.qr_symbol.specs.Drawing.{fixed_colour, paint_of, inverts_under, placed_colour, format_or, masked_grid, region_grid};
+ghost use Rattle.qr_symbol.specs.Drawing.{fixed_colour, paint_of, placed_colour, placed_if, number_after, format_or, masked_grid, region_grid};
 
-use crate::mask::{inverts, pattern};
-use qr_layout::{Level, Module, Role, Version, alignment_centres, all_places, cell, format_word};
+use crate::mask::pattern;
+use qr_layout::{Level, Module, Role, Version, alignment_centres, all_pairs, cell, format_word};
 use qr_matrix::Matrix;
 
 // Bit `number` of the codewords, the highest bit of a codeword first, and light past their end.
@@ -27,6 +27,26 @@ fn bit_at(codewords: &[u8], number: usize) -> bool
     } else {
         false
     }
+}
+
+// A codeword, and 0 past their end.
+fn codeword_at(codewords: &[u8], place: usize) -> u8
+    ensures { result ≡ slice_index codewords.now place }
+{
+    codewords.get(place).copied().unwrap_or(0)
+}
+
+// Two bits of the codewords from `number` on, the first the higher.
+fn two_bits(codewords: &[u8], number: usize) -> u8
+    requires { number ≤ 29648 }
+    ensures small { result < 4 }
+    ensures first { has_bit result 1 ≡ codeword_bit codewords.now number }
+    ensures second { has_bit result 0 ≡ codeword_bit codewords.now (number + 1) }
+{
+    let place = number / 8;
+    let first = u32::from(codeword_at(codewords, place));
+    let second = u32::from(codeword_at(codewords, place + 1));
+    ((256 * first + second) >> (14 - number % 8) & 3) as u8
 }
 
 // Bit `i` of a word of format or version information, bit 0 being the lowest.
@@ -205,37 +225,54 @@ pub(crate) fn draw_region(matrix: &mut Matrix, v: Version)
     paint_version(matrix, v, None);
 }
 
-#[tactic(auto, unfolding(crate::specs::Drawing::inverts_under))]
-fn is_inverted(mask: Option<u8>, row: u8, col: u8) -> bool
-    ensures { result ≡ inverts_under mask row col }
+// Gives the modules of a row of a strip that are in the encoding region, as `within` says with the right one its higher
+// bit, the next bits of the codewords, and returns the number of the bit after them.
+fn draw_pair(
+    matrix: &mut Matrix,
+    codewords: &[u8],
+    number: usize,
+    right: Module,
+    within: u8,
+) -> usize
+    requires row_in { right.row < matrix.old.side }
+    requires left_in { 1 ≤ right.col }
+    requires col_in { right.col < matrix.old.side }
+    requires within { within < 4 }
+    requires few { number ≤ 29648 }
+    ensures number { result ≡ number_after (has_bit within 0) (number_after (has_bit within 1) number) }
+    ensures matrix { matrix.new ≡ placed_if (has_bit within 0) codewords.now
+        (number_after (has_bit within 1) number)
+        (placed_if (has_bit within 1) codewords.now number matrix.old right.row right.col)
+        right.row (right.col - 1) }
 {
-    match mask {
-        Some(mask) => inverts(mask, row, col),
-        None => false,
+    let Module { row, col } = right;
+    match within {
+        0 => number,
+        1 => {
+            matrix.set(row, col - 1, bit_at(codewords, number));
+            number + 1
+        }
+        2 => {
+            matrix.set(row, col, bit_at(codewords, number));
+            number + 1
+        }
+        _ => {
+            matrix.set_pair(row, col, two_bits(codewords, number));
+            number + 2
+        }
     }
 }
 
-// Gives each module of the encoding region the colour of its bit, masked if there is a mask, in one walk.
-pub(crate) fn draw_codewords(
-    matrix: &mut Matrix,
-    v: Version,
-    mask: Option<u8>,
-    region: &Matrix,
-    codewords: &[u8],
-)
+// Gives each module of the encoding region the colour of its bit, in one walk over the rows of the strips.
+pub(crate) fn draw_codewords(matrix: &mut Matrix, v: Version, region: &Matrix, codewords: &[u8])
     requires square { IsSquare (side_of v) matrix.old }
     requires region { region.now ≡ region_grid v }
-    ensures { matrix.new ≡ square (side_of v)
-        (placed_colour v mask codewords.now (colour matrix.old)) }
+    ensures { matrix.new ≡ square (side_of v) (placed_colour v codewords.now (colour matrix.old)) }
 {
     let mut number = 0;
-    for module in all_places(v) {
-        if !region.dark(module.row, module.col) {
-            continue;
-        }
-        let dark = bit_at(codewords, number) != is_inverted(mask, module.row, module.col);
-        matrix.set(module.row, module.col, dark);
-        number += 1;
+    for right in all_pairs(v) {
+        let within = region.pair(right.row, right.col);
+        number = draw_pair(matrix, codewords, number, right, within);
     }
 }
 
