@@ -1,5 +1,5 @@
 -- Drawing along a walk: whatever place is no more to come has its colour.
-use Rattle.std.proofs.Common.{◌≡◌, ℕ, ◌<◌, ◌≤◌, Bool, true, false, cond, nat_eq, ◌&&◌, List, [], ◌∷◌, ◌++◌, length, length-append, refl, sym, ◌∙◌, ap, inl, inr, ◌⊎◌, subst, append_assoc, arith}
+use Rattle.std.proofs.Common.{◌≡◌, ℕ, suc, ◌+◌, ◌-◌, ◌<◌, ◌≤◌, Bool, true, false, cond, nat_eq, ◌&&◌, List, [], ◌∷◌, ◌++◌, length, length-append, refl, sym, ◌∙◌, ap, inl, inr, ◌⊎◌, subst, append_assoc, append-nil, arith}
 use Rattle.std.specs.Prelude.{Option, None, Some, SomeIff, unwrap_or}
 use Rattle.std.proofs.lemmas.Bool.{cases_lt}
 use Rattle.std.proofs.lemmas.Bool.Decides.{nat_tests}
@@ -12,6 +12,8 @@ use Rattle.qr_layout.specs.Words.{format_word_of, version_word_of}
 use Rattle.qr_layout.specs.Region.{is_in_region}
 use Rattle.qr_layout.specs.Roles.{role_of, first_place, second_place}
 use Rattle.qr_layout.specs.Order.{IsOrder, in_region_of, number_of}
+use Rattle.qr_layout.specs.StripPlaces.{both_of, rows_from}
+use Rattle.qr_layout.specs.declared.strips.Strip.{Strip}
 use Rattle.qr_layout.proofs.ListFacts.{Mem}
 use Rattle.qr_layout.proofs.OrderLemmas.{order-has, order-mem, order-small, number-at}
 use Rattle.qr_layout.proofs.RegionLemmas.{row-in, col-in}
@@ -20,7 +22,7 @@ use Rattle.qr_bits.specs.Bits.{codeword_bit}
 use Rattle.qr_matrix.specs.Grid.{Grid, square, colour, painted, IsSquare}
 use Rattle.qr_symbol.specs.Masks.{inverts, inverted}
 use Rattle.qr_symbol.specs.Colour.{word_bit, colour_by, colour_of, grid_of}
-use Rattle.qr_symbol.specs.Drawing.{fixed_colour, placed_colour, placed_if, number_after, format_or, masked_colour, masked_grid, region_grid, plain_grid}
+use Rattle.qr_symbol.specs.Drawing.{fixed_colour, placed_colour, placed_if, number_after, number_along, placed_along, format_or, masked_colour, masked_grid, region_grid, plain_grid}
 use Rattle.qr_matrix.proofs.GridLemmas.{same-place, square-same, colour-square, colour-painted-here, colour-painted-there}
 use Rattle.qr_symbol.proofs.KeptPlaces.{kept-in, kept-out, kept-push-in, kept-push-out}
 
@@ -209,6 +211,41 @@ placed-step v cw g0 g before later x number false e p =
       square = p.square;
       done = subst (λ (ms : List Module). Done v cw g0 ms g) now p.done;
     }
+
+-- many places
+pub placed-many : (v : ℕ) (cw : List ℕ) (g0 g : Grid) (before ms later : List Module) (number : ℕ) → IsPlaced v cw g0 before (ms ++ later) number g → IsPlaced v cw g0 (before ++ ms) later (number_along v ms number) (placed_along v cw ms number g)
+placed-many v cw g0 g before [] later number p = rw append-nil p
+placed-many v cw g0 g before (m ∷ ms) later number p =
+    let t = is_in_region v m.row m.col in
+    let one = placed-step v cw g0 g before (ms ++ later) m number t refl p in
+    let rest = placed-many v cw g0 (placed_if t cw number g m.row m.col) (before ++ m ∷ []) ms later (number_after t number) one in
+    subst (λ (z : List Module). IsPlaced v cw g0 z later (number_along v ms (number_after t number)) (placed_along v cw ms (number_after t number) (placed_if t cw number g m.row m.col))) (append_assoc before (m ∷ []) ms) rest
+
+-- the number after the rows of a strip that are left, from one row on
+pub row-number : (v s k m number row : ℕ) (x : Strip) (t u : Bool) → s - k ≡ suc m → row ≡ cond x.upward (s - 1 - k) k → t ≡ is_in_region v row x.right → u ≡ is_in_region v row (x.right - 1)
+    → number_along v (both_of (rows_from s x (k + 1) m)) (number_after u (number_after t number)) ≡ number_along v (both_of (rows_from s x k (s - k))) number
+row-number v s k m number row x t u e r f h =
+    let rest = both_of (rows_from s x (k + 1) m) in
+    ap (λ z. number_along v rest (number_after u (number_after z number))) f
+    ∙ (ap (λ z. number_along v rest (number_after z (number_after (is_in_region v row x.right) number))) h
+    ∙ (ap (λ z. number_along v rest (number_after (is_in_region v z (x.right - 1)) (number_after (is_in_region v z x.right) number))) r
+    ∙ ap (λ z. number_along v (both_of (rows_from s x k z)) number) (sym e)))
+
+-- the square after them
+pub row-placed : (v s k m number row : ℕ) (cw : List ℕ) (g : Grid) (x : Strip) (t u : Bool) → s - k ≡ suc m → row ≡ cond x.upward (s - 1 - k) k → t ≡ is_in_region v row x.right → u ≡ is_in_region v row (x.right - 1)
+    → placed_along v cw (both_of (rows_from s x (k + 1) m)) (number_after u (number_after t number)) (placed_if u cw (number_after t number) (placed_if t cw number g row x.right) row (x.right - 1)) ≡ placed_along v cw (both_of (rows_from s x k (s - k))) number g
+row-placed v s k m number row cw g x t u e r f h =
+    let rest = both_of (rows_from s x (k + 1) m) in
+    let col = x.right in
+    ap (λ z. placed_along v cw rest (number_after u (number_after z number)) (placed_if u cw (number_after z number) (placed_if z cw number g row col) row (col - 1))) f
+    ∙ (ap (λ z. placed_along v cw rest (number_after z (number_after (is_in_region v row col) number)) (placed_if z cw (number_after (is_in_region v row col) number) (placed_if (is_in_region v row col) cw number g row col) row (col - 1))) h
+    ∙ (ap (λ z. placed_along v cw rest (number_after (is_in_region v z (col - 1)) (number_after (is_in_region v z col) number)) (placed_if (is_in_region v z (col - 1)) cw (number_after (is_in_region v z col) number) (placed_if (is_in_region v z col) cw number g z col) z (col - 1))) r
+    ∙ ap (λ z. placed_along v cw (both_of (rows_from s x k z)) number g) (sym e)))
+
+-- a place of the region or not, the side stays
+pub side-placed : (t : Bool) (cw : List ℕ) (number row col : ℕ) (g : Grid) → (placed_if t cw number g row col).side ≡ g.side
+side-placed true cw number row col g = refl
+side-placed false cw number row col g = refl
 
 -- a number is at most that of all modules of the region
 pub placed-small : (v : ℕ) (cw : List ℕ) (g0 g : Grid) (before later : List Module) (number : ℕ) → 1 ≤ v → v ≤ 40 → IsPlaced v cw g0 before later number g → number ≤ 29648

@@ -1,21 +1,22 @@
 //! How the modules of a symbol get their colours: the function patterns with the format and version information, and
 //! the codewords' bits along the walk over the encoding region (ISO/IEC 18004:2015, 7.7.2 and 7.7.3).
 
-ghost use Rattle.std.specs.Prelude.{◌≡◌, ◌+◌, ◌-◌, ◌<◌, ◌≤◌, ◌==◌, ◌&&◌, if◌then◌else◌, nat_le, nat_lt, false, slice_index};
+ghost use Rattle.std.specs.Prelude.{◌≡◌, ◌+◌, ◌-◌, ◌*◌, ◌<◌, ◌≤◌, ◌==◌, ◌&&◌, if◌then◌else◌, nat_le, nat_lt, false, slice_index};
 ghost use Rattle.std.specs.List.{list_any};
 ghost use Rattle.qr_layout.specs.Versions.{side_of};
 ghost use Rattle.qr_layout.specs.Alignment.{alignment_places, centres_of};
 ghost use Rattle.qr_layout.specs.Region.{corner_rectangles, is_alignment, is_in_rectangle, timing_lines, version_rectangles};
 ghost use Rattle.qr_layout.specs.Roles.{first_place, is_alignment_light, ring_of, role_of, second_place};
+ghost use Rattle.qr_layout.specs.StripPlaces.{both_of, rows_from};
 ghost use Rattle.qr_layout.specs.Words.{format_word_of, version_word_of};
 ghost use Rattle.qr_bits.specs.Bits.{codeword_bit};
 ghost use Rattle.qr_matrix.specs.Grid.{square, colour, light, IsSquare};
 ghost use Rattle.qr_matrix.specs.Lines.{has_bit};
 ghost use Rattle.qr_symbol.specs.Colour.{word_bit};
-ghost use Rattle.qr_symbol.specs.Drawing.{fixed_colour, paint_of, placed_colour, placed_if, number_after, format_or, masked_grid, region_grid};
+ghost use Rattle.qr_symbol.specs.Drawing.{fixed_colour, paint_of, placed_colour, placed_if, number_after, number_along, placed_along, format_or, masked_grid, region_grid};
 
 use crate::mask::pattern;
-use qr_layout::{Level, Module, Role, Version, alignment_centres, all_pairs, cell, format_word};
+use qr_layout::{Level, Module, Role, Strip, Version, alignment_centres, all_strips, cell, format_word};
 use qr_matrix::Matrix;
 
 // Bit `number` of the codewords, the highest bit of a codeword first, and light past their end.
@@ -36,17 +37,25 @@ fn codeword_at(codewords: &[u8], place: usize) -> u8
     codewords.get(place).copied().unwrap_or(0)
 }
 
+// Two codewords as one number, the first the higher.
+fn two_codewords(codewords: &[u8], place: usize) -> u32
+    requires { place ≤ 5000 }
+    ensures { result ≡ 256 * slice_index codewords.now place + slice_index codewords.now (place + 1) }
+{
+    if place + 1 < codewords.len() {
+        return 256 * u32::from(codewords[place]) + u32::from(codewords[place + 1]);
+    }
+    256 * u32::from(codeword_at(codewords, place)) + u32::from(codeword_at(codewords, place + 1))
+}
+
 // Two bits of the codewords from `number` on, the first the higher.
 fn two_bits(codewords: &[u8], number: usize) -> u8
-    requires { number ≤ 29648 }
+    requires { number ≤ 40000 }
     ensures small { result < 4 }
     ensures first { has_bit result 1 ≡ codeword_bit codewords.now number }
     ensures second { has_bit result 0 ≡ codeword_bit codewords.now (number + 1) }
 {
-    let place = number / 8;
-    let first = u32::from(codeword_at(codewords, place));
-    let second = u32::from(codeword_at(codewords, place + 1));
-    ((256 * first + second) >> (14 - number % 8) & 3) as u8
+    (two_codewords(codewords, number / 8) >> (14 - number % 8) & 3) as u8
 }
 
 // Bit `i` of a word of format or version information, bit 0 being the lowest.
@@ -238,8 +247,9 @@ fn draw_pair(
     requires left_in { 1 ≤ right.col }
     requires col_in { right.col < matrix.old.side }
     requires within { within < 4 }
-    requires few { number ≤ 29648 }
+    requires few { number ≤ 40000 }
     ensures number { result ≡ number_after (has_bit within 0) (number_after (has_bit within 1) number) }
+    ensures few { result ≤ number + 2 }
     ensures matrix { matrix.new ≡ placed_if (has_bit within 0) codewords.now
         (number_after (has_bit within 1) number)
         (placed_if (has_bit within 1) codewords.now number matrix.old right.row right.col)
@@ -247,32 +257,65 @@ fn draw_pair(
 {
     let Module { row, col } = right;
     match within {
-        0 => number,
-        1 => {
-            matrix.set(row, col - 1, bit_at(codewords, number));
-            number + 1
+        3 => {
+            matrix.set_pair(row, col, two_bits(codewords, number));
+            number + 2
         }
         2 => {
             matrix.set(row, col, bit_at(codewords, number));
             number + 1
         }
-        _ => {
-            matrix.set_pair(row, col, two_bits(codewords, number));
-            number + 2
+        1 => {
+            matrix.set(row, col - 1, bit_at(codewords, number));
+            number + 1
         }
+        _ => number,
     }
 }
 
-// Gives each module of the encoding region the colour of its bit, in one walk over the rows of the strips.
+// Gives the modules of a strip that are in the encoding region the bits of the codewords from `first` on, and returns the
+// number of the bit after them.
+fn draw_strip(
+    matrix: &mut Matrix,
+    v: Version,
+    region: &Matrix,
+    codewords: &[u8],
+    first: usize,
+    strip: Strip,
+) -> usize
+    requires side { matrix.old.side ≡ side_of v }
+    requires region { region.now ≡ region_grid v }
+    requires left_in { 1 ≤ strip.right }
+    requires right_in { strip.right < side_of v }
+    requires few { first ≤ 29648 }
+    ensures number { result ≡ number_along v (both_of (rows_from (side_of v) strip 0 (side_of v))) first }
+    ensures matrix { matrix.new ≡ placed_along v codewords.now (both_of (rows_from (side_of v) strip 0 (side_of v)))
+        first matrix.old }
+{
+    let side = v.side();
+    let mut number = first;
+    for passed in 0..side {
+        let row = if strip.upward {
+            side - 1 - passed
+        } else {
+            passed
+        };
+        let col = strip.right;
+        let within = region.pair(row, col);
+        number = draw_pair(matrix, codewords, number, Module { row, col }, within);
+    }
+    number
+}
+
+// Gives each module of the encoding region the colour of its bit, strip by strip.
 pub(crate) fn draw_codewords(matrix: &mut Matrix, v: Version, region: &Matrix, codewords: &[u8])
     requires square { IsSquare (side_of v) matrix.old }
     requires region { region.now ≡ region_grid v }
     ensures { matrix.new ≡ square (side_of v) (placed_colour v codewords.now (colour matrix.old)) }
 {
     let mut number = 0;
-    for right in all_pairs(v) {
-        let within = region.pair(right.row, right.col);
-        number = draw_pair(matrix, codewords, number, right, within);
+    for strip in all_strips(v) {
+        number = draw_strip(matrix, v, region, codewords, number, strip);
     }
 }
 

@@ -4,13 +4,13 @@ use Rattle.qr_matrix.specs.Grid.{painted}
 use Rattle.qr_matrix.specs.Lines.{has_bit}
 use Rattle.qr_symbol.proofs.drawing.draw_pair.Goals as goal
 
-pub returns-in-0-clause-number : goal.returns-in-0-clause-number
+pub returns-in_default-clause-number : goal.returns-in_default-clause-number
 unfolding has_bit
-returns-in-0-clause-number c = rw c.in-0.is refl
+returns-in_default-clause-number c = let e : c.args.within ≡ 0 = omega arith in rw e refl
 
-pub returns-in-0-clause-matrix : goal.returns-in-0-clause-matrix
+pub returns-in_default-clause-matrix : goal.returns-in_default-clause-matrix
 unfolding has_bit
-returns-in-0-clause-matrix c = rw c.in-0.is refl
+returns-in_default-clause-matrix c = let e : c.args.within ≡ 0 = omega arith in rw e refl
 
 pub returns-in-1-clause-number : goal.returns-in-1-clause-number
 unfolding has_bit
@@ -18,7 +18,7 @@ returns-in-1-clause-number c = rw c.in-1.is refl
 
 pub returns-in-1-clause-matrix : goal.returns-in-1-clause-matrix
 unfolding has_bit
-returns-in-1-clause-matrix c = rw c.in-1.is (c.set.ensures ∙ ap (painted c.args.matrix.now c.args.right.row (c.args.right.col - 1)) c.bit_at.ensures)
+returns-in-1-clause-matrix c = rw c.in-1.is (c.set-in-1.ensures ∙ ap (painted c.args.matrix.now c.args.right.row (c.args.right.col - 1)) c.bit_at-in-1.ensures)
 
 pub returns-in-2-clause-number : goal.returns-in-2-clause-number
 unfolding has_bit
@@ -26,19 +26,19 @@ returns-in-2-clause-number c = rw c.in-2.is refl
 
 pub returns-in-2-clause-matrix : goal.returns-in-2-clause-matrix
 unfolding has_bit
-returns-in-2-clause-matrix c = rw c.in-2.is (c.set-in-2.ensures ∙ ap (painted c.args.matrix.now c.args.right.row c.args.right.col) c.bit_at-in-2.ensures)
+returns-in-2-clause-matrix c = rw c.in-2.is (c.set.ensures ∙ ap (painted c.args.matrix.now c.args.right.row c.args.right.col) c.bit_at.ensures)
 
-pub returns-in_default-clause-number : goal.returns-in_default-clause-number
+pub returns-in-3-clause-number : goal.returns-in-3-clause-number
 unfolding has_bit
-returns-in_default-clause-number c = let e : c.args.within ≡ 3 = omega arith in rw e (two c.args.number)
+returns-in-3-clause-number c = let e = c.in-3.is in rw e (two c.args.number)
   where
     two : (n : ℕ) → n + 2 ≡ n + 1 + 1
     two n = omega arith
 
-pub returns-in_default-clause-matrix : goal.returns-in_default-clause-matrix
+pub returns-in-3-clause-matrix : goal.returns-in-3-clause-matrix
 unfolding has_bit
-returns-in_default-clause-matrix c =
-    let e : c.args.within ≡ 3 = omega arith in
+returns-in-3-clause-matrix c =
+    let e = c.in-3.is in
     let row = c.args.right.row in
     let col = c.args.right.col in
     let g = c.args.matrix.now in
