@@ -1,8 +1,6 @@
 -- Drawing along a walk: whatever place is no more to come has its colour.
-use Rattle.std.proofs.Common.{◌≡◌, ℕ, suc, ◌+◌, ◌-◌, ◌<◌, ◌≤◌, Bool, true, false, cond, nat_eq, ◌&&◌, List, [], ◌∷◌, ◌++◌, length, length-append, refl, sym, ◌∙◌, ap, inl, inr, ◌⊎◌, subst, append_assoc, append-nil, arith}
+use Rattle.std.proofs.Common.{◌≡◌, ℕ, suc, ◌+◌, ◌-◌, ◌<◌, ◌≤◌, Bool, true, false, cond, nat_eq, ◌&&◌, List, [], ◌∷◌, ◌++◌, length, length-append, refl, sym, ◌∙◌, ap, inl, inr, subst, append_assoc, append-nil, arith}
 use Rattle.std.specs.Prelude.{Option, None, Some, SomeIff, unwrap_or}
-use Rattle.std.proofs.lemmas.Bool.{cases_lt}
-use Rattle.std.proofs.lemmas.Bool.Decides.{nat_tests}
 use Rattle.qr_layout.specs.declared.level.Level.{Level}
 use Rattle.qr_layout.specs.declared.region.Module.{Module}
 use Rattle.qr_layout.specs.declared.role.Role.{Role}
@@ -10,14 +8,14 @@ use Rattle.qr_layout.specs.declared.role.Role.TheVariants.{Fixed, FormatBit, Ver
 use Rattle.qr_layout.specs.Versions.{side_of}
 use Rattle.qr_layout.specs.Words.{format_word_of, version_word_of}
 use Rattle.qr_layout.specs.Region.{is_in_region}
-use Rattle.qr_layout.specs.Roles.{role_of, first_place, second_place}
+use Rattle.qr_layout.specs.Roles.{role_of}
 use Rattle.qr_layout.specs.Order.{IsOrder, in_region_of, number_of}
 use Rattle.qr_layout.specs.StripPlaces.{both_of, rows_from}
 use Rattle.qr_layout.specs.declared.strips.Strip.{Strip}
 use Rattle.qr_layout.proofs.ListFacts.{Mem}
 use Rattle.qr_layout.proofs.OrderLemmas.{order-has, order-mem, order-small, number-at}
 use Rattle.qr_layout.proofs.RegionLemmas.{row-in, col-in}
-use Rattle.qr_layout.proofs.RoleLaws.{region-role, role-region, version-only, format-only}
+use Rattle.qr_layout.proofs.RoleLaws.{region-role, role-region, version-only}
 use Rattle.qr_bits.specs.Bits.{codeword_bit}
 use Rattle.qr_matrix.specs.Grid.{Grid, square, colour, painted, IsSquare}
 use Rattle.qr_symbol.specs.Masks.{inverts, inverted}

@@ -16,7 +16,9 @@ ghost use Rattle.qr_symbol.specs.Colour.{word_bit};
 ghost use Rattle.qr_symbol.specs.Drawing.{fixed_colour, paint_of, placed_colour, placed_if, number_after, number_along, placed_along, format_or, masked_grid, region_grid};
 
 use crate::mask::pattern;
-use qr_layout::{Level, Module, Role, Strip, Version, alignment_centres, all_strips, cell, format_word};
+use qr_layout::{
+    Level, Module, Role, Strip, Version, alignment_centres, all_strips, cell, format_word,
+};
 use qr_matrix::Matrix;
 
 // Bit `number` of the codewords, the highest bit of a codeword first, and light past their end.
@@ -126,6 +128,10 @@ fn paint_rectangle(
     ensures { matrix.new ≡ square (side_of v) (λ r c. if nat_le top r && nat_lt r bottom && nat_le left c
         && nat_lt c right then paint_of v format r c else colour matrix.old r c) }
 {
+    if format.is_none() {
+        matrix.fill(top, bottom, left, right, false);
+        return;
+    }
     for row in top..bottom {
         paint_row(matrix, v, format, row, left, right);
     }
@@ -256,11 +262,11 @@ fn draw_pair(
         right.row (right.col - 1) }
 {
     let Module { row, col } = right;
+    if within == 3 {
+        matrix.set_pair(row, col, two_bits(codewords, number));
+        return number + 2;
+    }
     match within {
-        3 => {
-            matrix.set_pair(row, col, two_bits(codewords, number));
-            number + 2
-        }
         2 => {
             matrix.set(row, col, bit_at(codewords, number));
             number + 1

@@ -28,17 +28,17 @@ pub returns-in-2-clause-matrix : goal.returns-in-2-clause-matrix
 unfolding has_bit
 returns-in-2-clause-matrix c = rw c.in-2.is (c.set.ensures ∙ ap (painted c.args.matrix.now c.args.right.row c.args.right.col) c.bit_at.ensures)
 
-pub returns-in-3-clause-number : goal.returns-in-3-clause-number
+pub returns-then-within-eq3-clause-number : goal.returns-then-within-eq3-clause-number
 unfolding has_bit
-returns-in-3-clause-number c = let e = c.in-3.is in rw e (two c.args.number)
+returns-then-within-eq3-clause-number c = let e = c.if-within-eq3.true in rw e (two c.args.number)
   where
     two : (n : ℕ) → n + 2 ≡ n + 1 + 1
     two n = omega arith
 
-pub returns-in-3-clause-matrix : goal.returns-in-3-clause-matrix
+pub returns-then-within-eq3-clause-matrix : goal.returns-then-within-eq3-clause-matrix
 unfolding has_bit
-returns-in-3-clause-matrix c =
-    let e = c.in-3.is in
+returns-then-within-eq3-clause-matrix c =
+    let e = c.if-within-eq3.true in
     let row = c.args.right.row in
     let col = c.args.right.col in
     let g = c.args.matrix.now in

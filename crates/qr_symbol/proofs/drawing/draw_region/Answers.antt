@@ -1,4 +1,4 @@
-use Rattle.std.proofs.Common.{◌≡◌, ℕ, Bool, true, false, cond, ◌&&◌, leb, ltb, subst, sym, ap, ◌∙◌, refl, arith}
+use Rattle.std.proofs.Common.{◌≡◌, ℕ, Bool, true, false, cond, ◌&&◌, leb, ltb, ap, ◌∙◌, refl, arith}
 use Rattle.std.specs.Prelude.{None}
 use Rattle.std.specs.List.{list_any}
 use Rattle.std.proofs.lemmas.Bool.Decides.{nat_tests}
@@ -8,7 +8,6 @@ use Rattle.qr_layout.proofs.AlignmentLemmas.{region_in}
 use Rattle.qr_matrix.specs.Grid.{Grid, colour}
 use Rattle.qr_matrix.proofs.GridLemmas.{square-same}
 use Rattle.qr_symbol.specs.Drawing.{paint_of}
-use Rattle.qr_symbol.proofs.DrawingLemmas.{square-is}
 use Rattle.qr_symbol.proofs.PaintLemmas.{over-square, over-colour, over-rectangle, region-tests}
 use Rattle.qr_symbol.proofs.drawing.draw_region.Goals as goal
 

@@ -1,4 +1,4 @@
-use Rattle.std.proofs.Common.{◌+◌, ◌/◌, ◌%◌, ◌-◌, ◌^◌, ◌*◌, bit_and, get_or, refl, ap, ◌∙◌, arith}
+use Rattle.std.proofs.Common.{◌+◌, ◌/◌, ◌%◌, ◌-◌, ◌^◌, bit_and, get_or, refl, ap, ◌∙◌, arith}
 use Rattle.qr_matrix.specs.Lines.{has_bit}
 use Rattle.qr_symbol.proofs.BitLemmas.{window-first, window-second}
 use Rattle.qr_symbol.proofs.drawing.two_bits.Goals as goal
