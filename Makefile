@@ -1,4 +1,4 @@
-# Builds the proved program, and puts it and its manual page under PREFIX.
+# Builds the proved program, puts it and its manual page under PREFIX, and counts its instructions.
 PREFIX = /usr/local
 PROGRAM = crates/qrencode/out/qrencode
 
@@ -12,4 +12,7 @@ install: all
 uninstall:
 	rm -f $(DESTDIR)$(PREFIX)/bin/qrencode $(DESTDIR)$(PREFIX)/share/man/man1/qrencode.1
 
-.PHONY: all install uninstall
+bench: all
+	bench/instructions
+
+.PHONY: all install uninstall bench
