@@ -1,4 +1,4 @@
-# Builds the proved program, and puts it and its manual page under PREFIX, by the name NAME.
+# Builds the proved program, tests it, counts its instructions, and puts it and its manual page under PREFIX, by the name NAME.
 PREFIX = /usr/local
 NAME = qrencode
 PROGRAM = crates/qrencode/out/qrencode
@@ -18,4 +18,7 @@ install: all
 uninstall:
 	rm -f "$(BINARY)" "$(MANUAL)"
 
-.PHONY: all check install uninstall
+bench: all
+	bench/instructions
+
+.PHONY: all bench check install uninstall

@@ -1,10 +1,13 @@
 //! The alignment patterns: the rows and columns of their centres (ISO/IEC 18004:2015, 6.3.6 and Annex E).
 
-ghost use Rattle.std.specs.Prelude.{◌≡◌, ◌≤◌, ◌-◌, ◌+◌, ◌&&◌, not, nat_le, nat_lt};
-ghost use Rattle.std.specs.List.{list_any};
-ghost use Rattle.qr_layout.specs.Alignment.{centres_of, is_corner_pair};
+ghost use Rattle.std.specs.Prelude.{◌≡◌, ◌≤◌, ◌-◌, ◌+◌, ◌&&◌, ◌++◌, ◌∷◌, [], if◌then◌else◌, not, length, nat_le, nat_lt};
+ghost use Rattle.std.specs.List.{list_any, flat_map};
+ghost use Rattle.arrayvec.specs.ArrayVec.{array_vec_len};
+ghost use Rattle.qr_layout.specs.Versions.{side_of};
+ghost use Rattle.qr_layout.specs.Alignment.{alignment_places, centres_of, is_corner_pair};
 ghost use Rattle.qr_layout.specs.Region.{is_alignment};
 
+use crate::region::Module;
 use crate::version::Version;
 use arrayvec::ArrayVec;
 
@@ -131,6 +134,34 @@ pub(crate) fn is_in_alignment(v: Version, row: u8, col: u8) -> bool
     is_on_centre(centres, side, row, col)
 }
 
+// Adds the centres in a row, from left to right.
+fn push_centres(places: &mut ArrayVec<Module, 49>, centres: &[u8], side: u8, row: u8)
+    requires side_in { 21 ≤ side }
+    requires room { array_vec_len places.old + length centres.now ≤ 49 }
+    ensures items { places.new.items ≡ places.old.items
+        ++ flat_map (λ b. if is_corner_pair side row b then [] else record { row = row; col = b } ∷ []) centres.now }
+    ensures few { array_vec_len places.new ≤ array_vec_len places.old + length centres.now }
+{
+    for col in centres {
+        if !is_corner_pair(side, row, *col) {
+            places.push(Module { row, col: *col });
+        }
+    }
+}
+
+/// The centres of the alignment patterns, from the top, in each row from the left.
+pub fn alignment_centres(v: Version) -> ArrayVec<Module, 49>
+    ensures { result.items ≡ alignment_places (side_of v) (centres_of v) }
+{
+    let side = v.side();
+    let centres = centre_list(v);
+    let mut places = ArrayVec::new();
+    for row in centres {
+        push_centres(&mut places, centres, side, *row);
+    }
+    places
+}
+
 #[cfg(test)]
 mod tests {
     use super::*;
@@ -159,6 +190,18 @@ mod tests {
             [6, 30, 58, 86, 114, 142, 170].as_slice(),
             "version 40"
         );
+        Ok(())
+    }
+
+    #[test]
+    fn centres_without_the_corners(rt: HostRuntime) -> Result<(), Fail> {
+        let version = Version::new(7).ok_or("version 7")?;
+        let centres = [(6, 22), (22, 6), (22, 22), (22, 38), (38, 22), (38, 38)];
+        let places = alignment_centres(version);
+        assert!(rt; places.len() == centres.len(), "six patterns");
+        for (place, (row, col)) in places.iter().zip(centres) {
+            assert_eq!(rt; *place, Module { row, col });
+        }
         Ok(())
     }
 }

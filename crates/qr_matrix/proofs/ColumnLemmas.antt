@@ -43,27 +43,16 @@ five-down-bit s line c r x y z p q m n ex ey ez ep eq em en =
     cc
 
 -- a guard of two tests guards them together
-guarded-run : (u f j t : Bool) → t ≡ true → ((u && f) && not (u && j)) ≡ (u && (f && not (t && j)))
-guarded-run true f j t e = subst (λ z. (f && not j) ≡ (f && not (z && j))) (sym e) refl
-guarded-run false f j t e = refl
+guarded-run : (u f j t : Bool) → ((u && f) && not (t && (u && j))) ≡ (u && (f && not (t && j)))
+guarded-run true f j t = refl
+guarded-run false f j t = refl
 
--- a run of a column begins where five places begin and no join comes before
-pub run-down-bit : (s : ℕ) (line : ℕ → Bool) (c r : ℕ) (x f j : Bool) → 0 < r → x ≡ (f && not j) → f ≡ (ltb c s && begins_five s line r) → j ≡ (ltb c s && joins s line (r - 1)) → x ≡ (ltb c s && begins_run s line r)
+-- a run begins where five places do and the place above is not joined to the first
+pub run-down-bit : (s : ℕ) (line : ℕ → Bool) (c r : ℕ) (x f j : Bool) → x ≡ (f && not j) → f ≡ (ltb c s && begins_five s line r) → j ≡ (ltb 0 r && (ltb c s && joins s line (r - 1))) → x ≡ (ltb c s && begins_run s line r)
 unfolding begins_run
-run-down-bit s line c r x f j h ex ef ej =
-    let e = guarded-run (ltb c s) (begins_five s line r) (joins s line (r - 1)) (ltb 0 r) (grind (arith, nat_tests)) in
+run-down-bit s line c r x f j ex ef ej =
+    let e = guarded-run (ltb c s) (begins_five s line r) (joins s line (r - 1)) (ltb 0 r) in
     cc
-
--- in the first row a run begins where five places do
-pub run-down-first : (s : ℕ) (line : ℕ → Bool) (c r : ℕ) (f : Bool) → r ≡ 0 → f ≡ (ltb c s && begins_five s line r) → f ≡ (ltb c s && begins_run s line r)
-unfolding begins_run
-run-down-first s line c r f h e =
-    let t : ltb 0 r ≡ false = grind (arith, nat_tests) in
-    e ∙ ap (λ z. ltb c s && z) (keep (begins_five s line r) (ltb 0 r) (joins s line (r - 1)) t)
-  where
-    keep : (f t j : Bool) → t ≡ false → f ≡ (f && not (t && j))
-    keep true t j e = subst (λ z. true ≡ not (z && j)) (sym e) refl
-    keep false t j e = refl
 
 -- a line whose places are those below s that pass a test has as many as pass it
 pub guarded-size : (s : ℕ) (words : List ℕ) (p : ℕ → Bool) → s ≤ 192 → ((c : ℕ) → has words c ≡ (ltb c s && p c)) → size_of words ≡ count_below s p

@@ -1,12 +1,13 @@
 -- Rows of words as a square.
-use Rattle.std.proofs.Common.{◌≡◌, ℕ, ◌<◌, ◌≤◌, Bool, true, false, ◌&&◌, cond, eqb, List, [], ◌∷◌, length, get_or, set, replicate, sym, ap, ◌∙◌, inl, inr, arith}
+use Rattle.std.proofs.Common.{◌≡◌, ℕ, ◌<◌, ◌≤◌, Bool, true, false, not, ◌&&◌, ◌||◌, cond, eqb, ltb, leb, ◌+◌, List, [], ◌∷◌, length, get_or, set, replicate, refl, sym, ap, subst, ◌∙◌, inl, inr, arith}
 use mathlib.Core.Path.{fun_ext}
 use Rattle.std.proofs.lemmas.Bool.{cases_lt, cases_eq}
 use Rattle.std.proofs.lemmas.Bool.Decides.{nat_tests}
 use Rattle.std.proofs.lemmas.List.{get_or_past, get_or_read, get_or-replicate, length-replicate, get_or-set_same, get_or-set_other}
 use Rattle.std.proofs.lemmas.Nat.Bits.{bit_at-zero}
-use Rattle.qr_matrix.specs.Grid.{Grid, square, colour, painted}
+use Rattle.qr_matrix.specs.Grid.{Grid, square, colour, painted, with_row, with_rectangle}
 use Rattle.qr_matrix.specs.Lines.{has, has_bit, line_of, dark_in}
+use Rattle.qr_matrix.specs.Penalty.{is_same}
 use Rattle.qr_matrix.proofs.BoolLemmas.{and-false}
 use Rattle.qr_matrix.proofs.ColumnLemmas.{has-nothing}
 use Rattle.qr_matrix.proofs.GridLemmas.{square-same, colour-square, colour-outside}
@@ -75,6 +76,124 @@ pub write-step : (s row col : ℕ) (rows new : List (List ℕ)) (g : Grid) (b : 
 write-step s row col rows new g b v h =
     square-same s (dark_in new) (λ r c. cond (eqb r row && eqb c col) b (colour (square s (dark_in rows)) r c)) (λ r c l m. h r c ∙ ap (λ z. cond (eqb r row && eqb c col) b z) (sym (colour-square s (dark_in rows) r c l m)))
     ∙ ap (λ (z : Grid). painted z row col b) v
+
+-- ---- a line that is written
+
+-- the colours after a line is written
+pub line-set : (rows : List (List ℕ)) (row i : ℕ) (words : List ℕ) → i ≡ row → row < length rows → (r c : ℕ) → dark_in (set rows i words) r c ≡ cond (eqb r row) (has words c) (dark_in rows r c)
+unfolding dark_in
+line-set rows row i words f l r c = ap (λ z. has (get_or (set rows z words) r []) c) f ∙ elim (cases_eq r row) [
+  | inl e ↦
+      let t : eqb r row ≡ true = grind (arith, nat_tests) in
+      ap (λ z. has (get_or (set rows row words) z []) c) e ∙ (ap (λ z. has z c) (get_or-set_same rows row words [] l) ∙ ap (λ z. cond z (has words c) (has (get_or rows r []) c)) (sym t))
+  | inr e ↦
+      let t : eqb r row ≡ false = grind (arith, nat_tests) in
+      ap (λ z. has z c) (get_or-set_other rows row r words [] e) ∙ ap (λ z. cond z (has words c) (has (get_or rows r []) c)) (sym t)
+]
+
+-- no bit stands past the side after it
+pub line-inside : (s row : ℕ) (rows new : List (List ℕ)) (words : List ℕ) → ((r c : ℕ) → dark_in new r c ≡ cond (eqb r row) (has words c) (dark_in rows r c)) → ((c : ℕ) → s ≤ c → has words c ≡ false) → ((r c : ℕ) → s ≤ c → dark_in rows r c ≡ false) → (r c : ℕ) → s ≤ c → dark_in new r c ≡ false
+line-inside s row rows new words h w i r c k = h r c ∙ both_false (eqb r row) (has words c) (dark_in rows r c) (w c k) (i r c k)
+  where
+    both_false : (t x y : Bool) → x ≡ false → y ≡ false → cond t x y ≡ false
+    both_false true x y e f = e
+    both_false false x y e f = f
+
+-- the square after it
+pub line-write : (s row : ℕ) (rows new : List (List ℕ)) (g : Grid) (words : List ℕ) (f : ℕ → Bool) → square s (dark_in rows) ≡ g → ((r c : ℕ) → dark_in new r c ≡ cond (eqb r row) (has words c) (dark_in rows r c)) → ((c : ℕ) → c < s → has words c ≡ f c) → square s (dark_in new) ≡ with_row g row f
+line-write s row rows new g words f v h e =
+    square-same s (dark_in new) (λ r c. cond (eqb r row) (f c) (colour (square s (dark_in rows)) r c)) (λ r c l m. h r c ∙ (ap (λ z. cond (eqb r row) z (dark_in rows r c)) (e c m) ∙ ap (λ z. cond (eqb r row) (f c) z) (sym (colour-square s (dark_in rows) r c l m))))
+    ∙ ap (λ (z : Grid). with_row z row f) v
+
+-- a line of a square that is read by its row
+pub line-read : (s row i : ℕ) (rows : List (List ℕ)) (words : List ℕ) (g : Grid) → square s (dark_in rows) ≡ g → i ≡ row → row < s → length rows ≡ s → words ≡ get_or rows i [] → (c : ℕ) → c < s → has words c ≡ colour g row c
+unfolding dark_in
+line-read s row i rows words g v e l q w c m =
+    ap (λ z. has z c) (w ∙ ap (λ z. get_or rows z []) e) ∙ (sym (colour-square s (dark_in rows) row c l m) ∙ ap (λ (z : Grid). colour z row c) v)
+
+-- a colour that differs where another place is dark too
+pub masked-bit : (d p w r x : Bool) → d ≡ not (is_same p x) → x ≡ (w && r) → d ≡ cond (w && r) (not p) p
+masked-bit d true w r x e f = e ∙ (ap (λ z. not (is_same true z)) f ∙ told (w && r))
+  where
+    told : (t : Bool) → not t ≡ cond t false true
+    told true = refl
+    told false = refl
+masked-bit d false w r x e f = e ∙ (ap (λ z. not (is_same false z)) f ∙ told (w && r))
+  where
+    told : (t : Bool) → not (not t) ≡ cond t true false
+    told true = refl
+    told false = refl
+
+-- where both lines have no place the line has none
+pub masked-past : (d p w r x : Bool) → d ≡ not (is_same p x) → x ≡ (w && r) → p ≡ false → w ≡ false → d ≡ false
+masked-past d p w r x e f g h = e ∙ (ap (λ z. not (is_same z x)) g ∙ ap (λ z. not (is_same false z)) (f ∙ ap (λ z. z && r) h))
+
+-- rows of the same colours make one square
+pub with_row-same : (g : Grid) (row : ℕ) (f h : ℕ → Bool) → ((c : ℕ) → c < g.side → f c ≡ h c) → with_row g row f ≡ with_row g row h
+with_row-same g row f h e = square-same g.side (λ r c. cond (eqb r row) (f c) (colour g r c)) (λ r c. cond (eqb r row) (h c) (colour g r c)) (λ r c l m. ap (λ z. cond (eqb r row) z (colour g r c)) (e c m))
+
+-- a place is among some columns, or is not
+among : (left right c : ℕ) → (ltb c right && not (ltb c left)) ≡ (leb left c && ltb c right)
+among left right c = grind (arith, nat_tests)
+
+-- a place that is made dark among some columns
+pub filled-dark : (left right c : ℕ) (d p x a b : Bool) → d ≡ (p || x) → x ≡ (a && not b) → a ≡ ltb c right → b ≡ ltb c left → d ≡ cond (leb left c && ltb c right) true p
+filled-dark left right c d p x a b e f ea eb =
+    e ∙ (ap (λ z. p || z) (f ∙ (ap (λ z. z && not b) ea ∙ (ap (λ z. ltb c right && not z) eb ∙ among left right c))) ∙ told p (leb left c && ltb c right))
+  where
+    told : (p t : Bool) → (p || t) ≡ cond t true p
+    told true true = refl
+    told true false = refl
+    told false true = refl
+    told false false = refl
+
+-- a place that is made light among some columns
+pub filled-light : (left right c : ℕ) (d p x a b : Bool) → d ≡ (p && not x) → x ≡ (a && not b) → a ≡ ltb c right → b ≡ ltb c left → d ≡ cond (leb left c && ltb c right) false p
+filled-light left right c d p x a b e f ea eb =
+    e ∙ (ap (λ z. p && not z) (f ∙ (ap (λ z. z && not b) ea ∙ (ap (λ z. ltb c right && not z) eb ∙ among left right c))) ∙ told p (leb left c && ltb c right))
+  where
+    told : (p t : Bool) → (p && not t) ≡ cond t false p
+    told true true = refl
+    told true false = refl
+    told false true = refl
+    told false false = refl
+
+-- past the side there is nothing to make light or dark
+pub filled-past : (s left right c : ℕ) (dark d p : Bool) → right ≤ s → s ≤ c → d ≡ cond (leb left c && ltb c right) dark p → p ≡ false → d ≡ false
+filled-past s left right c dark d p l m e f =
+    let t : ltb c right ≡ false = grind (arith, nat_tests) in
+    e ∙ (ap (λ z. cond z dark p) (and-false (leb left c) (ltb c right) t) ∙ f)
+
+-- what a matrix is seen as is a square of its own colours
+pub view-square : (s : ℕ) (rows : List (List ℕ)) (g : Grid) → square s (dark_in rows) ≡ g → g ≡ square g.side (colour g)
+view-square s rows g v = subst (λ (x : Grid). x ≡ square x.side (colour x)) v (square-same s (dark_in rows) (colour (square s (dark_in rows))) (λ r c l m. sym (colour-square s (dark_in rows) r c l m)))
+
+-- ---- rectangles
+
+-- at first none is filled
+pub rectangle-none : (g : Grid) (top left right : ℕ) (dark : Bool) → g ≡ square g.side (colour g) → g ≡ with_rectangle g top top left right dark
+rectangle-none g top left right dark e = e ∙ square-same g.side (colour g) (λ r c. cond (leb top r && ltb r top && leb left c && ltb c right) dark (colour g r c)) (λ r c l m.
+    let t : (leb top r && ltb r top) ≡ false = grind (arith, nat_tests) in
+    ap (λ z. cond (z && leb left c && ltb c right) dark (colour g r c)) (sym t))
+
+-- one row is filled
+pub rectangle-row : (g h : Grid) (top row left right : ℕ) (dark : Bool) → top ≤ row → h ≡ with_rectangle g top row left right dark → with_row h row (λ c. cond (leb left c && ltb c right) dark (colour h row c)) ≡ with_rectangle g top (row + 1) left right dark
+rectangle-row g h top row left right dark k e =
+    ap (λ (x : Grid). with_row x row (λ c. cond (leb left c && ltb c right) dark (colour x row c))) e
+    ∙ square-same g.side (λ r c. cond (eqb r row) (cond (leb left c && ltb c right) dark (colour (with_rectangle g top row left right dark) row c)) (colour (with_rectangle g top row left right dark) r c)) (λ r c. cond (leb top r && ltb r (row + 1) && leb left c && ltb c right) dark (colour g r c)) (λ r c l m. elim (cases_eq r row) [
+      | inl a ↦
+          let t : eqb r row ≡ true = grind (arith, nat_tests) in
+          let u : (leb top r && ltb r (row + 1)) ≡ true = grind (arith, nat_tests) in
+          let w : (leb top row && ltb row row) ≡ false = grind (arith, nat_tests) in
+          ap (λ z. cond z (cond (leb left c && ltb c right) dark (colour (with_rectangle g top row left right dark) row c)) (colour (with_rectangle g top row left right dark) r c)) t
+          ∙ (ap (λ z. cond (leb left c && ltb c right) dark z) (colour-square g.side (λ r c. cond (leb top r && ltb r row && leb left c && ltb c right) dark (colour g r c)) row c (omega arith) m ∙ (ap (λ z. cond (z && leb left c && ltb c right) dark (colour g row c)) w ∙ ap (λ z. colour g z c) (sym a)))
+          ∙ ap (λ z. cond (z && leb left c && ltb c right) dark (colour g r c)) (sym u))
+      | inr a ↦
+          let t : eqb r row ≡ false = grind (arith, nat_tests) in
+          let u : (leb top r && ltb r row) ≡ (leb top r && ltb r (row + 1)) = grind (arith, nat_tests) in
+          ap (λ z. cond z (cond (leb left c && ltb c right) dark (colour (with_rectangle g top row left right dark) row c)) (colour (with_rectangle g top row left right dark) r c)) t
+          ∙ (colour-square g.side (λ r c. cond (leb top r && ltb r row && leb left c && ltb c right) dark (colour g r c)) r c l m ∙ ap (λ z. cond (z && leb left c && ltb c right) dark (colour g r c)) u)
+    ])
 
 -- ---- the light square
 

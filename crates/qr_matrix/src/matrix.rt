@@ -1,11 +1,13 @@
 //! The square of modules that makes a symbol, without its quiet zone (ISO/IEC 18004:2015, 6.3.2).
 
-ghost use Rattle.std.specs.Prelude.{◌≡◌, ℕ, ◌<◌, ◌≤◌, false, length, IfOk};
-ghost use Rattle.qr_matrix.specs.Grid.{square, colour, painted, light};
-ghost use Rattle.qr_matrix.specs.Lines.{dark_in};
+ghost use Rattle.std.specs.Prelude.{◌≡◌, ℕ, ◌+◌, ◌-◌, ◌%◌, ◌<◌, ◌≤◌, ◌&&◌, not, nat_le, nat_lt, if◌then◌else◌, false, length, IfOk};
+ghost use Rattle.qr_matrix.specs.Grid.{square, colour, painted, with_row, with_rectangle, light};
+ghost use Rattle.qr_matrix.specs.Lines.{dark_in, has, has_bit};
 ghost use Rattle.qr_matrix.specs.Runs.{IsRunEnd};
 
-use crate::line::{at, put};
+use crate::line::{
+    at, both, differ, either, first, first_places, four, pair, put, put_pair, repeated, without,
+};
 use std::alloc::{AllocError, Global};
 use std::marker::Model;
 
@@ -59,6 +61,29 @@ impl Matrix {
         at(&self.rows[usize::from(row)], col)
     }
 
+    /// Four modules of a row from a column on that is a multiple of four, the first the lowest bit.
+    pub fn four(&self, row: u8, col: u8) -> u8
+        requires row_in { row < self.now.side }
+        requires col_in { col + 4 ≤ self.now.side }
+        requires whole { col % 4 ≡ 0 }
+        ensures small { result < 16 }
+        ensures colours { (k : ℕ) → k < 4 → has_bit result k ≡ colour self.now row (col + k) }
+    {
+        four(&self.rows()[usize::from(row)], col)
+    }
+
+    /// Two modules of a row, that in a column the higher bit and that to the left of it the lower.
+    pub fn pair(&self, row: u8, col: u8) -> u8
+        requires row_in { row < self.now.side }
+        requires left_in { 1 ≤ col }
+        requires col_in { col < self.now.side }
+        ensures small { result < 4 }
+        ensures left { has_bit result 0 ≡ colour self.now row (col - 1) }
+        ensures right { has_bit result 1 ≡ colour self.now row col }
+    {
+        pair(&self.rows()[usize::from(row)], col)
+    }
+
     /// Where the run of equal modules from `col` on ends: the least column after `col` whose
     /// colour in that row differs from that at `col`, or the side where there is none.
     pub fn run_end(&self, row: u8, col: u8) -> u8
@@ -67,12 +92,13 @@ impl Matrix {
         ensures { IsRunEnd self.now row col result }
     {
         let side = self.side();
-        let dark = self.dark(row, col);
-        let mut end = col + 1;
-        'run: while end < side && self.dark(row, end) == dark {
-            end += 1;
-        }
-        end
+        let line = self.line(row);
+        let others = if self.dark(row, col) {
+            without(first_places(side), line)
+        } else {
+            line
+        };
+        first(without(others, first_places(col + 1))).min(side)
     }
 
     // The rows, each a line of bits.
@@ -80,6 +106,7 @@ impl Matrix {
         ensures view { square self.now.side (dark_in result.now) ≡ self.now }
         ensures long { length result.now ≡ self.now.side }
         ensures inside { (r c : ℕ) → self.now.side ≤ c → dark_in result.now r c ≡ false }
+        ensures most { self.now.side ≤ 177 }
     {
         self.rows.as_slice()
     }
@@ -91,6 +118,84 @@ impl Matrix {
         ensures { self.new ≡ painted self.old row col dark }
     {
         put(&mut self.rows[usize::from(row)], col, dark);
+    }
+
+    /// Gives two modules of a row their colours: that in a column by the higher bit, that to the left of it by the lower.
+    pub fn set_pair(&mut self, row: u8, col: u8, bits: u8)
+        requires row_in { row < self.old.side }
+        requires left_in { 1 ≤ col }
+        requires col_in { col < self.old.side }
+        requires bits { bits < 4 }
+        ensures { self.new ≡ painted (painted self.old row col (has_bit bits 1)) row (col - 1) (has_bit bits 0) }
+    {
+        put_pair(&mut self.rows[usize::from(row)], col, bits);
+    }
+
+    // A row as a line.
+    fn line(&self, row: u8) -> [u64; 3]
+        requires { row < self.now.side }
+        ensures inside { (c : ℕ) → c < self.now.side → has result c ≡ colour self.now row c }
+        ensures past { (c : ℕ) → self.now.side ≤ c → has result c ≡ false }
+        ensures few { self.now.side ≤ 177 }
+    {
+        self.rows()[usize::from(row)]
+    }
+
+    // Gives a row the colours of a line.
+    fn set_line(&mut self, row: u8, line: [u64; 3])
+        requires row_in { row < self.old.side }
+        requires past { (c : ℕ) → self.old.side ≤ c → has line c ≡ false }
+        ensures { self.new ≡ with_row self.old row (has line) }
+    {
+        self.rows[usize::from(row)] = line;
+    }
+
+    /// Gives a row the colours of `plain`, the other ones where `within` is dark and a pattern has the column. The
+    /// pattern is six bits, column 0 the lowest, and is repeated every six columns.
+    pub fn set_row_masked(&mut self, row: u8, plain: &Matrix, within: &Matrix, pattern: u8)
+        requires row_in { row < self.old.side }
+        requires plain_side { plain.now.side ≡ self.old.side }
+        requires within_side { within.now.side ≡ self.old.side }
+        requires pattern_in { pattern < 64 }
+        ensures { self.new ≡ with_row self.old row
+            (λ c. if colour within.now row c && has_bit pattern (c % 6) then not (colour plain.now row c)
+            else colour plain.now row c) }
+    {
+        let inverted = both(within.line(row), repeated(pattern));
+        self.set_line(row, differ(plain.line(row), inverted));
+    }
+
+    // Gives the modules of a row from `left` to before `right` one colour.
+    fn fill_row(&mut self, row: u8, left: u8, right: u8, dark: bool)
+        requires row_in { row < self.old.side }
+        requires in_order { left ≤ right }
+        requires right_in { right ≤ self.old.side }
+        ensures { self.new ≡ with_row self.old row
+            (λ c. if nat_le left c && nat_lt c right then dark else colour self.old row c) }
+    {
+        let line = self.line(row);
+        let columns = without(first_places(right), first_places(left));
+        if dark {
+            self.set_line(row, either(line, columns));
+        } else {
+            self.set_line(row, without(line, columns));
+        }
+    }
+
+    /// Gives the modules of the rows from `top` to before `bottom` and the columns from `left` to before `right` one
+    /// colour.
+    pub fn fill(&mut self, top: u8, bottom: u8, left: u8, right: u8, dark: bool)
+        requires rows_in_order { top ≤ bottom }
+        requires bottom_in { bottom ≤ self.old.side }
+        requires columns_in_order { left ≤ right }
+        requires right_in { right ≤ self.old.side }
+        ensures { self.new ≡ with_rectangle self.old top bottom left right dark }
+    {
+        // Looked at, the matrix is known to be a square of its colours, also where no row is filled.
+        prove!(self.side <= 177);
+        for row in top..bottom {
+            self.fill_row(row, left, right, dark);
+        }
     }
 }
 
@@ -109,6 +214,75 @@ mod tests {
                 let is_set = row == 1 && col == 2;
                 assert_eq!(rt; matrix.dark(row, col), is_set, "row {row}, column {col}");
             }
+        }
+        Ok(())
+    }
+
+    #[test]
+    fn a_rectangle_is_filled(rt: HostRuntime) -> Result<(), Fail> {
+        let mut matrix = Matrix::new(rt.alloc(), 70)?;
+        matrix.fill(2, 5, 62, 67, true);
+        matrix.fill(3, 4, 63, 65, false);
+        for row in 0..70u8 {
+            for col in 0..70u8 {
+                let is_round = row >= 2 && row < 5 && col >= 62 && col < 67;
+                let is_dark = is_round && !(row == 3 && (col == 63 || col == 64));
+                assert_eq!(rt; matrix.dark(row, col), is_dark, "row {row}, column {col}");
+            }
+        }
+        Ok(())
+    }
+
+    #[test]
+    fn four_modules_are_four_bits(rt: HostRuntime) -> Result<(), Fail> {
+        let mut matrix = Matrix::new(rt.alloc(), 72)?;
+        matrix.set(1, 64, true);
+        matrix.set(1, 66, true);
+        matrix.set(1, 67, true);
+        assert_eq!(rt; matrix.four(1, 64), 0b1101);
+        assert_eq!(rt; matrix.four(1, 60), 0);
+        Ok(())
+    }
+
+    #[test]
+    fn pairs_over_the_border_of_words(rt: HostRuntime) -> Result<(), Fail> {
+        for (col, bits) in [
+            (1u8, 0b10u8),
+            (63, 0b01),
+            (64, 0b10),
+            (65, 0b01),
+            (71, 0b11),
+        ] {
+            assert!(rt; col >= 1 && col < 72 && bits < 4);
+            let mut matrix = Matrix::new(rt.alloc(), 72)?;
+            matrix.fill(3, 4, 0, 72, true);
+            matrix.set_pair(3, col, bits);
+            assert_eq!(rt; matrix.pair(3, col), bits, "columns up to {col}");
+            assert_eq!(rt; matrix.dark(3, col), bits >= 2, "column {col}");
+            assert_eq!(rt;
+                matrix.dark(3, col - 1),
+                bits % 2 == 1,
+                "left of column {col}"
+            );
+        }
+        Ok(())
+    }
+
+    #[test]
+    fn a_row_is_masked_within(rt: HostRuntime) -> Result<(), Fail> {
+        let mut plain = Matrix::new(rt.alloc(), 70)?;
+        plain.fill(4, 5, 60, 70, true);
+        let mut within = Matrix::new(rt.alloc(), 70)?;
+        within.fill(4, 5, 0, 66, true);
+        let mut matrix = Matrix::new(rt.alloc(), 70)?;
+        matrix.set_row_masked(4, &plain, &within, 0b000011);
+        for col in 0..70u8 {
+            let is_dark = match col {
+                0..60 => col % 6 < 2,
+                60 | 61 => false,
+                _ => true,
+            };
+            assert_eq!(rt; matrix.dark(4, col), is_dark, "column {col}");
         }
         Ok(())
     }

@@ -1,8 +1,6 @@
 -- Drawing along a walk: whatever place is no more to come has its colour.
-use Rattle.std.proofs.Common.{◌≡◌, ℕ, ◌<◌, ◌≤◌, Bool, true, false, cond, nat_eq, ◌&&◌, List, [], ◌∷◌, ◌++◌, length, refl, sym, ◌∙◌, ap, inl, inr, ◌⊎◌, subst, append_assoc, arith}
+use Rattle.std.proofs.Common.{◌≡◌, ℕ, suc, ◌+◌, ◌-◌, ◌<◌, ◌≤◌, Bool, true, false, cond, nat_eq, ◌&&◌, List, [], ◌∷◌, ◌++◌, length, length-append, refl, sym, ◌∙◌, ap, inl, inr, subst, append_assoc, append-nil, arith}
 use Rattle.std.specs.Prelude.{Option, None, Some, SomeIff, unwrap_or}
-use Rattle.std.proofs.lemmas.Bool.{cases_lt}
-use Rattle.std.proofs.lemmas.Bool.Decides.{nat_tests}
 use Rattle.qr_layout.specs.declared.level.Level.{Level}
 use Rattle.qr_layout.specs.declared.region.Module.{Module}
 use Rattle.qr_layout.specs.declared.role.Role.{Role}
@@ -10,36 +8,39 @@ use Rattle.qr_layout.specs.declared.role.Role.TheVariants.{Fixed, FormatBit, Ver
 use Rattle.qr_layout.specs.Versions.{side_of}
 use Rattle.qr_layout.specs.Words.{format_word_of, version_word_of}
 use Rattle.qr_layout.specs.Region.{is_in_region}
-use Rattle.qr_layout.specs.Roles.{role_of, first_place, second_place}
-use Rattle.qr_layout.specs.Order.{IsOrder, number_of}
+use Rattle.qr_layout.specs.Roles.{role_of}
+use Rattle.qr_layout.specs.Order.{IsOrder, in_region_of, number_of}
+use Rattle.qr_layout.specs.StripPlaces.{both_of, rows_from}
+use Rattle.qr_layout.specs.declared.strips.Strip.{Strip}
 use Rattle.qr_layout.proofs.ListFacts.{Mem}
-use Rattle.qr_layout.proofs.OrderLemmas.{order-has, order-mem, number-at}
+use Rattle.qr_layout.proofs.OrderLemmas.{order-has, order-mem, order-small, number-at}
 use Rattle.qr_layout.proofs.RegionLemmas.{row-in, col-in}
-use Rattle.qr_layout.proofs.RoleLaws.{region-role, role-region, version-only, format-only}
+use Rattle.qr_layout.proofs.RoleLaws.{region-role, role-region, version-only}
 use Rattle.qr_bits.specs.Bits.{codeword_bit}
 use Rattle.qr_matrix.specs.Grid.{Grid, square, colour, painted, IsSquare}
 use Rattle.qr_symbol.specs.Masks.{inverts, inverted}
 use Rattle.qr_symbol.specs.Colour.{word_bit, colour_by, colour_of, grid_of}
-use Rattle.qr_symbol.specs.Drawing.{fixed_colour, inverts_under, placed_colour, is_region, format_or, masked_colour, masked_grid, region_grid, plain_grid}
+use Rattle.qr_symbol.specs.Drawing.{fixed_colour, placed_colour, placed_if, number_after, number_along, placed_along, format_or, masked_colour, masked_grid, region_grid, plain_grid}
 use Rattle.qr_matrix.proofs.GridLemmas.{same-place, square-same, colour-square, colour-painted-here, colour-painted-there}
+use Rattle.qr_symbol.proofs.KeptPlaces.{kept-in, kept-out, kept-push-in, kept-push-out}
 
 -- the module in a row and a column
 abbrev pub at : ℕ → ℕ → Module
 at r c = record { row = r; col = c }
 
 -- each place that is not in the list has its colour
-abbrev pub Done : ℕ → Option ℕ → List ℕ → Grid → List Module → Grid → Type 0
-Done v mask cw g0 rest g = (r c : ℕ) → r < side_of v → c < side_of v → (Mem (at r c) rest → ⊥) → colour g r c ≡ placed_colour v mask cw (colour g0) r c
+abbrev pub Done : ℕ → List ℕ → Grid → List Module → Grid → Type 0
+Done v cw g0 rest g = (r c : ℕ) → r < side_of v → c < side_of v → (Mem (at r c) rest → ⊥) → colour g r c ≡ placed_colour v cw (colour g0) r c
 
 -- outside the encoding region the other colour stays
-outside : (v : ℕ) (mask : Option ℕ) (cw : List ℕ) (f : ℕ → ℕ → Bool) (r c : ℕ) → is_in_region v r c ≡ false → f r c ≡ placed_colour v mask cw f r c
+outside : (v : ℕ) (cw : List ℕ) (f : ℕ → ℕ → Bool) (r c : ℕ) → is_in_region v r c ≡ false → f r c ≡ placed_colour v cw f r c
 unfolding placed_colour
-outside v mask cw f r c e = rw e refl
+outside v cw f r c e = rw e refl
 
 -- inside it the bit of the place's number is placed
-pub inside : (v : ℕ) (mask : Option ℕ) (cw : List ℕ) (f : ℕ → ℕ → Bool) (r c : ℕ) → is_in_region v r c ≡ true → placed_colour v mask cw f r c ≡ inverted (inverts_under mask r c) (codeword_bit cw (number_of v (at r c)))
+pub inside : (v : ℕ) (cw : List ℕ) (f : ℕ → ℕ → Bool) (r c : ℕ) → is_in_region v r c ≡ true → placed_colour v cw f r c ≡ codeword_bit cw (number_of v (at r c))
 unfolding placed_colour
-inside v mask cw f r c e = rw e refl
+inside v cw f r c e = rw e refl
 
 -- by cases on a test
 by_test : (b : Bool) (A : Type 0) → (b ≡ true → A) → (b ≡ false → A) → A
@@ -47,9 +48,9 @@ by_test true A f g = f refl
 by_test false A f g = g refl
 
 -- before the walk, what is not to come is outside the region
-pub done-start : (v : ℕ) (mask : Option ℕ) (cw : List ℕ) (g : Grid) (ms : List Module) → IsOrder v ms → Done v mask cw g ms g
-done-start v mask cw g ms o r c l m n =
-    outside v mask cw (colour g) r c (by_test (is_in_region v r c) (is_in_region v r c ≡ false) (λ t. absurd (n (order-has v ms o (at r c) t))) (λ e. e))
+pub done-start : (v : ℕ) (cw : List ℕ) (g : Grid) (ms : List Module) → IsOrder v ms → Done v cw g ms g
+done-start v cw g ms o r c l m n =
+    outside v cw (colour g) r c (by_test (is_in_region v r c) (is_in_region v r c ≡ false) (λ t. absurd (n (order-has v ms o (at r c) t))) (λ e. e))
 
 -- what stands in the middle is a member
 pub Mem-mid : {X : Type 0} (x : X) (front back : List X) → Mem x (front ++ x ∷ back)
@@ -57,26 +58,26 @@ Mem-mid x [] back = inl refl
 Mem-mid x (y ∷ ys) back = inr (Mem-mid x ys back)
 
 -- one module of the walk is drawn
-pub done-step : (v : ℕ) (mask : Option ℕ) (cw : List ℕ) (g0 g : Grid) (front later : List Module) (x : Module) (number : ℕ) (d : Bool)
-    → IsOrder v (front ++ x ∷ later) → number ≡ length front → g.side ≡ side_of v → d ≡ inverted (inverts_under mask x.row x.col) (codeword_bit cw number)
-    → Done v mask cw g0 (x ∷ later) g → Done v mask cw g0 later (painted g x.row x.col d)
-done-step v mask cw g0 g front later x number d o k s e h r c l m n =
+pub done-step : (v : ℕ) (cw : List ℕ) (g0 g : Grid) (front later : List Module) (x : Module) (number : ℕ) (d : Bool)
+    → IsOrder v (front ++ x ∷ later) → number ≡ length front → g.side ≡ side_of v → d ≡ codeword_bit cw number
+    → Done v cw g0 (x ∷ later) g → Done v cw g0 later (painted g x.row x.col d)
+done-step v cw g0 g front later x number d o k s e h r c l m n =
     elim (same-place x.row x.col r c) [
       | inl w ↦
           let a : x.row ≡ r = sym w.0.0 in
           let b : x.col ≡ c = sym w.0.1 in
           let t = order-mem v (front ++ x ∷ later) o x (Mem-mid x front later) in
-          let i = inside v mask cw (colour g0) x.row x.col t in
+          let i = inside v cw (colour g0) x.row x.col t in
           let j : number_of v x ≡ number = number-at v front later x o ∙ sym k in
-          let here = colour-painted-here g x.row x.col d (omega arith) (omega arith) ∙ (e ∙ sym (i ∙ ap (λ (z : ℕ). inverted (inverts_under mask x.row x.col) (codeword_bit cw z)) j)) in
-          ap (λ (y : ℕ). colour (painted g x.row x.col d) y c) w.0.0 ∙ (ap (λ (y : ℕ). colour (painted g x.row x.col d) x.row y) w.0.1 ∙ (here ∙ (ap (λ (y : ℕ). placed_colour v mask cw (colour g0) y x.col) a ∙ ap (λ (y : ℕ). placed_colour v mask cw (colour g0) r y) b)))
+          let here = colour-painted-here g x.row x.col d (omega arith) (omega arith) ∙ (e ∙ sym (i ∙ ap (codeword_bit cw) j)) in
+          ap (λ (y : ℕ). colour (painted g x.row x.col d) y c) w.0.0 ∙ (ap (λ (y : ℕ). colour (painted g x.row x.col d) x.row y) w.0.1 ∙ (here ∙ (ap (λ (y : ℕ). placed_colour v cw (colour g0) y x.col) a ∙ ap (λ (y : ℕ). placed_colour v cw (colour g0) r y) b)))
       | inr w ↦
           colour-painted-there g x.row x.col r c d (omega arith) (omega arith) w.0 ∙ h r c l m (λ q. elim q [ inl e ↦ w.0 (ap (λ (z : Module). z.row) (sym e), ap (λ (z : Module). z.col) (sym e)) | inr q ↦ n q ])
     ]
 
 -- after the walk, every place has its colour
-pub done-end : (v : ℕ) (mask : Option ℕ) (cw : List ℕ) (g0 g : Grid) → IsSquare (side_of v) g → Done v mask cw g0 [] g → g ≡ square (side_of v) (placed_colour v mask cw (colour g0))
-done-end v mask cw g0 g e h = e ∙ square-same (side_of v) (colour g) (placed_colour v mask cw (colour g0)) (λ r c l m. h r c l m (λ q. q))
+pub done-end : (v : ℕ) (cw : List ℕ) (g0 g : Grid) → IsSquare (side_of v) g → Done v cw g0 [] g → g ≡ square (side_of v) (placed_colour v cw (colour g0))
+done-end v cw g0 g e h = e ∙ square-same (side_of v) (colour g) (placed_colour v cw (colour g0)) (λ r c l m. h r c l m (λ q. q))
 
 -- a square is made of its own colours
 square-again : (k : ℕ) (f : ℕ → ℕ → Bool) → square k f ≡ square k (colour (square k f))
@@ -91,35 +92,9 @@ pub painted-square : (s : ℕ) (g : Grid) (row col : ℕ) (d : Bool) → g.side 
 painted-square s g row col d e = square-again g.side (λ r c. cond (nat_eq r row && nat_eq c col) d (colour g r c)) ∙ ap (λ (k : ℕ). square k (colour (painted g row col d))) e
 
 -- placing keeps equal colours equal
-placed-same : (v : ℕ) (mask : Option ℕ) (cw : List ℕ) (f h : ℕ → ℕ → Bool) (r c : ℕ) → f r c ≡ h r c → placed_colour v mask cw f r c ≡ placed_colour v mask cw h r c
+placed-same : (v : ℕ) (cw : List ℕ) (f h : ℕ → ℕ → Bool) (r c : ℕ) → f r c ≡ h r c → placed_colour v cw f r c ≡ placed_colour v cw h r c
 unfolding placed_colour
-placed-same v mask cw f h r c e = ap (λ (b : Bool). cond (is_in_region v r c) (inverted (inverts_under mask r c) (codeword_bit cw (number_of v (at r c)))) b) e
-
--- a role that is not the region has its fixed colour
-role-fixed : (v : ℕ) (l : Level) (mask : ℕ) (cw : List ℕ) (r c : ℕ) (q : Role) → (q ≡ Region → ⊥) → fixed_colour (format_word_of l mask) (version_word_of v) q ≡ colour_by v l mask cw r c q
-unfolding fixed_colour
-role-fixed v l mask cw r c (Fixed dark) n = refl
-role-fixed v l mask cw r c (FormatBit i) n = refl
-role-fixed v l mask cw r c (VersionBit i) n = refl
-role-fixed v l mask cw r c Region n = absurd (n refl)
-
--- the colours outside the encoding region
-abbrev fixed_colours : ℕ → Level → ℕ → ℕ → ℕ → Bool
-fixed_colours v l mask r c = fixed_colour (format_word_of l mask) (version_word_of v) (role_of v r c)
-
--- the codewords placed over the fixed colours are the colours of the symbol
-pub placed-all : (v : ℕ) (l : Level) (mask : ℕ) (cw : List ℕ) (r c : ℕ) → 1 ≤ v → r < side_of v → c < side_of v → placed_colour v (Some mask) cw (fixed_colours v l mask) r c ≡ colour_of v l mask cw r c
-unfolding colour_of inverts_under
-placed-all v l mask cw r c k i j =
-    by_test (is_in_region v r c) (placed_colour v (Some mask) cw (fixed_colours v l mask) r c ≡ colour_by v l mask cw r c (role_of v r c))
-    (λ t. inside v (Some mask) cw (fixed_colours v l mask) r c t ∙ ap (colour_by v l mask cw r c) (sym (region-role v r c k i j t)))
-    (λ t. sym (outside v (Some mask) cw (fixed_colours v l mask) r c t) ∙ role-fixed v l mask cw r c (role_of v r c) (λ e. let f = role-region v r c k i j e in cc))
-
--- the codewords drawn over the fixed patterns are the whole symbol
-pub placed-over : (v mask : ℕ) (cw : List ℕ) (l : Level) (word : ℕ) (g h : Grid) → 1 ≤ v → word ≡ format_word_of l mask → g ≡ square (side_of v) (λ r c. fixed_colour word (version_word_of v) (role_of v r c)) → h ≡ square (side_of v) (placed_colour v (Some mask) cw (colour g)) → h ≡ grid_of v l mask cw
-placed-over v mask cw l word g h n w e k =
-    k ∙ square-same (side_of v) (placed_colour v (Some mask) cw (colour g)) (colour_of v l mask cw) (λ r c i j. placed-same v (Some mask) cw (colour g) (fixed_colours v l mask) r c
-    (ap (λ (z : Grid). colour z r c) e ∙ (colour-square (side_of v) (λ r c. fixed_colour word (version_word_of v) (role_of v r c)) r c i j ∙ ap (λ (z : ℕ). fixed_colour z (version_word_of v) (role_of v r c)) w)) ∙ placed-all v l mask cw r c n i j)
+placed-same v cw f h r c e = ap (λ (b : Bool). cond (is_in_region v r c) (codeword_bit cw (number_of v (at r c))) b) e
 
 -- a symbol below version 7 holds no bit of the version word, so any word does
 pub word-of-version : (v format version r c : ℕ) → (7 ≤ v → version ≡ version_word_of v) → fixed_colour format version (role_of v r c) ≡ fixed_colour format (version_word_of v) (role_of v r c)
@@ -151,59 +126,6 @@ in-square v front later x o = let w = order-mem v (front ++ x ∷ later) o x (Me
 
 -- ---- a symbol drawn anew with a mask
 
--- the role of the region passes its test
-region-is : (q : Role) → q ≡ Region → is_region q ≡ true
-unfolding is_region
-region-is q e = ap is_region e
-
--- only the role of the region passes it
-is-region : (q : Role) → is_region q ≡ true → q ≡ Region
-unfolding is_region
-is-region (Fixed dark) e = cc
-is-region (FormatBit i) e = cc
-is-region (VersionBit i) e = cc
-is-region Region e = refl
-
--- a role tells whether its module is in the encoding region
-pub region-test : (v r c : ℕ) → 1 ≤ v → r < side_of v → c < side_of v → is_region (role_of v r c) ≡ is_in_region v r c
-region-test v r c k i j =
-    by_test (is_in_region v r c) (is_region (role_of v r c) ≡ is_in_region v r c)
-    (λ t. region-is (role_of v r c) (region-role v r c k i j t) ∙ sym t)
-    (λ t. by_test (is_region (role_of v r c)) (is_region (role_of v r c) ≡ is_in_region v r c)
-    (λ u. let f = role-region v r c k i j (is-region (role_of v r c) u) in let g : false ≡ true = sym t ∙ f in absurd (cc))
-    (λ u. u ∙ sym t))
-
--- each first place of format information is in row 8 or in column 8
-first-line : (i : ℕ) → ((first_place i).row ≡ 8) ⊎ ((first_place i).col ≡ 8)
-first-line i = elim (cases_lt i 8) [ inl l ↦ inr (grind (arith, nat_tests)) | inr l ↦ inl (grind (arith, nat_tests)) ]
-
--- and so is each second place
-second-line : (s i : ℕ) → ((second_place s i).row ≡ 8) ⊎ ((second_place s i).col ≡ 8)
-second-line s i = elim (cases_lt i 8) [ inl l ↦ inl (grind (arith, nat_tests)) | inr l ↦ inr (grind (arith, nat_tests)) ]
-
--- away from row 8 and column 8 there is no format information
-pub format-line : (v r c : ℕ) (format : ℕ) (other : Bool) → (r ≡ 8 → ⊥) → (c ≡ 8 → ⊥) → other ≡ format_or format (role_of v r c) other
-unfolding format_or
-format-line v r c format other n m = by_role (role_of v r c) refl
-  where
-    off : (p : Module) → at r c ≡ p → (p.row ≡ 8) ⊎ (p.col ≡ 8) → ⊥
-    off p f (inl e) = n (ap (λ (z : Module). z.row) f ∙ e)
-    off p f (inr e) = m (ap (λ (z : Module). z.col) f ∙ e)
-
-    by_role : (q : Role) → role_of v r c ≡ q → other ≡ format_or format q other
-    by_role (Fixed dark) e = refl
-    by_role (FormatBit i) e = absurd (elim (format-only v (at r c) i e).1 [ inl f ↦ off (first_place i) f (first-line i) | inr f ↦ off (second_place (side_of v) i) f (second-line (side_of v) i) ])
-    by_role (VersionBit i) e = refl
-    by_role Region e = refl
-
--- what is no bit of the format information keeps its colour
-pub format-other : (q : Role) (format : ℕ) (other : Bool) → ((i : ℕ) → q ≡ FormatBit i → ⊥) → other ≡ format_or format q other
-unfolding format_or
-format-other (Fixed dark) format other n = refl
-format-other (FormatBit i) format other n = absurd (n i refl)
-format-other (VersionBit i) format other n = refl
-format-other Region format other n = refl
-
 -- a role that is not the region has its colour with the format information
 role-masked : (v : ℕ) (l : Level) (mask : ℕ) (cw : List ℕ) (r c : ℕ) (q : Role) → (q ≡ Region → ⊥) → format_or (format_word_of l mask) q (fixed_colour 0 (version_word_of v) q) ≡ colour_by v l mask cw r c q
 unfolding format_or fixed_colour
@@ -214,16 +136,16 @@ role-masked v l mask cw r c Region n = absurd (n refl)
 
 -- the colours without mask and format information
 abbrev plain_colours : ℕ → List ℕ → ℕ → ℕ → Bool
-plain_colours v cw = placed_colour v None cw (λ r c. fixed_colour 0 (version_word_of v) (role_of v r c))
+plain_colours v cw = placed_colour v cw (λ r c. fixed_colour 0 (version_word_of v) (role_of v r c))
 
 -- the colour of a module of the region
 masked-inside : (v : ℕ) (l : Level) (mask : ℕ) (cw : List ℕ) (r c : ℕ) → is_in_region v r c ≡ true → role_of v r c ≡ Region
     → format_or (format_word_of l mask) (role_of v r c) (inverted (is_in_region v r c && inverts mask r c) (plain_colours v cw r c)) ≡ colour_of v l mask cw r c
-unfolding colour_of format_or inverts_under
+unfolding colour_of format_or
 masked-inside v l mask cw r c t e =
     ap (λ (q : Role). format_or (format_word_of l mask) q (inverted (is_in_region v r c && inverts mask r c) (plain_colours v cw r c))) e
     ∙ (ap (λ (b : Bool). inverted (b && inverts mask r c) (plain_colours v cw r c)) t
-    ∙ (ap (inverted (inverts mask r c)) (inside v None cw (λ r c. fixed_colour 0 (version_word_of v) (role_of v r c)) r c t) ∙ ap (colour_by v l mask cw r c) (sym e)))
+    ∙ (ap (inverted (inverts mask r c)) (inside v cw (λ r c. fixed_colour 0 (version_word_of v) (role_of v r c)) r c t) ∙ ap (colour_by v l mask cw r c) (sym e)))
 
 -- the colour of another module
 masked-outside : (v : ℕ) (l : Level) (mask : ℕ) (cw : List ℕ) (r c : ℕ) → is_in_region v r c ≡ false → (role_of v r c ≡ Region → ⊥)
@@ -231,12 +153,12 @@ masked-outside : (v : ℕ) (l : Level) (mask : ℕ) (cw : List ℕ) (r c : ℕ) 
 unfolding colour_of
 masked-outside v l mask cw r c t n =
     ap (λ (b : Bool). format_or (format_word_of l mask) (role_of v r c) (inverted (b && inverts mask r c) (plain_colours v cw r c))) t
-    ∙ (ap (format_or (format_word_of l mask) (role_of v r c)) (sym (outside v None cw (λ r c. fixed_colour 0 (version_word_of v) (role_of v r c)) r c t)) ∙ role-masked v l mask cw r c (role_of v r c) n)
+    ∙ (ap (format_or (format_word_of l mask) (role_of v r c)) (sym (outside v cw (λ r c. fixed_colour 0 (version_word_of v) (role_of v r c)) r c t)) ∙ role-masked v l mask cw r c (role_of v r c) n)
 
 -- the codewords drawn without mask over the fixed patterns
-pub plain-over : (v : ℕ) (cw : List ℕ) (g h : Grid) → g ≡ square (side_of v) (λ r c. fixed_colour 0 (version_word_of v) (role_of v r c)) → h ≡ square (side_of v) (placed_colour v None cw (colour g)) → h ≡ plain_grid v cw
+pub plain-over : (v : ℕ) (cw : List ℕ) (g h : Grid) → g ≡ square (side_of v) (λ r c. fixed_colour 0 (version_word_of v) (role_of v r c)) → h ≡ square (side_of v) (placed_colour v cw (colour g)) → h ≡ plain_grid v cw
 plain-over v cw g h e k =
-    k ∙ square-same (side_of v) (placed_colour v None cw (colour g)) (plain_colours v cw) (λ r c i j. placed-same v None cw (colour g) (λ r c. fixed_colour 0 (version_word_of v) (role_of v r c)) r c
+    k ∙ square-same (side_of v) (placed_colour v cw (colour g)) (plain_colours v cw) (λ r c i j. placed-same v cw (colour g) (λ r c. fixed_colour 0 (version_word_of v) (role_of v r c)) r c
     (ap (λ (z : Grid). colour z r c) e ∙ colour-square (side_of v) (λ r c. fixed_colour 0 (version_word_of v) (role_of v r c)) r c i j))
 
 -- it is the symbol of its codewords under that mask
@@ -250,3 +172,87 @@ masked-all v l mask cw region plain k e f = square-same (side_of v) (masked_colo
     ∙ by_test (is_in_region v r c) (format_or (format_word_of l mask) (role_of v r c) (inverted (is_in_region v r c && inverts mask r c) (plain_colours v cw r c)) ≡ colour_of v l mask cw r c)
     (λ t. masked-inside v l mask cw r c t (region-role v r c k i j t))
     (λ t. masked-outside v l mask cw r c t (λ u. let h = role-region v r c k i j u in cc))))
+
+-- ---- a walk over places, of which those of the region get bits
+
+-- what was placed along the places before, with those still to come: the number of the next bit, and the square
+pub record IsPlaced (v : ℕ) (cw : List ℕ) (g0 : Grid) (before later : List Module) (number : ℕ) (g : Grid) : Type 0 where
+  pub whole : IsOrder v (in_region_of v before ++ in_region_of v later)
+  pub next : number ≡ length (in_region_of v before)
+  pub square : IsSquare (side_of v) g
+  pub done : Done v cw g0 (in_region_of v later) g
+
+-- at first
+pub placed-start : (v : ℕ) (cw : List ℕ) (g : Grid) (ms : List Module) → IsSquare (side_of v) g → IsOrder v (in_region_of v ms) → IsPlaced v cw g [] ms 0 g
+placed-start v cw g ms s o = record { whole = o; next = refl; square = s; done = done-start v cw g (in_region_of v ms) o }
+
+-- one place
+pub placed-step : (v : ℕ) (cw : List ℕ) (g0 g : Grid) (before later : List Module) (x : Module) (number : ℕ) (t : Bool) → t ≡ is_in_region v x.row x.col → IsPlaced v cw g0 before (x ∷ later) number g
+    → IsPlaced v cw g0 (before ++ x ∷ []) later (number_after t number) (placed_if t cw number g x.row x.col)
+placed-step v cw g0 g before later x number true e p =
+    let now = kept-in v x later (sym e) in
+    let then = kept-push-in v before x (sym e) in
+    let o : IsOrder v (in_region_of v before ++ x ∷ in_region_of v later) = subst (λ (ms : List Module). IsOrder v (in_region_of v before ++ ms)) now p.whole in
+    let s = ap (λ (h : Grid). h.side) p.square in
+    record {
+      whole = rw then (whole-push v (in_region_of v before) (in_region_of v later) x o);
+      next = rw then (let l = length-append (in_region_of v before) (x ∷ []) in let n = p.next in omega arith);
+      square = painted-square (side_of v) g x.row x.col (codeword_bit cw number) s;
+      done = done-step v cw g0 g (in_region_of v before) (in_region_of v later) x number (codeword_bit cw number) o p.next s refl (subst (λ (ms : List Module). Done v cw g0 ms g) now p.done);
+    }
+placed-step v cw g0 g before later x number false e p =
+    let now = kept-out v x later (sym e) in
+    let then = kept-push-out v before x (sym e) in
+    record {
+      whole = rw then (subst (λ (ms : List Module). IsOrder v (in_region_of v before ++ ms)) now p.whole);
+      next = rw then p.next;
+      square = p.square;
+      done = subst (λ (ms : List Module). Done v cw g0 ms g) now p.done;
+    }
+
+-- many places
+pub placed-many : (v : ℕ) (cw : List ℕ) (g0 g : Grid) (before ms later : List Module) (number : ℕ) → IsPlaced v cw g0 before (ms ++ later) number g → IsPlaced v cw g0 (before ++ ms) later (number_along v ms number) (placed_along v cw ms number g)
+placed-many v cw g0 g before [] later number p = rw append-nil p
+placed-many v cw g0 g before (m ∷ ms) later number p =
+    let t = is_in_region v m.row m.col in
+    let one = placed-step v cw g0 g before (ms ++ later) m number t refl p in
+    let rest = placed-many v cw g0 (placed_if t cw number g m.row m.col) (before ++ m ∷ []) ms later (number_after t number) one in
+    subst (λ (z : List Module). IsPlaced v cw g0 z later (number_along v ms (number_after t number)) (placed_along v cw ms (number_after t number) (placed_if t cw number g m.row m.col))) (append_assoc before (m ∷ []) ms) rest
+
+-- the number after the rows of a strip that are left, from one row on
+pub row-number : (v s k m number row : ℕ) (x : Strip) (t u : Bool) → s - k ≡ suc m → row ≡ cond x.upward (s - 1 - k) k → t ≡ is_in_region v row x.right → u ≡ is_in_region v row (x.right - 1)
+    → number_along v (both_of (rows_from s x (k + 1) m)) (number_after u (number_after t number)) ≡ number_along v (both_of (rows_from s x k (s - k))) number
+row-number v s k m number row x t u e r f h =
+    let rest = both_of (rows_from s x (k + 1) m) in
+    ap (λ z. number_along v rest (number_after u (number_after z number))) f
+    ∙ (ap (λ z. number_along v rest (number_after z (number_after (is_in_region v row x.right) number))) h
+    ∙ (ap (λ z. number_along v rest (number_after (is_in_region v z (x.right - 1)) (number_after (is_in_region v z x.right) number))) r
+    ∙ ap (λ z. number_along v (both_of (rows_from s x k z)) number) (sym e)))
+
+-- the square after them
+pub row-placed : (v s k m number row : ℕ) (cw : List ℕ) (g : Grid) (x : Strip) (t u : Bool) → s - k ≡ suc m → row ≡ cond x.upward (s - 1 - k) k → t ≡ is_in_region v row x.right → u ≡ is_in_region v row (x.right - 1)
+    → placed_along v cw (both_of (rows_from s x (k + 1) m)) (number_after u (number_after t number)) (placed_if u cw (number_after t number) (placed_if t cw number g row x.right) row (x.right - 1)) ≡ placed_along v cw (both_of (rows_from s x k (s - k))) number g
+row-placed v s k m number row cw g x t u e r f h =
+    let rest = both_of (rows_from s x (k + 1) m) in
+    let col = x.right in
+    ap (λ z. placed_along v cw rest (number_after u (number_after z number)) (placed_if u cw (number_after z number) (placed_if z cw number g row col) row (col - 1))) f
+    ∙ (ap (λ z. placed_along v cw rest (number_after z (number_after (is_in_region v row col) number)) (placed_if z cw (number_after (is_in_region v row col) number) (placed_if (is_in_region v row col) cw number g row col) row (col - 1))) h
+    ∙ (ap (λ z. placed_along v cw rest (number_after (is_in_region v z (col - 1)) (number_after (is_in_region v z col) number)) (placed_if (is_in_region v z (col - 1)) cw (number_after (is_in_region v z col) number) (placed_if (is_in_region v z col) cw number g z col) z (col - 1))) r
+    ∙ ap (λ z. placed_along v cw (both_of (rows_from s x k z)) number g) (sym e)))
+
+-- a place of the region or not, the side stays
+pub side-placed : (t : Bool) (cw : List ℕ) (number row col : ℕ) (g : Grid) → (placed_if t cw number g row col).side ≡ g.side
+side-placed true cw number row col g = refl
+side-placed false cw number row col g = refl
+
+-- a number is at most that of all modules of the region
+pub placed-small : (v : ℕ) (cw : List ℕ) (g0 g : Grid) (before later : List Module) (number : ℕ) → 1 ≤ v → v ≤ 40 → IsPlaced v cw g0 before later number g → number ≤ 29648
+placed-small v cw g0 g before later number k l p =
+    let m = order-small v (in_region_of v before ++ in_region_of v later) k l p.whole in
+    let n = length-append (in_region_of v before) (in_region_of v later) in
+    let q = p.next in
+    omega arith
+
+-- at the end
+pub placed-end : (v : ℕ) (cw : List ℕ) (g0 g : Grid) (before : List Module) (number : ℕ) → IsPlaced v cw g0 before [] number g → g ≡ square (side_of v) (placed_colour v cw (colour g0))
+placed-end v cw g0 g before number p = done-end v cw g0 g p.square p.done

@@ -1,18 +1,24 @@
 //! How the modules of a symbol get their colours: the function patterns with the format and version information, and
 //! the codewords' bits along the walk over the encoding region (ISO/IEC 18004:2015, 7.7.2 and 7.7.3).
 
-ghost use Rattle.std.specs.Prelude.{◌≡◌, ◌<◌, ◌&&◌};
+ghost use Rattle.std.specs.Prelude.{◌≡◌, ◌+◌, ◌-◌, ◌*◌, ◌<◌, ◌≤◌, ◌==◌, ◌&&◌, if◌then◌else◌, nat_le, nat_lt, false, slice_index};
+ghost use Rattle.std.specs.List.{list_any};
 ghost use Rattle.qr_layout.specs.Versions.{side_of};
-ghost use Rattle.qr_layout.specs.Roles.{role_of};
+ghost use Rattle.qr_layout.specs.Alignment.{alignment_places, centres_of};
+ghost use Rattle.qr_layout.specs.Region.{corner_rectangles, is_alignment, is_in_rectangle, timing_lines, version_rectangles};
+ghost use Rattle.qr_layout.specs.Roles.{first_place, is_alignment_light, ring_of, role_of, second_place};
+ghost use Rattle.qr_layout.specs.StripPlaces.{both_of, rows_from};
 ghost use Rattle.qr_layout.specs.Words.{format_word_of, version_word_of};
 ghost use Rattle.qr_bits.specs.Bits.{codeword_bit};
 ghost use Rattle.qr_matrix.specs.Grid.{square, colour, light, IsSquare};
-ghost use Rattle.qr_symbol.specs.Masks.{inverts, inverted};
+ghost use Rattle.qr_matrix.specs.Lines.{has_bit};
 ghost use Rattle.qr_symbol.specs.Colour.{word_bit};
-ghost use Rattle.qr_symbol.specs.Drawing.{fixed_colour, inverts_under, placed_colour, is_region, format_or, masked_colour, masked_grid, region_grid};
+ghost use Rattle.qr_symbol.specs.Drawing.{fixed_colour, paint_of, placed_colour, placed_if, number_after, number_along, placed_along, format_or, masked_grid, region_grid};
 
-use crate::mask::inverts;
-use qr_layout::{Level, Role, Version, cell, format_word, walk};
+use crate::mask::pattern;
+use qr_layout::{
+    Level, Module, Role, Strip, Version, alignment_centres, all_strips, cell, format_word,
+};
 use qr_matrix::Matrix;
 
 // Bit `number` of the codewords, the highest bit of a codeword first, and light past their end.
@@ -24,6 +30,34 @@ fn bit_at(codewords: &[u8], number: usize) -> bool
     } else {
         false
     }
+}
+
+// A codeword, and 0 past their end.
+fn codeword_at(codewords: &[u8], place: usize) -> u8
+    ensures { result ≡ slice_index codewords.now place }
+{
+    codewords.get(place).copied().unwrap_or(0)
+}
+
+// Two codewords as one number, the first the higher.
+fn two_codewords(codewords: &[u8], place: usize) -> u32
+    requires { place ≤ 5000 }
+    ensures { result ≡ 256 * slice_index codewords.now place + slice_index codewords.now (place + 1) }
+{
+    if place + 1 < codewords.len() {
+        return 256 * u32::from(codewords[place]) + u32::from(codewords[place + 1]);
+    }
+    256 * u32::from(codeword_at(codewords, place)) + u32::from(codeword_at(codewords, place + 1))
+}
+
+// Two bits of the codewords from `number` on, the first the higher.
+fn two_bits(codewords: &[u8], number: usize) -> u8
+    requires { number ≤ 40000 }
+    ensures small { result < 4 }
+    ensures first { has_bit result 1 ≡ codeword_bit codewords.now number }
+    ensures second { has_bit result 0 ≡ codeword_bit codewords.now (number + 1) }
+{
+    (two_codewords(codewords, number / 8) >> (14 - number % 8) & 3) as u8
 }
 
 // Bit `i` of a word of format or version information, bit 0 being the lowest.
@@ -46,43 +80,151 @@ fn fixed_colour(format: u32, version: u32, role: Role) -> bool
     }
 }
 
+// What a module is painted.
+#[tactic(auto, unfolding(crate::specs::Drawing::paint_of))]
+fn paint(v: Version, format: Option<u32>, row: u8, col: u8) -> bool
+    requires row_in { row < side_of v }
+    requires col_in { col < side_of v }
+    ensures { result ≡ paint_of v format row col }
+{
+    match format {
+        Some(format) => {
+            let version = v.version_word().unwrap_or(0);
+            fixed_colour(format, version, cell(v, row, col))
+        }
+        None => false,
+    }
+}
+
+// Paints the modules of a row from `left` to before `right`.
+fn paint_row(matrix: &mut Matrix, v: Version, format: Option<u32>, row: u8, left: u8, right: u8)
+    requires square { IsSquare (side_of v) matrix.old }
+    requires row_in { row < side_of v }
+    requires in_order { left ≤ right }
+    requires right_in { right ≤ side_of v }
+    ensures { matrix.new ≡ square (side_of v) (λ r c. if r == row && nat_le left c && nat_lt c right
+        then paint_of v format r c else colour matrix.old r c) }
+{
+    for col in left..right {
+        matrix.set(row, col, paint(v, format, row, col));
+    }
+}
+
+// Paints the modules of the rows from `top` to before `bottom` and the columns from `left` to before `right`.
+fn paint_rectangle(
+    matrix: &mut Matrix,
+    v: Version,
+    format: Option<u32>,
+    top: u8,
+    bottom: u8,
+    left: u8,
+    right: u8,
+)
+    requires square { IsSquare (side_of v) matrix.old }
+    requires rows_in_order { top ≤ bottom }
+    requires bottom_in { bottom ≤ side_of v }
+    requires columns_in_order { left ≤ right }
+    requires right_in { right ≤ side_of v }
+    ensures { matrix.new ≡ square (side_of v) (λ r c. if nat_le top r && nat_lt r bottom && nat_le left c
+        && nat_lt c right then paint_of v format r c else colour matrix.old r c) }
+{
+    if format.is_none() {
+        matrix.fill(top, bottom, left, right, false);
+        return;
+    }
+    for row in top..bottom {
+        paint_row(matrix, v, format, row, left, right);
+    }
+}
+
+// Paints the corners.
+fn paint_corners(matrix: &mut Matrix, v: Version, format: Option<u32>)
+    requires { IsSquare (side_of v) matrix.old }
+    ensures { matrix.new ≡ square (side_of v) (λ r c. if list_any (is_in_rectangle r c) (corner_rectangles (side_of v))
+        then paint_of v format r c else colour matrix.old r c) }
+{
+    let side = v.side();
+    paint_rectangle(matrix, v, format, 0, 9, 0, 9);
+    paint_rectangle(matrix, v, format, 0, 9, side - 8, side);
+    paint_rectangle(matrix, v, format, side - 8, side, 0, 9);
+}
+
+// Paints the timing patterns.
+fn paint_timing(matrix: &mut Matrix, v: Version, format: Option<u32>)
+    requires { IsSquare (side_of v) matrix.old }
+    ensures { matrix.new ≡ square (side_of v) (λ r c. if list_any (is_in_rectangle r c) (timing_lines (side_of v))
+        then paint_of v format r c else colour matrix.old r c) }
+{
+    let side = v.side();
+    paint_rectangle(matrix, v, format, 6, 7, 0, side);
+    paint_rectangle(matrix, v, format, 0, side, 6, 7);
+}
+
+// Paints the version information.
+fn paint_version(matrix: &mut Matrix, v: Version, format: Option<u32>)
+    requires { IsSquare (side_of v) matrix.old }
+    ensures { matrix.new ≡ square (side_of v) (λ r c. if list_any (is_in_rectangle r c)
+        (version_rectangles v (side_of v)) then paint_of v format r c else colour matrix.old r c) }
+{
+    if v.number() >= 7 {
+        let side = v.side();
+        paint_rectangle(matrix, v, format, 0, 6, side - 11, side - 8);
+        paint_rectangle(matrix, v, format, side - 11, side - 8, 0, 6);
+    }
+}
+
+// Gives the modules of the alignment patterns one colour.
+fn fill_alignment(matrix: &mut Matrix, v: Version, centres: &[Module], dark: bool)
+    requires square { IsSquare (side_of v) matrix.old }
+    requires centres { centres.now ≡ alignment_places (side_of v) (centres_of v) }
+    ensures { matrix.new ≡ square (side_of v) (λ r c. if is_alignment v r c then dark else colour matrix.old r c) }
+{
+    for centre in centres {
+        let Module { row, col } = *centre;
+        matrix.fill(row - 2, row + 3, col - 2, col + 3, dark);
+    }
+}
+
+// Makes the ring round a centre light.
+fn clear_ring(matrix: &mut Matrix, row: u8, col: u8)
+    requires row_least { 1 ≤ row }
+    requires row_most { row + 2 ≤ matrix.old.side }
+    requires col_least { 1 ≤ col }
+    requires col_most { col + 2 ≤ matrix.old.side }
+    requires side { matrix.old.side ≤ 177 }
+    ensures { matrix.new ≡ square matrix.old.side (λ r c. if ring_of row col r c == 1 then false
+        else colour matrix.old r c) }
+{
+    matrix.fill(row - 1, row, col - 1, col + 2, false);
+    matrix.fill(row + 1, row + 2, col - 1, col + 2, false);
+    matrix.fill(row, row + 1, col - 1, col, false);
+    matrix.fill(row, row + 1, col + 1, col + 2, false);
+}
+
+// Makes the light rings of the alignment patterns light.
+fn clear_rings(matrix: &mut Matrix, v: Version, centres: &[Module])
+    requires square { IsSquare (side_of v) matrix.old }
+    requires centres { centres.now ≡ alignment_places (side_of v) (centres_of v) }
+    ensures { matrix.new ≡ square (side_of v) (λ r c. if is_alignment_light v r c then false
+        else colour matrix.old r c) }
+{
+    for centre in centres {
+        clear_ring(matrix, centre.row, centre.col);
+    }
+}
+
 // Gives each module outside the encoding region its colour.
 pub(crate) fn draw_fixed(matrix: &mut Matrix, v: Version, format: u32)
     requires { matrix.old ≡ light (side_of v) }
     ensures { matrix.new ≡ square (side_of v)
         (λ r c. fixed_colour format (version_word_of v) (role_of v r c)) }
 {
-    let side = v.side();
-    let version = v.version_word().unwrap_or(0);
-    for row in 0..side {
-        for col in 0..side {
-            matrix.set(row, col, fixed_colour(format, version, cell(v, row, col)));
-        }
-    }
-}
-
-#[tactic(auto, unfolding(crate::specs::Drawing::inverts_under))]
-fn is_inverted(mask: Option<u8>, row: u8, col: u8) -> bool
-    ensures { result ≡ inverts_under mask row col }
-{
-    match mask {
-        Some(mask) => inverts(mask, row, col),
-        None => false,
-    }
-}
-
-// Gives each module of the encoding region the colour of its bit, masked if there is a mask, in one walk.
-pub(crate) fn draw_codewords(matrix: &mut Matrix, v: Version, mask: Option<u8>, codewords: &[u8])
-    requires { IsSquare (side_of v) matrix.old }
-    ensures { matrix.new ≡ square (side_of v)
-        (placed_colour v mask codewords.now (colour matrix.old)) }
-{
-    let mut number = 0;
-    for module in walk(v) {
-        let dark = bit_at(codewords, number) != is_inverted(mask, module.row, module.col);
-        matrix.set(module.row, module.col, dark);
-        number += 1;
-    }
+    let centres = alignment_centres(v);
+    fill_alignment(matrix, v, centres.as_slice(), true);
+    clear_rings(matrix, v, centres.as_slice());
+    paint_corners(matrix, v, Some(format));
+    paint_timing(matrix, v, Some(format));
+    paint_version(matrix, v, Some(format));
 }
 
 // Makes each module of the encoding region dark.
@@ -91,52 +233,152 @@ pub(crate) fn draw_region(matrix: &mut Matrix, v: Version)
     ensures { matrix.new ≡ region_grid v }
 {
     let side = v.side();
-    for row in 0..side {
-        for col in 0..side {
-            matrix.set(row, col, is_region(cell(v, row, col)));
+    matrix.fill(0, side, 0, side, true);
+    fill_alignment(matrix, v, alignment_centres(v).as_slice(), false);
+    paint_corners(matrix, v, None);
+    paint_timing(matrix, v, None);
+    paint_version(matrix, v, None);
+}
+
+// Gives the modules of a row of a strip that are in the encoding region, as `within` says with the right one its higher
+// bit, the next bits of the codewords, and returns the number of the bit after them.
+fn draw_pair(
+    matrix: &mut Matrix,
+    codewords: &[u8],
+    number: usize,
+    right: Module,
+    within: u8,
+) -> usize
+    requires row_in { right.row < matrix.old.side }
+    requires left_in { 1 ≤ right.col }
+    requires col_in { right.col < matrix.old.side }
+    requires within { within < 4 }
+    requires few { number ≤ 40000 }
+    ensures number { result ≡ number_after (has_bit within 0) (number_after (has_bit within 1) number) }
+    ensures few { result ≤ number + 2 }
+    ensures matrix { matrix.new ≡ placed_if (has_bit within 0) codewords.now
+        (number_after (has_bit within 1) number)
+        (placed_if (has_bit within 1) codewords.now number matrix.old right.row right.col)
+        right.row (right.col - 1) }
+{
+    let Module { row, col } = right;
+    if within == 3 {
+        matrix.set_pair(row, col, two_bits(codewords, number));
+        return number + 2;
+    }
+    match within {
+        2 => {
+            matrix.set(row, col, bit_at(codewords, number));
+            number + 1
         }
+        1 => {
+            matrix.set(row, col - 1, bit_at(codewords, number));
+            number + 1
+        }
+        _ => number,
     }
 }
 
-#[tactic(auto, unfolding(crate::specs::Drawing::is_region))]
-fn is_region(role: Role) -> bool
-    ensures { result ≡ is_region role }
+// Gives the modules of a strip that are in the encoding region the bits of the codewords from `first` on, and returns the
+// number of the bit after them.
+fn draw_strip(
+    matrix: &mut Matrix,
+    v: Version,
+    region: &Matrix,
+    codewords: &[u8],
+    first: usize,
+    strip: Strip,
+) -> usize
+    requires side { matrix.old.side ≡ side_of v }
+    requires region { region.now ≡ region_grid v }
+    requires left_in { 1 ≤ strip.right }
+    requires right_in { strip.right < side_of v }
+    requires few { first ≤ 29648 }
+    ensures number { result ≡ number_along v (both_of (rows_from (side_of v) strip 0 (side_of v))) first }
+    ensures matrix { matrix.new ≡ placed_along v codewords.now (both_of (rows_from (side_of v) strip 0 (side_of v)))
+        first matrix.old }
 {
-    match role {
-        Role::Region => true,
-        _ => false,
+    let side = v.side();
+    let mut number = first;
+    for passed in 0..side {
+        let row = if strip.upward {
+            side - 1 - passed
+        } else {
+            passed
+        };
+        let col = strip.right;
+        let within = region.pair(row, col);
+        number = draw_pair(matrix, codewords, number, Module { row, col }, within);
+    }
+    number
+}
+
+// Gives each module of the encoding region the colour of its bit, strip by strip.
+pub(crate) fn draw_codewords(matrix: &mut Matrix, v: Version, region: &Matrix, codewords: &[u8])
+    requires square { IsSquare (side_of v) matrix.old }
+    requires region { region.now ≡ region_grid v }
+    ensures { matrix.new ≡ square (side_of v) (placed_colour v codewords.now (colour matrix.old)) }
+{
+    let mut number = 0;
+    for strip in all_strips(v) {
+        number = draw_strip(matrix, v, region, codewords, number, strip);
     }
 }
 
-// The row and the column in which format information stands.
-const FORMAT_LINE: u8 = 8;
-
-// The colour of a module with its format information.
-fn with_format(v: Version, format: u32, row: u8, col: u8, other: bool) -> bool
-    requires row_in { row < side_of v }
-    requires col_in { col < side_of v }
-    ensures { result ≡ format_or format (role_of v row col) other }
+// Where a bit of the format information stands beside the top left finder pattern.
+fn first_place(bit: u8) -> Module
+    requires { bit < 15 }
+    ensures place { result ≡ first_place bit }
+    ensures row { result.row < 21 }
+    ensures col { result.col < 21 }
 {
-    if row != FORMAT_LINE && col != FORMAT_LINE {
-        return other;
-    }
-    match cell(v, row, col) {
-        Role::FormatBit(i) => is_bit_set(format, i),
-        _ => other,
-    }
+    let row = if bit < 6 {
+        bit
+    } else if bit == 6 {
+        7
+    } else {
+        8
+    };
+    let col = if bit < 8 {
+        8
+    } else if bit == 8 {
+        7
+    } else {
+        14 - bit
+    };
+    Module { row, col }
 }
 
-// The colour of a module under a mask, from its colour without mask: `plain`, and the modules of the encoding region.
-fn masked(mask: u8, region: &Matrix, plain: &Matrix, row: u8, col: u8) -> bool
-    requires region_row_in { row < region.now.side }
-    requires region_col_in { col < region.now.side }
-    requires plain_row_in { row < plain.now.side }
-    requires plain_col_in { col < plain.now.side }
-    ensures { result ≡ inverted (colour region.now row col && inverts mask row col)
-        (colour plain.now row col) }
+// Where it stands beside the other two finder patterns.
+fn second_place(side: u8, bit: u8) -> Module
+    requires least { 21 ≤ side }
+    requires most { side ≤ 177 }
+    requires bit_in { bit < 15 }
+    ensures place { result ≡ second_place side bit }
+    ensures row { result.row < side }
+    ensures col { result.col < side }
 {
-    let is_inverted = region.dark(row, col) && inverts(mask, row, col);
-    plain.dark(row, col) != is_inverted
+    let row = if bit < 8 { 8 } else { side - 15 + bit };
+    let col = if bit < 8 { side - 1 - bit } else { 8 };
+    Module { row, col }
+}
+
+// How many bits the format information has.
+const FORMAT_BITS: u8 = 15;
+
+// Draws the format information over a symbol.
+fn draw_format(matrix: &mut Matrix, v: Version, format: u32)
+    requires { IsSquare (side_of v) matrix.old }
+    ensures { matrix.new ≡ square (side_of v) (λ r c. format_or format (role_of v r c) (colour matrix.old r c)) }
+{
+    let side = v.side();
+    for bit in 0..FORMAT_BITS {
+        let dark = is_bit_set(format, bit);
+        let first = first_place(bit);
+        matrix.set(first.row, first.col, dark);
+        let second = second_place(side, bit);
+        matrix.set(second.row, second.col, dark);
+    }
 }
 
 // Draws the symbol anew with a mask and its format information, from the symbol without them.
@@ -155,11 +397,8 @@ pub(crate) fn draw_masked(
     ensures { matrix.new ≡ masked_grid v level mask region.now plain.now }
 {
     let side = v.side();
-    let format = u32::from(format_word(level, mask));
     for row in 0..side {
-        for col in 0..side {
-            let dark = masked(mask, region, plain, row, col);
-            matrix.set(row, col, with_format(v, format, row, col, dark));
-        }
+        matrix.set_row_masked(row, plain, region, pattern(mask, row));
     }
+    draw_format(matrix, v, u32::from(format_word(level, mask)));
 }

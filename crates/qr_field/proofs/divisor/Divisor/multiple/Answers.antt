@@ -1,0 +1,20 @@
+use Rattle.std.proofs.Common.{◌≡◌, ◌%◌, ◌/◌, ◌^◌, get_or, ap, ◌∙◌, arith, bit_xor, bit_and}
+use Rattle.std.proofs.lemmas.Nat.{and_mask}
+use Rattle.qr_field.specs.Packing.{divisor_of, packed, value_of, blank}
+use Rattle.qr_field.specs.Polynomials.{scaled}
+use Rattle.qr_field.proofs.DivisorLemmas.{multiple-of_halves}
+use Rattle.qr_field.proofs.divisor.Divisor.multiple.Goals as goal
+
+pub returns : goal.returns
+returns c =
+    let divisor = c.self.inside in
+    let factor = c.args.factor in
+    let place = c.from-place.result in
+    let low : bit_and place 15 ≡ factor % 2 ^ 4 = and_mask place 4 ∙ ap (λ t. t % 2 ^ 4) c.from-place.ensures in
+    let high : place / 2 ^ 4 ≡ factor / 2 ^ 4 = ap (λ t. t / 2 ^ 4) c.from-place.ensures in
+    c.plus.ensures
+    ∙ (ap (λ t. bit_xor (value_of (get_or divisor.low t blank)) (value_of (get_or divisor.high (place / 2 ^ 4) blank))) low
+    ∙ (ap (λ t. bit_xor (value_of (get_or divisor.low (factor % 2 ^ 4) blank)) (value_of (get_or divisor.high t blank))) high
+    ∙ multiple-of_halves (divisor_of divisor.count) divisor.low divisor.high factor (omega (arith, c.ranges.factor))
+    c.self.invariant.2 c.self.invariant.3
+    ∙ ap (λ t. packed (scaled factor (divisor_of t))) c.self.view_is))

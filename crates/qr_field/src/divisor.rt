@@ -1,0 +1,123 @@
+//! Division by a generator polynomial whose multiples are at hand (ISO/IEC 18004:2015, 7.5.2).
+
+ghost use Rattle.std.specs.Prelude.{◌≡◌, ◌≤◌, ℕ, List, length};
+ghost use Rattle.qr_field.specs.Packing.{HasMultiples, divisor_of, packed, value_of};
+ghost use Rattle.qr_field.specs.Polynomials.{IsCorrection, scaled};
+
+use crate::polynomial::generator;
+use crate::register::Register;
+use arrayvec::ArrayVec;
+use std::marker::Model;
+
+/// The generator polynomial for a number of error correction codewords, which it is seen as; made once for many blocks.
+#[derive(Drop)]
+pub struct Divisor {
+    count: usize,
+    // The multiples of the coefficients after the leading 1, by the low four bits of a factor and by its high four.
+    low: [Register; 16],
+    high: [Register; 16],
+}
+
+impl Model for Divisor {
+    ghost use Rattle.std.specs.Prelude.{◌≤◌, ℕ};
+    ghost use Rattle.qr_field.specs.Packing.{HasMultiples, divisor_of};
+
+    ghost Value = { ℕ };
+
+    ghost view = { λ d. d.count };
+
+    ghost invariant = { λ d. (1 ≤ d.count) × (d.count ≤ 30) × HasMultiples (divisor_of d.count) 0 16 d.low
+        × HasMultiples (divisor_of d.count) 4 16 d.high };
+}
+
+// The multiples of some terms by the numbers below 16, moved up by `shift` bits.
+fn multiples(terms: &[u8], shift: u8) -> [Register; 16]
+    requires long { length terms.now ≤ 30 }
+    requires small { shift ≤ 4 }
+    ensures { HasMultiples terms.now shift 16 result }
+{
+    let mut multiples = [Register::BLANK; 16];
+    for exponent in 0..4u8 {
+        let by_bit = Register::multiple(1 << (shift + exponent), terms);
+        let bit = 1usize << exponent;
+        for rest in 0..bit {
+            multiples[bit + rest] = multiples[rest].plus(by_bit);
+        }
+    }
+    multiples
+}
+
+impl Divisor {
+    /// The divisor for `n` error correction codewords, 1 to 30.
+    pub fn new(n: usize) -> Divisor
+        requires least { 1 ≤ n }
+        requires most { n ≤ 30 }
+        ensures { result ≡ n }
+    {
+        let divisor = generator(n);
+        Divisor {
+            count: n,
+            low: multiples(divisor.as_slice(), 0),
+            high: multiples(divisor.as_slice(), 4),
+        }
+    }
+
+    // The multiple of the coefficients after the leading 1 by a factor.
+    fn multiple(&self, factor: u8) -> Register
+        ensures { value_of result ≡ packed (scaled factor (divisor_of self.now)) }
+    {
+        let place = usize::from(factor);
+        self.low[place & 0xF].plus(self.high[place >> 4])
+    }
+
+    /// The error correction codewords of the data codewords `message` of a block (ISO/IEC 18004:2015, 7.5.2).
+    pub fn correction(&self, message: &[u8]) -> ArrayVec<u8, 30>
+        ensures definition { IsCorrection message.now self.now result.items }
+        ensures only { (e : List ℕ) → IsCorrection message.now self.now e → e ≡ result.items }
+    {
+        let count = self.count;
+        let mut register = Register::BLANK;
+        for byte in message {
+            let factor = *byte ^ register.first();
+            register = register.rest().plus(self.multiple(factor));
+        }
+        register.coefficients(count)
+    }
+}
+
+#[cfg(test)]
+mod tests {
+    use super::*;
+
+    #[test]
+    fn two_blocks(rt: HostRuntime) {
+        let divisor = Divisor::new(30);
+        let rows = [
+            (
+                "four bytes",
+                [0x10u8, 0x20, 0x0C, 0x56],
+                [
+                    0xBBu8, 0xC5, 0xDB, 0x5D, 0x3B, 0x93, 0xF8, 0x2B, 0xF3, 0x0B, 0x09, 0x91, 0xBE,
+                    0x56, 0x8A, 0x46, 0xB4, 0x3A, 0xD4, 0xDB, 0x59, 0x55, 0x1B, 0x24, 0x06, 0x69,
+                    0x37, 0xB7, 0x9B, 0x6B,
+                ],
+            ),
+            (
+                "four bytes of all bits",
+                [0xFF, 0xFF, 0xFF, 0xFF],
+                [
+                    0xA1, 0x2E, 0x39, 0xEC, 0xDF, 0xAF, 0x2F, 0x49, 0xF9, 0x32, 0x25, 0xBC, 0x46,
+                    0xDF, 0x1E, 0xE7, 0x48, 0x19, 0x0A, 0xF0, 0x17, 0x7A, 0x99, 0xD3, 0x8F, 0x1E,
+                    0xFC, 0xD1, 0xE5, 0xAB,
+                ],
+            ),
+        ];
+        for (name, data, correction) in &rows {
+            assert_eq!(rt;
+                divisor.correction(data).as_slice(),
+                &correction[..],
+                "{name}"
+            );
+        }
+    }
+}

@@ -1,0 +1,17 @@
+use Rattle.std.proofs.Common.{◌≡◌, ℕ, ◌%◌, eqb, sym, ◌∙◌, arith}
+use Rattle.std.proofs.lemmas.Bool.Decides.{nat_tests}
+use Rattle.qr_layout.specs.declared.strips.Strip.{Strip}
+use Rattle.qr_layout.specs.StripPlaces.{strip_at}
+use Rattle.qr_layout.proofs.StripLemmas.{strips-next}
+use Rattle.qr_layout.proofs.strips.StripsIterator.next.Goals as goal
+use Rattle.qr_layout.proofs.strips.StripsIterator.next.Goals.{then-past-lt6, else-past-lt6}
+
+pub returns-clause-steps : goal.returns-clause-steps
+returns-clause-steps c =
+    let p = c.self.inside.left in
+    let right : c.if-past-lt6.right ≡ (strip_at p).right = elim c.if-past-lt6.branch [
+      | then-past-lt6 w ↦ (let e = w.right-is in let l = w.if-past-lt6.true in grind (arith, nat_tests))
+      | else-past-lt6 w ↦ (let e = w.right-is in let l = w.if-past-lt6.false in grind (arith, nat_tests))
+    ] in
+    let x : Strip = record { right = c.if-past-lt6.right; upward = eqb (p % 2) 0 } in
+    sym c.self.view_is ∙ strips-next p x (omega (arith, c.if-self-eq0.false)) (λ i. record { right = right i; upward = eqb (p % 2) 0 })

@@ -1,0 +1,95 @@
+//! The strips of two columns in which a symbol is filled, from the right, of whose places the walk over the encoding region
+//! leaves out those that hold patterns or information (ISO/IEC 18004:2015, 7.7.3).
+
+ghost use Rattle.std.specs.Prelude.{◌≡◌, ◌<◌, ◌≤◌, List};
+ghost use Rattle.std.specs.Iterator.{YieldsFirst, item_count};
+ghost use Rattle.std.specs.List.{All};
+ghost use Rattle.qr_layout.specs.Order.{IsOrder, in_region_of};
+ghost use Rattle.qr_layout.specs.StripPlaces.{places_of};
+ghost use Rattle.qr_layout.specs.Versions.{side_of};
+ghost use Rattle.qr_layout.specs.declared.strips.Strip.{Strip};
+
+use crate::version::Version;
+use std::marker::Model;
+
+/// Two columns that are filled row by row, in each row the right module first.
+#[derive(Clone, Copy, Debug, PartialEq, Eq)]
+pub struct Strip {
+    /// The right column.
+    pub right: u8,
+    /// Whether the last row comes first.
+    pub upward: bool,
+}
+
+/// The strips of a symbol, seen as those that are still to come.
+#[derive(Drop)]
+pub struct Strips {
+    // How many are still to come: the next one's number, counted from the left and from 1.
+    left: u8,
+}
+
+impl Model for Strips {
+    ghost use Rattle.std.specs.Prelude.{◌≤◌, List};
+    ghost use Rattle.qr_layout.specs.StripPlaces.{strips_to_come};
+    ghost use Rattle.qr_layout.specs.declared.strips.Strip.{Strip};
+
+    ghost Value = { List Strip };
+
+    ghost view = { λ s. strips_to_come s.left };
+
+    ghost invariant = { λ s. s.left ≤ 88 };
+}
+
+impl Iterator for Strips {
+    type Item = Strip;
+
+    ghost next_gives = { YieldsFirst (λ s. s) };
+
+    ghost remaining = { item_count (λ s. s) };
+
+    fn next(&mut self) -> Option<Strip> {
+        if self.left == 0 {
+            return None;
+        }
+        let past = 2 * self.left - 1;
+        let right = if past < 6 { past } else { past + 1 };
+        let upward = self.left % 2 == 0;
+        self.left -= 1;
+        Some(Strip { right, upward })
+    }
+}
+
+/// All strips, from the right. Those of their places that are in the encoding region come in the order in which the bits
+/// of the message fill them.
+pub fn all_strips(v: Version) -> Strips
+    ensures order { IsOrder v (in_region_of v (places_of (side_of v) result)) }
+    ensures inside { All (λ x. (1 ≤ x.right) × (x.right < side_of v)) result }
+{
+    Strips {
+        left: 8 + 2 * v.number(),
+    }
+}
+
+#[cfg(test)]
+mod tests {
+    use super::*;
+    use std::test::Fail;
+
+    #[test]
+    fn strips_of_version_1(rt: HostRuntime) -> Result<(), Fail> {
+        let version = Version::new(1).ok_or("no version 1")?;
+        let rows = [
+            (0usize, 20u8, true, "the first strip goes up"),
+            (1, 18, false, "the second goes down"),
+            (6, 8, true, "the last one to the right of the timing column"),
+            (7, 5, false, "column 6 is in no strip"),
+            (9, 1, false, "the last strip"),
+        ];
+        for (number, right, upward, name) in rows {
+            let strip = Strip { right, upward };
+            assert_eq!(rt; all_strips(version).nth(number), Some(strip), "{name}");
+        }
+        assert_eq!(rt; all_strips(version).nth(10), None, "ten strips");
+        Ok(())
+    }
+}

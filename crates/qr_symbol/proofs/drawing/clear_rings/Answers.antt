@@ -1,0 +1,53 @@
+use Rattle.std.proofs.Common.{ℕ, false, eqb, take, get_or, ap, ◌∙◌, arith}
+use Rattle.std.specs.List.{list_any}
+use Rattle.std.proofs.lemmas.List.{take_all}
+use Rattle.qr_layout.specs.declared.region.Module.{Module}
+use Rattle.qr_layout.specs.Versions.{side_of}
+use Rattle.qr_layout.specs.Roles.{ring_of, is_alignment_light}
+use Rattle.qr_matrix.specs.Grid.{Grid, colour}
+use Rattle.qr_symbol.proofs.PaintLemmas.{over, over-item, over-same, inside-at}
+use Rattle.qr_symbol.proofs.drawing.clear_rings.Goals as goal
+
+-- no place
+abbrev none : Module
+none = record { row = 0; col = 0 }
+
+pub clear_ring-requires-clause-row_least : goal.clear_ring-requires-clause-row_least
+clear_ring-requires-clause-row_least c = let i = inside-at c.args.v c.loop-centre.centre-index c.args.centres.now none (omega arith) (omega arith) c.requires.centres c.loop-centre-test.true in omega (arith, i.row_least)
+
+pub clear_ring-requires-clause-row_most : goal.clear_ring-requires-clause-row_most
+clear_ring-requires-clause-row_most c =
+    let i = inside-at c.args.v c.loop-centre.centre-index c.args.centres.now none (omega arith) (omega arith) c.requires.centres c.loop-centre-test.true in
+    let e = ap (λ (g : Grid). g.side) c.loop-centre.invariant.so_far in
+    omega (arith, i.row_most)
+
+pub clear_ring-requires-clause-col_least : goal.clear_ring-requires-clause-col_least
+clear_ring-requires-clause-col_least c = let i = inside-at c.args.v c.loop-centre.centre-index c.args.centres.now none (omega arith) (omega arith) c.requires.centres c.loop-centre-test.true in omega (arith, i.col_least)
+
+pub clear_ring-requires-clause-col_most : goal.clear_ring-requires-clause-col_most
+clear_ring-requires-clause-col_most c =
+    let i = inside-at c.args.v c.loop-centre.centre-index c.args.centres.now none (omega arith) (omega arith) c.requires.centres c.loop-centre-test.true in
+    let e = ap (λ (g : Grid). g.side) c.loop-centre.invariant.so_far in
+    omega (arith, i.col_most)
+
+pub loop-centre-preserved : goal.loop-centre-preserved
+loop-centre-preserved c =
+    let s = side_of c.args.v in
+    let ms = c.args.centres.now in
+    let n = c.loop-centre.centre-index in
+    let m = get_or ms n none in
+    let g = c.loop-centre.matrix in
+    let e = c.loop-centre.invariant.so_far in
+    record {
+      so_far = over-item s (λ m r k. eqb (ring_of m.row m.col r k) 1) (λ _ _. false) (colour c.args.matrix.now) ms n none g c.clear_ring.new.matrix c.loop-centre-test.true e
+          (c.clear_ring.ensures ∙ ap (λ (z : ℕ). over z (λ r k. eqb (ring_of m.row m.col r k) 1) (λ _ _. false) (colour g)) (ap (λ (g : Grid). g.side) e));
+    }
+
+pub returns : goal.returns
+unfolding is_alignment_light
+returns c =
+    let s = side_of c.args.v in
+    let ms = c.args.centres.now in
+    let n = c.loop-centre.centre-index in
+    over-same s (λ r k. list_any (λ m. eqb (ring_of m.row m.col r k) 1) (take n ms)) (is_alignment_light c.args.v) (λ _ _. false) (colour c.args.matrix.now) c.loop-centre.matrix c.loop-centre.invariant.so_far (λ r k _ _.
+    ap (list_any (λ m. eqb (ring_of m.row m.col r k) 1)) (take_all n ms (omega arith) ∙ c.requires.centres))
