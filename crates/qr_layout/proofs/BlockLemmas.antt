@@ -6,7 +6,7 @@ use Rattle.std.proofs.lemmas.Nat.{div-add-mod'}
 use Rattle.qr_layout.specs.declared.level.Level.{Level}
 use Rattle.qr_layout.specs.declared.level.Level.TheVariants.{L, M, Q, H}
 use Rattle.qr_layout.specs.Versions.{total_codewords_of}
-use Rattle.qr_layout.specs.Blocks.{correction_len_of, block_count_of, data_codewords_of, blocks_of, AreWhole}
+use Rattle.qr_layout.specs.Blocks.{correction_len_of, block_count_of, data_codewords_of, blocks_of, longest_of, AreWhole}
 use Rattle.qr_layout.proofs.RegionLemmas.{&&-left, &&-right}
 use Rattle.qr_layout.proofs.TableLemmas.{below, below-at}
 
@@ -140,3 +140,12 @@ blocks-sound l v h k =
       data_whole = blocks-sum (block_count_of v l) (data_codewords_of v l) (omega arith);
       total_whole = blocks-total l v (data_codewords_of v l % block_count_of v l) h k (omega arith);
     }
+
+-- no block has more than 153 codewords, computed
+longest-all : every (λ l v. leb (longest_of (blocks_of v l)) 153) ≡ true
+unfolding block_count_of correction_len_of data_codewords_of total_codewords_of
+longest-all = refl
+
+-- the longest block of each version and level
+pub blocks-short : (l : Level) (v : ℕ) → 1 ≤ v → v ≤ 40 → longest_of (blocks_of v l) ≤ 153
+blocks-short l v h k = leb-true _ _ (every-at (λ l v. leb (longest_of (blocks_of v l)) 153) longest-all l v h k)

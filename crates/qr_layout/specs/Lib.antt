@@ -6,3 +6,4 @@ pub mod Region
 pub mod Order
 pub mod Roles
 pub mod Path
+pub mod Worked
