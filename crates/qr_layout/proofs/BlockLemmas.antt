@@ -6,7 +6,7 @@ use Rattle.std.proofs.lemmas.Nat.{div-add-mod'}
 use Rattle.qr_layout.specs.declared.level.Level.{Level}
 use Rattle.qr_layout.specs.declared.level.Level.TheVariants.{L, M, Q, H}
 use Rattle.qr_layout.specs.Versions.{total_codewords_of}
-use Rattle.qr_layout.specs.Blocks.{correction_len_of, block_count_of, data_codewords_of, blocks_of, longest_of, AreWhole}
+use Rattle.qr_layout.specs.Blocks.{correction_len_of, block_count_of, data_codewords_of, blocks_of, longest_of, damage_of, AreWhole}
 use Rattle.qr_layout.proofs.RegionLemmas.{&&-left, &&-right}
 use Rattle.qr_layout.proofs.TableLemmas.{below, below-at}
 
@@ -149,3 +149,12 @@ longest-all = refl
 -- the longest block of each version and level
 pub blocks-short : (l : Level) (v : ℕ) → 1 ≤ v → v ≤ 40 → longest_of (blocks_of v l) ≤ 153
 blocks-short l v h k = leb-true _ _ (every-at (λ l v. leb (longest_of (blocks_of v l)) 153) longest-all l v h k)
+
+-- half the error correction codewords are enough of the longest block, computed
+damage-all : every (λ l v. leb (damage_of l * longest_of (blocks_of v l)) (100 * ((blocks_of v l).ec_len / 2))) ≡ true
+unfolding block_count_of correction_len_of data_codewords_of total_codewords_of
+damage-all = refl
+
+-- the damage that the blocks of each version and level stand
+pub damage-stood : (l : Level) (v : ℕ) → 1 ≤ v → v ≤ 40 → damage_of l * longest_of (blocks_of v l) ≤ 100 * ((blocks_of v l).ec_len / 2)
+damage-stood l v h k = leb-true _ _ (every-at (λ l v. leb (damage_of l * longest_of (blocks_of v l)) (100 * ((blocks_of v l).ec_len / 2))) damage-all l v h k)

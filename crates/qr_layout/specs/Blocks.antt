@@ -46,6 +46,13 @@ blocks_of v l = record {
 abbrev pub longest_of : Blocks → ℕ
 longest_of b = b.short_len + min b.long 1 + b.ec_len
 
+-- of a hundred codewords of a block at a level, how many may be misread in any version [own]
+abbrev pub damage_of : Level → ℕ
+damage_of L = 9
+damage_of M = 17
+damage_of Q = 23
+damage_of H = 30
+
 -- the blocks hold the data codewords and, with their error correction, all codewords of the symbol (ISO/IEC 18004:2015,
 -- 7.5.1)
 pub record AreWhole (v : ℕ) (l : Level) (b : Blocks) : Type 0 where

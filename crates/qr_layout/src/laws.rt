@@ -1,13 +1,13 @@
 //! Laws that hold for every version, level and mask. Their statements are the clauses; but for `nth_place`, which
 //! walks, the functions do nothing.
 
-ghost use Rattle.std.specs.Prelude.{◌≡◌, ◌<◌, ◌≤◌, ◌-◌, ◌⊎◌, ◌↔◌, true, ℕ, List, ◌∷◌, ◌++◌, length, map, slice_get, IsTrue, IfOk};
+ghost use Rattle.std.specs.Prelude.{◌≡◌, ◌<◌, ◌≤◌, ◌-◌, ◌*◌, ◌/◌, ◌⊎◌, ◌↔◌, true, ℕ, List, ◌∷◌, ◌++◌, length, map, slice_get, IsTrue, IfOk};
 ghost use Rattle.std.specs.List.{range_with_len};
 ghost use Rattle.qr_layout.specs.declared.region.Module.{Module};
 ghost use Rattle.qr_layout.specs.declared.level.Level.TheVariants.{L, M, Q, H};
 ghost use Rattle.qr_layout.specs.declared.role.Role.TheVariants.{Fixed, FormatBit, VersionBit, Region};
 ghost use Rattle.qr_layout.specs.Versions.{side_of, module_count_of};
-ghost use Rattle.qr_layout.specs.Blocks.{data_codewords_of, blocks_of, longest_of, AreWhole};
+ghost use Rattle.qr_layout.specs.Blocks.{data_codewords_of, blocks_of, longest_of, damage_of, AreWhole};
 ghost use Rattle.qr_layout.specs.Words.{five_bits, format_word_of, version_word_of, IsFormatWord, IsVersionWord};
 ghost use Rattle.qr_layout.specs.Alignment.{centres_of, AreRegular};
 ghost use Rattle.qr_layout.specs.Region.{is_in_region, InRegion};
@@ -94,6 +94,13 @@ pub fn blocks_are_whole(v: Version, level: Level)
 pub fn blocks_are_short(v: Version, level: Level)
     ensures most { longest_of (blocks_of v level) ≤ 153 }
     ensures reached { longest_of (blocks_of 27 L) ≡ 153 }
+{}
+
+/// Half the error correction codewords of a block, and so many misread codewords leave no doubt of its data codewords,
+/// are at least 9 % of its codewords at L, 17 % at M, 23 % at Q and 30 % at H.
+pub fn blocks_stand_damage(v: Version, level: Level)
+    ensures { damage_of level * longest_of (blocks_of v level)
+        ≤ 100 * ((blocks_of v level).ec_len / 2) }
 {}
 
 /// How many data codewords there are at most, by the versions that share the widths of the character count indicators.
@@ -242,6 +249,47 @@ pub fn blocks_clones(a: Blocks) -> Result<Blocks, AllocError>
 mod tests {
     use super::*;
     use std::test::Fail;
+
+    // Equal where each field is, and unequal where one is not.
+    #[test]
+    fn equal_and_unequal_values(rt: HostRuntime) -> Result<(), Fail> {
+        let (first, second) = (
+            Version::new(1).ok_or("no version 1")?,
+            Version::new(2).ok_or("no version 2")?,
+        );
+        assert!(rt; versions_are_equal(first, first) && !versions_are_equal(first, second));
+        assert!(rt; levels_are_equal(Level::Q, Level::Q) && !levels_are_equal(Level::Q, Level::H));
+        assert!(rt;
+            roles_are_equal(Role::FormatBit(3), Role::FormatBit(3))
+                && !roles_are_equal(Role::FormatBit(3), Role::VersionBit(3))
+                && !roles_are_equal(Role::FormatBit(3), Role::FormatBit(4))
+        );
+        let place = Module { row: 1, col: 2 };
+        assert!(rt;
+            modules_are_equal(place, place)
+                && !modules_are_equal(place, Module { row: 1, col: 3 })
+                && !modules_are_equal(place, Module { row: 0, col: 2 })
+        );
+        let blocks = first.blocks(Level::L);
+        assert!(rt; blocks_are_equal(blocks, blocks));
+        assert!(rt; !blocks_are_equal(blocks, first.blocks(Level::M)));
+        Ok(())
+    }
+
+    #[test]
+    fn clones(rt: HostRuntime) -> Result<(), Fail> {
+        let version = Version::new(7).ok_or("no version 7")?;
+        let place = Module { row: 1, col: 2 };
+        assert_eq!(rt; version_clones(version)?, version);
+        assert_eq!(rt; level_clones(Level::H)?, Level::H);
+        assert_eq!(rt; module_clones(place)?, place);
+        assert_eq!(rt; role_clones(Role::Region)?, Role::Region);
+        assert_eq!(rt;
+            blocks_clones(version.blocks(Level::H))?,
+            version.blocks(Level::H)
+        );
+        Ok(())
+    }
 
     #[test]
     fn places_by_their_numbers(rt: HostRuntime) -> Result<(), Fail> {
