@@ -17,6 +17,7 @@ ghost use Rattle.qr_symbol.specs.Joining.{IsJoined, IsUnjoined};
 ghost use Rattle.qr_layout.specs.Versions.{total_codewords_of};
 ghost use Rattle.qr_layout.specs.Blocks.{data_codewords_of, blocks_of};
 ghost use Rattle.qr_symbol.specs.Interleaving.{count_of, len_of, start_of, cut_len, data_cut, IsInterleaved};
+ghost use Rattle.qr_symbol.specs.Distance.{MessagesLieApart, DamagedMessagesAreOne};
 ghost use Rattle.qr_symbol.specs.Worked.{all_masks, first_rows, computed_rows};
 
 use qr_bits::INPUT_MAX;
@@ -47,6 +48,18 @@ pub fn interleaving_is_one(version: Version, level: Level)
     ensures message { (d e xs : List ℕ) → length d ≡ data_codewords_of version level
         → length e ≡ data_codewords_of version level
         → IsInterleaved version level d xs → IsInterleaved version level e xs → d ≡ e }
+{}
+
+/// Two squares of a version and a level that hold different messages differ in some block by more codewords than it has
+/// error correction codewords.
+pub fn messages_lie_apart(version: Version, level: Level)
+    ensures { MessagesLieApart version level }
+{}
+
+/// What was read of a square stands for one message only, as long as in each block the codewords that were not read and
+/// twice those that were misread are no more than its error correction codewords.
+pub fn damaged_messages_are_one(version: Version, level: Level)
+    ensures { DamagedMessagesAreOne version level }
 {}
 
 /// The square of codewords is read as their bits.
