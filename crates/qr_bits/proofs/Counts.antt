@@ -1,5 +1,5 @@
 -- Where the bits of segments fit a symbol, each count fits its field.
-use Rattle.std.proofs.Common.{◌≡◌, ℕ, ◌+◌, ◌-◌, ◌*◌, ◌^◌, ◌<◌, ◌≤◌, Bool, true, false, cond, leb, List, [], ◌∷◌, length, drop, refl, ap, ⊎_elim, arith, subst, lit≤}
+use Rattle.std.proofs.Common.{◌≡◌, ℕ, ◌+◌, ◌-◌, ◌*◌, ◌/◌, ◌^◌, ◌<◌, ◌≤◌, Bool, true, false, cond, leb, List, [], ◌∷◌, length, drop, refl, ap, ⊎_elim, arith, subst, lit≤}
 use borrow.Author.Tests.{leb-true}
 use Rattle.std.proofs.lemmas.Bool.{le-leb, lt-leb, cases_lt}
 use Rattle.qr_layout.specs.declared.level.Level.{Level}
@@ -8,9 +8,10 @@ use Rattle.qr_layout.specs.Versions.{total_codewords_of}
 use Rattle.qr_layout.specs.Blocks.{correction_len_of, block_count_of, data_codewords_of}
 use Rattle.qr_layout.proofs.TableLemmas.{below, below-at}
 use Rattle.qr_bits.specs.declared.segment.Mode.{Mode}
-use Rattle.qr_bits.specs.declared.segment.Mode.TheVariants.{Numeric, Alphanumeric, Byte}
+use Rattle.qr_bits.specs.declared.segment.Mode.TheVariants.{Numeric, Alphanumeric, Byte, Kanji}
+use Rattle.qr_bits.specs.declared.segment.Rule.{Rule}
 use Rattle.qr_bits.specs.declared.segment.Segment.{Segment}
-use Rattle.qr_bits.specs.Letters.{count_width, payload_bits, segment_bits, bits, Covers, runs_of, HasFit}
+use Rattle.qr_bits.specs.Letters.{count_of, count_width, payload_bits, segment_bits, bits, Covers, runs_of, HasFit}
 use Rattle.qr_bits.specs.Stream.{CountsFit}
 use Rattle.qr_bits.specs.Data.{capacity_of}
 use Rattle.qr_bits.proofs.SegmentLists.{segment_least, bits_least}
@@ -78,7 +79,7 @@ capacity_most v l a b =
     omega (arith, data_most v l a b)
 
 -- a segment whose bits fit has a count that fits
-count_fits : (v n : ℕ) (m : Mode) → segment_bits v (record { mode = m; len = n }) ≤ 8 * most_data v → n < 2 ^ count_width v m
+count_fits : (v n : ℕ) (m : Mode) → segment_bits v (record { mode = m; len = n }) ≤ 8 * most_data v → count_of m n < 2 ^ count_width v m
 count_fits v n Numeric h =
     groups v (λ s m. 4 + cond s 10 (cond m 12 14) + payload_bits Numeric n ≤ 8 * cond s 232 (cond m 1370 2956) → n < 2 ^ cond s 10 (cond m 12 14))
     (λ _ k. omega arith) (λ _ _ k. omega arith) (λ _ k. omega arith) h
@@ -88,6 +89,9 @@ count_fits v n Alphanumeric h =
 count_fits v n Byte h =
     groups v (λ s m. 4 + cond s 8 16 + payload_bits Byte n ≤ 8 * cond s 232 (cond m 1370 2956) → n < 2 ^ cond s 8 16)
     (λ _ k. omega arith) (λ _ _ k. omega arith) (λ _ k. omega arith) h
+count_fits v n Kanji h =
+    groups v (λ s m. 4 + cond s 8 (cond m 10 12) + payload_bits Kanji n ≤ 8 * cond s 232 (cond m 1370 2956) → n / 2 < 2 ^ cond s 8 (cond m 10 12))
+    (λ _ k. omega arith) (λ _ _ k. omega arith) (λ _ k. omega arith) h
 
 -- Where the bits of segments fit, each count fits its field.
 pub counts_fit : (v : ℕ) (l : Level) (segs : List Segment) → 1 ≤ v → v ≤ 40 → bits v segs ≤ capacity_of v l → CountsFit v segs
@@ -95,11 +99,12 @@ unfolding CountsFit
 counts_fit v l [] a b h = tt
 counts_fit v l (s ∷ ss) a b h = (count_fits v s.len s.mode (omega (arith, data_most v l a b)), counts_fit v l ss a b (omega arith))
 
--- a head of the largest versions has at least 17 bits
-head_least : (v : ℕ) (m : Mode) → 26 < v → 13 ≤ count_width v m
+-- a head of the largest versions has at least 16 bits
+head_least : (v : ℕ) (m : Mode) → 26 < v → 12 ≤ count_width v m
 head_least v Numeric h = rw (lt-leb v 9 (omega arith), lt-leb v 26 h) (lit≤ tt)
 head_least v Alphanumeric h = rw (lt-leb v 9 (omega arith), lt-leb v 26 h) (lit≤ tt)
 head_least v Byte h = rw (lt-leb v 9 (omega arith)) (lit≤ tt)
+head_least v Kanji h = rw (lt-leb v 9 (omega arith), lt-leb v 26 h) (lit≤ tt)
 
 -- bytes whose segments have so few bits are few
 short_large : (v : ℕ) (xs : List ℕ) (segs : List Segment) → 26 < v → Covers xs segs → bits v segs ≤ 23648 → length xs ≤ 7089
@@ -109,8 +114,8 @@ short_large v xs (s ∷ ss) h c few =
     omega (arith, segment_least v s, head_least v s.mode h, bits_least v (drop s.len xs) ss (covers_suits (drop s.len xs) ss c.3), length-drop s.len xs, c.1)
 
 -- What fits a symbol has at most 7,089 bytes.
-pub fitting_short : (v : ℕ) (l : Level) (bytes_only : Bool) (xs : List ℕ) → 1 ≤ v → v ≤ 40 → HasFit v bytes_only xs (capacity_of v l) → length xs ≤ 7089
-fitting_short v l bytes_only xs a b fit =
+pub fitting_short : (v : ℕ) (l : Level) (r : Rule) (xs : List ℕ) → 1 ≤ v → v ≤ 40 → HasFit v r xs (capacity_of v l) → length xs ≤ 7089
+fitting_short v l r xs a b fit =
     ⊎_elim
     (λ (small : v < 27).
     let held = data_most v l a b in

@@ -14,7 +14,9 @@ pub mod Mirror
 pub mod Payloads
 pub mod Parses
 pub mod Streams
+pub mod KanjiPairs
 pub mod Values
 pub mod StreamReading
 pub mod DataLaws
 pub mod Pieces
+pub mod FoldingLemmas

@@ -7,7 +7,7 @@ use Rattle.qr_bits.specs.declared.segment.Segment.{Segment}
 use Rattle.qr_bits.specs.declared.fault.ParseFault.{ParseFault}
 use Rattle.qr_bits.specs.declared.fault.ParseFault.TheVariants.{Memory, BadMode, Cut, BadValue}
 use Rattle.qr_bits.specs.Bits.{value}
-use Rattle.qr_bits.specs.Letters.{payload_bits, count_width}
+use Rattle.qr_bits.specs.Letters.{payload_bits, count_width, len_of}
 use Rattle.qr_bits.specs.Parse.{◌>>=◌, Fails, values_of, mode_of, ends, number_at, payload_at, segment_at, segments_at, segments_of, begins_header, header_at}
 use borrow.Author.Tests.{leb-true}
 
@@ -33,10 +33,10 @@ number_shorter w bits n h =
 payload_shorter : (m : Mode) (n : ℕ) (bits : List Bool) (p : List ℕ × List Bool) → payload_at m n bits ≡ Ok p → length p.1 ≤ length bits
 unfolding payload_at
 payload_shorter m n bits p h =
-    let g = guard_ok (nat_lt (length bits) (payload_bits m n)) Cut (values_of m n bits >>= λ xs. Ok (xs, drop (payload_bits m n) bits)) p h in
-    let b = bind_ok (values_of m n bits) (λ xs. Ok (xs, drop (payload_bits m n) bits)) p g.1 in
-    let e : drop (payload_bits m n) bits ≡ p.1 = cc in
-    omega (arith, length-drop (payload_bits m n) bits, ap length e)
+    let g = guard_ok (nat_lt (length bits) (payload_bits m (len_of m n))) Cut (values_of m n bits >>= λ xs. Ok (xs, drop (payload_bits m (len_of m n)) bits)) p h in
+    let b = bind_ok (values_of m n bits) (λ xs. Ok (xs, drop (payload_bits m (len_of m n)) bits)) p g.1 in
+    let e : drop (payload_bits m (len_of m n)) bits ≡ p.1 = cc in
+    omega (arith, length-drop (payload_bits m (len_of m n)) bits, ap length e)
 
 -- what holds after each step that succeeds holds of the whole
 pub bind_all : {A B : Type 0} (r : Result A ParseFault) (f : A → Result B ParseFault) (P : B → Type 0)
@@ -60,7 +60,7 @@ segment_shorter v bits s four h =
     bind_all (mode_of (value (take 4 bits))) _ P (λ m em t ht.
     bind_all (number_at (count_width v m) (drop 4 bits)) _ P (λ n en t ht.
     bind_all (payload_at m n.0 n.1) _ P (λ p ep t ht.
-    let e : p.1 ≡ t.2 = ap (λ (u : Segment × List ℕ × List Bool). u.2) (same_ok (record { mode = m; len = n.0 }, p.0, p.1) t ht) in
+    let e : p.1 ≡ t.2 = ap (λ (u : Segment × List ℕ × List Bool). u.2) (same_ok (record { mode = m; len = len_of m n.0 }, p.0, p.1) t ht) in
     omega (arith, number_shorter (count_width v m) (drop 4 bits) n en, payload_shorter m n.0 n.1 p ep, length-drop 4 bits, ap length e)) t ht) t ht) s h
 
 -- where no end stands, there are four bits

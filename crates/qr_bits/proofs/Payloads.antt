@@ -33,7 +33,7 @@ with_front-err front (Ok xs) e h = cc
 with_front-err front (Err d) e h = cc
 
 -- two fronts are one
-with_front-twice : (front middle : List ℕ) (read : Result (List ℕ) ParseFault) → with_front front (read >>= λ xs. Ok (middle ++ xs)) ≡ with_front (front ++ middle) read
+pub with_front-twice : (front middle : List ℕ) (read : Result (List ℕ) ParseFault) → with_front front (read >>= λ xs. Ok (middle ++ xs)) ≡ with_front (front ++ middle) read
 with_front-twice front middle (Ok xs) = ap Ok (sym (append_assoc front middle xs))
 with_front-twice front middle (Err e) = refl
 

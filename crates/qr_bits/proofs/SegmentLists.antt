@@ -7,7 +7,8 @@ use Rattle.std.proofs.lemmas.List.Sums.{sum_by-cons}
 use Rattle.std.proofs.lemmas.List.Elements.{All-cons, All-nil, All-head, All-tail}
 use Rattle.std.proofs.Math.Seq.{drop-cons}
 use Rattle.qr_bits.specs.declared.segment.Mode.{Mode}
-use Rattle.qr_bits.specs.declared.segment.Mode.TheVariants.{Numeric, Alphanumeric, Byte}
+use Rattle.qr_bits.specs.declared.segment.Mode.TheVariants.{Numeric, Alphanumeric, Byte, Kanji}
+use Rattle.qr_bits.specs.declared.segment.Rule.{Rule}
 use Rattle.qr_bits.specs.declared.segment.Segment.{Segment}
 use Rattle.qr_bits.specs.Letters.{count_width, payload_bits, segment_bits, bits, suits, Covers, runs_of, IsLeastSegmentation, HasFit}
 use Rattle.qr_bits.specs.Stream.{Suits}
@@ -22,6 +23,7 @@ pub count_width_bound : (v : ℕ) (m : Mode) → count_width v m ≤ 16
 count_width_bound v Numeric = below16 _ 10 _ (lit≤ tt) (below16 _ 12 14 (lit≤ tt) (lit≤ tt))
 count_width_bound v Alphanumeric = below16 _ 9 _ (lit≤ tt) (below16 _ 11 13 (lit≤ tt) (lit≤ tt))
 count_width_bound v Byte = below16 _ 8 16 (lit≤ tt) (lit≤ tt)
+count_width_bound v Kanji = below16 _ 8 _ (lit≤ tt) (below16 _ 10 12 (lit≤ tt) (lit≤ tt))
 
 -- left-over digits need at most 7 bits
 left_over : (n : ℕ) → cond (n % 3 == 0) 0 (cond (n % 3 == 1) 4 7) ≤ 7
@@ -39,6 +41,7 @@ payload_most : (m : Mode) (n : ℕ) → payload_bits m n ≤ 8 * n + 7
 payload_most Numeric n = omega (arith, left_over n)
 payload_most Alphanumeric n = omega arith
 payload_most Byte n = omega arith
+payload_most Kanji n = omega arith
 
 -- a segment that is not empty has at most 35 bits for each byte
 segment_most : (v : ℕ) (s : Segment) → 0 < s.len → segment_bits v s ≤ 35 * s.len
@@ -85,6 +88,7 @@ payload_least : (m : Mode) (n : ℕ) → 10 * n ≤ 3 * payload_bits m n
 payload_least Numeric n = digits_least n
 payload_least Alphanumeric n = omega arith
 payload_least Byte n = omega arith
+payload_least Kanji n = omega arith
 
 -- a segment has at least its head, and ten bits in three for each byte
 pub segment_least : (v : ℕ) (s : Segment) → 10 * s.len + 3 * (4 + count_width v s.mode) ≤ 3 * segment_bits v s
@@ -97,9 +101,9 @@ bits_least v xs [] h = omega (arith, ap length h)
 bits_least v xs (s ∷ ss) h = omega (arith, segment_least v s, bits_least v (drop s.len xs) ss h.2, length-drop s.len xs, h.0)
 
 -- The least segmentation covers the bytes, and fits where some lettering does.
-pub least_fits : (v : ℕ) (bytes_only : Bool) (xs : List ℕ) (segs : List Segment) → IsLeastSegmentation v bytes_only xs segs
-    → Covers xs segs × ((n : ℕ) → HasFit v bytes_only xs n ↔ (bits v segs ≤ n))
-least_fits v bytes_only xs segs h =
+pub least_fits : (v : ℕ) (r : Rule) (xs : List ℕ) (segs : List Segment) → IsLeastSegmentation v r xs segs
+    → Covers xs segs × ((n : ℕ) → HasFit v r xs n ↔ (bits v segs ≤ n))
+least_fits v r xs segs h =
     let ms = h.0 in
     let is = h.1 in
     let same : bits v segs ≡ bits v (runs_of ms) = ap (bits v) h.2 in (

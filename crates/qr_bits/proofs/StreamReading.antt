@@ -1,17 +1,17 @@
 -- A parse reads streams, and what it reads is a stream.
-use Rattle.std.proofs.Common.{◌≡◌, ℕ, zero, suc, ◌^◌, ◌<◌, ◌≤◌, Bool, true, false, cond, ◌==◌, nat_lt, nat_le, All, List, [], ◌∷◌, ◌++◌, length, take, drop, Ok, Err, Option, Some, None, refl, sym, ◌∙◌, ap, subst, ⊎_elim, arith, lit<, append_assoc, length-append}
+use Rattle.std.proofs.Common.{◌≡◌, ℕ, zero, suc, ◌*◌, ◌/◌, ◌^◌, ◌<◌, ◌≤◌, Bool, true, false, cond, ◌==◌, nat_lt, nat_le, All, List, [], ◌∷◌, ◌++◌, length, take, drop, Ok, Err, Option, Some, None, refl, sym, ◌∙◌, ap, subst, ⊎_elim, arith, lit<, append_assoc, length-append}
 use Rattle.std.proofs.lemmas.Bool.{le-ltb, lt-leb, le-leb, ltb-false, cases_Bool, cases_lt, eqb-true, and_parts}
 use Rattle.std.proofs.lemmas.List.{length-take-le, length-drop, drop-drop, take-append-drop}
 use Rattle.std.proofs.lemmas.List.Elements.{All-nil, All-append, All-take, All-drop}
 use Rattle.std.proofs.Math.Seq.{take-append_seam, drop-append_seam}
 use borrow.Author.Tests.{leb-true}
 use Rattle.qr_bits.specs.declared.segment.Mode.{Mode}
-use Rattle.qr_bits.specs.declared.segment.Mode.TheVariants.{Numeric, Alphanumeric, Byte}
+use Rattle.qr_bits.specs.declared.segment.Mode.TheVariants.{Numeric, Alphanumeric, Byte, Kanji}
 use Rattle.qr_bits.specs.declared.segment.Segment.{Segment}
 use Rattle.qr_bits.specs.declared.header.Header.{Header}
 use Rattle.qr_bits.specs.declared.fault.ParseFault.TheVariants.{BadMode, Cut}
 use Rattle.qr_bits.specs.Bits.{field, value}
-use Rattle.qr_bits.specs.Letters.{count_width, payload_bits, suits}
+use Rattle.qr_bits.specs.Letters.{count_of, count_width, is_kanji_pair, len_of, payload_bits, suits}
 use Rattle.qr_bits.specs.Stream.{indicator, header_indicator, payload, segment_stream, segments_stream, header_stream, Suits, CountsFit, HeaderFits, IsStream}
 use Rattle.qr_bits.specs.Parse.{◌>>=◌, values_of, mode_of, ends, number_at, payload_at, segment_at, segments_at, segments_of, begins_header, header_at, first_header, Content, parse}
 use Rattle.qr_bits.proofs.BitLists.{length-field}
@@ -19,7 +19,7 @@ use Rattle.qr_bits.proofs.Payloads.{value_take_below}
 use Rattle.qr_bits.proofs.Parses.{bind_ok, bind_all, guard_ok, same_ok, not_ended, ended_empty, segment_shorter, segments_end, segments_step, header_whole}
 use Rattle.qr_bits.proofs.Streams.{drop-field, read_field, field_read}
 use Rattle.qr_bits.proofs.Values.{IsWritten, values_again, values_takes}
-use Rattle.qr_bits.proofs.Writing.{length-payload}
+use Rattle.qr_bits.proofs.Writing.{in_twos-even, length-payload}
 
 -- ---- a number
 
@@ -41,23 +41,38 @@ number_takes w bits n h =
 
 -- ---- the data
 
+-- the count of bytes that suit a mode tells how many they are
+len_again : (m : Mode) (xs : List ℕ) → suits m xs ≡ true → len_of m (count_of m (length xs)) ≡ length xs
+len_again Numeric xs h = refl
+len_again Alphanumeric xs h = refl
+len_again Byte xs h = refl
+len_again Kanji xs h = in_twos-even is_kanji_pair xs h
+
+-- a count is that of its bytes
+count_again : (m : Mode) (n : ℕ) → count_of m (len_of m n) ≡ n
+count_again Numeric n = refl
+count_again Alphanumeric n = refl
+count_again Byte n = refl
+count_again Kanji n = omega arith
+
 -- data is read again as it was written
-payload_again : (m : Mode) (xs : List ℕ) (rest : List Bool) → All (λ b. b < 256) xs → suits m xs ≡ true → payload_at m (length xs) (payload m xs ++ rest) ≡ Ok (xs, rest)
+payload_again : (m : Mode) (xs : List ℕ) (rest : List Bool) → All (λ b. b < 256) xs → suits m xs ≡ true → payload_at m (count_of m (length xs)) (payload m xs ++ rest) ≡ Ok (xs, rest)
 unfolding payload_at
 payload_again m xs rest bytes h =
-    let len = length-payload m xs in
+    let same = len_again m xs h in
+    let len = length-payload m xs h in
     let there : payload_bits m (length xs) ≤ length (payload m xs ++ rest) = omega (arith, length-append (payload m xs) rest, len) in
     let behind : drop (payload_bits m (length xs)) (payload m xs ++ rest) ≡ rest = rw len at (drop-append_seam (payload m xs) rest) in
-    rw (le-ltb (length (payload m xs ++ rest)) (payload_bits m (length xs)) there, values_again m xs rest bytes h, behind) refl
+    rw (same, le-ltb (length (payload m xs ++ rest)) (payload_bits m (length xs)) there, values_again m xs rest bytes h, behind) refl
 
 -- what is read as data is written so
-payload_takes : (m : Mode) (n : ℕ) (bits : List Bool) (p : List ℕ × List Bool) → payload_at m n bits ≡ Ok p → IsWritten m n bits p.0 × (p.1 ≡ drop (payload_bits m n) bits)
+payload_takes : (m : Mode) (n : ℕ) (bits : List Bool) (p : List ℕ × List Bool) → payload_at m n bits ≡ Ok p → IsWritten m n bits p.0 × (p.1 ≡ drop (payload_bits m (len_of m n)) bits)
 unfolding payload_at
 payload_takes m n bits p h =
-    let g = guard_ok (nat_lt (length bits) (payload_bits m n)) Cut (values_of m n bits >>= λ xs. Ok (xs, drop (payload_bits m n) bits)) p h in
-    let b = bind_ok (values_of m n bits) (λ xs. Ok (xs, drop (payload_bits m n) bits)) p g.1 in
-    let P : List ℕ × List Bool → Type 0 = λ t. IsWritten m n bits t.0 × (t.1 ≡ drop (payload_bits m n) bits) in
-    subst P (same_ok (b.0, drop (payload_bits m n) bits) p b.2) (values_takes m n b.0 bits (ltb-false _ _ g.0) b.1, refl)
+    let g = guard_ok (nat_lt (length bits) (payload_bits m (len_of m n))) Cut (values_of m n bits >>= λ xs. Ok (xs, drop (payload_bits m (len_of m n)) bits)) p h in
+    let b = bind_ok (values_of m n bits) (λ xs. Ok (xs, drop (payload_bits m (len_of m n)) bits)) p g.1 in
+    let P : List ℕ × List Bool → Type 0 = λ t. IsWritten m n bits t.0 × (t.1 ≡ drop (payload_bits m (len_of m n)) bits) in
+    subst P (same_ok (b.0, drop (payload_bits m (len_of m n)) bits) p b.2) (values_takes m n b.0 bits (ltb-false _ _ g.0) b.1, refl)
 
 -- ---- a segment
 
@@ -67,51 +82,56 @@ unfolding mode_of
 mode_again Numeric = refl
 mode_again Alphanumeric = refl
 mode_again Byte = refl
+mode_again Kanji = refl
 
 -- the one test that passes
-mode_cases : (n : ℕ) (m : Mode) (a b c : Bool) → (n == 1) ≡ a → (n == 2) ≡ b → (n == 4) ≡ c → cond a (Ok Numeric) (cond b (Ok Alphanumeric) (cond c (Ok Byte) (Err BadMode))) ≡ Ok m → n ≡ indicator m
-mode_cases n m true b c e f g h = eqb-true n 1 e ∙ ap indicator (same_ok Numeric m h)
-mode_cases n m false true c e f g h = eqb-true n 2 f ∙ ap indicator (same_ok Alphanumeric m h)
-mode_cases n m false false true e f g h = eqb-true n 4 g ∙ ap indicator (same_ok Byte m h)
-mode_cases n m false false false e f g h = cc
+mode_cases : (n : ℕ) (m : Mode) (a b c d : Bool) → (n == 1) ≡ a → (n == 2) ≡ b → (n == 4) ≡ c → (n == 8) ≡ d → cond a (Ok Numeric) (cond b (Ok Alphanumeric) (cond c (Ok Byte) (cond d (Ok Kanji) (Err BadMode)))) ≡ Ok m → n ≡ indicator m
+mode_cases n m true b c d e f g i h = eqb-true n 1 e ∙ ap indicator (same_ok Numeric m h)
+mode_cases n m false true c d e f g i h = eqb-true n 2 f ∙ ap indicator (same_ok Alphanumeric m h)
+mode_cases n m false false true d e f g i h = eqb-true n 4 g ∙ ap indicator (same_ok Byte m h)
+mode_cases n m false false false true e f g i h = eqb-true n 8 i ∙ ap indicator (same_ok Kanji m h)
+mode_cases n m false false false false e f g i h = cc
 
 -- what is read as a mode is its indicator
 mode_takes : (n : ℕ) (m : Mode) → mode_of n ≡ Ok m → n ≡ indicator m
 unfolding mode_of
-mode_takes n m h = mode_cases n m (n == 1) (n == 2) (n == 4) refl refl refl h
+mode_takes n m h = mode_cases n m (n == 1) (n == 2) (n == 4) (n == 8) refl refl refl refl h
 
 -- an indicator is a number of four bits, and none of the two that are no mode's
 indicator_most : (m : Mode) → indicator m < 2 ^ 4
 indicator_most Numeric = lit< tt
 indicator_most Alphanumeric = lit< tt
 indicator_most Byte = lit< tt
+indicator_most Kanji = lit< tt
 
 -- an indicator of a mode is no terminator
 indicator_open : (m : Mode) → (indicator m == 0) ≡ false
 indicator_open Numeric = refl
 indicator_open Alphanumeric = refl
 indicator_open Byte = refl
+indicator_open Kanji = refl
 
 -- an indicator of a mode is not that of a header
 indicator_plain : (m : Mode) → (indicator m == 3) ≡ false
 indicator_plain Numeric = refl
 indicator_plain Alphanumeric = refl
 indicator_plain Byte = refl
+indicator_plain Kanji = refl
 
 -- a segment begins with its indicator
 first_four : (v : ℕ) (m : Mode) (xs : List ℕ) (rest : List Bool) → (value (take 4 (segment_stream v m xs ++ rest)) ≡ indicator m) × (4 ≤ length (segment_stream v m xs ++ rest))
 unfolding segment_stream
 first_four v m xs rest =
-    let behind = field (count_width v m) (length xs) ++ payload m xs in
+    let behind = field (count_width v m) (count_of m (length xs)) ++ payload m xs in
     rw (append_assoc (field 4 (indicator m)) behind rest)
     (read_field 4 (indicator m) (behind ++ rest) (indicator_most m), omega (arith, length-append (field 4 (indicator m)) (behind ++ rest), length-field 4 (indicator m)))
 
 -- a segment is read again as it was written
-segment_again : (v : ℕ) (m : Mode) (xs : List ℕ) (rest : List Bool) → All (λ b. b < 256) xs → suits m xs ≡ true → length xs < 2 ^ count_width v m
+segment_again : (v : ℕ) (m : Mode) (xs : List ℕ) (rest : List Bool) → All (λ b. b < 256) xs → suits m xs ≡ true → count_of m (length xs) < 2 ^ count_width v m
     → segment_at v (segment_stream v m xs ++ rest) ≡ Ok (record { mode = m; len = length xs }, xs, rest)
 unfolding segment_at segment_stream
 segment_again v m xs rest bytes suited fits =
-    let count = field (count_width v m) (length xs) in
+    let count = field (count_width v m) (count_of m (length xs)) in
     let whole : (field 4 (indicator m) ++ (count ++ payload m xs)) ++ rest ≡ field 4 (indicator m) ++ (count ++ (payload m xs ++ rest)) =
     append_assoc (field 4 (indicator m)) (count ++ payload m xs) rest ∙ ap (λ (t : List Bool). field 4 (indicator m) ++ t) (append_assoc count (payload m xs) rest) in
     rw (
@@ -119,8 +139,9 @@ segment_again v m xs rest bytes suited fits =
       read_field 4 (indicator m) (count ++ (payload m xs ++ rest)) (indicator_most m),
       mode_again m,
       drop-field 4 (indicator m) (count ++ (payload m xs ++ rest)),
-      number_again (count_width v m) (length xs) (payload m xs ++ rest) fits,
+      number_again (count_width v m) (count_of m (length xs)) (payload m xs ++ rest) fits,
       payload_again m xs rest bytes suited,
+      len_again m xs suited,
     ) refl
 
 -- what was read as a segment is its stream
@@ -128,13 +149,13 @@ record IsSegment (v : ℕ) (bits : List Bool) (s : Segment) (xs : List ℕ) (res
   long : length xs ≡ s.len
   bytes : All (λ b. b < 256) xs
   suited : suits s.mode xs ≡ true
-  fits : s.len < 2 ^ count_width v s.mode
+  fits : count_of s.mode s.len < 2 ^ count_width v s.mode
   whole : bits ≡ segment_stream v s.mode xs ++ rest
 
 -- a segment of parts that were read
 segment_from : (v : ℕ) (m : Mode) (bits : List Bool) (n : ℕ × List Bool) (p : List ℕ × List Bool) → 4 ≤ length bits → value (take 4 bits) ≡ indicator m
-    → (n.0 < 2 ^ count_width v m) × (drop 4 bits ≡ field (count_width v m) n.0 ++ n.1) → IsWritten m n.0 n.1 p.0 × (p.1 ≡ drop (payload_bits m n.0) n.1)
-    → IsSegment v bits (record { mode = m; len = n.0 }) p.0 p.1
+    → (n.0 < 2 ^ count_width v m) × (drop 4 bits ≡ field (count_width v m) n.0 ++ n.1) → IsWritten m n.0 n.1 p.0 × (p.1 ≡ drop (payload_bits m (len_of m n.0)) n.1)
+    → IsSegment v bits (record { mode = m; len = len_of m n.0 }) p.0 p.1
 unfolding segment_stream
 segment_from v m bits n p four e number said =
     let w = said.0 in
@@ -146,8 +167,8 @@ segment_from v m bits n p four e number said =
       long = w.long;
       bytes = w.bytes;
       suited = w.suited;
-      fits = number.0;
-      whole = rw (w.long, append_assoc (field 4 (indicator m)) (count ++ payload m p.0) p.1, append_assoc count (payload m p.0) p.1, ← tail, ← head) (sym (take-append-drop 4 bits));
+      fits = rw (count_again m n.0) number.0;
+      whole = rw (w.long, count_again m n.0, append_assoc (field 4 (indicator m)) (count ++ payload m p.0) p.1, append_assoc count (payload m p.0) p.1, ← tail, ← head) (sym (take-append-drop 4 bits));
     }
 
 -- what is read as a segment is its stream
@@ -158,7 +179,7 @@ segment_takes v bits s four h =
     bind_all (mode_of (value (take 4 bits))) _ P (λ m em t ht.
     bind_all (number_at (count_width v m) (drop 4 bits)) _ P (λ n en t ht.
     bind_all (payload_at m n.0 n.1) _ P (λ p ep t ht.
-    subst P (same_ok (record { mode = m; len = n.0 }, p.0, p.1) t ht) (segment_from v m bits n p four (mode_takes _ m em) (number_takes (count_width v m) (drop 4 bits) n en) (payload_takes m n.0 n.1 p ep))) t ht) t ht) s h
+    subst P (same_ok (record { mode = m; len = len_of m n.0 }, p.0, p.1) t ht) (segment_from v m bits n p four (mode_takes _ m em) (number_takes (count_width v m) (drop 4 bits) n en) (payload_takes m n.0 n.1 p ep))) t ht) t ht) s h
 
 -- ---- segments to the end
 
@@ -184,7 +205,7 @@ segments_again v xs (s ∷ ss) tail bytes suit fits end =
     let halves = all_take s.len xs bytes in
     let rest = segments_stream v (drop s.len xs) ss in
     let whole = append_assoc (segment_stream v s.mode part) rest tail in
-    let one = segment_again v s.mode part (rest ++ tail) halves.0 suit.1 (omega (arith, len, fits.0)) in
+    let one = segment_again v s.mode part (rest ++ tail) halves.0 suit.1 (rw len fits.0) in
     let others = segments_again v (drop s.len xs) ss tail halves.1 suit.2 fits.1 end in
     rw (whole, segments_step v (segment_stream v s.mode part ++ (rest ++ tail)) (opens v s.mode part (rest ++ tail)), one, others, len, take-append-drop s.len xs) refl
 

@@ -5,24 +5,25 @@ use Rattle.std.proofs.lemmas.Bool.{lt-ltb, ltb-true, and_parts, and_from}
 use Rattle.std.proofs.lemmas.List.{length-drop, drop-drop, take-append-drop}
 use Rattle.std.proofs.lemmas.List.Elements.{All-nil, All-cons, All-head, All-tail}
 use Rattle.qr_bits.specs.declared.segment.Mode.{Mode}
-use Rattle.qr_bits.specs.declared.segment.Mode.TheVariants.{Numeric, Alphanumeric, Byte}
+use Rattle.qr_bits.specs.declared.segment.Mode.TheVariants.{Numeric, Alphanumeric, Byte, Kanji}
 use Rattle.qr_bits.specs.declared.fault.ParseFault.TheVariants.{BadValue}
 use Rattle.qr_bits.specs.Bits.{field, value, bits_of}
-use Rattle.qr_bits.specs.Letters.{is_alphanumeric, payload_bits, suits}
+use Rattle.qr_bits.specs.Letters.{count_of, is_alphanumeric, len_of, payload_bits, suits}
 use Rattle.qr_bits.specs.Stream.{character_value, character_bits, payload}
 use Rattle.qr_bits.specs.Parse.{◌>>=◌, character, characters_of, bytes_of, values_of}
+use Rattle.qr_bits.proofs.KanjiPairs.{pairs_again, pairs_takes}
 use Rattle.qr_bits.proofs.Characters.{character_found, character_again, character_taken}
 use Rattle.qr_bits.proofs.Payloads.{value_take_below}
 use Rattle.qr_bits.proofs.Parses.{bind_ok, same_ok}
 use Rattle.qr_bits.proofs.Streams.{drop-field, read_field, field_read, digits_again, digits_takes, are_digits, digits_suit, digits_bytes, chosen_ok}
 use Rattle.qr_bits.proofs.Writing.{two_more}
 
--- what was read of n bytes is written so
+-- what was read of n digits, characters, bytes or kanji pairs is written so
 pub record IsWritten (m : Mode) (n : ℕ) (bits : List Bool) (xs : List ℕ) : Type 0 where
-  pub long : length xs ≡ n
+  pub long : length xs ≡ len_of m n
   pub bytes : All (λ b. b < 256) xs
   pub suited : suits m xs ≡ true
-  pub whole : bits ≡ payload m xs ++ drop (payload_bits m n) bits
+  pub whole : bits ≡ payload m xs ++ drop (payload_bits m (len_of m n)) bits
 
 -- ---- characters
 
@@ -122,14 +123,15 @@ bytes_takes (suc n) bits h =
 -- ---- any mode
 
 -- What is written is read again, whatever follows.
-pub values_again : (m : Mode) (xs : List ℕ) (rest : List Bool) → All (λ b. b < 256) xs → suits m xs ≡ true → values_of m (length xs) (payload m xs ++ rest) ≡ Ok xs
+pub values_again : (m : Mode) (xs : List ℕ) (rest : List Bool) → All (λ b. b < 256) xs → suits m xs ≡ true → values_of m (count_of m (length xs)) (payload m xs ++ rest) ≡ Ok xs
 unfolding values_of payload
 values_again Numeric xs rest bytes h = digits_again xs rest (are_digits xs h)
 values_again Alphanumeric xs rest bytes h = characters_again xs rest h
 values_again Byte xs rest bytes h = ap Ok (bytes_again xs rest bytes)
+values_again Kanji xs rest bytes h = pairs_again xs rest h
 
 -- What is read is written so.
-pub values_takes : (m : Mode) (n : ℕ) (xs : List ℕ) (bits : List Bool) → payload_bits m n ≤ length bits → values_of m n bits ≡ Ok xs → IsWritten m n bits xs
+pub values_takes : (m : Mode) (n : ℕ) (xs : List ℕ) (bits : List Bool) → payload_bits m (len_of m n) ≤ length bits → values_of m n bits ≡ Ok xs → IsWritten m n bits xs
 unfolding values_of payload
 values_takes Numeric n xs bits h e =
     let w = digits_takes n xs bits h e in
@@ -140,3 +142,7 @@ values_takes Alphanumeric n xs bits h e =
 values_takes Byte n xs bits h e =
     let w = bytes_takes n bits h in
     subst (IsWritten Byte n bits) (same_ok _ _ e) (record { long = w.0; bytes = w.1; suited = refl; whole = w.2 })
+values_takes Kanji n xs bits h e =
+    let same : payload_bits Kanji (2 * n) ≡ 13 * n = omega arith in
+    let w = pairs_takes n xs bits (omega arith) e in
+    record { long = w.0; bytes = w.1; suited = w.2; whole = rw same w.3 }

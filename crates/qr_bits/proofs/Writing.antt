@@ -1,15 +1,15 @@
 -- Writing the data of a segment, group by group, and the length of what is written.
 use Rattle.std.proofs.Common.{◌≡◌, ℕ, zero, suc, ◌+◌, ◌-◌, ◌*◌, ◌/◌, ◌%◌, ◌<◌, ◌≤◌, Bool, true, List, [], ◌∷◌, ◌++◌, length, get_or, take, drop, refl, sym, ◌∙◌, ap, arith, length-append, append_assoc}
 use Rattle.std.specs.List.{list_all}
-use Rattle.std.proofs.lemmas.Bool.{and_parts}
+use Rattle.std.proofs.lemmas.Bool.{and_parts, false≢true}
 use Rattle.std.proofs.lemmas.List.{length-take-le, drop_all}
 use Rattle.std.proofs.Math.Seq.{drop-cons}
 use Rattle.qr_bits.specs.declared.segment.Mode.{Mode}
-use Rattle.qr_bits.specs.declared.segment.Mode.TheVariants.{Numeric, Alphanumeric, Byte}
+use Rattle.qr_bits.specs.declared.segment.Mode.TheVariants.{Numeric, Alphanumeric, Byte, Kanji}
 use Rattle.qr_bits.specs.declared.segment.Segment.{Segment}
 use Rattle.qr_bits.specs.Bits.{field}
-use Rattle.qr_bits.specs.Letters.{count_width, payload_bits, segment_bits, bits, Covers}
-use Rattle.qr_bits.specs.Stream.{digit_bits, character_value, character_bits, payload, segment_stream, segments_stream, Suits}
+use Rattle.qr_bits.specs.Letters.{count_of, count_width, payload_bits, segment_bits, bits, in_twos, is_kanji_pair, suits, Covers}
+use Rattle.qr_bits.specs.Stream.{kanji_value, kanji_bits, digit_bits, character_value, character_bits, payload, segment_stream, segments_stream, Suits}
 use Rattle.qr_bits.proofs.BitLists.{length-field, length-bits_of}
 
 -- each of the first bytes passes where all do, and so does the rest
@@ -79,6 +79,28 @@ unfolding character_bits
 characters_none_left [] h = refl
 characters_none_left (a ∷ xs) h = absurd (omega arith)
 
+-- ---- kanji pairs
+
+-- a pair, and the pairs after it
+pub kanji_two : (xs : List ℕ) → 2 ≤ length xs → kanji_bits xs ≡ field 13 (kanji_value (get_or xs 0 0) (get_or xs 1 0)) ++ kanji_bits (drop 2 xs)
+unfolding kanji_bits
+kanji_two [] h = absurd (omega arith)
+kanji_two (a ∷ []) h = absurd (omega arith)
+kanji_two (a ∷ b ∷ xs) h = refl
+
+-- the first two of bytes in twos pass the test, and the rest is in twos
+pub in_twos-first : (test : ℕ → ℕ → Bool) (xs : List ℕ) → in_twos test xs ≡ true → 2 ≤ length xs → (test (get_or xs 0 0) (get_or xs 1 0) ≡ true) × (in_twos test (drop 2 xs) ≡ true)
+in_twos-first test [] h n = absurd (omega arith)
+in_twos-first test (x ∷ []) h n = absurd (omega arith)
+in_twos-first test (x ∷ y ∷ xs) h n = let p = and_parts (test x y) _ h in (p.0, p.1)
+
+-- fewer than two bytes in twos are none, and have no bits
+pub kanji_none : (test : ℕ → ℕ → Bool) (xs : List ℕ) → in_twos test xs ≡ true → length xs < 2 → kanji_bits xs ≡ []
+unfolding kanji_bits
+kanji_none test [] h n = refl
+kanji_none test (x ∷ []) h n = absurd (false≢true h)
+kanji_none test (x ∷ y ∷ xs) h n = absurd (omega arith)
+
 -- ---- lengths
 
 -- three digits more have ten bits more
@@ -113,27 +135,45 @@ length-character_bits (a ∷ b ∷ xs) =
     let e : suc (suc (length xs)) ≡ 2 + length xs = omega arith in
     omega (arith, length-append (field 11 g) (character_bits xs), length-field 11 g, length-character_bits xs, two_more (length xs), ap (payload_bits Alphanumeric) e)
 
+-- pairs are even in number
+pub in_twos-even : (test : ℕ → ℕ → Bool) (xs : List ℕ) → in_twos test xs ≡ true → 2 * (length xs / 2) ≡ length xs
+in_twos-even test [] h = refl
+in_twos-even test (x ∷ []) h = absurd (false≢true h)
+in_twos-even test (x ∷ y ∷ xs) h =
+    let rest = in_twos-even test xs (and_parts (test x y) _ h).1 in
+    omega (arith, rest)
+
+-- pairs have their bits
+pub length-kanji_bits : (xs : List ℕ) → in_twos is_kanji_pair xs ≡ true → length (kanji_bits xs) ≡ payload_bits Kanji (length xs)
+unfolding kanji_bits
+length-kanji_bits [] h = refl
+length-kanji_bits (a ∷ []) h = absurd (false≢true h)
+length-kanji_bits (a ∷ b ∷ xs) h =
+    let rest = length-kanji_bits xs (and_parts (is_kanji_pair a b) _ h).1 in
+    omega (arith, length-append (field 13 (kanji_value a b)) (kanji_bits xs), length-field 13 (kanji_value a b), rest)
+
 -- data has its bits
-pub length-payload : (m : Mode) (xs : List ℕ) → length (payload m xs) ≡ payload_bits m (length xs)
+pub length-payload : (m : Mode) (xs : List ℕ) → suits m xs ≡ true → length (payload m xs) ≡ payload_bits m (length xs)
 unfolding payload
-length-payload Numeric xs = length-digit_bits xs
-length-payload Alphanumeric xs = length-character_bits xs
-length-payload Byte xs = length-bits_of xs
+length-payload Numeric xs h = length-digit_bits xs
+length-payload Alphanumeric xs h = length-character_bits xs
+length-payload Byte xs h = length-bits_of xs
+length-payload Kanji xs h = length-kanji_bits xs h
 
 -- the stream of a segment has its bits
-pub length-segment_stream : (v n : ℕ) (m : Mode) (xs : List ℕ) → length xs ≡ n → length (segment_stream v m xs) ≡ segment_bits v (record { mode = m; len = n })
+pub length-segment_stream : (v n : ℕ) (m : Mode) (xs : List ℕ) → suits m xs ≡ true → length xs ≡ n → length (segment_stream v m xs) ≡ segment_bits v (record { mode = m; len = n })
 unfolding segment_stream
-length-segment_stream v n m xs e =
-    let count = field (count_width v m) (length xs) in
+length-segment_stream v n m xs h e =
+    let count = field (count_width v m) (count_of m (length xs)) in
     let id = Rattle.qr_bits.specs.Stream.indicator m in
-    omega (arith, length-append (field 4 id) (count ++ payload m xs), length-append count (payload m xs), length-field 4 id, length-field (count_width v m) (length xs), length-payload m xs, ap (payload_bits m) e)
+    omega (arith, length-append (field 4 id) (count ++ payload m xs), length-append count (payload m xs), length-field 4 id, length-field (count_width v m) (count_of m (length xs)), length-payload m xs h, ap (payload_bits m) e)
 
 -- the stream of segments has their bits
 pub length-segments_stream : (v : ℕ) (xs : List ℕ) (segs : List Segment) → Suits xs segs → length (segments_stream v xs segs) ≡ bits v segs
 unfolding segments_stream Suits
 length-segments_stream v xs [] h = refl
 length-segments_stream v xs (s ∷ ss) h =
-    let one = length-segment_stream v s.len s.mode (take s.len xs) (length-take-le s.len xs h.0) in
+    let one = length-segment_stream v s.len s.mode (take s.len xs) h.1 (length-take-le s.len xs h.0) in
     omega (arith, length-append (segment_stream v s.mode (take s.len xs)) (segments_stream v (drop s.len xs) ss), one, length-segments_stream v (drop s.len xs) ss h.2)
 
 -- what covers suits

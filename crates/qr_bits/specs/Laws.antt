@@ -3,10 +3,12 @@ use Rattle.std.specs.Prelude.{◌≡◌, ℕ, ◌+◌, ◌*◌, ◌<◌, ◌≤�
 use Rattle.std.specs.List.{slice_index_or}
 use Rattle.qr_layout.specs.declared.level.Level.{Level}
 use Rattle.qr_layout.specs.Blocks.{data_codewords_of}
+use Rattle.qr_bits.specs.declared.segment.Mode.TheVariants.{Kanji}
+use Rattle.qr_bits.specs.declared.segment.Rule.{Rule}
 use Rattle.qr_bits.specs.declared.segment.Segment.{Segment}
 use Rattle.qr_bits.specs.declared.header.Header.{Header}
 use Rattle.qr_bits.specs.Bits.{bits_of, codeword_bit}
-use Rattle.qr_bits.specs.Letters.{bits, Covers, IsLeastSegmentation, HasFit}
+use Rattle.qr_bits.specs.Letters.{bits, may_use, Covers, IsLeastSegmentation, HasFit}
 use Rattle.qr_bits.specs.Stream.{CountsFit, IsStream, Suits}
 use Rattle.qr_bits.specs.Data.{capacity_of, header_bits, IsData}
 use Rattle.qr_bits.specs.Parse.{ends, parse}
@@ -70,25 +72,26 @@ CountsFitWhereBitsFit =
 -- Where some lettering of the bytes fits a symbol, there are at most 7,089 bytes [own].
 abbrev pub FittingInputsAreShort : Type 0
 FittingInputsAreShort =
-    (v : ℕ) (l : Level) (bytes_only : Bool) (xs : List ℕ)
+    (v : ℕ) (l : Level) (r : Rule) (xs : List ℕ)
     → 1 ≤ v
     → v ≤ 40
-    → HasFit v bytes_only xs (capacity_of v l)
+    → HasFit v r xs (capacity_of v l)
     → length xs ≤ 7089
 
 -- The least segmentation covers the bytes, and fits exactly where some lettering does [own].
 abbrev pub LeastSegmentationsFit : Type 0
 LeastSegmentationsFit =
-    (v : ℕ) (bytes_only : Bool) (xs : List ℕ) (segs : List Segment)
-    → IsLeastSegmentation v bytes_only xs segs
-    → Covers xs segs × ((n : ℕ) → HasFit v bytes_only xs n ↔ (bits v segs ≤ n))
+    (v : ℕ) (r : Rule) (xs : List ℕ) (segs : List Segment)
+    → IsLeastSegmentation v r xs segs
+    → Covers xs segs × ((n : ℕ) → HasFit v r xs n ↔ (bits v segs ≤ n))
 
--- Where some lettering of a text has at most n bits, some lettering of each piece of it has [own].
+-- By a rule without kanji mode, where some lettering of a text has at most n bits, some lettering of each piece of it has [own].
 abbrev pub PiecesNeedNoMore : Type 0
 PiecesNeedNoMore =
-    (v : ℕ) (bytes_only : Bool) (xs ys zs : List ℕ) (n : ℕ)
-    → HasFit v bytes_only (xs ++ (ys ++ zs)) n
-    → HasFit v bytes_only ys n
+    (v : ℕ) (r : Rule) (xs ys zs : List ℕ) (n : ℕ)
+    → may_use r Kanji ≡ false
+    → HasFit v r (xs ++ (ys ++ zs)) n
+    → HasFit v r ys n
 
 -- Item k of the bits of codewords is bit k in closed form (ISO/IEC 18004:2015, 7.7.3).
 abbrev pub BitsAreCodewordBits : Type 0

@@ -7,3 +7,4 @@ pub mod Places
 pub mod ByPlaces
 pub mod Growing
 pub mod Laws
+pub mod Folding

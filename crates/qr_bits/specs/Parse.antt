@@ -1,14 +1,14 @@
 -- The parse of data codewords' bits: by cases on the bits. Public clauses cite these.
-use Rattle.std.specs.Prelude.{◌≡◌, ℕ, zero, suc, ◌+◌, ◌/◌, ◌%◌, Bool, ◌&&◌, ◌||◌, ◌==◌, nat_lt, nat_le, if◌then◌else◌, List, [], ◌∷◌, ◌++◌, length, take, drop, Result, Ok, Err, Option, Some, None}
+use Rattle.std.specs.Prelude.{◌≡◌, ℕ, zero, suc, ◌+◌, ◌*◌, ◌/◌, ◌%◌, Bool, ◌&&◌, ◌||◌, ◌==◌, nat_lt, nat_le, if◌then◌else◌, List, [], ◌∷◌, ◌++◌, length, take, drop, Result, Ok, Err, Option, Some, None}
 use Rattle.std.specs.List.{slice_index_or}
 use Rattle.qr_bits.specs.declared.segment.Mode.{Mode}
-use Rattle.qr_bits.specs.declared.segment.Mode.TheVariants.{Numeric, Alphanumeric, Byte}
+use Rattle.qr_bits.specs.declared.segment.Mode.TheVariants.{Numeric, Alphanumeric, Byte, Kanji}
 use Rattle.qr_bits.specs.declared.segment.Segment.{Segment}
 use Rattle.qr_bits.specs.declared.header.Header.{Header}
 use Rattle.qr_bits.specs.declared.fault.ParseFault.{ParseFault}
 use Rattle.qr_bits.specs.declared.fault.ParseFault.TheVariants.{Memory, BadMode, Cut, BadValue}
 use Rattle.qr_bits.specs.Bits.{value}
-use Rattle.qr_bits.specs.Letters.{characters, count_width, payload_bits}
+use Rattle.qr_bits.specs.Letters.{characters, count_width, len_of, payload_bits}
 
 infixl 10 ◌>>=◌
 -- a reading, and then another of what it gave; the first fault stands
@@ -66,15 +66,31 @@ unfoldable pub bytes_of : ℕ → List Bool → List ℕ
 bytes_of zero bits = []
 bytes_of (suc n) bits = value (take 8 bits) ∷ bytes_of n (drop 8 bits)
 
--- what the data bits of a segment of n bytes say (ISO/IEC 18004:2015, 7.4.3 to 7.4.5)
+-- the kanji pair of a value, as a number of 16 bits: C0 times a high byte and a low byte; 8140 more where the high byte is at
+-- most 1E, else C140 more (hexadecimal) (ISO/IEC 18004:2015, 7.4.6)
+unfoldable pub kanji_pair : ℕ → ℕ
+kanji_pair n =
+    let rest = 256 * (n / 0xC0) + n % 0xC0 in
+    if nat_le (n / 0xC0) 0x1E then rest + 0x8140 else rest + 0xC140
+
+-- n kanji pairs, each in 13 bits; a value whose low byte is above BC (hexadecimal) is a bad value (ISO/IEC 18004:2015, 7.4.6)
+unfoldable pub pairs_of : ℕ → List Bool → Result (List ℕ) ParseFault
+pairs_of zero bits = Ok []
+pairs_of (suc n) bits =
+    let group = value (take 13 bits) in
+    let pair = kanji_pair group in
+    if nat_le (group % 0xC0) 0xBC then (pairs_of n (drop 13 bits) >>= λ xs. Ok (pair / 256 ∷ pair % 256 ∷ xs)) else Err BadValue
+
+-- what the data bits of n digits, characters, bytes or kanji pairs say (ISO/IEC 18004:2015, 7.4.3 to 7.4.6)
 unfoldable pub values_of : Mode → ℕ → List Bool → Result (List ℕ) ParseFault
 values_of Numeric n bits = digits_of n bits
 values_of Alphanumeric n bits = characters_of n bits
 values_of Byte n bits = Ok (bytes_of n bits)
+values_of Kanji n bits = pairs_of n bits
 
 -- the mode of an indicator; any other indicator is a bad mode (ISO/IEC 18004:2015, 7.4.1, Table 2)
 unfoldable pub mode_of : ℕ → Result Mode ParseFault
-mode_of n = if n == 1 then Ok Numeric else (if n == 2 then Ok Alphanumeric else (if n == 4 then Ok Byte else Err BadMode))
+mode_of n = if n == 1 then Ok Numeric else (if n == 2 then Ok Alphanumeric else (if n == 4 then Ok Byte else (if n == 8 then Ok Kanji else Err BadMode)))
 
 -- nothing more is read: fewer than four bits are left, or the terminator stands there (ISO/IEC 18004:2015, 7.4.9)
 unfoldable pub ends : List Bool → Bool
@@ -84,11 +100,11 @@ ends bits = nat_lt (length bits) 4 || value (take 4 bits) == 0
 unfoldable pub number_at : ℕ → List Bool → Result (ℕ × List Bool) ParseFault
 number_at w bits = if nat_lt (length bits) w then Err Cut else Ok (value (take w bits), drop w bits)
 
--- the data of a segment of n bytes and the bits behind it: Cut where they are not all there, before their values are
--- looked at (ISO/IEC 18004:2015, 7.4.3 to 7.4.5)
+-- the data of a count of n and the bits after it: Cut where they are not all there, before their values are looked at
+-- (ISO/IEC 18004:2015, 7.4.3 to 7.4.6)
 unfoldable pub payload_at : Mode → ℕ → List Bool → Result (List ℕ × List Bool) ParseFault
 payload_at m n bits =
-    if nat_lt (length bits) (payload_bits m n) then Err Cut else (values_of m n bits >>= λ xs. Ok (xs, drop (payload_bits m n) bits))
+    if nat_lt (length bits) (payload_bits m (len_of m n)) then Err Cut else (values_of m n bits >>= λ xs. Ok (xs, drop (payload_bits m (len_of m n)) bits))
 
 -- a segment, its bytes, and the bits behind it: indicator, count, data (ISO/IEC 18004:2015, 7.4.1)
 unfoldable pub segment_at : ℕ → List Bool → Result (Segment × List ℕ × List Bool) ParseFault
@@ -96,7 +112,7 @@ segment_at v bits =
     mode_of (value (take 4 bits)) >>= λ m.
     number_at (count_width v m) (drop 4 bits) >>= λ n.
     payload_at m n.0 n.1 >>= λ p.
-    Ok (record { mode = m; len = n.0 }, p.0, p.1)
+    Ok (record { mode = m; len = len_of m n.0 }, p.0, p.1)
 
 -- at most so many segments
 unfoldable pub segments_at : ℕ → ℕ → List Bool → Result (List Segment × List ℕ) ParseFault

@@ -1,18 +1,19 @@
 -- The bit stream of segments, stated from the standard's tables apart from reading. Public clauses cite these.
-use Rattle.std.specs.Prelude.{◌≡◌, ℕ, ◌+◌, ◌-◌, ◌*◌, ◌<◌, ◌≤◌, ◌^◌, Bool, List, [], ◌∷◌, ◌++◌, length, take, drop, All, IsTrue, Option, Some, None, ◌==◌, bit_xor, fold}
+use Rattle.std.specs.Prelude.{◌≡◌, ℕ, ◌+◌, ◌-◌, ◌*◌, ◌/◌, ◌%◌, ◌<◌, ◌≤◌, ◌^◌, Bool, List, [], ◌∷◌, ◌++◌, length, take, drop, All, IsTrue, Option, Some, None, ◌==◌, nat_le, if◌then◌else◌, bit_xor, fold}
 use Rattle.std.specs.List.{position_or_len}
 use Rattle.qr_bits.specs.declared.segment.Mode.{Mode}
-use Rattle.qr_bits.specs.declared.segment.Mode.TheVariants.{Numeric, Alphanumeric, Byte}
+use Rattle.qr_bits.specs.declared.segment.Mode.TheVariants.{Numeric, Alphanumeric, Byte, Kanji}
 use Rattle.qr_bits.specs.declared.segment.Segment.{Segment}
 use Rattle.qr_bits.specs.declared.header.Header.{Header}
 use Rattle.qr_bits.specs.Bits.{field, bits_of}
-use Rattle.qr_bits.specs.Letters.{characters, count_width, suits}
+use Rattle.qr_bits.specs.Letters.{characters, count_of, count_width, suits}
 
 -- the mode indicator (ISO/IEC 18004:2015, 7.4.1, Table 2)
 abbrev pub indicator : Mode → ℕ
 indicator Numeric = 1
 indicator Alphanumeric = 2
 indicator Byte = 4
+indicator Kanji = 8
 
 -- the indicator of structured append (ISO/IEC 18004:2015, 7.4.1, Table 2)
 abbrev pub header_indicator : ℕ
@@ -35,15 +36,30 @@ character_bits [] = []
 character_bits (a ∷ []) = field 6 (character_value a)
 character_bits (a ∷ b ∷ xs) = field 11 (45 * character_value a + character_value b) ++ character_bits xs
 
--- the data bits of a segment (ISO/IEC 18004:2015, 7.4.3 to 7.4.5)
+-- the value of a kanji pair: less 8140 up to 9FFC, less C140 from there on (hexadecimal); then C0 times the high byte of
+-- that, and its low byte (ISO/IEC 18004:2015, 7.4.6)
+unfoldable pub kanji_value : ℕ → ℕ → ℕ
+kanji_value high low =
+    let pair = 256 * high + low in
+    let rest = if nat_le pair 0x9FFC then pair - 0x8140 else pair - 0xC140 in
+    0xC0 * (rest / 256) + rest % 256
+
+-- the bits of kanji pairs: each in 13 bits (ISO/IEC 18004:2015, 7.4.6)
+unfoldable pub kanji_bits : List ℕ → List Bool
+kanji_bits [] = []
+kanji_bits (a ∷ []) = []
+kanji_bits (a ∷ b ∷ xs) = field 13 (kanji_value a b) ++ kanji_bits xs
+
+-- the data bits of a segment (ISO/IEC 18004:2015, 7.4.3 to 7.4.6)
 unfoldable pub payload : Mode → List ℕ → List Bool
 payload Numeric xs = digit_bits xs
 payload Alphanumeric xs = character_bits xs
 payload Byte xs = bits_of xs
+payload Kanji xs = kanji_bits xs
 
 -- the bits of one segment of these bytes: mode indicator, character count indicator, data (ISO/IEC 18004:2015, 7.4.1)
 unfoldable pub segment_stream : ℕ → Mode → List ℕ → List Bool
-segment_stream v m xs = field 4 (indicator m) ++ (field (count_width v m) (length xs) ++ payload m xs)
+segment_stream v m xs = field 4 (indicator m) ++ (field (count_width v m) (count_of m (length xs)) ++ payload m xs)
 
 -- the bits of segments, one after the other, each of its part of the bytes (ISO/IEC 18004:2015, 7.4.1)
 unfoldable pub segments_stream : ℕ → List ℕ → List Segment → List Bool
@@ -63,7 +79,7 @@ Suits xs (s ∷ ss) = (s.len ≤ length xs) × IsTrue (suits s.mode (take s.len 
 -- each count fits its character count indicator (ISO/IEC 18004:2015, 7.4.1, Table 3)
 unfoldable pub CountsFit : ℕ → List Segment → Type 0
 CountsFit v [] = Unit {0}
-CountsFit v (s ∷ ss) = (s.len < 2 ^ count_width v s.mode) × CountsFit v ss
+CountsFit v (s ∷ ss) = (count_of s.mode s.len < 2 ^ count_width v s.mode) × CountsFit v ss
 
 -- the header's numbers fit their fields (ISO/IEC 18004:2015, 8.2, 8.3)
 abbrev pub HeaderFits : Option Header → Type 0

@@ -4,20 +4,20 @@ ghost use Rattle.std.specs.Prelude.{◌≡◌, ◌+◌, ◌-◌, ◌<◌, ◌≤
 ghost use Rattle.std.specs.List.{list_all, position};
 ghost use Rattle.std.specs.Option.{ForSome};
 ghost use Rattle.qr_bits.specs.Bits.{bits_of};
-ghost use Rattle.qr_bits.specs.Letters.{bits, characters, Covers, is_alphanumeric, is_digit, suits};
-ghost use Rattle.qr_bits.specs.Stream.{character_bits, character_value, digit_bits, header_stream, indicator, payload, segment_stream, segments_stream};
+ghost use Rattle.qr_bits.specs.Letters.{bits, characters, Covers, in_twos, is_alphanumeric, is_digit, is_kanji_pair, suits};
+ghost use Rattle.qr_bits.specs.Stream.{kanji_bits, kanji_value, character_bits, character_value, digit_bits, header_stream, indicator, payload, segment_stream, segments_stream};
 ghost use Rattle.qr_bits.specs.Data.{capacity_of, header_bits, pads, IsData};
 
 use crate::covering::bit_len;
 use crate::fault::BitFault;
 use crate::fitting::{capacity, header_bits};
 use crate::header::Header;
-use crate::segment::{CHARACTERS, HEADER_INDICATOR, INPUT_MAX, Mode, Segment, count_width};
+use crate::segment::{
+    CHARACTERS, HEADER_INDICATOR, INPUT_MAX, Mode, Segment, count_of, count_width,
+};
 use crate::writer::BitWriter;
 use qr_layout::{Level, Version};
 use std::alloc::{AllocError, Global};
-
-const HEADER_BITS: u64 = 20;
 
 // The bits of a terminator, where there is room for them (7.4.9).
 const TERMINATOR_BITS: u64 = 4;
@@ -103,7 +103,10 @@ fn put_segment(
     ensures { OnOk result (writer.new ≡ writer.old ++ segment_stream version mode bytes.now) }
 {
     writer.put(4, indicator(mode))?;
-    writer.put(count_width(version, mode), bytes.len() as u16)?;
+    writer.put(
+        count_width(version, mode),
+        count_of(mode, bytes.len()) as u16,
+    )?;
     put_payload(writer, mode, bytes)
 }
 
@@ -115,6 +118,7 @@ fn indicator(mode: Mode) -> u16
         Mode::Numeric => 0b0001,
         Mode::Alphanumeric => 0b0010,
         Mode::Byte => 0b0100,
+        Mode::Kanji => 0b1000,
     }
 }
 
@@ -127,6 +131,7 @@ fn put_payload(writer: &mut BitWriter, mode: Mode, bytes: &[u8]) -> Result<(), A
         Mode::Numeric => put_digits(writer, bytes),
         Mode::Alphanumeric => put_characters(writer, bytes),
         Mode::Byte => put_bytes(writer, bytes),
+        Mode::Kanji => put_kanji(writer, bytes),
     }
 }
 
@@ -203,6 +208,35 @@ fn put_bytes(writer: &mut BitWriter, bytes: &[u8]) -> Result<(), AllocError>
     Ok(())
 }
 
+// Each kanji pair in thirteen bits (7.4.6).
+fn put_kanji(writer: &mut BitWriter, bytes: &[u8]) -> Result<(), AllocError>
+    requires { IsTrue (in_twos is_kanji_pair bytes.now) }
+    ensures { OnOk result (writer.new ≡ writer.old ++ kanji_bits bytes.now) }
+{
+    let mut rest = bytes;
+    while rest.len() >= 2 {
+        writer.put(13, kanji_value(rest[0], rest[1]))?;
+        let (_, after) = rest.split_at(2);
+        rest = after;
+    }
+    Ok(())
+}
+
+// The value of a kanji pair (7.4.6).
+#[tactic(auto, unfolding(crate::specs::Stream::kanji_value))]
+fn kanji_value(high: u8, low: u8) -> u16
+    requires { IsTrue (is_kanji_pair high low) }
+    ensures { result ≡ kanji_value high low }
+{
+    let pair = 256 * u16::from(high) + u16::from(low);
+    let rest = if pair <= 0x9FFC {
+        pair - 0x8140
+    } else {
+        pair - 0xC140
+    };
+    0xC0 * (rest / 256) + rest % 256
+}
+
 // Pad codewords by turns, up to this number of codewords (7.4.10).
 fn pad(codewords: &mut Vec<u8>, len: usize) -> Result<(), AllocError>
     ensures written { OnOk result (codewords.new.items
@@ -277,6 +311,20 @@ mod tests {
             0x11, 0xEC, 0x11, 0xEC, 0x11,
         ];
         assert_eq!(rt; data.as_slice(), wanted.as_slice(), "a byte at 1-L");
+        let pairs = Segment {
+            mode: Mode::Kanji,
+            len: 4,
+        };
+        let data = encode(&rt, b"\x93\x5F\xE4\xAA", pairs, None, Level::L)?;
+        let wanted = [
+            0x80, 0x26, 0xCF, 0xEA, 0xA8, 0x00, 0xEC, 0x11, 0xEC, 0x11, 0xEC, 0x11, 0xEC, 0x11,
+            0xEC, 0x11, 0xEC, 0x11, 0xEC,
+        ];
+        assert_eq!(rt;
+            data.as_slice(),
+            wanted.as_slice(),
+            "two kanji pairs at 1-L"
+        );
         Ok(())
     }
 

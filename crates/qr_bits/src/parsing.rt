@@ -8,7 +8,7 @@ use crate::fault::ParseFault;
 use crate::header::Header;
 use crate::reader::BitReader;
 use crate::reading::values;
-use crate::segment::{Mode, Segment, count_width, payload_bits};
+use crate::segment::{Mode, Segment, count_width, len_of, payload_bits};
 use qr_layout::Version;
 use std::alloc::Global;
 use std::marker::Model;
@@ -120,15 +120,13 @@ fn segment(
     if reader.len() < width {
         return Err(ParseFault::Cut);
     }
-    let segment = Segment {
-        mode,
-        len: usize::from(reader.take(width)),
-    };
-    if reader.len() < payload_bits(mode, segment.len) {
+    let count = usize::from(reader.take(width));
+    let len = len_of(mode, count);
+    if reader.len() < payload_bits(mode, len) {
         return Err(ParseFault::Cut);
     }
-    values(reader, segment, out)?;
-    Ok(segment)
+    values(reader, mode, count, out)?;
+    Ok(Segment { mode, len })
 }
 
 // The mode of an indicator (7.4.1, Table 2).
@@ -140,6 +138,7 @@ fn mode_of(indicator: u16) -> Result<Mode, ParseFault>
         0b0001 => Ok(Mode::Numeric),
         0b0010 => Ok(Mode::Alphanumeric),
         0b0100 => Ok(Mode::Byte),
+        0b1000 => Ok(Mode::Kanji),
         _ => Err(ParseFault::BadMode),
     }
 }
@@ -195,6 +194,11 @@ mod tests {
             says(&rt, &[0x20, 0x17, 0xE8], None, two, b"::")?,
             "the last pair"
         );
+        let pair = segment(Mode::Kanji, 2);
+        assert!(rt;
+            says(&rt, &[0x80, 0x10, 0x5E, 0x00], None, pair, b"\x81\xFC")?,
+            "the last low byte of a pair"
+        );
         let header = Some(Header {
             position: 1,
             last: 1,
@@ -233,6 +237,11 @@ mod tests {
             "a single of 45"
         );
         assert_eq!(rt;
+            fault(&rt, &[0x80, 0x10, 0x5E, 0x80])?,
+            bad_value,
+            "a low byte of BD"
+        );
+        assert_eq!(rt;
             fault(&rt, &[0x40, 0x20, 0x41])?,
             Some(ParseFault::Cut),
             "a byte missing"
@@ -248,11 +257,6 @@ mod tests {
             fault(&rt, &[0x30, 0x10, 0x83])?,
             bad_mode,
             "a second header"
-        );
-        assert_eq!(rt;
-            fault(&rt, &[0x80])?,
-            bad_mode,
-            "the indicator of kanji mode"
         );
         Ok(())
     }
@@ -272,7 +276,7 @@ mod tests {
                 }
             }
         }
-        assert_eq!(rt; (read, cut, no_mode), (4109, 16359, 45068));
+        assert_eq!(rt; (read, cut, no_mode), (4110, 20444, 40982));
         Ok(())
     }
 }

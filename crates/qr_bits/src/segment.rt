@@ -1,7 +1,7 @@
 //! Modes and segments: ISO/IEC 18004:2015, 7.3 and 7.4.1.
 
-ghost use Rattle.std.specs.Prelude.{◌≡◌, ◌≤◌};
-ghost use Rattle.qr_bits.specs.Letters.{count_width, is_alphanumeric, is_digit, may_use, payload_bits};
+ghost use Rattle.std.specs.Prelude.{◌≡◌, ◌<◌, ◌≤◌, ◌^◌};
+ghost use Rattle.qr_bits.specs.Letters.{count_of, count_width, is_alphanumeric, is_digit, is_kanji_pair, len_of, may_use, payload_bits};
 
 use qr_layout::Version;
 
@@ -9,7 +9,7 @@ use qr_layout::Version;
 /// more.
 pub const INPUT_MAX: usize = 113_425;
 
-/// How the bytes of a segment are written (7.3.3 to 7.3.5).
+/// How the bytes of a segment are written (7.3.3 to 7.3.6).
 #[derive(Clone, Copy, Debug, PartialEq, Eq)]
 pub enum Mode {
     /// Digits, three in ten bits.
@@ -18,13 +18,24 @@ pub enum Mode {
     Alphanumeric,
     /// Any bytes, each in eight bits.
     Byte,
+    /// Pairs of bytes that are Shift JIS characters, each pair in thirteen bits.
+    Kanji,
+}
+
+/// Which modes segments may be chosen from.
+#[derive(Clone, Copy, Debug, PartialEq, Eq)]
+pub enum Rule {
+    /// All but kanji mode.
+    Auto,
+    BytesOnly,
+    WithKanji,
 }
 
 /// The next `len` bytes of the input, written in one mode.
 #[derive(Clone, Copy, Debug, PartialEq, Eq)]
 pub struct Segment {
     pub mode: Mode,
-    /// In bytes of the input.
+    /// In bytes of the input, two for each character of kanji mode.
     pub len: usize,
 }
 
@@ -45,6 +56,7 @@ pub(crate) fn count_width(version: Version, mode: Mode) -> u8
         Mode::Numeric => (10, 12, 14),
         Mode::Alphanumeric => (9, 11, 13),
         Mode::Byte => (8, 16, 16),
+        Mode::Kanji => (8, 10, 12),
     };
     match version.number() {
         1..=9 => small,
@@ -55,7 +67,7 @@ pub(crate) fn count_width(version: Version, mode: Mode) -> u8
 
 // The bits of the data of a segment (7.4.3 to 7.4.5).
 pub(crate) fn payload_bits(mode: Mode, len: usize) -> usize
-    requires { len ≤ INPUT_MAX }
+    requires { len < 2 ^ 20 }
     ensures { result ≡ payload_bits mode len }
 {
     match mode {
@@ -69,6 +81,28 @@ pub(crate) fn payload_bits(mode: Mode, len: usize) -> usize
         }
         Mode::Alphanumeric => 11 * (len / 2) + 6 * (len % 2),
         Mode::Byte => 8 * len,
+        Mode::Kanji => 13 * ((len + 1) / 2),
+    }
+}
+
+// The count of the bytes of a segment (7.4.1).
+pub(crate) fn count_of(mode: Mode, len: usize) -> usize
+    ensures { result ≡ count_of mode len }
+{
+    match mode {
+        Mode::Kanji => len / 2,
+        _ => len,
+    }
+}
+
+// The bytes that a segment of this count has (7.4.1).
+pub(crate) fn len_of(mode: Mode, count: usize) -> usize
+    requires { count < 2 ^ 16 }
+    ensures { result ≡ len_of mode count }
+{
+    match mode {
+        Mode::Kanji => 2 * count,
+        _ => count,
     }
 }
 
@@ -85,12 +119,22 @@ pub(crate) fn is_alphanumeric(byte: u8) -> bool
     CHARACTERS.iter().any(|character| *character == byte)
 }
 
-pub(crate) fn may_use(bytes_only: bool, mode: Mode) -> bool
-    ensures { result ≡ may_use bytes_only mode }
+#[tactic(auto, unfolding(crate::specs::Letters::is_kanji_pair))]
+pub(crate) fn is_kanji_pair(high: u8, low: u8) -> bool
+    ensures { result ≡ is_kanji_pair high low }
+{
+    let pair = 256 * u16::from(high) + u16::from(low);
+    (0x8140 <= pair && pair <= 0x9FFC || 0xE040 <= pair && pair <= 0xEBBF)
+        && (0x40 <= low && low <= 0xFC)
+}
+
+pub(crate) fn may_use(rule: Rule, mode: Mode) -> bool
+    ensures { result ≡ may_use rule mode }
 {
     match mode {
-        Mode::Numeric => !bytes_only,
-        Mode::Alphanumeric => !bytes_only,
+        Mode::Numeric => !matches!(rule, Rule::BytesOnly),
+        Mode::Alphanumeric => !matches!(rule, Rule::BytesOnly),
         Mode::Byte => true,
+        Mode::Kanji => matches!(rule, Rule::WithKanji),
     }
 }

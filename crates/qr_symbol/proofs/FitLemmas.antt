@@ -2,6 +2,7 @@
 use Rattle.std.proofs.Common.{◌≡◌, ℕ, ◌<◌, ◌≤◌, inl, inr, Bool, List, [], ◌∷◌, refl, sym, arith}
 use Rattle.std.proofs.lemmas.Bool.{cases_lt}
 use Rattle.qr_layout.specs.declared.level.Level.{Level}
+use Rattle.qr_bits.specs.declared.segment.Rule.{Rule}
 use Rattle.qr_bits.specs.declared.segment.Mode.{Mode}
 use Rattle.qr_bits.specs.declared.segment.Segment.{Segment}
 use Rattle.qr_bits.specs.Letters.{count_width, bits, runs_of, IsLetters, IsLeastSegmentation}
@@ -15,13 +16,13 @@ bits-same u v same [] = refl
 bits-same u v same (s ∷ ss) = omega (arith, same s.mode, bits-same u v same ss)
 
 -- So versions of the same widths have the same least segmentation.
-pub segmentation-same : (u v : ℕ) (bytes_only : Bool) (xs : List ℕ) (segs : List Segment) → ((m : Mode) → count_width u m ≡ count_width v m)
-    → IsLeastSegmentation u bytes_only xs segs → IsLeastSegmentation v bytes_only xs segs
-segmentation-same u v bytes_only xs segs same h =
+pub segmentation-same : (u v : ℕ) (rule : Rule) (xs : List ℕ) (segs : List Segment) → ((m : Mode) → count_width u m ≡ count_width v m)
+    → IsLeastSegmentation u rule xs segs → IsLeastSegmentation v rule xs segs
+segmentation-same u v rule xs segs same h =
     let ms = h.0 in
     let is = h.1 in
     let mine = bits-same u v same (runs_of ms) in
-    let letters : IsLetters v bytes_only xs ms = record {
+    let letters : IsLetters v rule xs ms = record {
       lettering = is.lettering;
       least = λ ks k. omega (arith, mine, bits-same u v same (runs_of ks), is.least ks k);
       first = λ ks k e. is.first ks k (omega (arith, mine, bits-same u v same (runs_of ks), e));
@@ -29,36 +30,36 @@ segmentation-same u v bytes_only xs segs same h =
     (ms, letters, h.2)
 
 -- The bytes fit a version exactly where the bits of their segments in a version of the same widths do.
-pub fits-bits : (u v : ℕ) (l : Level) (bytes_only : Bool) (xs : List ℕ) (segs : List Segment) → ((m : Mode) → count_width v m ≡ count_width u m)
-    → IsLeastSegmentation u bytes_only xs segs → (FitsVersion xs l bytes_only v → bits u segs ≤ capacity_of v l) × (bits u segs ≤ capacity_of v l → FitsVersion xs l bytes_only v)
-fits-bits u v l bytes_only xs segs same h =
+pub fits-bits : (u v : ℕ) (l : Level) (rule : Rule) (xs : List ℕ) (segs : List Segment) → ((m : Mode) → count_width v m ≡ count_width u m)
+    → IsLeastSegmentation u rule xs segs → (FitsVersion xs l rule v → bits u segs ≤ capacity_of v l) × (bits u segs ≤ capacity_of v l → FitsVersion xs l rule v)
+fits-bits u v l rule xs segs same h =
     let back = λ (m : Mode). sym (same m) in
-    let fit = (least_fits v bytes_only xs segs (segmentation-same u v bytes_only xs segs back h)).1 (capacity_of v l) in
+    let fit = (least_fits v rule xs segs (segmentation-same u v rule xs segs back h)).1 (capacity_of v l) in
     let equal = bits-same v u same segs in
     (λ fits. let few = fit.0 fits in omega arith, λ few. fit.1 (omega arith))
 
 -- Where the bytes fit no version below u, and the bits of their segments none from u to the one before `last`, the bytes
 -- fit none of these versions.
-pub none-fits : (xs : List ℕ) (l : Level) (least : ℕ) (bytes_only : Bool) (u last : ℕ) (segs : List Segment)
-    → ((v : ℕ) → least ≤ v → v < u → FitsVersion xs l bytes_only v → ⊥)
-    → ((v : ℕ) → u ≤ v → v < last → (m : Mode) → count_width v m ≡ count_width u m) → IsLeastSegmentation u bytes_only xs segs
+pub none-fits : (xs : List ℕ) (l : Level) (least : ℕ) (rule : Rule) (u last : ℕ) (segs : List Segment)
+    → ((v : ℕ) → least ≤ v → v < u → FitsVersion xs l rule v → ⊥)
+    → ((v : ℕ) → u ≤ v → v < last → (m : Mode) → count_width v m ≡ count_width u m) → IsLeastSegmentation u rule xs segs
     → ((v : ℕ) → u ≤ v → v < last → capacity_of v l < bits u segs)
-    → (v : ℕ) → least ≤ v → v < last → FitsVersion xs l bytes_only v → ⊥
-none-fits xs l least bytes_only u last segs below same h full v a b fits =
+    → (v : ℕ) → least ≤ v → v < last → FitsVersion xs l rule v → ⊥
+none-fits xs l least rule u last segs below same h full v a b fits =
     elim (cases_lt v u) [
       | inl i ↦ below v a i fits
-      | inr i ↦ (let few = (fits-bits u v l bytes_only xs segs (same v i b) h).0 fits in let more = full v i b in absurd (omega arith))
+      | inr i ↦ (let few = (fits-bits u v l rule xs segs (same v i b) h).0 fits in let more = full v i b in absurd (omega arith))
     ]
 
 -- Where moreover v has room for the bits, it is the least version that the bytes fit.
-pub version-found : (xs : List ℕ) (l : Level) (least : ℕ) (bytes_only : Bool) (u v : ℕ) (segs : List Segment)
-    → least ≤ u → u ≤ v → v ≤ 40 → ((w : ℕ) → least ≤ w → w < u → FitsVersion xs l bytes_only w → ⊥)
-    → ((w : ℕ) → u ≤ w → w ≤ v → (m : Mode) → count_width w m ≡ count_width u m) → IsLeastSegmentation u bytes_only xs segs
+pub version-found : (xs : List ℕ) (l : Level) (least : ℕ) (rule : Rule) (u v : ℕ) (segs : List Segment)
+    → least ≤ u → u ≤ v → v ≤ 40 → ((w : ℕ) → least ≤ w → w < u → FitsVersion xs l rule w → ⊥)
+    → ((w : ℕ) → u ≤ w → w ≤ v → (m : Mode) → count_width w m ≡ count_width u m) → IsLeastSegmentation u rule xs segs
     → ((w : ℕ) → u ≤ w → w < v → capacity_of w l < bits u segs) → bits u segs ≤ capacity_of v l
-    → IsVersion xs l least bytes_only v
-version-found xs l least bytes_only u v segs a b c below same h full room = record {
+    → IsVersion xs l least rule v
+version-found xs l least rule u v segs a b c below same h full room = record {
   least = omega arith;
   most = c;
-  fits = (fits-bits u v l bytes_only xs segs (same v b (omega arith)) h).1 room;
-  first = none-fits xs l least bytes_only u v segs below (λ w i j. same w i (omega arith)) h full;
+  fits = (fits-bits u v l rule xs segs (same v b (omega arith)) h).1 room;
+  first = none-fits xs l least rule u v segs below (λ w i j. same w i (omega arith)) h full;
 }

@@ -1,17 +1,19 @@
 -- The parts of bytes: how long a front fits, and the lengths that are found one after the other.
-use Rattle.std.proofs.Common.{◌≡◌, ℕ, zero, suc, ◌+◌, ◌-◌, ◌*◌, ◌<◌, ◌≤◌, min, Bool, All, List, [], ◌∷◌, ◌++◌, take, drop, length, get_or, Some, refl, sym, ◌∙◌, ap, subst, append_assoc, inl, inr, arith}
+use Rattle.std.proofs.Common.{◌≡◌, ℕ, zero, suc, ◌+◌, ◌-◌, ◌*◌, ◌<◌, ◌≤◌, min, true, false, All, List, [], ◌∷◌, ◌++◌, take, drop, length, get_or, Some, refl, sym, ◌∙◌, ap, subst, append_assoc, inl, inr, arith}
 use Rattle.std.specs.List.{concat}
 use Rattle.std.proofs.lemmas.List.{length-take, length-drop, append-nil, take-append-drop, drop-append-le, length-append}
 use Rattle.std.proofs.lemmas.List.Elements.{All-nil, All-cons, All-head, All-tail}
-use Rattle.std.proofs.lemmas.Bool.{cases_lt}
+use Rattle.std.proofs.lemmas.Bool.{and_from, cases_lt}
 use Rattle.std.proofs.Math.Seq.{drop-cons, drop-nil, drop-append-add, take-append_seam}
 use Rattle.qr_layout.specs.declared.level.Level.{Level}
-use Rattle.qr_bits.specs.declared.segment.Mode.TheVariants.{Byte}
-use Rattle.qr_bits.specs.Letters.{runs_of, Covers, HasFit, IsLongestFit}
+use Rattle.qr_bits.specs.declared.segment.Rule.{Rule}
+use Rattle.qr_bits.specs.declared.segment.Mode.TheVariants.{Byte, Kanji}
+use Rattle.qr_bits.specs.Letters.{runs_of, may_use, Covers, HasFit, IsLongestFit}
 use Rattle.qr_bits.specs.Data.{room_of}
 use Rattle.qr_bits.proofs.SegmentLists.{count_width_bound}
 use Rattle.qr_bits.proofs.Counts.{capacity_least, fitting_short}
-use Rattle.qr_bits.proofs.Pieces.{piece}
+use Rattle.qr_bits.proofs.Choosing.{byte_used}
+use Rattle.qr_bits.proofs.Pieces.{piece_fits}
 use Rattle.qr_symbol.specs.declared.symbol.Symbol.{Symbol}
 use Rattle.qr_symbol.specs.Series.{AreParts, FitParts, NeedsParts, IsSymbolOf, AreSymbolsFrom}
 use Rattle.qr_symbol.specs.Parts.{AreLengths, parts_of}
@@ -19,19 +21,19 @@ use Rattle.qr_symbol.specs.Parts.{AreLengths, parts_of}
 -- ---- how long a front fits
 
 -- one byte has no more than 28 bits
-one-fits : (v : ℕ) (b : Bool) (x n : ℕ) → 28 ≤ n → HasFit v b (x ∷ []) n
+one-fits : (v : ℕ) (b : Rule) (x n : ℕ) → 28 ≤ n → HasFit v b (x ∷ []) n
 unfolding runs_of Covers
-one-fits v b x n h = (Byte ∷ [], (refl, (omega arith, omega arith, refl, refl)), omega (arith, count_width_bound v Byte))
+one-fits v b x n h = (Byte ∷ [], (and_from (may_use b Byte) true (byte_used b) refl, (omega arith, omega arith, refl, refl)), omega (arith, count_width_bound v Byte))
 
 -- so the longest front that fits is not empty
-pub longest-some : (v : ℕ) (l : Level) (b : Bool) (xs : List ℕ) (n : ℕ) → 1 ≤ v → v ≤ 40 → 0 < length xs → IsLongestFit v b xs (room_of v l) n → 0 < n
+pub longest-some : (v : ℕ) (l : Level) (b : Rule) (xs : List ℕ) (n : ℕ) → 1 ≤ v → v ≤ 40 → 0 < length xs → IsLongestFit v b xs (room_of v l) n → 0 < n
 longest-some v l b [] n p q some h = absurd (omega arith)
 longest-some v l b (x ∷ xs) n p q some h =
     let least = capacity_least v l p q in
     let one = h.longest 1 (omega arith) (one-fits v b x (room_of v l) (omega arith)) in omega arith
 
 -- what fits behind a header has at most 7,089 bytes
-pub part-short : (v : ℕ) (l : Level) (b : Bool) (xs : List ℕ) → 1 ≤ v → v ≤ 40 → HasFit v b xs (room_of v l) → length xs ≤ 7089
+pub part-short : (v : ℕ) (l : Level) (b : Rule) (xs : List ℕ) → 1 ≤ v → v ≤ 40 → HasFit v b xs (room_of v l) → length xs ≤ 7089
 part-short v l b xs p q fit = fitting_short v l b xs p q (fit.0, fit.1, (let few = fit.2 in omega arith))
 
 -- the front of a front
@@ -42,7 +44,7 @@ take-less (suc k) (suc m) [] h = refl
 take-less (suc k) (suc m) (x ∷ xs) h = ap (λ zs. x ∷ zs) (take-less k m xs (omega arith))
 
 -- the longest front that fits is that of any front of so many bytes
-pub longest-cut : (v : ℕ) (l : Level) (b : Bool) (xs : List ℕ) (m n : ℕ) → 1 ≤ v → v ≤ 40 → min (length xs) 7089 ≤ m → IsLongestFit v b (take m xs) (room_of v l) n → IsLongestFit v b xs (room_of v l) n
+pub longest-cut : (v : ℕ) (l : Level) (b : Rule) (xs : List ℕ) (m n : ℕ) → 1 ≤ v → v ≤ 40 → min (length xs) 7089 ≤ m → IsLongestFit v b (take m xs) (room_of v l) n → IsLongestFit v b xs (room_of v l) n
 longest-cut v l b xs m n p q long h =
     let room = room_of v l in
     let cut = length-take m xs in
@@ -60,7 +62,7 @@ longest-cut v l b xs m n p q long h =
 -- ---- lengths of parts
 
 -- lengths of parts cut the bytes into parts
-pub parts-are : (v : ℕ) (l : Level) (b : Bool) (x ns : List ℕ) → AreLengths v l b x ns → AreParts v l b x (parts_of x ns)
+pub parts-are : (v : ℕ) (l : Level) (b : Rule) (x ns : List ℕ) → AreLengths v l b x ns → AreParts v l b x (parts_of x ns)
 unfolding AreLengths AreParts parts_of
 parts-are v l b x [] h = h
 parts-are v l b x (n ∷ ns) h = (n, h.0, h.1, refl, parts-are v l b (drop n x) ns h.2)
@@ -72,31 +74,31 @@ length-parts x [] = refl
 length-parts x (n ∷ ns) = ap suc (length-parts (drop n x) ns)
 
 -- no byte has no part
-pub lengths-none : (v : ℕ) (l : Level) (b : Bool) → AreLengths v l b [] []
+pub lengths-none : (v : ℕ) (l : Level) (b : Rule) → AreLengths v l b [] []
 unfolding AreLengths
 lengths-none v l b = refl
 
 -- bytes have lengths of parts
-pub lengths-some : (v : ℕ) (l : Level) (b : Bool) (x ns : List ℕ) → AreLengths v l b x ns → 0 < length x → 0 < length ns
+pub lengths-some : (v : ℕ) (l : Level) (b : Rule) (x ns : List ℕ) → AreLengths v l b x ns → 0 < length x → 0 < length ns
 unfolding AreLengths
 lengths-some v l b x [] h some = absurd (omega (arith, ap length h))
 lengths-some v l b x (n ∷ ns) h some = omega arith
 
 -- the next length: where the lengths so far and those of the rest are those of the whole, so they are with it
-pub lengths-more : (v : ℕ) (l : Level) (b : Bool) (whole found rest : List ℕ) (n : ℕ) → 0 < n → IsLongestFit v b rest (room_of v l) n
+pub lengths-more : (v : ℕ) (l : Level) (b : Rule) (whole found rest : List ℕ) (n : ℕ) → 0 < n → IsLongestFit v b rest (room_of v l) n
     → ((ns : List ℕ) → AreLengths v l b rest ns → AreLengths v l b whole (found ++ ns))
     → (ns : List ℕ) → AreLengths v l b (drop n rest) ns → AreLengths v l b whole ((found ++ n ∷ []) ++ ns)
 unfolding AreLengths
 lengths-more v l b whole found rest n some fit all ns h = rw append_assoc (all (n ∷ ns) (some, fit, h))
 
 -- the longest front is one
-longest-one : (v : ℕ) (b : Bool) (xs : List ℕ) (room m n : ℕ) → IsLongestFit v b xs room m → IsLongestFit v b xs room n → m ≡ n
+longest-one : (v : ℕ) (b : Rule) (xs : List ℕ) (room m n : ℕ) → IsLongestFit v b xs room m → IsLongestFit v b xs room n → m ≡ n
 longest-one v b xs room m n h k =
     let below = k.longest m h.inside h.fits in
     let above = h.longest n k.inside k.fits in omega arith
 
 -- bytes have one list of parts
-pub parts-one : (v : ℕ) (l : Level) (b : Bool) (x : List ℕ) (ps qs : List (List ℕ)) → AreParts v l b x ps → AreParts v l b x qs → ps ≡ qs
+pub parts-one : (v : ℕ) (l : Level) (b : Rule) (x : List ℕ) (ps qs : List (List ℕ)) → AreParts v l b x ps → AreParts v l b x qs → ps ≡ qs
 unfolding AreParts
 parts-one v l b x [] [] h k = refl
 parts-one v l b x [] (q ∷ qs) h k = absurd (let within = k.2.inside in omega (arith, ap length h))
@@ -108,13 +110,13 @@ parts-one v l b x (p ∷ ps) (q ∷ qs) h k =
     λ i. here i ∷ rest i
 
 -- bytes have a part
-pub parts-some : (v : ℕ) (l : Level) (b : Bool) (x : List ℕ) (ps : List (List ℕ)) → AreParts v l b x ps → 0 < length x → 0 < length ps
+pub parts-some : (v : ℕ) (l : Level) (b : Rule) (x : List ℕ) (ps : List (List ℕ)) → AreParts v l b x ps → 0 < length x → 0 < length ps
 unfolding AreParts
 parts-some v l b x [] h some = absurd (omega (arith, ap length h))
 parts-some v l b x (p ∷ ps) h some = omega arith
 
 -- parts hold at most 7,089 bytes each
-pub parts-long : (v : ℕ) (l : Level) (b : Bool) (x : List ℕ) (ps : List (List ℕ)) → 1 ≤ v → v ≤ 40 → AreParts v l b x ps → length x ≤ 7089 * length ps
+pub parts-long : (v : ℕ) (l : Level) (b : Rule) (x : List ℕ) (ps : List (List ℕ)) → 1 ≤ v → v ≤ 40 → AreParts v l b x ps → length x ≤ 7089 * length ps
 unfolding AreParts
 parts-long v l b x [] i j h = omega (arith, ap length h)
 parts-long v l b x (p ∷ ps) i j h =
@@ -132,56 +134,65 @@ behind-all k xs ys i =
     ap (λ (n : ℕ). drop n (xs ++ ys)) sum ∙ drop-append-add xs ys (k - length xs)
 
 -- bytes without a front of them need no more bits
-rest-fits : (v : ℕ) (b : Bool) (k : ℕ) (xs : List ℕ) (n : ℕ) → HasFit v b xs n → HasFit v b (drop k xs) n
-rest-fits v b k xs n fit =
+rest-fits : (v : ℕ) (b : Rule) (k : ℕ) (xs : List ℕ) (n : ℕ) → may_use b Kanji ≡ false → HasFit v b xs n → HasFit v b (drop k xs) n
+rest-fits v b k xs n plain fit =
     let whole : xs ≡ take k xs ++ (drop k xs ++ []) = rw (append-nil (drop k xs)) (sym (take-append-drop k xs)) in
     let all : HasFit v b (take k xs ++ (drop k xs ++ [])) n = subst (λ (ys : List ℕ). HasFit v b ys n) whole fit in
-    let p = piece v b (take k xs) (drop k xs) [] all.0 all.1 in
-    (p.0, p.1, omega (arith, p.2, all.2))
+    piece_fits v b (take k xs) (drop k xs) [] n plain all
 
 -- bytes without a front of them are cut into no more parts that fit
-rest-parts : (v : ℕ) (l : Level) (b : Bool) (k : ℕ) (ps : List (List ℕ)) → All (λ p. HasFit v b p (room_of v l)) ps
+rest-parts : (v : ℕ) (l : Level) (b : Rule) (k : ℕ) (ps : List (List ℕ)) → may_use b Kanji ≡ false → All (λ p. HasFit v b p (room_of v l)) ps
     → (qs : List (List ℕ)) × FitParts v l b (drop k (concat ps)) qs × (length qs ≤ length ps)
-rest-parts v l b k [] h = ([], (drop-nil k, h), omega arith)
-rest-parts v l b k (p ∷ ps) h =
+rest-parts v l b k [] plain h = ([], (drop-nil k, h), omega arith)
+rest-parts v l b k (p ∷ ps) plain h =
     let fits = λ (q : List ℕ). HasFit v b q (room_of v l) in
     let here = All-head fits p ps h in
     let behind = All-tail fits p ps h in
     elim (cases_lt k (length p)) [
-      | inl i ↦ (drop k p ∷ ps, (drop-append-le k p (concat ps) (omega arith), All-cons fits (drop k p) ps (rest-fits v b k p (room_of v l) here) behind), omega arith)
+      | inl i ↦ (drop k p ∷ ps, (drop-append-le k p (concat ps) (omega arith), All-cons fits (drop k p) ps (rest-fits v b k p (room_of v l) plain here) behind), omega arith)
       | inr i ↦ (
-          let r = rest-parts v l b (k - length p) ps behind in
+          let r = rest-parts v l b (k - length p) ps plain behind in
           (r.0, (behind-all k p (concat ps) i ∙ r.1.0, r.1.1), omega (arith, r.2)))
     ]
 
 -- where the rest behind the longest front needs k parts, the bytes need one more
-pub needs-more : (v : ℕ) (l : Level) (b : Bool) (x : List ℕ) (n k : ℕ) → 0 < length x → IsLongestFit v b x (room_of v l) n → NeedsParts v l b (drop n x) k → NeedsParts v l b x (k + 1)
-needs-more v l b x n k some fit needs [] cut = absurd (omega (arith, ap length cut.0))
-needs-more v l b x n k some fit needs (p ∷ ps) cut =
+pub needs-more : (v : ℕ) (l : Level) (b : Rule) (x : List ℕ) (n k : ℕ) → may_use b Kanji ≡ false → 0 < length x → IsLongestFit v b x (room_of v l) n → NeedsParts v l b (drop n x) k → NeedsParts v l b x (k + 1)
+needs-more v l b x n k plain some fit needs [] cut = absurd (omega (arith, ap length cut.0))
+needs-more v l b x n k plain some fit needs (p ∷ ps) cut =
     let fits = λ (q : List ℕ). HasFit v b q (room_of v l) in
     let front : take (length p) x ≡ p = rw cut.0 (take-append_seam p (concat ps)) in
     let within : length p ≤ length x = omega (arith, ap length cut.0, length-append p (concat ps)) in
     let least : length p ≤ n = fit.longest (length p) within (subst fits (sym front) (All-head fits p ps cut.1)) in
-    let r = rest-parts v l b (n - length p) ps (All-tail fits p ps cut.1) in
+    let r = rest-parts v l b (n - length p) ps plain (All-tail fits p ps cut.1) in
     let left : drop n x ≡ concat r.0 = ap (λ (ys : List ℕ). drop n ys) cut.0 ∙ (behind-all n p (concat ps) least ∙ r.1.0) in
     let few = needs r.0 (left, r.1.1) in
     omega (arith, r.2)
 
+-- where the longest prefixes of the rest are k or more, those of the bytes are one more
+pub prefixes-more : (v : ℕ) (l : Level) (b : Rule) (x : List ℕ) (n k : ℕ) → 0 < length x → IsLongestFit v b x (room_of v l) n
+    → ((qs : List (List ℕ)) → AreParts v l b (drop n x) qs → k ≤ length qs) → (ps : List (List ℕ)) → AreParts v l b x ps → k + 1 ≤ length ps
+unfolding AreParts
+prefixes-more v l b x n k some fit many [] h = absurd (omega (arith, ap length h))
+prefixes-more v l b x n k some fit many (p ∷ ps) h =
+    let same = longest-one v b x (room_of v l) h.0 n h.2 fit in
+    let more = many ps (subst (λ (m : ℕ). AreParts v l b (drop m x) ps) same h.4) in
+    omega arith
+
 -- bytes need a part
-pub needs-some : (v : ℕ) (l : Level) (b : Bool) (x : List ℕ) → 0 < length x → NeedsParts v l b x 1
+pub needs-some : (v : ℕ) (l : Level) (b : Rule) (x : List ℕ) → 0 < length x → NeedsParts v l b x 1
 needs-some v l b x some [] cut = absurd (omega (arith, ap length cut.0))
 needs-some v l b x some (p ∷ ps) cut = omega arith
 
 -- bytes need as many parts as they have
-pub needs-parts : (v : ℕ) (l : Level) (b : Bool) (x : List ℕ) (ps : List (List ℕ)) → AreParts v l b x ps → NeedsParts v l b x (length ps)
+pub needs-parts : (v : ℕ) (l : Level) (b : Rule) (x : List ℕ) (ps : List (List ℕ)) → may_use b Kanji ≡ false → AreParts v l b x ps → NeedsParts v l b x (length ps)
 unfolding AreParts
-needs-parts v l b x [] h qs cut = omega arith
-needs-parts v l b x (p ∷ ps) h qs cut =
+needs-parts v l b x [] plain h qs cut = omega arith
+needs-parts v l b x (p ∷ ps) plain h qs cut =
     let within = h.2.inside in
-    let more = needs-more v l b x h.0 (length ps) (omega arith) h.2 (needs-parts v l b (drop h.0 x) ps h.4) qs cut in omega arith
+    let more = needs-more v l b x h.0 (length ps) plain (omega arith) h.2 (needs-parts v l b (drop h.0 x) ps plain h.4) qs cut in omega arith
 
 -- the parts of bytes are parts that fit
-pub parts-fit : (v : ℕ) (l : Level) (b : Bool) (x : List ℕ) (ps : List (List ℕ)) → AreParts v l b x ps → FitParts v l b x ps
+pub parts-fit : (v : ℕ) (l : Level) (b : Rule) (x : List ℕ) (ps : List (List ℕ)) → AreParts v l b x ps → FitParts v l b x ps
 unfolding AreParts
 parts-fit v l b x [] h = (h, All-nil (λ q. HasFit v b q (room_of v l)))
 parts-fit v l b x (p ∷ ps) h =
@@ -193,7 +204,7 @@ parts-fit v l b x (p ∷ ps) h =
 -- ---- the symbols of parts, one after the other
 
 -- what a length says of the rest that it cuts
-pub lengths-at : (v : ℕ) (l : Level) (b : Bool) (rest ns : List ℕ) (i : ℕ) → i < length ns → AreLengths v l b rest (drop i ns)
+pub lengths-at : (v : ℕ) (l : Level) (b : Rule) (rest ns : List ℕ) (i : ℕ) → i < length ns → AreLengths v l b rest (drop i ns)
     → IsLongestFit v b rest (room_of v l) (get_or ns i 0) × AreLengths v l b (drop (get_or ns i 0) rest) (drop (i + 1) ns)
 unfolding AreLengths
 lengths-at v l b rest ns i some h =
@@ -202,7 +213,7 @@ lengths-at v l b rest ns i some h =
     (here.1, subst (λ (k : ℕ). AreLengths v l b (drop (get_or ns i 0) rest) (drop k ns)) next here.2)
 
 -- where the symbols so far and those of the rest are those of the whole, so they are with the next symbol
-pub symbols-more : (v : ℕ) (l : Level) (b : Bool) (last parity k : ℕ) (rest ns : List ℕ) (whole : List (List ℕ)) (found : List Symbol) (s : Symbol) → k < length ns
+pub symbols-more : (v : ℕ) (l : Level) (b : Rule) (last parity k : ℕ) (rest ns : List ℕ) (whole : List (List ℕ)) (found : List Symbol) (s : Symbol) → k < length ns
     → IsSymbolOf v l b (take (get_or ns k 0) rest) (Some (record { position = k; last = last; parity = parity })) s
     → ((ss : List Symbol) → AreSymbolsFrom v l b last parity k (parts_of rest (drop k ns)) ss → AreSymbolsFrom v l b last parity 0 whole (found ++ ss))
     → (ss : List Symbol) → AreSymbolsFrom v l b last parity (k + 1) (parts_of (drop (get_or ns k 0) rest) (drop (k + 1) ns)) ss → AreSymbolsFrom v l b last parity 0 whole ((found ++ s ∷ []) ++ ss)
@@ -213,6 +224,6 @@ symbols-more v l b last parity k rest ns whole found s some is all ss h =
     rw append_assoc (all (s ∷ ss) (rw (drop-cons ns k 0) (is, rest_of)))
 
 -- no part has no symbol
-pub symbols-none : (v : ℕ) (l : Level) (b : Bool) (last parity k : ℕ) (rest : List ℕ) → AreSymbolsFrom v l b last parity k (parts_of rest []) []
+pub symbols-none : (v : ℕ) (l : Level) (b : Rule) (last parity k : ℕ) (rest : List ℕ) → AreSymbolsFrom v l b last parity k (parts_of rest []) []
 unfolding AreSymbolsFrom parts_of
 symbols-none v l b last parity k rest = tt

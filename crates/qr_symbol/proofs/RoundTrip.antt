@@ -1,5 +1,5 @@
 -- A symbol is read as its input.
-use Rattle.std.proofs.Common.{◌≡◌, ℕ, ◌+◌, ◌<◌, ◌≤◌, Bool, List, [], map, length, get_or, sym, ◌∙◌, ap, subst, inl, inr, arith}
+use Rattle.std.proofs.Common.{◌≡◌, ℕ, ◌+◌, ◌<◌, ◌≤◌, List, [], map, length, get_or, sym, ◌∙◌, ap, subst, inl, inr, arith}
 use Rattle.std.specs.Prelude.{Option}
 use Rattle.std.specs.List.{All}
 use Rattle.std.proofs.lemmas.Bool.{cases_lt}
@@ -8,6 +8,7 @@ use Rattle.std.proofs.lemmas.List.Elements.{All-append, All-map}
 use Rattle.qr_layout.specs.declared.blocks.Blocks.{Blocks}
 use Rattle.qr_layout.specs.declared.level.Level.{Level}
 use Rattle.qr_layout.specs.Blocks.{blocks_of}
+use Rattle.qr_bits.specs.declared.segment.Rule.{Rule}
 use Rattle.qr_bits.specs.declared.header.Header.{Header}
 use Rattle.qr_bits.specs.Bits.{bits_of}
 use Rattle.qr_bits.specs.Parse.{Content, parse}
@@ -36,7 +37,7 @@ final-bytes b d cw a h =
     byte-at (get_or h.checks u.block []) u.place (h.each u.block (omega arith)).bytes)))
 
 -- a symbol is read as the bytes of which it is the symbol, in their segments and behind their header
-pub symbol-read : (v : ℕ) (l : Level) (b : Bool) (x : List ℕ) (h : Option Header) (mask : ℕ) (g : Grid) → 1 ≤ v → v ≤ 40 → (s : IsSymbolAt v l b x h mask g) → IsReading g (record { header = h; segments = s.segments; bytes = x })
+pub symbol-read : (v : ℕ) (l : Level) (b : Rule) (x : List ℕ) (h : Option Header) (mask : ℕ) (g : Grid) → 1 ≤ v → v ≤ 40 → (s : IsSymbolAt v l b x h mask g) → IsReading g (record { header = h; segments = s.segments; bytes = x })
 symbol-read v l b x h mask g p q s =
     let bytes = final-bytes (blocks_of v l) s.message s.codewords s.written.bytes s.sent in
     let many = final-whole v l s.message s.codewords p q s.sent in

@@ -1,10 +1,12 @@
 -- How many symbols a series has, and how large they are.
-use Rattle.std.proofs.Common.{◌≡◌, ℕ, ◌+◌, ◌<◌, ◌≤◌, inl, inr, Bool, List, [], ◌∷◌, length, refl, sym, ap, subst, arith}
+use Rattle.std.proofs.Common.{◌≡◌, ℕ, ◌+◌, ◌<◌, ◌≤◌, inl, inr, false, List, [], ◌∷◌, length, refl, sym, ap, subst, arith}
 use Rattle.std.specs.List.{All}
 use Rattle.std.proofs.lemmas.List.Elements.{All-cons, All-nil}
 use Rattle.qr_layout.specs.declared.level.Level.{Level}
 use Rattle.qr_layout.specs.Versions.{side_of}
-use Rattle.qr_bits.specs.Letters.{HasFit, Covers, runs_of}
+use Rattle.qr_bits.specs.declared.segment.Mode.TheVariants.{Kanji}
+use Rattle.qr_bits.specs.declared.segment.Rule.{Rule}
+use Rattle.qr_bits.specs.Letters.{HasFit, Covers, may_use, runs_of}
 use Rattle.qr_bits.specs.Data.{capacity_of}
 use Rattle.qr_symbol.specs.declared.symbol.Symbol.{Symbol}
 use Rattle.qr_matrix.specs.Grid.{Grid}
@@ -13,12 +15,12 @@ use Rattle.qr_symbol.specs.Series.{squares_of, AreParts, NeedsParts, AreSymbolsF
 use Rattle.qr_symbol.proofs.PartLemmas.{needs-some, needs-parts}
 
 -- no bytes need no bits
-empty-fits : (v : ℕ) (bytes_only : Bool) (n : ℕ) → HasFit v bytes_only [] n
+empty-fits : (v : ℕ) (rule : Rule) (n : ℕ) → HasFit v rule [] n
 unfolding runs_of Covers
-empty-fits v bytes_only n = ([], (refl, refl), omega arith)
+empty-fits v rule n = ([], (refl, refl), omega arith)
 
 -- as many symbols as parts
-pub symbols-many : (v : ℕ) (l : Level) (b : Bool) (last parity k : ℕ) (ps : List (List ℕ)) (ss : List Symbol) → AreSymbolsFrom v l b last parity k ps ss → length ss ≡ length ps
+pub symbols-many : (v : ℕ) (l : Level) (b : Rule) (last parity k : ℕ) (ps : List (List ℕ)) (ss : List Symbol) → AreSymbolsFrom v l b last parity k ps ss → length ss ≡ length ps
 unfolding AreSymbolsFrom
 symbols-many v l b last parity k [] [] h = refl
 symbols-many v l b last parity k [] (s ∷ ss) h = absurd h
@@ -26,7 +28,7 @@ symbols-many v l b last parity k (p ∷ ps) [] h = absurd h
 symbols-many v l b last parity k (p ∷ ps) (s ∷ ss) h = let e = symbols-many v l b last parity (k + 1) ps ss h.1 in omega arith
 
 -- each of the version's side
-pub symbols-side : (v : ℕ) (l : Level) (b : Bool) (last parity k : ℕ) (ps : List (List ℕ)) (ss : List Symbol) → AreSymbolsFrom v l b last parity k ps ss → All (λ g. g.side ≡ side_of v) (squares_of ss)
+pub symbols-side : (v : ℕ) (l : Level) (b : Rule) (last parity k : ℕ) (ps : List (List ℕ)) (ss : List Symbol) → AreSymbolsFrom v l b last parity k ps ss → All (λ g. g.side ≡ side_of v) (squares_of ss)
 unfolding AreSymbolsFrom
 symbols-side v l b last parity k [] [] h = All-nil (λ g. g.side ≡ side_of v)
 symbols-side v l b last parity k [] (s ∷ ss) h = absurd h
@@ -35,13 +37,13 @@ symbols-side v l b last parity k (p ∷ ps) (s ∷ ss) h =
     All-cons (λ g. g.side ≡ side_of v) s.matrix (squares_of ss) (ap (λ (g : Grid). g.side) h.0.made.drawn) (symbols-side v l b last parity (k + 1) ps ss h.1)
 
 -- bytes that do not fit have a part
-parts-some : (x : List ℕ) (l : Level) (b : Bool) (v : ℕ) (ps : List (List ℕ)) → (FitsVersion x l b v → ⊥) → AreParts v l b x ps → 0 < length ps
+parts-some : (x : List ℕ) (l : Level) (b : Rule) (v : ℕ) (ps : List (List ℕ)) → (FitsVersion x l b v → ⊥) → AreParts v l b x ps → 0 < length ps
 unfolding AreParts
 parts-some x l b v [] long none = absurd (long (subst (λ (y : List ℕ). FitsVersion y l b v) (sym none) (empty-fits v b (capacity_of v l))))
 parts-some x l b v (p ∷ ps) long h = omega arith
 
 -- a series has a symbol
-pub series-some : (x : List ℕ) (l : Level) (b : Bool) (v : ℕ) (ss : List Symbol) → IsSeries x l b v ss → 0 < length ss
+pub series-some : (x : List ℕ) (l : Level) (b : Rule) (v : ℕ) (ss : List Symbol) → IsSeries x l b v ss → 0 < length ss
 series-some x l b v ss (inl h) = subst (λ (ts : List Symbol). 0 < length ts) (sym h.alone) (omega arith)
 series-some x l b v ss (inr h) =
     let some = parts-some x l b v h.parts h.too_long h.split in
@@ -49,18 +51,18 @@ series-some x l b v ss (inr h) =
     omega arith
 
 -- a series has at most 16 symbols
-pub series-few : (x : List ℕ) (l : Level) (b : Bool) (v : ℕ) (ss : List Symbol) → IsSeries x l b v ss → length ss ≤ 16
+pub series-few : (x : List ℕ) (l : Level) (b : Rule) (v : ℕ) (ss : List Symbol) → IsSeries x l b v ss → length ss ≤ 16
 series-few x l b v ss (inl h) = subst (λ (ts : List Symbol). length ts ≤ 16) (sym h.alone) (omega arith)
 series-few x l b v ss (inr h) = let m = h.many in let e = symbols-many v l b _ _ 0 h.parts ss h.made in omega arith
 
 -- bytes need as many parts as their series has symbols
-pub series-shortest : (x : List ℕ) (l : Level) (b : Bool) (v : ℕ) (ss : List Symbol) → 0 < length x → IsSeries x l b v ss → NeedsParts v l b x (length ss)
-series-shortest x l b v ss some (inl h) = subst (λ (ts : List Symbol). NeedsParts v l b x (length ts)) (sym h.alone) (needs-some v l b x some)
-series-shortest x l b v ss some (inr h) =
-    subst (NeedsParts v l b x) (sym (symbols-many v l b _ _ 0 h.parts ss h.made)) (needs-parts v l b x h.parts h.split)
+pub series-shortest : (x : List ℕ) (l : Level) (b : Rule) (v : ℕ) (ss : List Symbol) → may_use b Kanji ≡ false → 0 < length x → IsSeries x l b v ss → NeedsParts v l b x (length ss)
+series-shortest x l b v ss plain some (inl h) = subst (λ (ts : List Symbol). NeedsParts v l b x (length ts)) (sym h.alone) (needs-some v l b x some)
+series-shortest x l b v ss plain some (inr h) =
+    subst (NeedsParts v l b x) (sym (symbols-many v l b _ _ 0 h.parts ss h.made)) (needs-parts v l b x h.parts plain h.split)
 
 -- the symbols of a series have the version's side
-pub series-side : (x : List ℕ) (l : Level) (b : Bool) (v : ℕ) (ss : List Symbol) → IsSeries x l b v ss → All (λ g. g.side ≡ side_of v) (squares_of ss)
+pub series-side : (x : List ℕ) (l : Level) (b : Rule) (v : ℕ) (ss : List Symbol) → IsSeries x l b v ss → All (λ g. g.side ≡ side_of v) (squares_of ss)
 series-side x l b v ss (inl h) =
     subst (λ (ts : List Symbol). All (λ g. g.side ≡ side_of v) (squares_of ts)) (sym h.alone)
     (All-cons (λ g. g.side ≡ side_of v) h.symbol.matrix [] (ap (λ (g : Grid). g.side) h.made.made.drawn) (All-nil (λ g. g.side ≡ side_of v)))

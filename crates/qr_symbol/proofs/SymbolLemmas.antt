@@ -3,6 +3,7 @@ use Rattle.std.proofs.Common.{◌≡◌, ℕ, inl, inr, Bool, List, [], ◌∷�
 use Rattle.std.proofs.lemmas.Bool.{cases_lt}
 use Rattle.qr_layout.specs.declared.level.Level.{Level}
 use Rattle.qr_layout.specs.Blocks.{blocks_of}
+use Rattle.qr_bits.specs.declared.segment.Rule.{Rule}
 use Rattle.qr_bits.specs.declared.segment.Mode.{Mode}
 use Rattle.qr_bits.specs.declared.segment.Segment.{Segment}
 use Rattle.qr_bits.specs.declared.header.Header.{Header}
@@ -28,8 +29,8 @@ letters-one (m ∷ ms) (k ∷ ks) a b =
     ]
 
 -- The least segmentation is one.
-segmentation-one : (v : ℕ) (bytes_only : Bool) (xs : List ℕ) (ss ts : List Segment) → IsLeastSegmentation v bytes_only xs ss → IsLeastSegmentation v bytes_only xs ts → ss ≡ ts
-segmentation-one v bytes_only xs ss ts a b =
+segmentation-one : (v : ℕ) (rule : Rule) (xs : List ℕ) (ss ts : List Segment) → IsLeastSegmentation v rule xs ss → IsLeastSegmentation v rule xs ts → ss ≡ ts
+segmentation-one v rule xs ss ts a b =
     let ab = a.1.least b.0 b.1.lettering in
     let ba = b.1.least a.0 a.1.lettering in
     a.2 ∙ ap runs_of (letters-one a.0 b.0 (a.1.first b.0 b.1.lettering (omega arith)) (b.1.first a.0 a.1.lettering (omega arith))) ∙ sym b.2
@@ -43,17 +44,17 @@ least-one n f m k a b =
     ]
 
 -- The least version is one.
-version-one : (xs : List ℕ) (l : Level) (least : ℕ) (bytes_only : Bool) (v w : ℕ) → IsVersion xs l least bytes_only v → IsVersion xs l least bytes_only w → v ≡ w
-version-one xs l least bytes_only v w a b =
+version-one : (xs : List ℕ) (l : Level) (least : ℕ) (rule : Rule) (v w : ℕ) → IsVersion xs l least rule v → IsVersion xs l least rule w → v ≡ w
+version-one xs l least rule v w a b =
     elim (cases_lt v w) [
       | inl i ↦ absurd (b.first v a.least i a.fits)
       | inr i ↦ elim (cases_lt w v) [ inl j ↦ absurd (a.first w b.least j b.fits) | inr j ↦ omega arith ]
     ]
 
 -- Bytes have only one symbol of a version and level behind a header or none.
-pub symbol-at-one : (v : ℕ) (l : Level) (bytes_only : Bool) (xs : List ℕ) (head : Option Header) (m n : ℕ) (g h : Grid) → IsSymbolAt v l bytes_only xs head m g → IsSymbolAt v l bytes_only xs head n h → (m ≡ n) × (g ≡ h)
-symbol-at-one v l bytes_only xs head m n g h a b =
-    let segments : a.segments ≡ b.segments = segmentation-one v bytes_only xs a.segments b.segments a.chosen b.chosen in
+pub symbol-at-one : (v : ℕ) (l : Level) (rule : Rule) (xs : List ℕ) (head : Option Header) (m n : ℕ) (g h : Grid) → IsSymbolAt v l rule xs head m g → IsSymbolAt v l rule xs head n h → (m ≡ n) × (g ≡ h)
+symbol-at-one v l rule xs head m n g h a b =
+    let segments : a.segments ≡ b.segments = segmentation-one v rule xs a.segments b.segments a.chosen b.chosen in
     let message : a.message ≡ b.message =
     data_one v l xs b.segments head a.message b.message
     (subst (λ (ss : List Segment). IsData v l xs ss head a.message) segments a.written) b.written in
@@ -69,8 +70,8 @@ symbol-at-one v l bytes_only xs head m n g h a b =
 
 -- An input has only one symbol.
 pub symbol-one : SymbolsAreOne
-symbol-one xs l least bytes_only v w m n g h a b =
-    let version : v ≡ w = version-one xs l least bytes_only v w a.version b.version in
-    let made : IsSymbolAt w l bytes_only xs None m g = subst (λ (k : ℕ). IsSymbolAt k l bytes_only xs None m g) version a.made in
-    let rest = symbol-at-one w l bytes_only xs None m n g h made b.made in
+symbol-one xs l least rule v w m n g h a b =
+    let version : v ≡ w = version-one xs l least rule v w a.version b.version in
+    let made : IsSymbolAt w l rule xs None m g = subst (λ (k : ℕ). IsSymbolAt k l rule xs None m g) version a.made in
+    let rest = symbol-at-one w l rule xs None m n g h made b.made in
     (version, rest.0, rest.1)

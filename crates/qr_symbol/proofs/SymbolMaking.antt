@@ -2,6 +2,7 @@
 use Rattle.std.proofs.Common.{◌≡◌, ℕ, ◌+◌, ◌<◌, ◌≤◌, ◌⊎◌, inl, inr, Bool, List, Option, None, Some, Result, Ok, Err, subst, sym, ◌∙◌, ap, arith}
 use Rattle.std.specs.Prelude.{IfOk, IfErr}
 use Rattle.qr_layout.specs.declared.level.Level.{Level}
+use Rattle.qr_bits.specs.declared.segment.Rule.{Rule}
 use Rattle.qr_bits.specs.declared.segment.Segment.{Segment}
 use Rattle.qr_bits.specs.declared.header.Header.{Header}
 use Rattle.qr_bits.specs.Letters.{bits, HasFit, IsLeastSegmentation}
@@ -22,7 +23,7 @@ use Rattle.qr_symbol.specs.Series.{IsSymbolOf}
 use Rattle.qr_symbol.proofs.RoundTrip.{symbol-read}
 
 -- what was built of the codewords of bytes is their symbol
-pub symbol-built : (v : ℕ) (l : Level) (b : Bool) (x : List ℕ) (h : Option Header) (segs : List Segment) (message passed codewords given : List ℕ) (r : Result Symbol EncodeFault)
+pub symbol-built : (v : ℕ) (l : Level) (b : Rule) (x : List ℕ) (h : Option Header) (segs : List Segment) (message passed codewords given : List ℕ) (r : Result Symbol EncodeFault)
     → IsLeastSegmentation v b x segs → IsData v l x segs h message → passed ≡ message → IsInterleaved v l passed codewords → given ≡ codewords
     → IfOk r (λ s. s.version ≡ v) → IfOk r (λ s. s.level ≡ l) → IfOk r (λ s. IsMask v l given s.mask) → IfOk r (λ s. s.matrix ≡ grid_of v l s.mask given) → IfOk r (λ s. IsSymbolOf v l b x h s)
 symbol-built v l b x h segs message passed codewords given (Ok s) chosen written c sent e version level best drawn = record {
@@ -42,28 +43,28 @@ symbol-built v l b x h segs message passed codewords given (Ok s) chosen written
 symbol-built v l b x h segs message passed codewords given (Err f) chosen written c sent e version level best drawn = tt
 
 -- the symbol of bytes, of the least version that they fit, is the symbol of the input
-pub symbol-found : (v : ℕ) (l : Level) (smallest : ℕ) (b : Bool) (x : List ℕ) (r : Result Symbol EncodeFault)
+pub symbol-found : (v : ℕ) (l : Level) (smallest : ℕ) (b : Rule) (x : List ℕ) (r : Result Symbol EncodeFault)
     → IsVersion x l smallest b v → IfOk r (λ s. IsSymbolOf v l b x None s) → IfOk r (λ s. IsSymbol x l smallest b s.version s.mask s.matrix)
 symbol-found v l smallest b x (Ok s) fits made =
     subst (λ (w : ℕ). IsSymbol x l smallest b w s.mask s.matrix) (sym made.version) (record { version = fits; made = made.made })
 symbol-found v l smallest b x (Err f) fits made = tt
 
 -- and it is read as the input
-pub symbol-back : (v : ℕ) (l : Level) (b : Bool) (x : List ℕ) (r : Result Symbol EncodeFault)
+pub symbol-back : (v : ℕ) (l : Level) (b : Rule) (x : List ℕ) (r : Result Symbol EncodeFault)
     → 1 ≤ v → v ≤ 40 → IfOk r (λ s. IsSymbolOf v l b x None s) → IfOk r (λ s. IsReadBack x s.version b s.matrix)
 symbol-back v l b x (Ok s) p q made =
     subst (λ (w : ℕ). IsReadBack x w b s.matrix) (sym made.version) (made.made.segments, made.made.chosen, symbol-read v l b x None s.mask s.matrix p q made.made)
 symbol-back v l b x (Err f) p q made = tt
 
 -- bytes that have a symbol without a header fit it
-pub symbol-fits : (v : ℕ) (l : Level) (b : Bool) (x : List ℕ) (mask : ℕ) (g : Grid) → IsSymbolAt v l b x None mask g → FitsVersion x l b v
+pub symbol-fits : (v : ℕ) (l : Level) (b : Rule) (x : List ℕ) (mask : ℕ) (g : Grid) → IsSymbolAt v l b x None mask g → FitsVersion x l b v
 symbol-fits v l b x mask g s =
     let fit = (least_fits v b x s.segments s.chosen).1 (capacity_of v l) in
     let few = s.written.fits in
     fit.1 (omega (arith, length-stream v x s.segments None s.written.stream s.written.is_stream))
 
 -- segments of least bits have room behind a header where some do
-pub behind-header : (v : ℕ) (l : Level) (b : Bool) (x : List ℕ) (segs : List Segment) (h : Header) → 1 ≤ v → v ≤ 40 → IsLeastSegmentation v b x segs → HasFit v b x (room_of v l)
+pub behind-header : (v : ℕ) (l : Level) (b : Rule) (x : List ℕ) (segs : List Segment) (h : Header) → 1 ≤ v → v ≤ 40 → IsLeastSegmentation v b x segs → HasFit v b x (room_of v l)
     → header_bits (Some h) + bits v segs ≤ capacity_of v l
 behind-header v l b x segs h p q chosen fits =
     let least = capacity_least v l p q in

@@ -1,13 +1,14 @@
 -- The lengths of the parts that an input is cut into. No public clause rests on how this is written.
-use Rattle.std.specs.Prelude.{◌≡◌, ℕ, ◌<◌, Bool, List, [], ◌∷◌, take, drop}
+use Rattle.std.specs.Prelude.{◌≡◌, ℕ, ◌<◌, List, [], ◌∷◌, take, drop}
 use Rattle.qr_layout.specs.declared.level.Level.{Level}
+use Rattle.qr_bits.specs.declared.segment.Rule.{Rule}
 use Rattle.qr_bits.specs.Letters.{IsLongestFit}
 use Rattle.qr_bits.specs.Data.{room_of}
 
 -- the lengths are those of the parts of the bytes
-unfoldable pub AreLengths : ℕ → Level → Bool → List ℕ → List ℕ → Type 0
-AreLengths v l bytes_only x [] = x ≡ []
-AreLengths v l bytes_only x (n ∷ ns) = (0 < n) × IsLongestFit v bytes_only x (room_of v l) n × AreLengths v l bytes_only (drop n x) ns
+unfoldable pub AreLengths : ℕ → Level → Rule → List ℕ → List ℕ → Type 0
+AreLengths v l rule x [] = x ≡ []
+AreLengths v l rule x (n ∷ ns) = (0 < n) × IsLongestFit v rule x (room_of v l) n × AreLengths v l rule (drop n x) ns
 
 -- the parts of these lengths, one after the other
 unfoldable pub parts_of : List ℕ → List ℕ → List (List ℕ)

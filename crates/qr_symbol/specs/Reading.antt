@@ -9,6 +9,7 @@ use Rattle.qr_layout.specs.Blocks.{data_codewords_of}
 use Rattle.qr_layout.specs.Words.{format_word_of}
 use Rattle.qr_layout.specs.Order.{IsOrder}
 use Rattle.qr_layout.specs.Roles.{first_place}
+use Rattle.qr_bits.specs.declared.segment.Rule.{Rule}
 use Rattle.qr_bits.specs.declared.segment.Segment.{Segment}
 use Rattle.qr_bits.specs.Letters.{IsLeastSegmentation}
 use Rattle.qr_bits.specs.Bits.{bits_of}
@@ -67,8 +68,8 @@ pub record IsReading (g : Grid) (content : Content) : Type 0 where
 
 -- the square is read as the input, in segments of least bits for the version and without a header
 -- (ISO/IEC 18004:2015, 12)
-abbrev pub IsReadBack : List ℕ → ℕ → Bool → Grid → Type 0
-IsReadBack x v bytes_only g = (segments : List Segment) × IsLeastSegmentation v bytes_only x segments
+abbrev pub IsReadBack : List ℕ → ℕ → Rule → Grid → Type 0
+IsReadBack x v rule g = (segments : List Segment) × IsLeastSegmentation v rule x segments
     × IsReading g (record { header = None; segments = segments; bytes = x })
 
 -- the side of the square is that of the version (ISO/IEC 18004:2015, 6.3.2, 12)

@@ -2,6 +2,7 @@
 
 ghost use Rattle.std.specs.Prelude.{◌≡◌, ◌+◌, ◌<◌, ◌≤◌, ◌↔◌, ◌⊎◌, Bool, [], length, Err, IfOk, IfErr};
 ghost use Rattle.std.specs.Option.{ForSome};
+ghost use Rattle.qr_bits.specs.declared.segment.Rule.{Rule};
 ghost use Rattle.qr_bits.specs.Letters.{bits, Covers, IsLeastSegmentation};
 ghost use Rattle.qr_bits.specs.Data.{capacity_of, header_bits};
 ghost use Rattle.qr_symbol.specs.declared.fault.EncodeFault.{EncodeFault};
@@ -14,7 +15,7 @@ use crate::fault::EncodeFault;
 use crate::fitting::least_fit;
 use crate::message::interleave;
 use crate::symbol::Symbol;
-use qr_bits::{Header, INPUT_MAX, Segment, codewords};
+use qr_bits::{Header, INPUT_MAX, Rule, Segment, codewords};
 use qr_layout::{Level, Version};
 use std::alloc::Global;
 
@@ -22,7 +23,7 @@ use std::alloc::Global;
 pub(crate) const LONGEST: usize = 7089;
 
 /// The symbol of an input (ISO/IEC 18004:2015, 7.1), of the least version from `smallest` on that it fits. With
-/// `bytes_only` the whole input is one byte segment.
+/// `rule` tells which modes its segments may have.
 ///
 /// `Empty` where the input has no byte, and `TooLong` where it fits no version from `smallest` on. An input of more than
 /// 7,089 bytes fits none, and is refused before any memory is taken.
@@ -31,16 +32,16 @@ pub fn encode(
     input: &[u8],
     level: Level,
     smallest: Version,
-    bytes_only: bool,
+    rule: Rule,
 ) -> Result<Symbol, EncodeFault>
     requires { length input.now ≤ INPUT_MAX }
-    ensures symbol { IfOk result (λ s. IsSymbol input.now level smallest bytes_only
+    ensures symbol { IfOk result (λ s. IsSymbol input.now level smallest rule
         s.version s.mask s.matrix) }
     ensures level { IfOk result (λ s. s.level ≡ level) }
-    ensures read { IfOk result (λ s. IsReadBack input.now s.version bytes_only s.matrix) }
+    ensures read { IfOk result (λ s. IsReadBack input.now s.version rule s.matrix) }
     ensures empty { (result ≡ Err EncodeFault.Empty) ↔ (input.now ≡ []) }
     ensures too_long { result ≡ Err EncodeFault.TooLong
-        → HasNoVersion input.now level smallest bytes_only }
+        → HasNoVersion input.now level smallest rule }
     ensures fault { IfErr result (λ e. (e ≡ EncodeFault.Empty) ⊎ (e ≡ EncodeFault.TooLong)
         ⊎ (e ≡ EncodeFault.Memory)) }
 {
@@ -50,7 +51,7 @@ pub fn encode(
     if input.len() > LONGEST {
         return Err(EncodeFault::TooLong);
     }
-    let fit = least_fit(alloc, input, level, smallest, bytes_only)?;
+    let fit = least_fit(alloc, input, level, smallest, rule)?;
     symbol_at(alloc, input, &fit.segments, None, fit.version, level)
 }
 
@@ -66,8 +67,8 @@ pub(crate) fn symbol_at(
     requires short { length input.now ≤ INPUT_MAX }
     requires covered { Covers input.now segments.now }
     requires in_range { ForSome header (λ h. (h.position < 16) × (h.last < 16)) }
-    ensures made { (b : Bool) → IsLeastSegmentation version b input.now segments.now
-        → IfOk result (λ s. IsSymbolOf version level b input.now header s) }
+    ensures made { (r : Rule) → IsLeastSegmentation version r input.now segments.now
+        → IfOk result (λ s. IsSymbolOf version level r input.now header s) }
     ensures too_long { result ≡ Err EncodeFault.TooLong
         → capacity_of version level < header_bits header + bits version segments.now }
     ensures fault { IfErr result (λ e. (e ≡ EncodeFault.TooLong) ⊎ (e ≡ EncodeFault.Memory)) }
@@ -94,7 +95,7 @@ mod tests {
         let first = Version::new(1).ok_or("version 1")?;
         for (name, input, level, mask) in rows {
             assert!(rt; input.len() <= INPUT_MAX);
-            let symbol = encode(rt.alloc(), input, level, first, false)?;
+            let symbol = encode(rt.alloc(), input, level, first, Rule::Auto)?;
             assert_eq!(rt; symbol.version, first, "{name}");
             assert_eq!(rt; symbol.mask, mask, "{name}");
         }
@@ -113,7 +114,7 @@ mod tests {
         for (name, len, smallest, version) in rows {
             let smallest = Version::new(smallest).ok_or("smallest version")?;
             assert!(rt; len <= digits.len());
-            let symbol = encode(rt.alloc(), &digits[..len], Level::L, smallest, false)?;
+            let symbol = encode(rt.alloc(), &digits[..len], Level::L, smallest, Rule::Auto)?;
             assert_eq!(rt; symbol.version.number(), version, "{name}");
         }
         Ok(())
@@ -122,13 +123,13 @@ mod tests {
     #[test]
     fn refusals(rt: HostRuntime) -> Result<(), Fail> {
         let first = Version::new(1).ok_or("version")?;
-        let fault = encode(rt.alloc(), b"", Level::L, first, false);
+        let fault = encode(rt.alloc(), b"", Level::L, first, Rule::Auto);
         assert!(rt; matches!(fault, Err(EncodeFault::Empty)), "no byte");
-        let fault = encode(rt.alloc(), &[b'7'; 7090], Level::L, first, false);
+        let fault = encode(rt.alloc(), &[b'7'; 7090], Level::L, first, Rule::Auto);
         assert!(rt; matches!(fault, Err(EncodeFault::TooLong)), "7,090 digits");
-        let fault = encode(rt.alloc(), &[b'a'; 2954], Level::L, first, false);
+        let fault = encode(rt.alloc(), &[b'a'; 2954], Level::L, first, Rule::Auto);
         assert!(rt; matches!(fault, Err(EncodeFault::TooLong)), "2,954 bytes");
-        let fault = encode(rt.alloc(), &[b'7'; INPUT_MAX], Level::L, first, false);
+        let fault = encode(rt.alloc(), &[b'7'; INPUT_MAX], Level::L, first, Rule::Auto);
         assert!(rt;
             matches!(fault, Err(EncodeFault::TooLong)),
             "the longest input"

@@ -4,13 +4,14 @@
 //! only behind the versions 9 and 26. So an input is cut into segments once for each of the three ranges of versions.
 
 ghost use Rattle.std.specs.Prelude.{◌≡◌, ◌≤◌, ◌<◌, ℕ, length, IfOk, MatchOption};
+ghost use Rattle.qr_bits.specs.declared.segment.Rule.{Rule};
 ghost use Rattle.qr_bits.specs.declared.fault.BitFault.{BitFault};
 ghost use Rattle.qr_bits.specs.declared.segment.Mode.{Mode};
 ghost use Rattle.qr_bits.specs.Letters.{count_width, IsLeastSegmentation};
 ghost use Rattle.qr_bits.specs.Data.{capacity_of};
 ghost use Rattle.qr_symbol.specs.Symbols.{IsVersion, HasNoVersion};
 
-use qr_bits::{BitFault, INPUT_MAX, Segment, bit_len, segments};
+use qr_bits::{BitFault, INPUT_MAX, Rule, Segment, bit_len, segments};
 use qr_layout::{Level, Version};
 use std::alloc::Global;
 
@@ -58,19 +59,19 @@ pub(crate) fn least_fit(
     input: &[u8],
     level: Level,
     smallest: Version,
-    bytes_only: bool,
+    rule: Rule,
 ) -> Result<Fit, BitFault>
     requires { length input.now ≤ INPUT_MAX }
-    ensures version { IfOk result (λ f. IsVersion input.now level smallest bytes_only f.version) }
+    ensures version { IfOk result (λ f. IsVersion input.now level smallest rule f.version) }
     ensures segments { IfOk result (λ f.
-        IsLeastSegmentation f.version bytes_only input.now f.segments.items) }
+        IsLeastSegmentation f.version rule input.now f.segments.items) }
     ensures too_long { result ≡ Err BitFault.TooLong
-        → HasNoVersion input.now level smallest bytes_only }
+        → HasNoVersion input.now level smallest rule }
 {
     let mut first = smallest;
     loop {
         let last = last_of_width(first);
-        let segments = segments(alloc, input, first, bytes_only)?;
+        let segments = segments(alloc, input, first, rule)?;
         if let Some(version) = first_with_room(level, first, last, bit_len(&segments, first)) {
             return Ok(Fit { version, segments });
         }

@@ -1,10 +1,12 @@
 //! The laws of masks, of interleaving, of reading and of series. Each function does nothing: its contract is the law.
 
-ghost use Rattle.std.specs.Prelude.{◌≡◌, ◌<◌, ◌≤◌, ◌+◌, ◌⊎◌, ℕ, Bool, List, length, map, None};
+ghost use Rattle.std.specs.Prelude.{◌≡◌, ◌<◌, ◌≤◌, ◌+◌, ◌⊎◌, ℕ, false, List, length, map, None};
 ghost use Rattle.qr_layout.specs.declared.level.Level.{Level};
 ghost use Rattle.qr_layout.specs.declared.region.Module.{Module};
 ghost use Rattle.qr_layout.specs.Order.{IsOrder};
+ghost use Rattle.qr_bits.specs.declared.segment.Mode.{Mode};
 ghost use Rattle.qr_bits.specs.Bits.{bits_of};
+ghost use Rattle.qr_bits.specs.Letters.{may_use};
 ghost use Rattle.qr_bits.specs.Parse.{Content};
 ghost use Rattle.qr_symbol.specs.declared.fault.ReadFault.{ReadFault};
 ghost use Rattle.qr_symbol.specs.declared.symbol.Symbol.{Symbol};
@@ -16,6 +18,7 @@ ghost use Rattle.qr_symbol.specs.Series.{squares_of, AreParts, FitParts, NeedsPa
 ghost use Rattle.qr_symbol.specs.Joining.{IsJoined, IsUnjoined};
 ghost use Rattle.qr_layout.specs.Versions.{total_codewords_of};
 ghost use Rattle.qr_layout.specs.Blocks.{data_codewords_of, blocks_of};
+ghost use Rattle.qr_bits.specs.declared.segment.Rule.{Rule};
 ghost use Rattle.qr_symbol.specs.Interleaving.{count_of, len_of, start_of, cut_len, data_cut, IsInterleaved};
 ghost use Rattle.qr_symbol.specs.Distance.{MessagesLieApart, DamagedMessagesAreOne};
 ghost use Rattle.qr_symbol.specs.Worked.{all_masks, first_rows, computed_rows};
@@ -117,37 +120,38 @@ pub fn symbols_are_one()
 
 /// The symbol of an input is read as the input, in the segments of least bits and without a header.
 pub fn symbols_are_read(smallest: Version)
-    ensures { (x : List ℕ) (l : Level) (bytes_only : Bool) (v mask : ℕ) (g : Grid)
-        → (s : IsSymbol x l smallest bytes_only v mask g)
+    ensures { (x : List ℕ) (l : Level) (rule : Rule) (v mask : ℕ) (g : Grid)
+        → (s : IsSymbol x l smallest rule v mask g)
         → IsReading g (record { header = None; segments = s.made.segments; bytes = x }) }
 {}
 
 /// An input has only one series of a version and a level.
 pub fn series_are_one()
-    ensures { (x : List ℕ) (l : Level) (bytes_only : Bool) (v : ℕ) (ss ts : List Symbol)
-        → IsSeries x l bytes_only v ss → IsSeries x l bytes_only v ts → ss ≡ ts }
+    ensures { (x : List ℕ) (l : Level) (rule : Rule) (v : ℕ) (ss ts : List Symbol)
+        → IsSeries x l rule v ss → IsSeries x l rule v ts → ss ≡ ts }
 {}
 
 /// The parts of an input fit behind headers, and no fewer parts do; so its series is the shortest.
 pub fn series_are_shortest()
-    ensures fit { (v : ℕ) (l : Level) (bytes_only : Bool) (x : List ℕ) (parts : List (List ℕ))
-        → AreParts v l bytes_only x parts → FitParts v l bytes_only x parts }
-    ensures parts { (v : ℕ) (l : Level) (bytes_only : Bool) (x : List ℕ) (parts : List (List ℕ))
-        → AreParts v l bytes_only x parts → NeedsParts v l bytes_only x (length parts) }
-    ensures series { (x : List ℕ) (l : Level) (bytes_only : Bool) (v : ℕ) (ss : List Symbol)
-        → 0 < length x → IsSeries x l bytes_only v ss → NeedsParts v l bytes_only x (length ss) }
+    ensures fit { (v : ℕ) (l : Level) (rule : Rule) (x : List ℕ) (parts : List (List ℕ))
+        → AreParts v l rule x parts → FitParts v l rule x parts }
+    ensures parts { (v : ℕ) (l : Level) (rule : Rule) (x : List ℕ) (parts : List (List ℕ))
+        → may_use rule Mode.Kanji ≡ false → AreParts v l rule x parts → NeedsParts v l rule x (length parts) }
+    ensures series { (x : List ℕ) (l : Level) (rule : Rule) (v : ℕ) (ss : List Symbol)
+        → may_use rule Mode.Kanji ≡ false → 0 < length x
+        → IsSeries x l rule v ss → NeedsParts v l rule x (length ss) }
 {}
 
 /// The symbols of a series are joined to the input.
 pub fn series_are_joined(version: Version)
-    ensures { (x : List ℕ) (l : Level) (bytes_only : Bool) (ss : List Symbol)
-        → IsSeries x l bytes_only version ss → IsJoined (squares_of ss) x }
+    ensures { (x : List ℕ) (l : Level) (rule : Rule) (ss : List Symbol)
+        → IsSeries x l rule version ss → IsJoined (squares_of ss) x }
 {}
 
 /// An input of `INPUT_MAX` bytes or more has no symbol, from any version on, and no series of a version.
 pub fn long_inputs_have_none(version: Version)
-    ensures symbol { (x : List ℕ) (l : Level) (bytes_only : Bool) → INPUT_MAX ≤ length x
-        → HasNoVersion x l version bytes_only }
-    ensures series { (x : List ℕ) (l : Level) (bytes_only : Bool) (ss : List Symbol)
-        → INPUT_MAX ≤ length x → IsSeries x l bytes_only version ss → ⊥ }
+    ensures symbol { (x : List ℕ) (l : Level) (rule : Rule) → INPUT_MAX ≤ length x
+        → HasNoVersion x l version rule }
+    ensures series { (x : List ℕ) (l : Level) (rule : Rule) (ss : List Symbol)
+        → INPUT_MAX ≤ length x → IsSeries x l rule version ss → ⊥ }
 {}

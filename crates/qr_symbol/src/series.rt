@@ -1,12 +1,14 @@
 //! The encoding of an input as a series of symbols, by structured append (ISO/IEC 18004:2015, 8).
 
-ghost use Rattle.std.specs.Prelude.{◌≡◌, ◌-◌, ◌<◌, ◌≤◌, ◌↔◌, ◌⊎◌, ℕ, List, [], ◌∷◌, ◌++◌, length, None, Some, Err, OnOk, IfOk, IfErr, MatchOption};
-ghost use Rattle.qr_bits.specs.Letters.{HasFit, IsLongestFit};
+ghost use Rattle.std.specs.Prelude.{◌≡◌, ◌-◌, ◌<◌, ◌≤◌, ◌↔◌, ◌⊎◌, ℕ, false, List, [], ◌∷◌, ◌++◌, length, None, Some, Err, OnOk, IfOk, IfErr, MatchOption};
+ghost use Rattle.qr_bits.specs.declared.segment.Rule.{Rule};
+ghost use Rattle.qr_bits.specs.declared.segment.Mode.{Mode};
+ghost use Rattle.qr_bits.specs.Letters.{HasFit, IsLongestFit, may_use};
 ghost use Rattle.qr_bits.specs.Data.{room_of};
 ghost use Rattle.qr_bits.specs.Stream.{parity_of};
 ghost use Rattle.qr_symbol.specs.declared.fault.EncodeFault.{EncodeFault};
 ghost use Rattle.qr_symbol.specs.Symbols.{FitsVersion};
-ghost use Rattle.qr_symbol.specs.Series.{squares_of, NeedsParts, IsSymbolOf, AreSymbolsFrom, IsSeries, HasNoSeries};
+ghost use Rattle.qr_symbol.specs.Series.{squares_of, AreParts, NeedsParts, IsSymbolOf, AreSymbolsFrom, IsSeries, HasNoSeries};
 ghost use Rattle.qr_symbol.specs.Joining.{IsJoined};
 ghost use Rattle.qr_symbol.specs.Parts.{AreLengths, parts_of};
 
@@ -14,46 +16,45 @@ use crate::encoding::{LONGEST, symbol_at};
 use crate::fault::EncodeFault;
 use crate::symbol::Symbol;
 use arrayvec::ArrayVec;
-use qr_bits::{Header, INPUT_MAX, bit_len, longest_fit, parity, segments};
+use qr_bits::{Header, INPUT_MAX, Rule, bit_len, longest_fit, parity, segments};
 use qr_layout::{Level, Version};
 use std::alloc::Global;
 
 /// The series of symbols of an input, all of one version and level (ISO/IEC 18004:2015, 8). Where the input fits one
 /// symbol, that is a plain symbol, without a header. Else it is cut into parts, and each part is the longest front of
-/// the rest that fits a symbol behind its header. No cut into fewer parts fits, so the series is the shortest. With
-/// `bytes_only` each symbol has one byte segment.
+/// the rest that fits a symbol after its header, whether or not each shorter one fits. The rule tells which modes the
+/// segments may have. Without kanji mode the series is the shortest: no cut into fewer parts fits.
 ///
-/// `Empty` where the input has no byte, and `TooMany` where it takes more than 16 symbols, however it is cut.
+/// `Empty` if the input has no byte, and `TooMany` if its parts are more than 16; without kanji mode no other cut into 16
+/// parts fits either.
 pub fn encode_series(
     alloc: Global,
     input: &[u8],
     version: Version,
     level: Level,
-    bytes_only: bool,
+    rule: Rule,
 ) -> Result<Vec<Symbol>, EncodeFault>
     requires { length input.now ≤ INPUT_MAX }
-    ensures series { IfOk result (λ ss. IsSeries input.now level bytes_only version ss.items) }
+    ensures series { IfOk result (λ ss. IsSeries input.now level rule version ss.items) }
     ensures joined { IfOk result (λ ss. IsJoined (squares_of ss.items) input.now) }
-    ensures shortest { IfOk result (λ ss. NeedsParts version level bytes_only input.now
-        (length ss.items)) }
+    ensures shortest { IfOk result (λ ss. may_use rule Mode.Kanji ≡ false
+        → NeedsParts version level rule input.now (length ss.items)) }
     ensures empty { (result ≡ Err EncodeFault.Empty) ↔ (input.now ≡ []) }
     ensures too_many { result ≡ Err EncodeFault.TooMany
-        → HasNoSeries input.now level bytes_only version }
-    ensures no_shorter { result ≡ Err EncodeFault.TooMany
-        → NeedsParts version level bytes_only input.now 17 }
+        → HasNoSeries input.now level rule version }
     ensures fault { IfErr result (λ e. (e ≡ EncodeFault.Empty) ⊎ (e ≡ EncodeFault.TooMany)
         ⊎ (e ≡ EncodeFault.Memory)) }
 {
     if input.is_empty() {
         return Err(EncodeFault::Empty);
     }
-    if let Some(symbol) = lone_symbol(alloc, input, version, level, bytes_only)? {
+    if let Some(symbol) = lone_symbol(alloc, input, version, level, rule)? {
         let mut symbols = Vec::new(alloc);
         symbols.push(symbol)?;
         return Ok(symbols);
     }
-    let lengths = part_lengths(alloc, input, version, level, bytes_only)?;
-    part_symbols(alloc, input, lengths.as_slice(), version, level, bytes_only)
+    let lengths = part_lengths(alloc, input, version, level, rule)?;
+    part_symbols(alloc, input, lengths.as_slice(), version, level, rule)
 }
 
 // The plain symbol of an input, where it fits one.
@@ -62,18 +63,18 @@ fn lone_symbol(
     input: &[u8],
     version: Version,
     level: Level,
-    bytes_only: bool,
+    rule: Rule,
 ) -> Result<Option<Symbol>, EncodeFault>
     requires { length input.now ≤ INPUT_MAX }
     ensures symbol { IfOk result (λ found. MatchOption found
-        (FitsVersion input.now level bytes_only version → ⊥)
-        (λ s. IsSymbolOf version level bytes_only input.now None s)) }
+        (FitsVersion input.now level rule version → ⊥)
+        (λ s. IsSymbolOf version level rule input.now None s)) }
     ensures fault { IfErr result (λ e. e ≡ EncodeFault.Memory) }
 {
     if input.len() > LONGEST {
         return Ok(None);
     }
-    let segments = segments(alloc, input, version, bytes_only)?;
+    let segments = segments(alloc, input, version, rule)?;
     if bit_len(&segments, version) > 8 * u64::from(version.data_codewords(level)) {
         return Ok(None);
     }
@@ -87,12 +88,14 @@ fn part_lengths(
     input: &[u8],
     version: Version,
     level: Level,
-    bytes_only: bool,
+    rule: Rule,
 ) -> Result<ArrayVec<usize, 16>, EncodeFault>
     requires { length input.now ≤ INPUT_MAX }
-    ensures parts { IfOk result (λ ns. AreLengths version level bytes_only input.now ns.items) }
+    ensures parts { IfOk result (λ ns. AreLengths version level rule input.now ns.items) }
     ensures too_many { result ≡ Err EncodeFault.TooMany
-        → NeedsParts version level bytes_only input.now 17 }
+        → (ps : List (List ℕ)) → AreParts version level rule input.now ps → 16 < length ps }
+    ensures no_shorter { result ≡ Err EncodeFault.TooMany
+        → may_use rule Mode.Kanji ≡ false → NeedsParts version level rule input.now 17 }
     ensures fault { IfErr result (λ e. (e ≡ EncodeFault.TooMany) ⊎ (e ≡ EncodeFault.Memory)) }
 {
     let mut lengths = ArrayVec::new();
@@ -101,7 +104,7 @@ fn part_lengths(
         if lengths.is_full() {
             return Err(EncodeFault::TooMany);
         }
-        let len = front_len(alloc, rest, version, level, bytes_only)?;
+        let len = front_len(alloc, rest, version, level, rule)?;
         lengths.push(len);
         let (_, after) = rest.split_at(len);
         rest = after;
@@ -115,17 +118,17 @@ fn front_len(
     rest: &[u8],
     version: Version,
     level: Level,
-    bytes_only: bool,
+    rule: Rule,
 ) -> Result<usize, EncodeFault>
     requires some { 0 < length rest.now }
     requires short { length rest.now ≤ INPUT_MAX }
     ensures some { IfOk result (λ n. 0 < n) }
     ensures longest { IfOk result (λ n.
-        IsLongestFit version bytes_only rest.now (room_of version level) n) }
+        IsLongestFit version rule rest.now (room_of version level) n) }
     ensures fault { IfErr result (λ e. e ≡ EncodeFault.Memory) }
 {
     let front = &rest[..rest.len().min(LONGEST)];
-    Ok(longest_fit(alloc, front, version, level, bytes_only)?)
+    Ok(longest_fit(alloc, front, version, level, rule)?)
 }
 
 // The symbols of the parts of these lengths, each behind its header (8.1 to 8.3).
@@ -135,13 +138,13 @@ fn part_symbols(
     lengths: &[usize],
     version: Version,
     level: Level,
-    bytes_only: bool,
+    rule: Rule,
 ) -> Result<Vec<Symbol>, EncodeFault>
     requires short { length input.now ≤ INPUT_MAX }
-    requires parts { AreLengths version level bytes_only input.now lengths.now }
+    requires parts { AreLengths version level rule input.now lengths.now }
     requires some { 0 < length lengths.now }
     requires few { length lengths.now ≤ 16 }
-    ensures made { IfOk result (λ ss. AreSymbolsFrom version level bytes_only
+    ensures made { IfOk result (λ ss. AreSymbolsFrom version level rule
         (length lengths.now - 1) (parity_of input.now) 0 (parts_of input.now lengths.now)
         ss.items) }
     ensures fault { IfErr result (λ e. e ≡ EncodeFault.Memory) }
@@ -157,7 +160,7 @@ fn part_symbols(
             last,
             parity,
         };
-        let symbol = part_symbol(alloc, part, header, version, level, bytes_only)?;
+        let symbol = part_symbol(alloc, part, header, version, level, rule)?;
         symbols.push(symbol)?;
         rest = after;
     }
@@ -171,16 +174,16 @@ fn part_symbol(
     header: Header,
     version: Version,
     level: Level,
-    bytes_only: bool,
+    rule: Rule,
 ) -> Result<Symbol, EncodeFault>
     requires short { length part.now ≤ INPUT_MAX }
-    requires fits { HasFit version bytes_only part.now (room_of version level) }
+    requires fits { HasFit version rule part.now (room_of version level) }
     requires position { header.position < 16 }
     requires last { header.last < 16 }
-    ensures made { IfOk result (λ s. IsSymbolOf version level bytes_only part.now (Some header) s) }
+    ensures made { IfOk result (λ s. IsSymbolOf version level rule part.now (Some header) s) }
     ensures fault { IfErr result (λ e. e ≡ EncodeFault.Memory) }
 {
-    let segments = segments(alloc, part, version, bytes_only)?;
+    let segments = segments(alloc, part, version, rule)?;
     symbol_at(alloc, part, &segments, Some(header), version, level)
 }
 
@@ -205,7 +208,7 @@ mod tests {
     #[test]
     fn eight_letters_at_1_h(rt: HostRuntime) -> Result<(), Fail> {
         let version = Version::new(1).ok_or("version 1")?;
-        let symbols = encode_series(rt.alloc(), b"ABCDEFGH", version, Level::H, true)?;
+        let symbols = encode_series(rt.alloc(), b"ABCDEFGH", version, Level::H, Rule::BytesOnly)?;
         assert_eq!(rt; symbols.len(), 2);
         let parts = [(0, &b"ABCDE"[..]), (1, &b"FGH"[..])];
         for (symbol, (position, bytes)) in symbols.iter().zip(parts) {
@@ -227,7 +230,7 @@ mod tests {
     #[test]
     fn a_plain_symbol_where_it_fits(rt: HostRuntime) -> Result<(), Fail> {
         let version = Version::new(1).ok_or("version 1")?;
-        let symbols = encode_series(rt.alloc(), b"ABCDEFG", version, Level::H, true)?;
+        let symbols = encode_series(rt.alloc(), b"ABCDEFG", version, Level::H, Rule::BytesOnly)?;
         assert_eq!(rt; symbols.len(), 1);
         assert!(rt; says(&rt, &symbols[0], None, b"ABCDEFG")?);
         Ok(())
@@ -238,29 +241,34 @@ mod tests {
         let letters = [b'a'; 81];
         let digits = [b'7'; INPUT_MAX];
         let rows = [
-            ("7 letters", &letters[..7], true, Ok(1)),
-            ("8 letters", &letters[..8], true, Ok(2)),
-            ("80 letters", &letters[..80], true, Ok(16)),
-            ("81 letters", &letters[..], true, Err(EncodeFault::TooMany)),
-            ("176 digits", &digits[..176], false, Ok(16)),
+            ("7 letters", &letters[..7], Rule::BytesOnly, Ok(1)),
+            ("8 letters", &letters[..8], Rule::BytesOnly, Ok(2)),
+            ("80 letters", &letters[..80], Rule::BytesOnly, Ok(16)),
+            (
+                "81 letters",
+                &letters[..],
+                Rule::BytesOnly,
+                Err(EncodeFault::TooMany),
+            ),
+            ("176 digits", &digits[..176], Rule::Auto, Ok(16)),
             (
                 "177 digits",
                 &digits[..177],
-                false,
+                Rule::Auto,
                 Err(EncodeFault::TooMany),
             ),
             (
                 "the longest input",
                 &digits[..],
-                false,
+                Rule::Auto,
                 Err(EncodeFault::TooMany),
             ),
-            ("no byte", &[], false, Err(EncodeFault::Empty)),
+            ("no byte", &[], Rule::Auto, Err(EncodeFault::Empty)),
         ];
         let version = Version::new(1).ok_or("version 1")?;
-        for (name, input, bytes_only, count) in rows {
+        for (name, input, rule, count) in rows {
             assert!(rt; input.len() <= INPUT_MAX);
-            let symbols = encode_series(rt.alloc(), input, version, Level::H, bytes_only);
+            let symbols = encode_series(rt.alloc(), input, version, Level::H, rule);
             assert_eq!(rt; symbols.map(|symbols| symbols.len()), count, "{name}");
         }
         Ok(())

@@ -30,7 +30,7 @@ is_too_long TooLong e = cc
 pub returns-then-input-gt-LONGEST-clause-too_long : goal.returns-then-input-gt-LONGEST-clause-too_long
 returns-then-input-gt-LONGEST-clause-too_long c =
     λ _ v a b fits.
-    let short = fitting_short v c.args.level c.args.bytes_only c.args.input.now (omega arith) b fits in omega arith
+    let short = fitting_short v c.args.level c.args.rule c.args.input.now (omega arith) b fits in omega arith
 
 pub returns-in_err-fit-clause-empty : goal.returns-in_err-fit-clause-empty
 unfolding answer
@@ -46,15 +46,15 @@ returns-in_err-fit-clause-too_long c =
 
 pub returns-clause-symbol : goal.returns-clause-symbol
 returns-clause-symbol c =
-    let made = c.symbol_at.ensures.made c.args.bytes_only (rw c.deref.ensures.value c.in_ok-fit.ensures.segments) in
-    symbol-found c.in_ok-fit.fit.version c.args.level c.args.smallest c.args.bytes_only c.args.input.now c.symbol_at.result c.in_ok-fit.ensures.version made
+    let made = c.symbol_at.ensures.made c.args.rule (rw c.deref.ensures.value c.in_ok-fit.ensures.segments) in
+    symbol-found c.in_ok-fit.fit.version c.args.level c.args.smallest c.args.rule c.args.input.now c.symbol_at.result c.in_ok-fit.ensures.version made
 
 pub returns-clause-level : goal.returns-clause-level
 returns-clause-level c =
-    let made = c.symbol_at.ensures.made c.args.bytes_only (rw c.deref.ensures.value c.in_ok-fit.ensures.segments) in
+    let made = c.symbol_at.ensures.made c.args.rule (rw c.deref.ensures.value c.in_ok-fit.ensures.segments) in
     IfOk-weaker c.symbol_at.result _ _ (λ s is. is.level) made
 
 pub returns-clause-read : goal.returns-clause-read
 returns-clause-read c =
-    let made = c.symbol_at.ensures.made c.args.bytes_only (rw c.deref.ensures.value c.in_ok-fit.ensures.segments) in
-    symbol-back c.in_ok-fit.fit.version c.args.level c.args.bytes_only c.args.input.now c.symbol_at.result (omega arith) (omega arith) made
+    let made = c.symbol_at.ensures.made c.args.rule (rw c.deref.ensures.value c.in_ok-fit.ensures.segments) in
+    symbol-back c.in_ok-fit.fit.version c.args.level c.args.rule c.args.input.now c.symbol_at.result (omega arith) (omega arith) made

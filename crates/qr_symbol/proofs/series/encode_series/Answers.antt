@@ -4,53 +4,48 @@ use Rattle.std.proofs.lemmas.Option.{MatchOption-at_some}
 use Rattle.std.proofs.lemmas.Result.{IfOk-weaker}
 use Rattle.qr_symbol.specs.declared.symbol.Symbol.{Symbol}
 use Rattle.qr_symbol.specs.Symbols.{FitsVersion}
-use Rattle.qr_symbol.specs.Series.{NeedsParts}
-use Rattle.qr_symbol.proofs.PartLemmas.{lengths-some, parts-fit}
+use Rattle.qr_symbol.proofs.PartLemmas.{lengths-some}
 use Rattle.qr_symbol.proofs.SeriesLemmas.{lone-series, split-series, series-joined}
 use Rattle.qr_symbol.proofs.SizeLemmas.{series-shortest}
 use Rattle.qr_symbol.proofs.series.encode_series.Goals as goal
 
 pub returns-in-Some-clause-series : goal.returns-in-Some-clause-series
 returns-in-Some-clause-series c =
-    lone-series c.args.input.now c.args.level c.args.bytes_only c.args.version c.in-Some.symbol c.push.new.self.items
+    lone-series c.args.input.now c.args.level c.args.rule c.args.version c.in-Some.symbol c.push.new.self.items
     (MatchOption-at_some _ _ c.in-Some.symbol c.in-Some.is c.in_ok-symbol.ensures.symbol)
     (c.in_ok-push.ensures.items ∙ ap (λ (ss : List Symbol). ss ++ c.in-Some.symbol ∷ []) c.new-symbols.ensures.items)
 
 pub returns-in-Some-clause-joined : goal.returns-in-Some-clause-joined
 returns-in-Some-clause-joined c =
-    series-joined c.args.input.now c.args.level c.args.bytes_only c.args.version c.push.new.self.items (omega arith) (omega arith) (returns-in-Some-clause-series c)
+    series-joined c.args.input.now c.args.level c.args.rule c.args.version c.push.new.self.items (omega arith) (omega arith) (returns-in-Some-clause-series c)
 
 pub returns-in_err-lengths-clause-too_many : goal.returns-in_err-lengths-clause-too_many
 returns-in_err-lengths-clause-too_many c = λ many.
-    let long : FitsVersion c.args.input.now c.args.level c.args.bytes_only c.args.version → ⊥ = search rules in
-    let needs : NeedsParts c.args.version c.args.level c.args.bytes_only c.args.input.now 17 = search rules in
-    record {
-      too_long = long;
-      too_many = λ parts cut. let more = needs parts (parts-fit c.args.version c.args.level c.args.bytes_only c.args.input.now parts cut) in omega arith;
-    }
+    let long : FitsVersion c.args.input.now c.args.level c.args.rule c.args.version → ⊥ = search rules in
+    record { too_long = long; too_many = search rules; no_shorter = search rules }
 
 pub part_symbols-requires-clause-some : goal.part_symbols-requires-clause-some
 part_symbols-requires-clause-some c =
     let some : 0 < length c.args.input.now = grind (arith, nat_tests) in
-    let more = lengths-some c.args.version c.args.level c.args.bytes_only c.args.input.now c.in_ok-lengths.lengths.items c.in_ok-lengths.ensures.parts some in
+    let more = lengths-some c.args.version c.args.level c.args.rule c.args.input.now c.in_ok-lengths.lengths.items c.in_ok-lengths.ensures.parts some in
     omega (arith, ap length c.as_slice.ensures.value)
 
 pub returns-clause-series : goal.returns-clause-series
 returns-clause-series c =
-    let long : FitsVersion c.args.input.now c.args.level c.args.bytes_only c.args.version → ⊥ = search rules in
+    let long : FitsVersion c.args.input.now c.args.level c.args.rule c.args.version → ⊥ = search rules in
     IfOk-weaker c.part_symbols.result _ _
     (λ ss made.
-    split-series c.args.input.now c.args.level c.args.bytes_only c.args.version c.as_slice.result.now ss.items long (rw c.as_slice.ensures.value c.in_ok-lengths.ensures.parts) (omega arith) made)
+    split-series c.args.input.now c.args.level c.args.rule c.args.version c.as_slice.result.now ss.items long (rw c.as_slice.ensures.value c.in_ok-lengths.ensures.parts) (omega arith) made)
     c.part_symbols.ensures.made
 
 pub returns-clause-joined : goal.returns-clause-joined
 returns-clause-joined c =
-    IfOk-weaker c.part_symbols.result _ _ (λ ss series. series-joined c.args.input.now c.args.level c.args.bytes_only c.args.version ss.items (omega arith) (omega arith) series) (returns-clause-series c)
+    IfOk-weaker c.part_symbols.result _ _ (λ ss series. series-joined c.args.input.now c.args.level c.args.rule c.args.version ss.items (omega arith) (omega arith) series) (returns-clause-series c)
 
 pub returns-in-Some-clause-shortest : goal.returns-in-Some-clause-shortest
 returns-in-Some-clause-shortest c =
-    series-shortest c.args.input.now c.args.level c.args.bytes_only c.args.version c.push.new.self.items (grind (arith, nat_tests)) (returns-in-Some-clause-series c)
+    λ plain. series-shortest c.args.input.now c.args.level c.args.rule c.args.version c.push.new.self.items plain (grind (arith, nat_tests)) (returns-in-Some-clause-series c)
 
 pub returns-clause-shortest : goal.returns-clause-shortest
 returns-clause-shortest c =
-    IfOk-weaker c.part_symbols.result _ _ (λ ss series. series-shortest c.args.input.now c.args.level c.args.bytes_only c.args.version ss.items (grind (arith, nat_tests)) series) (returns-clause-series c)
+    IfOk-weaker c.part_symbols.result _ _ (λ ss series plain. series-shortest c.args.input.now c.args.level c.args.rule c.args.version ss.items plain (grind (arith, nat_tests)) series) (returns-clause-series c)

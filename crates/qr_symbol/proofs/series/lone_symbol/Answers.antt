@@ -6,21 +6,21 @@ use Rattle.qr_symbol.proofs.series.lone_symbol.Goals as goal
 pub returns-then-input-gt-LONGEST-clause-symbol : goal.returns-then-input-gt-LONGEST-clause-symbol
 returns-then-input-gt-LONGEST-clause-symbol c =
     λ fits.
-    let short = fitting_short c.args.version c.args.level c.args.bytes_only c.args.input.now (omega arith) (omega arith) fits in omega arith
+    let short = fitting_short c.args.version c.args.level c.args.rule c.args.input.now (omega arith) (omega arith) fits in omega arith
 
 pub bit_len-requires-clause-nonempty : goal.bit_len-requires-clause-nonempty
 bit_len-requires-clause-nonempty c =
     let xs = c.args.input.now in
     let segs = c.in_ok-segments.segments.items in
-    let all = covers_all xs segs (least_fits c.args.version c.args.bytes_only xs segs c.in_ok-segments.ensures.ok).0 in
+    let all = covers_all xs segs (least_fits c.args.version c.args.rule xs segs c.in_ok-segments.ensures.ok).0 in
     rw c.deref.ensures.value all.0
 
 pub bit_len-requires-clause-short : goal.bit_len-requires-clause-short
 bit_len-requires-clause-short c =
     let xs = c.args.input.now in
     let segs = c.in_ok-segments.segments.items in
-    let all = covers_all xs segs (least_fits c.args.version c.args.bytes_only xs segs c.in_ok-segments.ensures.ok).0 in
+    let all = covers_all xs segs (least_fits c.args.version c.args.rule xs segs c.in_ok-segments.ensures.ok).0 in
     rw c.deref.ensures.value (omega (arith, all.1, c.requires))
 
 pub returns-clause-symbol : goal.returns-clause-symbol
-returns-clause-symbol c = c.in_ok-symbol.ensures.made c.args.bytes_only (rw c.deref-2.ensures.value c.in_ok-segments.ensures.ok)
+returns-clause-symbol c = c.in_ok-symbol.ensures.made c.args.rule (rw c.deref-2.ensures.value c.in_ok-segments.ensures.ok)

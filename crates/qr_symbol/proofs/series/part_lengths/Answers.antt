@@ -2,22 +2,30 @@ use Rattle.std.proofs.Common.{◌+◌, ◌<◌, [], ◌∷◌, length, sym, ◌�
 use Rattle.std.proofs.lemmas.Bool.Decides.{nat_tests}
 use Rattle.std.proofs.lemmas.Bool.{eqb-true}
 use Rattle.std.proofs.lemmas.List.{append-nil, nil_from_length, length-drop}
-use Rattle.qr_symbol.proofs.PartLemmas.{lengths-none, lengths-more, needs-some, needs-more}
+use Rattle.qr_symbol.proofs.PartLemmas.{lengths-none, lengths-more, parts-some, prefixes-more, needs-some, needs-more}
 use Rattle.qr_symbol.proofs.series.part_lengths.Goals as goal
 
 pub returns-then-is_full-clause-too_many : goal.returns-then-is_full-clause-too_many
 returns-then-is_full-clause-too_many c =
-    λ _ parts cut.
+    λ _ parts is.
     let full = eqb-true (length c.loop-rest.lengths.items) _ (sym c.is_full.ensures.value ∙ c.if-is_full.true) in
     let some : 0 < length c.loop-rest.rest.now = grind (arith, nat_tests) in
-    let more = c.loop-rest.invariant.needs 1 (needs-some c.args.version c.args.level c.args.bytes_only c.loop-rest.rest.now some) parts cut in
+    let more = c.loop-rest.invariant.parts 1 (λ qs cut. parts-some c.args.version c.args.level c.args.rule c.loop-rest.rest.now qs cut some) parts is in
+    omega arith
+
+pub returns-then-is_full-clause-no_shorter : goal.returns-then-is_full-clause-no_shorter
+returns-then-is_full-clause-no_shorter c =
+    λ _ plain parts cut.
+    let full = eqb-true (length c.loop-rest.lengths.items) _ (sym c.is_full.ensures.value ∙ c.if-is_full.true) in
+    let some : 0 < length c.loop-rest.rest.now = grind (arith, nat_tests) in
+    let more = c.loop-rest.invariant.needs plain 1 (needs-some c.args.version c.args.level c.args.rule c.loop-rest.rest.now some) parts cut in
     omega arith
 
 pub loop-rest-preserved : goal.loop-rest-preserved
 loop-rest-preserved c =
     let v = c.args.version in
     let l = c.args.level in
-    let b = c.args.bytes_only in
+    let b = c.args.rule in
     let rest = c.loop-rest.rest.now in
     let found = c.loop-rest.lengths.items in
     let n = c.in_ok-len.len in
@@ -27,8 +35,11 @@ loop-rest-preserved c =
     rw (c.push.ensures.items, c.split_at.ensures.back) (record {
       short = omega (arith, inv.short);
       lengths = lengths-more v l b c.args.input.now found rest n c.in_ok-len.ensures.some c.in_ok-len.ensures.longest inv.lengths;
-      needs = λ k needs parts cut.
-          let more = inv.needs (k + 1) (needs-more v l b rest n k some c.in_ok-len.ensures.longest needs) parts cut in
+      parts = λ k many ps is.
+          let more = inv.parts (k + 1) (prefixes-more v l b rest n k some c.in_ok-len.ensures.longest many) ps is in
+          omega (arith, length-append found (n ∷ []));
+      needs = λ plain k needs parts cut.
+          let more = inv.needs plain (k + 1) (needs-more v l b rest n k plain some c.in_ok-len.ensures.longest needs) parts cut in
           omega (arith, length-append found (n ∷ []));
     })
 
@@ -36,7 +47,7 @@ pub returns-clause-parts : goal.returns-clause-parts
 returns-clause-parts c =
     let v = c.args.version in
     let l = c.args.level in
-    let b = c.args.bytes_only in
+    let b = c.args.rule in
     let found = c.loop-rest.lengths.items in
     let none = nil_from_length c.loop-rest.rest.now (eqb-true (length c.loop-rest.rest.now) 0 (sym c.is_empty.ensures ∙ c.loop-rest-test.false)) in
     rw append-nil at (c.loop-rest.invariant.lengths [] (rw none (lengths-none v l b)))

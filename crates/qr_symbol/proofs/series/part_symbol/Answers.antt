@@ -8,5 +8,5 @@ pub returns-clause-fault : goal.returns-clause-fault
 returns-clause-fault c =
     let segs = c.deref.result.now in
     memory-alone (capacity_of c.args.version c.args.level) (header_bits (Some c.args.header) + bits c.args.version segs) c.symbol_at.result
-    (behind-header c.args.version c.args.level c.args.bytes_only c.args.part.now segs c.args.header (omega arith) (omega arith) (rw c.deref.ensures.value c.in_ok-segments.ensures.ok) c.requires.fits)
+    (behind-header c.args.version c.args.level c.args.rule c.args.part.now segs c.args.header (omega arith) (omega arith) (rw c.deref.ensures.value c.in_ok-segments.ensures.ok) c.requires.fits)
     c.symbol_at.ensures.too_long c.symbol_at.ensures.fault

@@ -7,19 +7,19 @@ use Rattle.qr_symbol.proofs.series.part_symbols.Goals as goal
 
 pub split_at-requires : goal.split_at-requires
 split_at-requires c =
-    let next = lengths-at c.args.version c.args.level c.args.bytes_only c.loop-len.rest.now c.args.lengths.now c.loop-len.len-index c.loop-len-test.true c.loop-len.invariant.rest in
+    let next = lengths-at c.args.version c.args.level c.args.rule c.loop-len.rest.now c.args.lengths.now c.loop-len.len-index c.loop-len-test.true c.loop-len.invariant.rest in
     next.0.inside
 
 pub part_symbol-requires-clause-fits : goal.part_symbol-requires-clause-fits
 part_symbol-requires-clause-fits c =
-    let next = lengths-at c.args.version c.args.level c.args.bytes_only c.loop-len.rest.now c.args.lengths.now c.loop-len.len-index c.loop-len-test.true c.loop-len.invariant.rest in
+    let next = lengths-at c.args.version c.args.level c.args.rule c.loop-len.rest.now c.args.lengths.now c.loop-len.len-index c.loop-len-test.true c.loop-len.invariant.rest in
     rw c.split_at.ensures.front next.0.fits
 
 pub loop-len-preserved : goal.loop-len-preserved
 loop-len-preserved c =
     let v = c.args.version in
     let l = c.args.level in
-    let b = c.args.bytes_only in
+    let b = c.args.rule in
     let rest = c.loop-len.rest.now in
     let ns = c.args.lengths.now in
     let i = c.loop-len.len-index in
@@ -39,5 +39,5 @@ pub returns-clause-made : goal.returns-clause-made
 returns-clause-made c =
     let ns = c.args.lengths.now in
     let none : drop c.loop-len.len-index ns ≡ [] = drop_all c.loop-len.len-index ns c.loop-len-test.false in
-    let all = c.loop-len.invariant.made [] (rw none (symbols-none c.args.version c.args.level c.args.bytes_only (length ns - 1) (parity_of c.args.input.now) c.loop-len.len-index c.loop-len.rest.now)) in
+    let all = c.loop-len.invariant.made [] (rw none (symbols-none c.args.version c.args.level c.args.rule (length ns - 1) (parity_of c.args.input.now) c.loop-len.len-index c.loop-len.rest.now)) in
     rw append-nil at all

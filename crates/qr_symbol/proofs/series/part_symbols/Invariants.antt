@@ -11,7 +11,7 @@ abbrev pub invariant-loop-len : goal.invariant-loop-len
 invariant-loop-len l = record {
   short : length l.rest ≤ length l.fn.input;
   count : vec_len l.symbols ≡ l.len-index;
-  rest : AreLengths l.version l.level l.bytes_only l.rest (drop l.len-index l.lengths);
-  made : (ss : List Symbol) → AreSymbolsFrom l.version l.level l.bytes_only (length l.lengths - 1) (parity_of l.fn.input) l.len-index (parts_of l.rest (drop l.len-index l.lengths)) ss
-      → AreSymbolsFrom l.version l.level l.bytes_only (length l.lengths - 1) (parity_of l.fn.input) 0 (parts_of l.fn.input l.lengths) (l.symbols.items ++ ss);
+  rest : AreLengths l.version l.level l.rule l.rest (drop l.len-index l.lengths);
+  made : (ss : List Symbol) → AreSymbolsFrom l.version l.level l.rule (length l.lengths - 1) (parity_of l.fn.input) l.len-index (parts_of l.rest (drop l.len-index l.lengths)) ss
+      → AreSymbolsFrom l.version l.level l.rule (length l.lengths - 1) (parity_of l.fn.input) 0 (parts_of l.fn.input l.lengths) (l.symbols.items ++ ss);
 }

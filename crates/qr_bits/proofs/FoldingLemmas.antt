@@ -1,0 +1,49 @@
+-- Folding around kanji pairs, step by step.
+use Rattle.std.proofs.Common.{◌≡◌, ℕ, suc, ◌<◌, ◌≤◌, Bool, true, false, List, [], ◌∷◌, ◌++◌, length, get_or, take, drop, refl, sym, ◌∙◌, ap, ⊎_elim, arith, append_assoc}
+use Rattle.std.proofs.lemmas.Bool.{cases_Bool, false≢true}
+use Rattle.qr_bits.specs.declared.segment.Rule.TheVariants.{WithKanji}
+use Rattle.qr_bits.specs.Letters.{is_kanji_pair}
+use Rattle.qr_bits.specs.Folding.{capital, folded_around_pairs}
+use Rattle.qr_bits.specs.Places.{begins}
+
+-- a pair stays
+pub folded_pair : (xs : List ℕ) → begins WithKanji is_kanji_pair xs ≡ true → folded_around_pairs xs ≡ take 2 xs ++ folded_around_pairs (drop 2 xs)
+unfolding folded_around_pairs begins
+folded_pair [] h = absurd (false≢true h)
+folded_pair (x ∷ []) h = absurd (false≢true h)
+folded_pair (x ∷ y ∷ xs) h = rw h refl
+
+-- where no pair begins, the first byte becomes its capital
+pub folded_one : (xs : List ℕ) → begins WithKanji is_kanji_pair xs ≡ false → 0 < length xs → folded_around_pairs xs ≡ capital (get_or xs 0 0) ∷ folded_around_pairs (drop 1 xs)
+unfolding folded_around_pairs begins
+folded_one [] h n = absurd (omega arith)
+folded_one (x ∷ []) h n = refl
+folded_one (x ∷ y ∷ xs) h n = rw h refl
+
+-- of no bytes none is left
+pub folded_none : (xs : List ℕ) → length xs ≡ 0 → folded_around_pairs xs ≡ []
+unfolding folded_around_pairs
+folded_none [] h = refl
+folded_none (x ∷ xs) h = absurd (omega arith)
+
+-- as many bytes are folded as there are
+pub length-folded_around_pairs : (xs : List ℕ) → length (folded_around_pairs xs) ≡ length xs
+unfolding folded_around_pairs
+length-folded_around_pairs [] = refl
+length-folded_around_pairs (x ∷ []) = refl
+length-folded_around_pairs (x ∷ y ∷ xs) =
+    ⊎_elim
+    (λ (t : is_kanji_pair x y ≡ true). rw t (ap (λ (n : ℕ). suc (suc n)) (length-folded_around_pairs xs)))
+    (λ (f : is_kanji_pair x y ≡ false). rw f (ap suc (length-folded_around_pairs (y ∷ xs))))
+    (cases_Bool (is_kanji_pair x y))
+
+-- one part more that is folded
+pub more_folded : (front part rest next whole : List ℕ) → rest ≡ part ++ next → front ++ rest ≡ whole → (front ++ part) ++ next ≡ whole
+more_folded front part rest next whole e h = append_assoc front part next ∙ ap (λ (t : List ℕ). front ++ t) (sym e) ∙ h
+
+-- where a pair begins, there are two bytes
+pub begun_with_pair : (xs : List ℕ) → begins WithKanji is_kanji_pair xs ≡ true → 2 ≤ length xs
+unfolding begins
+begun_with_pair [] h = absurd (false≢true h)
+begun_with_pair (x ∷ []) h = absurd (false≢true h)
+begun_with_pair (x ∷ y ∷ xs) h = omega arith

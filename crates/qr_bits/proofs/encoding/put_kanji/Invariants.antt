@@ -1,0 +1,14 @@
+use Rattle.std.proofs.Common.{◌≡◌, ◌++◌, true, length}
+use Rattle.qr_bits.specs.Letters.{in_twos, is_kanji_pair}
+use Rattle.qr_bits.specs.Stream.{kanji_bits}
+use Rattle.qr_bits.proofs.encoding.put_kanji.Given as goal
+
+-- what is written and what is left are the whole
+abbrev pub invariant-loop-rest : goal.invariant-loop-rest
+invariant-loop-rest l = record {
+  whole : l.writer ++ kanji_bits l.rest ≡ l.initial.writer ++ kanji_bits l.bytes;
+  pairs : in_twos is_kanji_pair l.rest ≡ true;
+}
+
+abbrev pub decreases-loop-rest : goal.decreases-loop-rest
+decreases-loop-rest l = length l.rest

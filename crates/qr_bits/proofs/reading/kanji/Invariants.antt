@@ -1,0 +1,15 @@
+use Rattle.std.proofs.Common.{◌≡◌, ◌*◌, ◌≤◌, length, drop}
+use Rattle.qr_bits.specs.Parse.{pairs_of}
+use Rattle.qr_bits.proofs.Payloads.{with_front}
+use Rattle.qr_bits.proofs.reading.kanji.Given as goal
+
+-- what was read, and what is left to read, make the whole
+abbrev pub invariant-loop-left : goal.invariant-loop-left
+invariant-loop-left l = record {
+  reads : with_front l.out.items (pairs_of l.left l.reader) ≡ with_front l.initial.out.items (pairs_of l.count l.initial.reader);
+  there : 13 * l.left ≤ length l.reader;
+  rest : drop (13 * l.left) l.reader ≡ drop (13 * l.count) l.initial.reader;
+}
+
+abbrev pub decreases-loop-left : goal.decreases-loop-left
+decreases-loop-left l = l.left

@@ -1,0 +1,69 @@
+//! Folding: small letters of an input become capitals, which alphanumeric mode can write.
+
+ghost use Rattle.std.specs.Prelude.{◌≡◌, ◌++◌, length, map, vec_len, IfOk, OnOk};
+ghost use Rattle.qr_bits.specs.Folding.{capital, folded, folded_around_pairs};
+
+use crate::segment::Rule;
+use crate::table::begins_with_pair;
+use std::alloc::{AllocError, Global};
+
+/// The input with its letters `a` to `z` as capitals. It has as many bytes as the input.
+///
+/// Under `Rule::WithKanji` the input is read from the left, and a kanji pair stays as it is; under
+/// `Rule::BytesOnly` all bytes stay.
+pub fn fold(alloc: Global, input: &[u8], rule: Rule) -> Result<Vec<u8>, AllocError>
+    ensures bytes { IfOk result (λ v. v.items ≡ folded rule input.now) }
+    ensures len { IfOk result (λ v. vec_len v ≡ length input.now) }
+{
+    match rule {
+        Rule::Auto => input.iter().map(|byte| capital(*byte)).collect(alloc),
+        Rule::BytesOnly => input.iter().copied().collect(alloc),
+        Rule::WithKanji => fold_around_pairs(alloc, input),
+    }
+}
+
+fn fold_around_pairs(alloc: Global, input: &[u8]) -> Result<Vec<u8>, AllocError>
+    ensures bytes { IfOk result (λ v. v.items ≡ folded_around_pairs input.now) }
+    ensures len { IfOk result (λ v. vec_len v ≡ length input.now) }
+{
+    let mut folded = Vec::with_capacity(alloc, input.len())?;
+    let mut rest = input;
+    while !rest.is_empty() {
+        if begins_with_pair(Rule::WithKanji, rest) {
+            let (pair, after) = rest.split_at(2);
+            folded.extend_from_slice(pair)?;
+            rest = after;
+        } else {
+            folded.push(capital(rest[0]))?;
+            let (_, after) = rest.split_at(1);
+            rest = after;
+        }
+    }
+    Ok(folded)
+}
+
+fn capital(byte: u8) -> u8
+    ensures { result ≡ capital byte }
+{
+    byte.to_ascii_uppercase()
+}
+
+#[cfg(test)]
+mod tests {
+    use super::*;
+    use std::test::Fail;
+
+    #[test]
+    fn three_bytes(rt: HostRuntime) -> Result<(), Fail> {
+        let rows = [
+            ("around a pair", Rule::WithKanji, b"\x93\x61\x41"),
+            ("without kanji mode", Rule::Auto, b"\x93\x41\x41"),
+            ("in byte mode", Rule::BytesOnly, b"\x93\x61\x61"),
+        ];
+        for (name, rule, wanted) in rows {
+            let folded = fold(rt.alloc(), b"\x93\x61\x61", rule)?;
+            assert_eq!(rt; folded.as_slice(), wanted.as_slice(), "{name}");
+        }
+        Ok(())
+    }
+}
