@@ -19,7 +19,7 @@ one-at : (p : ℕ → Bool) → below 40 (λ i. p (i + 1)) ≡ true → (v : ℕ
 one-at p h v a b = let e : v - 1 + 1 ≡ v = omega arith in subst (λ (t : ℕ). p t ≡ true) e (below-at 40 (λ i. p (i + 1)) h (v - 1) (omega arith))
 
 -- a test at each level and version, read at one
-every-at : (p : Level → ℕ → Bool) → every p ≡ true → (l : Level) (v : ℕ) → 1 ≤ v → v ≤ 40 → p l v ≡ true
+pub every-at : (p : Level → ℕ → Bool) → every p ≡ true → (l : Level) (v : ℕ) → 1 ≤ v → v ≤ 40 → p l v ≡ true
 every-at p h L = one-at (p L) (&&-left (below 40 (λ i. p L (i + 1))) _ h)
 every-at p h M = one-at (p M) (&&-left (below 40 (λ i. p M (i + 1))) _ (&&-right (below 40 (λ i. p L (i + 1))) _ h))
 every-at p h Q = one-at (p Q) (&&-left (below 40 (λ i. p Q (i + 1))) _ (&&-right (below 40 (λ i. p M (i + 1))) _ (&&-right (below 40 (λ i. p L (i + 1))) _ h)))

@@ -1,9 +1,9 @@
 -- Messages that are near in each block are one.
-use Rattle.std.proofs.Common.{◌≡◌, ℕ, zero, suc, ◌+◌, ◌*◌, ◌<◌, ◌≤◌, Option, List, [], ◌++◌, length, take, drop, length-drop, get_or, sym, ap, ◌∙◌, subst, inl, inr, ◌⊎◌, arith}
+use Rattle.std.proofs.Common.{◌≡◌, ℕ, zero, suc, ◌+◌, ◌<◌, ◌≤◌, List, [], ◌++◌, length, take, drop, length-drop, get_or, sym, ap, ◌∙◌, subst, inl, inr, ◌⊎◌, arith}
 use Rattle.std.proofs.lemmas.Bool.{cases_lt}
 use Rattle.std.proofs.lemmas.List.{length-take}
 use Rattle.std.proofs.Math.Seq.{take-add, take-length}
-use Rattle.qr_field.specs.Distance.{differences, erasures, errors}
+use Rattle.qr_field.specs.Distance.{differences}
 use Rattle.qr_field.proofs.DistanceLemmas.{near-same, unambiguous-known}
 use Rattle.qr_layout.specs.declared.level.Level.{Level}
 use Rattle.qr_layout.specs.Blocks.{blocks_of}
@@ -69,12 +69,12 @@ search-below P Q zero f = inr (λ i l. absurd (omega arith))
 search-below P Q (suc n) f = elim (search-below P Q n (λ i l. f i (omega arith))) [
   | inl w ↦ let l = w.1 in inl (w.0, omega arith, w.2)
   | inr all ↦ elim (f n (omega arith)) [
-      | inl p ↦ inl (n, omega arith, p)
-      | inr q ↦ inr (λ i l. elim (cases_lt i n) [
-          | inl m ↦ all i m
-          | inr m ↦ let e : n ≡ i = omega arith in subst Q e q
-        ])
-    ]
+    | inl p ↦ inl (n, omega arith, p)
+    | inr q ↦ inr (λ i l. elim (cases_lt i n) [
+      | inl m ↦ all i m
+      | inr m ↦ let e : n ≡ i = omega arith in subst Q e q
+    ])
+  ]
 ]
 
 -- messages of a version and a level whose blocks are the same
