@@ -1,9 +1,11 @@
 -- Folding around kanji pairs, step by step.
 use Rattle.std.proofs.Common.{◌≡◌, ℕ, suc, ◌<◌, ◌≤◌, Bool, true, false, List, [], ◌∷◌, ◌++◌, length, get_or, take, drop, refl, sym, ◌∙◌, ap, ⊎_elim, arith, append_assoc}
+use Rattle.std.proofs.lemmas.List.{length-map}
 use Rattle.std.proofs.lemmas.Bool.{cases_Bool, false≢true}
-use Rattle.qr_bits.specs.declared.segment.Rule.TheVariants.{WithKanji}
+use Rattle.qr_bits.specs.declared.segment.Rule.{Rule}
+use Rattle.qr_bits.specs.declared.segment.Rule.TheVariants.{Auto, BytesOnly, WithKanji}
 use Rattle.qr_bits.specs.Letters.{is_kanji_pair}
-use Rattle.qr_bits.specs.Folding.{capital, folded_around_pairs}
+use Rattle.qr_bits.specs.Folding.{capital, folded, folded_around_pairs}
 use Rattle.qr_bits.specs.Places.{begins}
 
 -- a pair stays
@@ -36,6 +38,12 @@ length-folded_around_pairs (x ∷ y ∷ xs) =
     (λ (t : is_kanji_pair x y ≡ true). rw t (ap (λ (n : ℕ). suc (suc n)) (length-folded_around_pairs xs)))
     (λ (f : is_kanji_pair x y ≡ false). rw f (ap suc (length-folded_around_pairs (y ∷ xs))))
     (cases_Bool (is_kanji_pair x y))
+
+-- folding keeps the number of bytes
+pub length-folded : (r : Rule) (xs : List ℕ) → length (folded r xs) ≡ length xs
+length-folded Auto xs = length-map xs capital
+length-folded BytesOnly xs = refl
+length-folded WithKanji xs = length-folded_around_pairs xs
 
 -- one part more that is folded
 pub more_folded : (front part rest next whole : List ℕ) → rest ≡ part ++ next → front ++ rest ≡ whole → (front ++ part) ++ next ≡ whole

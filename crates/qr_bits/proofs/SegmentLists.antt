@@ -1,5 +1,5 @@
 -- Lists of segments: their bits, their lengths, and what they cover.
-use Rattle.std.proofs.Common.{◌≡◌, ℕ, suc, ◌+◌, ◌*◌, ◌/◌, ◌%◌, ◌<◌, ◌≤◌, ◌↔◌, Bool, true, false, cond, ◌==◌, List, [], ◌∷◌, length, get_or, take, drop, refl, sym, ap, arith, lit≤, IsTrue, All}
+use Rattle.std.proofs.Common.{◌≡◌, ℕ, suc, ◌+◌, ◌*◌, ◌/◌, ◌%◌, ◌<◌, ◌≤◌, ◌↔◌, Bool, true, false, cond, ◌==◌, List, [], ◌∷◌, length, get_or, take, drop, refl, sym, ◌∙◌, ap, inl, inr, arith, lit≤, IsTrue, All}
 use Rattle.std.specs.List.{sum_by}
 use Rattle.std.proofs.lemmas.Bool.{cond_both, eqb-true}
 use Rattle.std.proofs.lemmas.List.{length-drop, drop_all}
@@ -10,7 +10,7 @@ use Rattle.qr_bits.specs.declared.segment.Mode.{Mode}
 use Rattle.qr_bits.specs.declared.segment.Mode.TheVariants.{Numeric, Alphanumeric, Byte, Kanji}
 use Rattle.qr_bits.specs.declared.segment.Rule.{Rule}
 use Rattle.qr_bits.specs.declared.segment.Segment.{Segment}
-use Rattle.qr_bits.specs.Letters.{count_width, payload_bits, segment_bits, bits, suits, Covers, runs_of, IsLeastSegmentation, HasFit}
+use Rattle.qr_bits.specs.Letters.{count_width, payload_bits, segment_bits, bits, rank, suits, Covers, runs_of, NotAfter, IsLeastSegmentation, HasFit}
 use Rattle.qr_bits.specs.Stream.{Suits}
 
 -- a choice between small numbers is small
@@ -110,3 +110,21 @@ least_fits v r xs segs h =
       rw h.2 is.lettering.1,
       λ n. (λ fit. omega (arith, same, is.least fit.0 fit.1, fit.2), λ small. (ms, is.lettering, omega (arith, same))),
     )
+
+-- Letters of which neither come after the others are the same.
+letters-one : (ms ks : List Mode) → NotAfter ms ks → NotAfter ks ms → ms ≡ ks
+letters-one [] [] a b = refl
+letters-one [] (k ∷ ks) a b = absurd b
+letters-one (m ∷ ms) [] a b = absurd a
+letters-one (m ∷ ms) (k ∷ ks) a b =
+    elim a [
+      | inl i ↦ elim b [ inl j ↦ absurd (omega arith) | inr y ↦ (let e = ap rank y.0 in absurd (omega arith)) ]
+      | inr x ↦ elim b [ inl j ↦ (let e = ap rank x.0 in absurd (omega arith)) | inr y ↦ (let e = letters-one ms ks x.1 y.1 in let f = x.0 in cc) ]
+    ]
+
+-- The least segmentation is one.
+pub segmentation-one : (v : ℕ) (r : Rule) (xs : List ℕ) (ss ts : List Segment) → IsLeastSegmentation v r xs ss → IsLeastSegmentation v r xs ts → ss ≡ ts
+segmentation-one v r xs ss ts a b =
+    let ab = a.1.least b.0 b.1.lettering in
+    let ba = b.1.least a.0 a.1.lettering in
+    a.2 ∙ ap runs_of (letters-one a.0 b.0 (a.1.first b.0 b.1.lettering (omega arith)) (b.1.first a.0 a.1.lettering (omega arith))) ∙ sym b.2

@@ -1,6 +1,6 @@
 //! From segments to data codewords: ISO/IEC 18004:2015, 7.4 and 8.
 
-ghost use Rattle.std.specs.Prelude.{◌≡◌, ◌+◌, ◌-◌, ◌<◌, ◌≤◌, ◌^◌, ◌++◌, All, IfOk, IsTrue, OnOk, ◌==◌, length, vec_len};
+ghost use Rattle.std.specs.Prelude.{◌≡◌, ◌+◌, ◌-◌, ◌<◌, ◌≤◌, ◌^◌, ◌++◌, ◌↔◌, Err, All, IfOk, IsTrue, OnOk, ◌==◌, length, vec_len};
 ghost use Rattle.std.specs.List.{list_all, position};
 ghost use Rattle.std.specs.Option.{ForSome};
 ghost use Rattle.qr_bits.specs.Bits.{bits_of};
@@ -38,8 +38,8 @@ pub fn codewords(
     requires covered { Covers input.now segs.now }
     requires in_range { ForSome header (λ h. (h.position < 16) × (h.last < 16)) }
     ensures ok { IfOk result (λ cw. IsData version level input.now segs.now header cw.items) }
-    ensures too_long { result ≡ Err BitFault.TooLong
-        → capacity_of version level < header_bits header + bits version segs.now }
+    ensures too_long { (result ≡ Err BitFault.TooLong)
+        ↔ (capacity_of version level < header_bits header + bits version segs.now) }
 {
     let capacity = capacity(version, level);
     let used = header_bits(header) + bit_len(segs, version);

@@ -4,36 +4,17 @@ use Rattle.std.proofs.lemmas.Bool.{cases_lt}
 use Rattle.qr_layout.specs.declared.level.Level.{Level}
 use Rattle.qr_layout.specs.Blocks.{blocks_of}
 use Rattle.qr_bits.specs.declared.segment.Rule.{Rule}
-use Rattle.qr_bits.specs.declared.segment.Mode.{Mode}
 use Rattle.qr_bits.specs.declared.segment.Segment.{Segment}
 use Rattle.qr_bits.specs.declared.header.Header.{Header}
-use Rattle.qr_bits.specs.Letters.{runs_of, rank, NotAfter, IsLeastSegmentation}
 use Rattle.qr_bits.specs.Data.{IsData}
 use Rattle.qr_bits.proofs.DataLaws.{data_one}
+use Rattle.qr_bits.proofs.SegmentLists.{segmentation-one}
 use Rattle.qr_matrix.specs.Grid.{Grid}
 use Rattle.qr_symbol.specs.Interleaving.{IsInterleaved}
 use Rattle.qr_symbol.specs.Colour.{grid_of}
 use Rattle.qr_symbol.specs.Choice.{IsFirstLeast, IsMask, mask_penalty}
 use Rattle.qr_symbol.specs.Symbols.{IsVersion, IsSymbolAt, SymbolsAreOne}
 use Rattle.qr_symbol.proofs.MessageLemmas.{final-one}
-
--- Letters of which neither come after the others are the same.
-letters-one : (ms ks : List Mode) → NotAfter ms ks → NotAfter ks ms → ms ≡ ks
-letters-one [] [] a b = refl
-letters-one [] (k ∷ ks) a b = absurd b
-letters-one (m ∷ ms) [] a b = absurd a
-letters-one (m ∷ ms) (k ∷ ks) a b =
-    elim a [
-      | inl i ↦ elim b [ inl j ↦ absurd (omega arith) | inr y ↦ (let e = ap rank y.0 in absurd (omega arith)) ]
-      | inr x ↦ elim b [ inl j ↦ (let e = ap rank x.0 in absurd (omega arith)) | inr y ↦ (let e = letters-one ms ks x.1 y.1 in let f = x.0 in cc) ]
-    ]
-
--- The least segmentation is one.
-segmentation-one : (v : ℕ) (rule : Rule) (xs : List ℕ) (ss ts : List Segment) → IsLeastSegmentation v rule xs ss → IsLeastSegmentation v rule xs ts → ss ≡ ts
-segmentation-one v rule xs ss ts a b =
-    let ab = a.1.least b.0 b.1.lettering in
-    let ba = b.1.least a.0 a.1.lettering in
-    a.2 ∙ ap runs_of (letters-one a.0 b.0 (a.1.first b.0 b.1.lettering (omega arith)) (b.1.first a.0 a.1.lettering (omega arith))) ∙ sym b.2
 
 -- The first number of the least measure is one.
 least-one : (n : ℕ) (f : ℕ → ℕ) (m k : ℕ) → IsFirstLeast n f m → IsFirstLeast n f k → m ≡ k

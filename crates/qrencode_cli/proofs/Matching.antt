@@ -1,12 +1,13 @@
 -- From what clap states to the matches of this command.
-use Rattle.std.proofs.Common.{◌≡◌, ◌∙◌, List, [], true, refl, ap, inl, inr}
+use Rattle.std.proofs.Common.{◌≡◌, ◌∙◌, List, [], ◌∷◌, Err, true, refl, ap, inl, inr}
 use Rattle.clap.specs.Words.{HasKind, IsAmong, Kinds, fault_of, found_of, is_simple_and_free, kind_of}
-use Rattle.clap.specs.Walk.{Text, rows_of}
+use Rattle.clap.specs.Walk.{Row, Text, rows_of}
 use Rattle.clap.specs.Simple.{App, HasMatchesOf, is_simple, matches_of}
 use Rattle.clap.specs.declared.error.Error.{Error}
 use Rattle.clap.specs.declared.error.kind.ErrorKind.TheVariants as kind
 use Rattle.clap.specs.declared.parser.matches.ArgMatches.{ArgMatches}
 use Rattle.qrencode_cli.specs.Arguments.{command, faults_for, rows_for}
+use Rattle.qrencode_cli.specs.Settings.{no_matches, settings_for, taken_settings}
 
 pub is_simple-command : is_simple command ≡ true
 unfolding command
@@ -26,3 +27,11 @@ rows_are a words m e h = (h (ap is_simple e ∙ is_simple-command)).0 ∙ ap (λ
 
 pub kinds_not_empty : (kinds : Kinds) (e : Error) → (kind_of e ≡ kind.OutOfMemory → ⊥) → HasKind kinds e → kinds ≡ [] → ⊥
 kinds_not_empty kinds e other h none = elim h [ inl memory ↦ other memory | inr among ↦ let no : IsAmong (kind_of e) [] = rw none at among in no ]
+
+-- words for which clap states a fault have no settings
+pub refused_words : (words : List Text) → (faults_for words ≡ [] → ⊥) → settings_for words ≡ Err no_matches
+refused_words words some = refused (faults_for words) (rows_for words) some
+  where
+    refused : (kinds : Kinds) (rows : List Row) → (kinds ≡ [] → ⊥) → taken_settings kinds rows ≡ Err no_matches
+    refused [] rows some = absurd (some refl)
+    refused (k ∷ kinds) rows some = refl

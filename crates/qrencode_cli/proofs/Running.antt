@@ -2,17 +2,18 @@
 use Rattle.std.proofs.Common.{◌≡◌, ◌∙◌, ℕ, List, [], Option, Result, Ok, Err, MatchOption, OnOk, OnErr, None, Some, IfErr, is_err, true, false, refl, sym, append-nil, length}
 use Rattle.std.specs.Io.KnownBytes.{Appends}
 use Rattle.clap.specs.Walk.{Text}
-use Rattle.qrencode_cli.specs.Answer.{Breaks, Draws, Reads, ReadsFor, Shows, Tells, fault_line}
+use Rattle.qrencode_cli.specs.Answer.{Breaks, Draws, Reads, ReadsFor, Shows, Tells}
 use Rattle.qrencode_cli.specs.Device.{AppendsBeginning, Reader, Writer, counted, is_write_fault, no_writes}
-use Rattle.qrencode_cli.specs.Settings.{Refusal, Seen, settings_for}
+use Rattle.qrencode_cli.specs.Faults.{fault_line}
+use Rattle.qrencode_cli.specs.Settings.{Reason, SettingsView, settings_for}
 use Rattle.qrencode_cli.specs.Steps.{Attempts, IsEarly, Prepares, drawing_of}
-use Rattle.qrencode_cli.specs.declared.command.Fault.{Fault}
-use Rattle.qrencode_cli.specs.declared.command.Fault.TheVariants as fault
+use Rattle.qrencode_cli.specs.declared.fault.Fault.{Fault}
+use Rattle.qrencode_cli.specs.declared.fault.Fault.TheVariants as fault
 use Rattle.qrencode_cli.specs.declared.picture.Picture.{Picture}
 use Rattle.qrencode_cli.specs.declared.pen.DrawFault.{DrawFault}
 
 -- showing a picture reads nothing more
-reads-on : (o : Result Seen Refusal) (in0 in1 : Reader) (given : List ℕ) (p : Picture) (r : Result (Unit {0}) Fault)
+reads-on : (o : Result SettingsView Reason) (in0 in1 : Reader) (given : List ℕ) (p : Picture) (r : Result (Unit {0}) Fault)
     → IfErr r (λ f. f ≡ fault.Write) → ReadsFor o in0 in1 given {T = Picture} (Ok p) → ReadsFor o in0 in1 given r
 reads-on (Err e) in0 in1 given p r w h = h
 reads-on (Ok s) in0 in1 given p r w h = on s.string h
@@ -46,28 +47,17 @@ attempts-shown words in0 in1 out0 out1 p h (Err f) ok (e, b) = rw e (record {
 
 -- a fault before the first byte is written leaves the writer as it was
 shows-nothing : (words : List Text) (given : List ℕ) (out0 : Writer) (f : Fault) → IsEarly f → Shows words given out0 out0 {T = Unit {0}} (Err f)
-shows-nothing words given out0 (fault.Usage u) h = refl
-shows-nothing words given out0 fault.Read h = refl
-shows-nothing words given out0 fault.Empty h = refl
-shows-nothing words given out0 fault.TooLong h = refl
-shows-nothing words given out0 fault.TooMany h = refl
-shows-nothing words given out0 fault.Memory h = refl
 shows-nothing words given out0 fault.Write h = absurd h
+shows-nothing words given out0 _ h = refl
 
 -- the same fault, before and after what would have been shown
-reads-fault : (o : Result Seen Refusal) (in0 in1 : Reader) (given : List ℕ) (f : Fault)
+reads-fault : (o : Result SettingsView Reason) (in0 in1 : Reader) (given : List ℕ) (f : Fault)
     → ReadsFor o in0 in1 given {T = Picture} (Err f) → ReadsFor o in0 in1 given {T = Unit {0}} (Err f)
 reads-fault (Err e) in0 in1 given f h = h
 reads-fault (Ok s) in0 in1 given f h = on s.string h
   where
     same : (f : Fault) → Reads in0 in1 given {T = Picture} (Err f) → Reads in0 in1 given {T = Unit {0}} (Err f)
-    same (fault.Usage u) h = h
-    same fault.Read h = h
-    same fault.Empty h = h
-    same fault.TooLong h = h
-    same fault.TooMany h = h
-    same fault.Memory h = h
-    same fault.Write h = h
+    same _ h = h
 
     on : (o : Option Text) → MatchOption o (Reads in0 in1 given {T = Picture} (Err f)) (λ _. in1 ≡ in0)
         → MatchOption o (Reads in0 in1 given {T = Unit {0}} (Err f)) (λ _. in1 ≡ in0)

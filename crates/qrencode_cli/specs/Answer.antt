@@ -1,32 +1,36 @@
 -- What the command answers to its words and its input, and what a run of it does to its devices. Public clauses cite
 -- this file.
-use Rattle.std.specs.Prelude.{◌≡◌, ◌≤◌, ◌<◌, ◌+◌, ◌⊎◌, ℕ, List, [], length, take, max, codes, MatchOption, None, IfErr, Result, Ok, Err, Bool, true, false}
+use Rattle.std.specs.Prelude.{◌≡◌, ◌≤◌, ◌<◌, ◌+◌, ◌⊎◌, ℕ, List, [], length, take, max, MatchOption, None, IfErr, Result, Ok, Err, true, false, if◌then◌else◌}
 use Rattle.std.specs.Option.{option_map_or}
-use Rattle.std.specs.String.{string_bytes}
 use Rattle.std.specs.Io.KnownBytes.{Appends, Consumes}
 use Rattle.clap.specs.Walk.{Text}
 use Rattle.qr_bits.specs.declared.segment.TheConstants.{INPUT_MAX}
+use Rattle.qr_bits.specs.Folding.{folded}
 use Rattle.qr_matrix.specs.Grid.{Grid}
 use Rattle.qr_symbol.specs.Joining.{IsJoined}
 use Rattle.qrencode_cli.specs.declared.pen.TheConstants.{PIECE}
 use Rattle.qrencode_cli.specs.Device.{AppendsBeginning, IsReadWithin, IsWrittenWithin, Reader, Writer, counted, is_read_fault, is_write_fault, no_reads, no_writes}
 use Rattle.qrencode_cli.specs.Drawings.{drawn}
+use Rattle.qrencode_cli.specs.Faults.{fault_line, is_read, is_write}
 use Rattle.qrencode_cli.specs.Input.{IsInputOf}
-use Rattle.qrencode_cli.specs.Settings.{Refusal, Seen, settings_for}
+use Rattle.qrencode_cli.specs.Settings.{Reason, SettingsView, needs_version, no_matches, rule_for, settings_for, unknown_level, unknown_type}
 use Rattle.qrencode_cli.specs.Symbols.{AreSymbols, IsTooLong, IsTooMany}
-use Rattle.qrencode_cli.specs.Usage.{IsUsageFault}
-use Rattle.qrencode_cli.specs.declared.command.Fault.{Fault}
-use Rattle.qrencode_cli.specs.declared.command.Fault.TheVariants as fault
-use Rattle.qrencode_cli.specs.declared.settings.UsageFault.{UsageFault}
-use Rattle.qrencode_cli.specs.declared.settings.UsageFault.TheVariants as usage
+use Rattle.qrencode_cli.specs.declared.fault.Fault.{Fault}
+use Rattle.qrencode_cli.specs.declared.fault.Fault.TheVariants as fault
+use Rattle.qrencode_cli.specs.declared.fault.Refusal.{Refusal}
+use Rattle.qrencode_cli.specs.declared.fault.Refusal.TheVariants as refusal
 
 -- the input that is encoded: the words' string, or what the reader gives; no more of it than is read [own]
-abbrev pub input_for : Seen → List ℕ → List ℕ
+abbrev pub input_for : SettingsView → List ℕ → List ℕ
 input_for s given = option_map_or (λ text. take INPUT_MAX text) s.string given
+
+-- the input as the symbols hold it: under -i with its small letters as capitals, by the rule of modes [own]
+abbrev pub held : SettingsView → List ℕ → List ℕ
+held s input = if s.fold then folded (rule_for s) input else input
 
 -- the settings ask for this drawing of an input: that of its symbols. They are read and joined to the input, and the
 -- input is shorter than what is read, so nothing of it was cut [own]
-pub record IsDrawing (s : Seen) (input drawing : List ℕ) : Type 0 where
+pub record IsDrawing (s : SettingsView) (input drawing : List ℕ) : Type 0 where
   pub squares : List Grid
   pub symbols : AreSymbols s input squares
   pub joined : IsJoined squares input
@@ -36,54 +40,46 @@ pub record IsDrawing (s : Seen) (input drawing : List ℕ) : Type 0 where
 
 -- the words and the input ask for this drawing [own]
 pub record Asks (words : List Text) (given drawing : List ℕ) : Type 0 where
-  pub settings : Seen
+  pub settings : SettingsView
   pub taken : settings_for words ≡ Ok settings
-  pub is_drawing : IsDrawing settings (input_for settings given) drawing
+  pub is_drawing : IsDrawing settings (held settings (input_for settings given)) drawing
 
 -- the words and the input ask for what cannot be drawn, for this reason [own]
-pub record Refuses (words : List Text) (given : List ℕ) (why : Seen → List ℕ → Type 0) : Type 0 where
-  pub settings : Seen
+pub record Refuses (words : List Text) (given : List ℕ) (why : SettingsView → List ℕ → Type 0) : Type 0 where
+  pub settings : SettingsView
   pub taken : settings_for words ≡ Ok settings
-  pub because : why settings (input_for settings given)
+  pub because : why settings (held settings (input_for settings given))
 
 -- the words are taken, and the reader is to give the input [own]
 pub record AsksReader (words : List Text) : Type 0 where
-  pub settings : Seen
+  pub settings : SettingsView
   pub taken : settings_for words ≡ Ok settings
   pub no_string : settings.string ≡ None
 
--- the fault is that of the words and the input; want of memory may always come instead [own]
+-- the refusal is that of the words and the input [own]
+abbrev pub IsRefusal : List Text → List ℕ → Refusal → Type 0
+IsRefusal words given (refusal.Words text) = settings_for words ≡ Err no_matches
+IsRefusal words given refusal.Level = settings_for words ≡ Err unknown_level
+IsRefusal words given refusal.Kind = settings_for words ≡ Err unknown_type
+IsRefusal words given refusal.NeedsVersion = settings_for words ≡ Err needs_version
+IsRefusal words given refusal.Empty = Refuses words given (λ s input. input ≡ [])
+IsRefusal words given refusal.TooLong = Refuses words given IsTooLong
+IsRefusal words given refusal.TooMany = Refuses words given IsTooMany
+
+-- the fault is that of the words and the input; lack of memory may always come instead [own]
 abbrev pub IsFault : List Text → List ℕ → Fault → Type 0
-IsFault words given (fault.Usage u) = IsUsageFault (settings_for words) u
+IsFault words given (fault.Refused r) = IsRefusal words given r
 IsFault words given fault.Read = AsksReader words
-IsFault words given fault.Empty = Refuses words given (λ s input. input ≡ [])
-IsFault words given fault.TooLong = Refuses words given IsTooLong
-IsFault words given fault.TooMany = Refuses words given IsTooMany
 IsFault words given fault.Memory = Unit {0}
 IsFault words given fault.Write = (drawing : List ℕ) × Asks words given drawing
-
--- the fault is that of the words or of the input, not of memory or a device [own]
-abbrev pub is_of_words_and_input : Fault → Bool
-is_of_words_and_input (fault.Usage (usage.Words text)) = true
-is_of_words_and_input (fault.Usage usage.Level) = true
-is_of_words_and_input (fault.Usage usage.Kind) = true
-is_of_words_and_input (fault.Usage usage.NeedsVersion) = true
-is_of_words_and_input (fault.Usage usage.Memory) = false
-is_of_words_and_input fault.Read = false
-is_of_words_and_input fault.Empty = true
-is_of_words_and_input fault.TooLong = true
-is_of_words_and_input fault.TooMany = true
-is_of_words_and_input fault.Memory = false
-is_of_words_and_input fault.Write = false
 
 -- The words and the input ask for one drawing at most [own].
 abbrev pub AnswersAreOne : Type 0
 AnswersAreOne = (words : List Text) (given d e : List ℕ) → Asks words given d → Asks words given e → d ≡ e
 
--- Where they ask for a drawing, they are not at fault [own].
+-- Words and an input that ask for a drawing are not refused [own].
 abbrev pub RefusalsExcludeDrawings : Type 0
-RefusalsExcludeDrawings = (words : List Text) (given d : List ℕ) (f : Fault) → Asks words given d → IsFault words given f
-    → is_of_words_and_input f ≡ false
+RefusalsExcludeDrawings = (words : List Text) (given d : List ℕ) (r : Refusal) → Asks words given d → IsRefusal words given r → ⊥
 
 -- the whole drawing was written, and after its last byte the writer was flushed once [own]
 pub record Draws (old new : Writer) (drawing : List ℕ) : Type 0 where
@@ -100,53 +96,24 @@ Breaks old new drawing = (AppendsBeginning old.taken new.taken drawing × (new.c
 -- what standard output got: the drawing, a beginning of it after a write fault, and before any other fault no call [own]
 abbrev pub Shows : List Text → List ℕ → Writer → Writer → {T : Type 0} → Result T Fault → Type 0
 Shows words given old new (Ok t) = (drawing : List ℕ) × Asks words given drawing × Draws old new drawing
-Shows words given old new (Err (fault.Usage u)) = new ≡ old
-Shows words given old new (Err fault.Read) = new ≡ old
-Shows words given old new (Err fault.Empty) = new ≡ old
-Shows words given old new (Err fault.TooLong) = new ≡ old
-Shows words given old new (Err fault.TooMany) = new ≡ old
-Shows words given old new (Err fault.Memory) = new ≡ old
 Shows words given old new (Err fault.Write) = (drawing : List ℕ) × Asks words given drawing × Breaks old new drawing
+Shows words given old new _ = new ≡ old
 
 -- all that the reader gave is the input [own]
 abbrev pub Gives : Reader → Reader → List ℕ → Type 0
 Gives old new given = Consumes old.remaining new.remaining given
     × (old.counts ≡ no_reads → new.counts.given ≡ length given)
 
--- what a run that asks the reader did to it: all was read, unless memory or the reader was at fault; where there was no
--- memory for the words, nothing was [own]
+-- what a run that asks the reader did to it: all was read, unless memory or the reader was at fault [own]
 abbrev pub Reads : Reader → Reader → List ℕ → {T : Type 0} → Result T Fault → Type 0
-Reads old new given (Ok t) = Gives old new given
-Reads old new given (Err (fault.Usage u)) = new ≡ old
 Reads old new given (Err fault.Read) = Unit {0}
-Reads old new given (Err fault.Empty) = Gives old new given
-Reads old new given (Err fault.TooLong) = Gives old new given
-Reads old new given (Err fault.TooMany) = Gives old new given
 Reads old new given (Err fault.Memory) = Unit {0}
-Reads old new given (Err fault.Write) = Gives old new given
+Reads old new given _ = Gives old new given
 
 -- what a run did to the reader: nothing where the words are not taken or hold the input themselves [own]
-abbrev pub ReadsFor : Result Seen Refusal → Reader → Reader → List ℕ → {T : Type 0} → Result T Fault → Type 0
+abbrev pub ReadsFor : Result SettingsView Reason → Reader → Reader → List ℕ → {T : Type 0} → Result T Fault → Type 0
 ReadsFor (Err r) old new given outcome = new ≡ old
 ReadsFor (Ok s) old new given outcome = MatchOption s.string (Reads old new given outcome) (λ _. new ≡ old)
-
--- the line that tells of a fault of the words; for words that are not taken, clap's text [own]
-abbrev pub usage_line : UsageFault → List ℕ
-usage_line (usage.Words text) = string_bytes text
-usage_line usage.Level = codes "qrencode: unknown level\n"
-usage_line usage.Kind = codes "qrencode: unknown type\n"
-usage_line usage.NeedsVersion = codes "qrencode: -S needs -v\n"
-usage_line usage.Memory = codes "qrencode: out of memory\n"
-
--- the line that tells of a fault [own]
-abbrev pub fault_line : Fault → List ℕ
-fault_line (fault.Usage u) = usage_line u
-fault_line fault.Read = codes "qrencode: read error\n"
-fault_line fault.Empty = codes "qrencode: input is empty\n"
-fault_line fault.TooLong = codes "qrencode: input does not fit\n"
-fault_line fault.TooMany = codes "qrencode: more than 16 symbols\n"
-fault_line fault.Memory = codes "qrencode: out of memory\n"
-fault_line fault.Write = codes "qrencode: write error\n"
 
 -- standard error got a beginning of a line, the whole and no byte more unless a write of it met a cause of a fault; it was
 -- not flushed [own]
@@ -161,35 +128,13 @@ abbrev pub Tells : Writer → Writer → {T : Type 0} → Result T Fault → Typ
 Tells old new (Ok t) = new ≡ old
 Tells old new (Err f) = IsTold old new (fault_line f)
 
--- the outcome is a read fault [own]
-abbrev pub is_read : {T : Type 0} → Result T Fault → Bool
-is_read (Ok t) = false
-is_read (Err (fault.Usage u)) = false
-is_read (Err fault.Read) = true
-is_read (Err fault.Empty) = false
-is_read (Err fault.TooLong) = false
-is_read (Err fault.TooMany) = false
-is_read (Err fault.Memory) = false
-is_read (Err fault.Write) = false
-
--- the outcome is a write fault [own]
-abbrev pub is_write : {T : Type 0} → Result T Fault → Bool
-is_write (Ok t) = false
-is_write (Err (fault.Usage u)) = false
-is_write (Err fault.Read) = false
-is_write (Err fault.Empty) = false
-is_write (Err fault.TooLong) = false
-is_write (Err fault.TooMany) = false
-is_write (Err fault.Memory) = false
-is_write (Err fault.Write) = true
-
 -- the status is 0 for a drawing and 1 for each fault [own]
 abbrev pub status_of : {T : Type 0} → Result T Fault → ℕ
 status_of (Ok t) = 0
 status_of (Err f) = 1
 
 -- what a run of the command answers and does to its devices, by its outcome: success or a fault. Where the devices'
--- counts start at 0, the outcome can only be the one that the words and the input ask for, want of memory, or a fault
+-- counts start at 0, the outcome can only be the one that the words and the input ask for, lack of memory, or a fault
 -- that the counts tell [own]
 pub record Runs (words : List Text) (in0 in1 : Reader) (out0 out1 err0 err1 : Writer) (outcome : Result (Unit {0}) Fault) (status : ℕ) : Type 0 where
   pub given : List ℕ

@@ -30,14 +30,16 @@ flag_rule id letter = record (new_rule id) { short = Some letter; action = Some 
 abbrev pub letter_of : Text → ℕ
 letter_of text = slice_index text 0
 
--- the command: -l, -v with 0 to 40, -t, which has to be given, -m with 0 to 100, -8, -S, and a text [own]
+-- the command: -l, -v with 0 to 40, -t, which has to be given, -m with 0 to 100, -8, -k, -i, -S, and a text [own]
 unfoldable pub command : App
-command = with_rule (with_rule (with_rule (with_rule (with_rule (with_rule (with_rule (new_app (codes "qrencode"))
+command = with_rule (with_rule (with_rule (with_rule (with_rule (with_rule (with_rule (with_rule (with_rule (new_app (codes "qrencode"))
     (text_rule (codes "level") (letter_of (codes "l"))))
     (number_rule (codes "version") (letter_of (codes "v")) (pos 40)))
     (required_rule (codes "type") (letter_of (codes "t"))))
     (number_rule (codes "margin") (letter_of (codes "m")) (pos 100)))
     (flag_rule (codes "bytes-only") (letter_of (codes "8"))))
+    (flag_rule (codes "kanji") (letter_of (codes "k"))))
+    (flag_rule (codes "fold") (letter_of (codes "i"))))
     (flag_rule (codes "structured") (letter_of (codes "S"))))
     (word_rule (codes "string"))
 

@@ -2,6 +2,7 @@ pub mod Answer
 pub mod Arguments
 pub mod Device
 pub mod Drawings
+pub mod Faults
 pub mod Input
 pub mod Pens
 pub mod Rasters
@@ -11,5 +12,4 @@ pub mod Steps
 pub mod Svg
 pub mod Symbols
 pub mod Trial
-pub mod Usage
 pub mod Writing

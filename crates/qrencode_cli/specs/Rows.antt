@@ -2,44 +2,46 @@
 use Rattle.std.specs.Prelude.{◌≡◌, List, [], ◌∷◌, codes, Some, None, Ok, Err, true, false}
 use Rattle.clap.specs.Walk.{Text}
 use Rattle.qr_layout.specs.declared.level.Level.TheVariants.{H, L, M, Q}
-use Rattle.qrencode_cli.specs.Settings.{Refusal, Seen, needs_version, no_matches, settings_for, unknown_level, unknown_type}
+use Rattle.qrencode_cli.specs.Settings.{Reason, SettingsView, needs_version, no_matches, settings_for, unknown_level, unknown_type}
 use Rattle.qrencode_cli.specs.declared.drawing.Drawing.TheVariants.{Ascii, AsciiInverse, Svg, Utf8}
 
 -- the settings of words that ask for an ASCII drawing and for nothing else [own]
-abbrev pub by_default : Seen
+abbrev pub by_default : SettingsView
 by_default = record {
   level = L;
   smallest = None;
   kind = Ascii;
   margin = 4;
   bytes_only = false;
+  kanji = false;
+  fold = false;
   structured = false;
   string = None;
 }
 
 -- the words give these settings, the program's name left aside [own]
-abbrev pub Taken : List Text → Seen → Type 0
-Taken words settings = settings_for (codes "qrencode" ∷ words) ≡ Ok settings
+abbrev pub IsTaken : List Text → SettingsView → Type 0
+IsTaken words settings = settings_for (codes "qrencode" ∷ words) ≡ Ok settings
 
 -- the words are refused, the program's name left aside [own]
-abbrev pub Refused : List Text → Refusal → Type 0
-Refused words why = settings_for (codes "qrencode" ∷ words) ≡ Err why
+abbrev pub IsRefused : List Text → Reason → Type 0
+IsRefused words why = settings_for (codes "qrencode" ∷ words) ≡ Err why
 
 -- what the words of some command lines ask for [own]
 pub record RowsOfWords : Type 0 where
-  pub plain : Taken (codes "-t" ∷ codes "ASCII" ∷ []) by_default
-  pub in_bytes : Taken (codes "-8" ∷ codes "-v" ∷ codes "1" ∷ codes "-t" ∷ codes "ascii" ∷ [])
+  pub plain : IsTaken (codes "-t" ∷ codes "ASCII" ∷ []) by_default
+  pub in_bytes : IsTaken (codes "-8" ∷ codes "-v" ∷ codes "1" ∷ codes "-t" ∷ codes "ascii" ∷ [])
       (record by_default { smallest = Some 1; bytes_only = true })
-  pub automatic : Taken (codes "-tAscii" ∷ codes "-v0" ∷ []) by_default
-  pub highest : Taken (codes "-t" ∷ codes "ascii" ∷ codes "-l" ∷ codes "h" ∷ codes "-v" ∷ codes "40" ∷ [])
+  pub automatic : IsTaken (codes "-tAscii" ∷ codes "-v0" ∷ []) by_default
+  pub highest : IsTaken (codes "-t" ∷ codes "ascii" ∷ codes "-l" ∷ codes "h" ∷ codes "-v" ∷ codes "40" ∷ [])
       (record by_default { level = H; smallest = Some 40 })
-  pub of_a_string : Taken (codes "-m" ∷ codes "0" ∷ codes "-t" ∷ codes "ascii" ∷ codes "--" ∷ codes "-8" ∷ [])
+  pub of_a_string : IsTaken (codes "-m" ∷ codes "0" ∷ codes "-t" ∷ codes "ascii" ∷ codes "--" ∷ codes "-8" ∷ [])
       (record by_default { margin = 0; string = Some (codes "-8") })
-  pub of_an_empty_string : Taken (codes "-m" ∷ codes "100" ∷ codes "-t" ∷ codes "ascii" ∷ codes "" ∷ [])
+  pub of_an_empty_string : IsTaken (codes "-m" ∷ codes "100" ∷ codes "-t" ∷ codes "ascii" ∷ codes "" ∷ [])
       (record by_default { margin = 100; string = Some (codes "") })
-  pub in_half_blocks : Taken (codes "-t" ∷ codes "utf8" ∷ codes "-l" ∷ codes "h" ∷ codes "A" ∷ [])
+  pub in_half_blocks : IsTaken (codes "-t" ∷ codes "utf8" ∷ codes "-l" ∷ codes "h" ∷ codes "A" ∷ [])
       (record by_default { level = H; kind = Utf8; string = Some (codes "A") })
-  pub in_a_series : Taken (codes "-l" ∷ codes "Q" ∷ codes "-v" ∷ codes "2" ∷ codes "-m" ∷ codes "0" ∷ codes "-8" ∷ codes "-S"
+  pub in_a_series : IsTaken (codes "-l" ∷ codes "Q" ∷ codes "-v" ∷ codes "2" ∷ codes "-m" ∷ codes "0" ∷ codes "-8" ∷ codes "-S"
       ∷ codes "-t" ∷ codes "svg" ∷ codes "A" ∷ [])
       (record {
         level = Q;
@@ -47,30 +49,36 @@ pub record RowsOfWords : Type 0 where
         kind = Svg;
         margin = 0;
         bytes_only = true;
+        kanji = false;
+        fold = false;
         structured = true;
         string = Some (codes "A");
       })
-  pub inverse : Taken (codes "-l" ∷ codes "m" ∷ codes "-t" ∷ codes "asciiI" ∷ [])
+  pub inverse : IsTaken (codes "-l" ∷ codes "m" ∷ codes "-t" ∷ codes "asciiI" ∷ [])
       (record by_default { level = M; kind = AsciiInverse })
   pub no_words : settings_for [] ≡ Err no_matches
-  pub name_alone : Refused [] no_matches
-  pub no_type : Refused (codes "-8" ∷ []) no_matches
-  pub other_type : Refused (codes "-t" ∷ codes "PNG" ∷ []) unknown_type
-  pub type_before_version : Refused (codes "-S" ∷ codes "-t" ∷ codes "PNG" ∷ []) unknown_type
-  pub empty_type : Refused (codes "-t" ∷ codes "" ∷ []) unknown_type
-  pub other_level : Refused (codes "-l" ∷ codes "X" ∷ codes "-t" ∷ codes "PNG" ∷ []) unknown_level
-  pub empty_level : Refused (codes "-l" ∷ codes "" ∷ codes "-t" ∷ codes "ASCII" ∷ []) unknown_level
-  pub level_twice : Refused (codes "-l" ∷ codes "L" ∷ codes "-l" ∷ codes "L" ∷ codes "-t" ∷ codes "ASCII" ∷ []) no_matches
-  pub past_versions : Refused (codes "-v" ∷ codes "41" ∷ codes "-t" ∷ codes "ASCII" ∷ []) no_matches
-  pub type_twice : Refused (codes "-t" ∷ codes "ASCII" ∷ codes "-t" ∷ codes "ASCII" ∷ []) no_matches
-  pub flag_twice : Refused (codes "-8" ∷ codes "-8" ∷ codes "-t" ∷ codes "ASCII" ∷ []) no_matches
-  pub two_strings : Refused (codes "-t" ∷ codes "ASCII" ∷ codes "a" ∷ codes "b" ∷ []) no_matches
-  pub past_margins : Refused (codes "-m" ∷ codes "101" ∷ codes "-t" ∷ codes "ASCII" ∷ []) no_matches
-  pub no_version : Refused (codes "-S" ∷ codes "-t" ∷ codes "ASCII" ∷ []) needs_version
-  pub version_0 : Refused (codes "-S" ∷ codes "-v" ∷ codes "0" ∷ codes "-t" ∷ codes "ASCII" ∷ []) needs_version
-  pub series_twice : Refused (codes "-S" ∷ codes "-S" ∷ codes "-v" ∷ codes "1" ∷ codes "-t" ∷ codes "ASCII" ∷ []) no_matches
-  pub kanji : Refused (codes "-k" ∷ codes "-t" ∷ codes "ASCII" ∷ []) no_matches
-  pub folding : Refused (codes "-i" ∷ codes "-t" ∷ codes "ASCII" ∷ []) no_matches
-  pub long_name : Refused (codes "--type" ∷ codes "ASCII" ∷ []) no_matches
-  pub help : Refused (codes "-h" ∷ []) no_matches
-  pub long_help : Refused (codes "--help" ∷ []) no_matches
+  pub name_alone : IsRefused [] no_matches
+  pub no_type : IsRefused (codes "-8" ∷ []) no_matches
+  pub other_type : IsRefused (codes "-t" ∷ codes "PNG" ∷ []) unknown_type
+  pub type_before_version : IsRefused (codes "-S" ∷ codes "-t" ∷ codes "PNG" ∷ []) unknown_type
+  pub empty_type : IsRefused (codes "-t" ∷ codes "" ∷ []) unknown_type
+  pub other_level : IsRefused (codes "-l" ∷ codes "X" ∷ codes "-t" ∷ codes "PNG" ∷ []) unknown_level
+  pub empty_level : IsRefused (codes "-l" ∷ codes "" ∷ codes "-t" ∷ codes "ASCII" ∷ []) unknown_level
+  pub level_twice : IsRefused (codes "-l" ∷ codes "L" ∷ codes "-l" ∷ codes "L" ∷ codes "-t" ∷ codes "ASCII" ∷ []) no_matches
+  pub past_versions : IsRefused (codes "-v" ∷ codes "41" ∷ codes "-t" ∷ codes "ASCII" ∷ []) no_matches
+  pub type_twice : IsRefused (codes "-t" ∷ codes "ASCII" ∷ codes "-t" ∷ codes "ASCII" ∷ []) no_matches
+  pub flag_twice : IsRefused (codes "-8" ∷ codes "-8" ∷ codes "-t" ∷ codes "ASCII" ∷ []) no_matches
+  pub two_strings : IsRefused (codes "-t" ∷ codes "ASCII" ∷ codes "a" ∷ codes "b" ∷ []) no_matches
+  pub past_margins : IsRefused (codes "-m" ∷ codes "101" ∷ codes "-t" ∷ codes "ASCII" ∷ []) no_matches
+  pub no_version : IsRefused (codes "-S" ∷ codes "-t" ∷ codes "ASCII" ∷ []) needs_version
+  pub version_0 : IsRefused (codes "-S" ∷ codes "-v" ∷ codes "0" ∷ codes "-t" ∷ codes "ASCII" ∷ []) needs_version
+  pub series_twice : IsRefused (codes "-S" ∷ codes "-S" ∷ codes "-v" ∷ codes "1" ∷ codes "-t" ∷ codes "ASCII" ∷ []) no_matches
+  pub with_kanji : IsTaken (codes "-k" ∷ codes "-t" ∷ codes "ASCII" ∷ []) (record by_default { kanji = true })
+  pub folding : IsTaken (codes "-i" ∷ codes "-t" ∷ codes "ASCII" ∷ []) (record by_default { fold = true })
+  pub both_and_bytes : IsTaken (codes "-8ki" ∷ codes "-t" ∷ codes "ASCII" ∷ [])
+      (record by_default { bytes_only = true; kanji = true; fold = true })
+  pub kanji_twice : IsRefused (codes "-k" ∷ codes "-k" ∷ codes "-t" ∷ codes "ASCII" ∷ []) no_matches
+  pub folding_twice : IsRefused (codes "-ii" ∷ codes "-t" ∷ codes "ASCII" ∷ []) no_matches
+  pub long_name : IsRefused (codes "--type" ∷ codes "ASCII" ∷ []) no_matches
+  pub help : IsRefused (codes "-h" ∷ []) no_matches
+  pub long_help : IsRefused (codes "--help" ∷ []) no_matches

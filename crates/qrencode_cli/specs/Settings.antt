@@ -1,31 +1,41 @@
 -- What the words ask for. Public clauses cite this file.
-use Rattle.std.specs.Prelude.{◌&&◌, ℕ, Bool, false, nat_le, List, [], ◌∷◌, Option, Some, None, Result, Ok, Err, codes, if◌then◌else◌}
+use Rattle.std.specs.Prelude.{◌≡◌, ◌&&◌, ℕ, Bool, false, nat_le, List, [], ◌∷◌, Option, Some, None, Result, Ok, Err, codes, if◌then◌else◌}
 use Rattle.std.specs.Option.{is_none, option_map_or}
 use Rattle.std.specs.Str.{bytes_eq, str_eq_ignore_ascii_case}
 use Rattle.clap.specs.Words.{Kinds, first_of, one_of}
 use Rattle.clap.specs.Walk.{Row, Text, byte_or_zero}
+use Rattle.qr_bits.specs.declared.segment.Rule.{Rule}
+use Rattle.qr_bits.specs.declared.segment.Rule.TheVariants.{Auto, BytesOnly, WithKanji}
 use Rattle.qr_layout.specs.declared.level.Level.{Level}
 use Rattle.qr_layout.specs.declared.level.Level.TheVariants as level
 use Rattle.qrencode_cli.specs.Arguments.{faults_for, rows_for}
 use Rattle.qrencode_cli.specs.declared.drawing.Drawing.{Drawing}
 use Rattle.qrencode_cli.specs.declared.drawing.Drawing.TheVariants as drawing
+use Rattle.qrencode_cli.specs.declared.settings.UsageFault.{UsageFault}
+use Rattle.qrencode_cli.specs.declared.settings.UsageFault.TheVariants as usage
 
 -- why the words ask for nothing that can be drawn [own]
-pub data Refusal : Type 0 where
-  no_matches : Refusal
-  unknown_level : Refusal
-  unknown_type : Refusal
-  needs_version : Refusal
+pub data Reason : Type 0 where
+  no_matches : Reason
+  unknown_level : Reason
+  unknown_type : Reason
+  needs_version : Reason
 
 -- the settings, as contracts see them [own]
-pub record Seen : Type 0 where
+pub record SettingsView : Type 0 where
   pub level : Level
   pub smallest : Option ℕ
   pub kind : Drawing
   pub margin : ℕ
   pub bytes_only : Bool
+  pub kanji : Bool
+  pub fold : Bool
   pub structured : Bool
   pub string : Option Text
+
+-- which modes the settings allow: bytes alone under -8, and without it kanji mode too under -k [own]
+abbrev pub rule_for : SettingsView → Rule
+rule_for s = if s.bytes_only then BytesOnly else (if s.kanji then WithKanji else Auto)
 
 -- the level that a word names, in either case of its letter [own]
 abbrev pub level_named : Text → Option Level
@@ -70,41 +80,51 @@ abbrev pub flag_at : Option Text → Bool
 flag_at o = option_map_or (λ t. bytes_eq t (codes "true")) o false
 
 -- the settings, once level and type are known [own]
-abbrev pub settings_with : List Row → Level → Drawing → Seen
+abbrev pub settings_with : List Row → Level → Drawing → SettingsView
 settings_with rows level kind = record {
   level = level;
   smallest = version_at (one_of (codes "version") rows);
   kind = kind;
   margin = number_at 4 (one_of (codes "margin") rows);
   bytes_only = flag_at (first_of (codes "bytes-only") rows);
+  kanji = flag_at (first_of (codes "kanji") rows);
+  fold = flag_at (first_of (codes "fold") rows);
   structured = flag_at (first_of (codes "structured") rows);
   string = first_of (codes "string") rows;
 }
 
 -- a series needs a version, which is looked at last [own]
-abbrev pub checked_series : Seen → Result Seen Refusal
+abbrev pub checked_series : SettingsView → Result SettingsView Reason
 checked_series s = if s.structured && is_none s.smallest then Err needs_version else Ok s
 
 -- the type is looked at before that [own]
-abbrev pub checked_kind : Option Drawing → (Drawing → Seen) → Result Seen Refusal
+abbrev pub checked_kind : Option Drawing → (Drawing → SettingsView) → Result SettingsView Reason
 checked_kind None settings = Err unknown_type
 checked_kind (Some kind) settings = checked_series (settings kind)
 
 -- the level is looked at before the type [own]
-abbrev pub checked_level : Option Level → Option Drawing → (Level → Drawing → Seen) → Result Seen Refusal
+abbrev pub checked_level : Option Level → Option Drawing → (Level → Drawing → SettingsView) → Result SettingsView Reason
 checked_level None kind settings = Err unknown_level
 checked_level (Some level) kind settings = checked_kind kind (settings level)
 
 -- the settings that the matches give [own]
-abbrev pub settings_of : List Row → Result Seen Refusal
+abbrev pub settings_of : List Row → Result SettingsView Reason
 settings_of rows =
     checked_level (level_at (first_of (codes "level") rows)) (drawing_at (first_of (codes "type") rows)) (settings_with rows)
 
 -- the settings of the matches, where clap states no fault [own]
-abbrev pub taken_settings : Kinds → List Row → Result Seen Refusal
+abbrev pub taken_settings : Kinds → List Row → Result SettingsView Reason
 taken_settings [] rows = settings_of rows
 taken_settings (k ∷ kinds) rows = Err no_matches
 
 -- the settings that the words give: those of the matches that clap states for them, where it states no fault [own]
-abbrev pub settings_for : List Text → Result Seen Refusal
+abbrev pub settings_for : List Text → Result SettingsView Reason
 settings_for words = taken_settings (faults_for words) (rows_for words)
+
+-- the fault is that of the words; lack of memory may always come instead [own]
+abbrev pub IsUsageFault : Result SettingsView Reason → UsageFault → Type 0
+IsUsageFault o (usage.Words text) = o ≡ Err no_matches
+IsUsageFault o usage.Level = o ≡ Err unknown_level
+IsUsageFault o usage.Kind = o ≡ Err unknown_type
+IsUsageFault o usage.NeedsVersion = o ≡ Err needs_version
+IsUsageFault o usage.Memory = Unit {0}

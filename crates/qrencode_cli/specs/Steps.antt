@@ -4,17 +4,16 @@ use Rattle.clap.specs.Walk.{Text}
 use Rattle.qrencode_cli.specs.Answer.{Asks, IsFault, ReadsFor, Shows}
 use Rattle.qrencode_cli.specs.Device.{Reader, Writer}
 use Rattle.qr_bits.specs.declared.segment.TheConstants.{INPUT_MAX}
-use Rattle.qr_symbol.specs.declared.fault.EncodeFault.{EncodeFault}
-use Rattle.qr_symbol.specs.declared.fault.EncodeFault.TheVariants as encode
 use Rattle.qr_symbol.specs.declared.symbol.Symbol.{Symbol}
 use Rattle.qr_symbol.specs.Joining.{IsJoined}
 use Rattle.qr_symbol.specs.Series.{squares_of}
 use Rattle.qrencode_cli.specs.Drawings.{HaveOneSide, drawn}
 use Rattle.qrencode_cli.specs.Input.{IsInputOf}
-use Rattle.qrencode_cli.specs.Settings.{Seen, settings_for}
+use Rattle.qrencode_cli.specs.Settings.{SettingsView, settings_for}
 use Rattle.qrencode_cli.specs.Symbols.{AreSymbols, IsTooLong, IsTooMany}
-use Rattle.qrencode_cli.specs.declared.command.Fault.{Fault}
-use Rattle.qrencode_cli.specs.declared.command.Fault.TheVariants.{Usage, Read, Empty, TooLong, TooMany, Memory, Write}
+use Rattle.qrencode_cli.specs.declared.fault.Fault.{Fault}
+use Rattle.qrencode_cli.specs.declared.fault.Fault.TheVariants.{Refused, Memory, Write}
+use Rattle.qrencode_cli.specs.declared.fault.Refusal.TheVariants.{Empty, TooLong, TooMany}
 use Rattle.qrencode_cli.specs.declared.picture.Picture.{Picture}
 
 -- the drawing of a picture
@@ -22,7 +21,7 @@ abbrev pub drawing_of : Picture → List ℕ
 drawing_of p = drawn p.kind p.margin (squares_of p.symbols.items)
 
 -- the symbols are those that the settings ask for of an input, and can be drawn
-pub record AreDrawnFor (s : Seen) (input : List ℕ) (symbols : List Symbol) : Type 0 where
+pub record AreDrawnFor (s : SettingsView) (input : List ℕ) (symbols : List Symbol) : Type 0 where
   pub asked : AreSymbols s input (squares_of symbols)
   pub joined : IsJoined (squares_of symbols) input
   pub nonempty : 0 < length input
@@ -31,32 +30,18 @@ pub record AreDrawnFor (s : Seen) (input : List ℕ) (symbols : List Symbol) : T
   pub few : length symbols ≤ 16
   pub one_side : HaveOneSide (squares_of symbols)
 
--- the fault that tells why there are no symbols
-abbrev pub told : EncodeFault → Fault
-told encode.Empty = Empty
-told encode.TooLong = TooLong
-told encode.TooMany = TooMany
-told encode.Memory = Memory
-
 -- why an input has no drawing
-abbrev pub IsInputFault : Seen → List ℕ → Fault → Type 0
-IsInputFault s input (Usage u) = ⊥
-IsInputFault s input Read = ⊥
-IsInputFault s input Empty = input ≡ []
-IsInputFault s input TooLong = IsTooLong s input
-IsInputFault s input TooMany = IsTooMany s input
+abbrev pub IsInputFault : SettingsView → List ℕ → Fault → Type 0
+IsInputFault s input (Refused Empty) = input ≡ []
+IsInputFault s input (Refused TooLong) = IsTooLong s input
+IsInputFault s input (Refused TooMany) = IsTooMany s input
 IsInputFault s input Memory = Unit {0}
-IsInputFault s input Write = ⊥
+IsInputFault s input _ = ⊥
 
 -- the fault comes before any byte is written
 abbrev pub IsEarly : Fault → Type 0
-IsEarly (Usage u) = Unit {0}
-IsEarly Read = Unit {0}
-IsEarly Empty = Unit {0}
-IsEarly TooLong = Unit {0}
-IsEarly TooMany = Unit {0}
-IsEarly Memory = Unit {0}
 IsEarly Write = ⊥
+IsEarly _ = Unit {0}
 
 -- the picture that the words and the input ask for, or why there is none
 pub record Prepares (words : List Text) (old new : Reader) (result : Result Picture Fault) : Type 0 where

@@ -1,12 +1,14 @@
 //! The command's arguments as `clap` reads them.
 
-ghost use Rattle.std.specs.Prelude.{Err, ◌≡◌, ◌≢◌, [], IfOk, map, false, codes};
+ghost use Rattle.std.specs.Prelude.{◌≡◌, [], IfErr, IfOk, map, false, codes};
 ghost use Rattle.std.specs.String.{string_bytes};
 ghost use Rattle.clap.specs.Words.{app_of, found_of};
 ghost use Rattle.clap.specs.Walk.{rows_of, rule_of};
 ghost use Rattle.clap.specs.Simple.{new_app};
 ghost use Rattle.qrencode_cli.specs.Arguments.{command, faults_for, flag_rule, number_rule, required_rule, rows_for, text_rule, word_rule};
+ghost use Rattle.qrencode_cli.specs.Settings.{IsUsageFault, settings_for};
 
+use crate::settings::UsageFault;
 use clap::builder::ValueParser;
 use clap::error::ErrorKind;
 use clap::{Arg, ArgAction, ArgMatches, Command};
@@ -109,6 +111,20 @@ const BYTES_ONLY: Name<'static> = Name {
     help: "Encode the whole input in byte mode",
 };
 
+const KANJI: Name<'static> = Name {
+    id: "kanji",
+    short: 'k',
+    value: "",
+    help: "Encode pairs of bytes that are Shift JIS characters in kanji mode, if that is shorter; -8 switches it off",
+};
+
+const FOLD: Name<'static> = Name {
+    id: "fold",
+    short: 'i',
+    value: "",
+    help: "Encode the letters a to z as capitals; -8 switches it off, and with -k kanji stay as they are",
+};
+
 const STRUCTURED: Name<'static> = Name {
     id: "structured",
     short: 'S',
@@ -125,7 +141,9 @@ fn described<'a>(alloc: Global) -> Result<Command<'a>, AllocError>
     let with_type = with_version.arg(required(alloc, TYPE))?;
     let with_margin = with_type.arg(number(alloc, MARGIN, 100))?;
     let with_bytes_only = with_margin.arg(flag(alloc, BYTES_ONLY))?;
-    let with_structured = with_bytes_only.arg(flag(alloc, STRUCTURED))?;
+    let with_kanji = with_bytes_only.arg(flag(alloc, KANJI))?;
+    let with_fold = with_kanji.arg(flag(alloc, FOLD))?;
+    let with_structured = with_fold.arg(flag(alloc, STRUCTURED))?;
     with_structured.arg(word(
         alloc,
         "string",
@@ -134,32 +152,22 @@ fn described<'a>(alloc: Global) -> Result<Command<'a>, AllocError>
     ))
 }
 
-/// Why the words have no matches.
-#[derive(Debug, Drop)]
-pub(crate) enum MatchFault {
-    /// The words are not such as the command takes; the text says why, or is the help asked for.
-    Words(String),
-    Memory,
-}
-
-/// The matches of the words, of which the first is the program's name.
-pub(crate) fn matches<'a>(alloc: Global, words: &'a [String]) -> Result<ArgMatches<'a>, MatchFault>
+/// The matches of the words, of which the first is the program's name. Where there are none, the
+/// text says why, or is the help asked for.
+pub(crate) fn matches<'a>(alloc: Global, words: &'a [String]) -> Result<ArgMatches<'a>, UsageFault>
     ensures taken { IfOk result (λ m. faults_for (map string_bytes words.entry.now) ≡ []) }
     ensures rows { IfOk result (λ m. rows_of (found_of m) ≡ rows_for (map string_bytes words.entry.now)) }
-    ensures words { (text : _) → result ≡ Err (MatchFault.Words text)
-        → faults_for (map string_bytes words.entry.now) ≢ [] }
+    ensures fault { IfErr result (IsUsageFault (settings_for (map string_bytes words.entry.now))) }
 {
-    let Ok(command) = described(alloc) else {
-        return Err(MatchFault::Memory);
-    };
+    let command = described(alloc)?;
     match command.try_get_matches_from(words) {
         Ok(matches) => Ok(matches),
         Err(error) => match error.kind() {
-            ErrorKind::OutOfMemory => Err(MatchFault::Memory),
-            _ => match format!(in alloc; "{error}") {
-                Ok(text) => Err(MatchFault::Words(text)),
-                Err(_) => Err(MatchFault::Memory),
-            },
+            ErrorKind::OutOfMemory => Err(UsageFault::Memory),
+            _ => {
+                let text = format!(in alloc; "{error}")?;
+                Err(UsageFault::Words(text))
+            }
         },
     }
 }

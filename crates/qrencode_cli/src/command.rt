@@ -4,173 +4,123 @@ ghost use Rattle.std.specs.Prelude.{◌≡◌, ◌≤◌, ◌<◌, ◌+◌, ◌�
 ghost use Rattle.std.specs.Prelude.{MatchResult, Result};
 ghost use Rattle.std.specs.Io.KnownBytes.{Appends};
 ghost use Rattle.std.specs.String.{string_bytes};
-ghost use Rattle.qrencode_cli.specs.Answer.{Breaks, Draws, IsDrawing, Runs, is_read, is_write, fault_line};
-ghost use Rattle.qrencode_cli.specs.Device.{IsReadWithin, IsWrittenWithin, is_read_fault, is_write_fault, no_reads, no_writes, reader, writer};
+ghost use Rattle.qrencode_cli.specs.Answer.{Breaks, Draws, IsDrawing, Runs, held};
+ghost use Rattle.qrencode_cli.specs.Device.{IsReadWithin, IsWrittenWithin, is_read_fault, is_write_fault, no_reads, no_writes};
+ghost use Rattle.qrencode_cli.specs.Faults.{is_read, is_write};
 ghost use Rattle.qrencode_cli.specs.Steps.{AreDrawnFor, Attempts, IsInputFault, Prepares, drawing_of};
-ghost use Rattle.qrencode_cli.specs.Usage.{seen};
-ghost use Rattle.qrencode_cli.specs.declared.command.Fault.{Fault};
+ghost use Rattle.qrencode_cli.specs.declared.fault.Fault.{Fault};
 
 use crate::device::{Sink, Source};
 use crate::drawing::draw;
-use crate::input::{InputFault, read_input};
+use crate::fault::Fault;
+use crate::input::read_input;
 use crate::pen::{PIECE, write_text};
 use crate::picture::Picture;
-use crate::settings::{Settings, UsageFault, options};
-use qr_bits::INPUT_MAX;
+use crate::settings::{Settings, options};
+use qr_bits::{INPUT_MAX, fold};
 use qr_layout::Version;
-use qr_symbol::{EncodeFault, Symbol, encode, encode_series};
+use qr_symbol::{Symbol, encode, encode_series};
 use std::alloc::Global;
-
-/// Why the command draws nothing, or not all.
-#[derive(Debug, Drop)]
-pub(crate) enum Fault {
-    Usage(UsageFault),
-    Read,
-    Empty,
-    TooLong,
-    TooMany,
-    Memory,
-    Write,
-}
-
-impl Fault {
-    // The line that tells of it.
-    fn line(&self) -> &[u8]
-        ensures { result.now ≡ fault_line self.now }
-    {
-        match self {
-            Fault::Usage(UsageFault::Words(text)) => text.as_bytes(),
-            Fault::Usage(UsageFault::Level) => b"qrencode: unknown level\n",
-            Fault::Usage(UsageFault::Kind) => b"qrencode: unknown type\n",
-            Fault::Usage(UsageFault::NeedsVersion) => b"qrencode: -S needs -v\n",
-            Fault::Usage(UsageFault::Memory) | Fault::Memory => b"qrencode: out of memory\n",
-            Fault::Read => b"qrencode: read error\n",
-            Fault::Empty => b"qrencode: input is empty\n",
-            Fault::TooLong => b"qrencode: input does not fit\n",
-            Fault::TooMany => b"qrencode: more than 16 symbols\n",
-            Fault::Write => b"qrencode: write error\n",
-        }
-    }
-}
-
-impl From<EncodeFault> for Fault {
-    ghost use Rattle.std.specs.Prelude.{◌≡◌};
-    ghost use Rattle.qrencode_cli.specs.Steps.{told};
-
-    ghost from_gives = { λ e f. f ≡ told e };
-
-    fn from(fault: EncodeFault) -> Self {
-        match fault {
-            EncodeFault::Empty => Fault::Empty,
-            EncodeFault::TooLong => Fault::TooLong,
-            EncodeFault::TooMany => Fault::TooMany,
-            EncodeFault::Memory => Fault::Memory,
-        }
-    }
-}
 
 // The symbols that the settings ask for of an input.
 fn symbols_for(alloc: Global, input: &[u8], settings: &Settings) -> Result<Vec<Symbol>, Fault>
     requires { length input.now ≤ INPUT_MAX }
-    ensures { MatchResult result (λ symbols. AreDrawnFor (seen settings.now) input.now symbols.items)
-        (IsInputFault (seen settings.now) input.now) }
+    ensures { MatchResult result (λ symbols. AreDrawnFor settings.now input.now symbols.items)
+        (IsInputFault settings.now input.now) }
 {
     let Some(first) = Version::new(1) else {
         unreachable!()
     };
     let version = settings.smallest.unwrap_or(first);
+    let rule = settings.rule();
     if settings.structured {
-        let symbols = encode_series(alloc, input, version, settings.level, settings.bytes_only)?;
+        let symbols = encode_series(alloc, input, version, settings.level, rule)?;
         return Ok(symbols);
     }
-    let symbol = encode(alloc, input, settings.level, version, settings.bytes_only)?;
-    match Vec::from_array(alloc, [symbol]) {
-        Ok(symbols) => Ok(symbols),
-        Err(_) => Err(Fault::Memory),
-    }
+    let symbol = encode(alloc, input, settings.level, version, rule)?;
+    let symbols = Vec::from_array(alloc, [symbol])?;
+    Ok(symbols)
+}
+
+// The picture of what the symbols hold.
+fn picture_of(alloc: Global, input: &[u8], settings: &Settings) -> Result<Picture, Fault>
+    requires { length input.now ≤ INPUT_MAX }
+    ensures { MatchResult result (λ p. IsDrawing settings.now input.now (drawing_of p))
+        (IsInputFault settings.now input.now) }
+{
+    Ok(Picture {
+        symbols: symbols_for(alloc, input, settings)?,
+        kind: settings.kind,
+        margin: settings.margin,
+    })
 }
 
 // The picture of an input under the settings.
 fn make_picture(alloc: Global, input: &[u8], settings: &Settings) -> Result<Picture, Fault>
     requires { length input.now ≤ INPUT_MAX }
-    ensures { MatchResult result (λ p. IsDrawing (seen settings.now) input.now (drawing_of p))
-        (IsInputFault (seen settings.now) input.now) }
+    ensures { MatchResult result (λ p. IsDrawing settings.now (held settings.now input.now) (drawing_of p))
+        (IsInputFault settings.now (held settings.now input.now)) }
 {
-    match symbols_for(alloc, input, settings) {
-        Ok(symbols) => Ok(Picture {
-            symbols,
-            kind: settings.kind,
-            margin: settings.margin,
-        }),
-        Err(fault) => Err(fault),
+    if settings.fold {
+        let folded = fold(alloc, input, settings.rule())?;
+        return picture_of(alloc, folded.as_slice(), settings);
     }
+    picture_of(alloc, input, settings)
 }
 
 // The picture that the words and the input ask for.
 fn picture_for<R: Source>(alloc: Global, words: &[String], input: &mut R) -> Result<Picture, Fault>
-    ensures prepares { Prepares (map string_bytes words.now) (reader (R.remaining input.old) (R.counts input.old))
-        (reader (R.remaining input.new) (R.counts input.new)) result }
-    ensures within { R.counts input.old ≡ no_reads → IsReadWithin (R.counts input.new) }
-    ensures read_fault { R.counts input.old ≡ no_reads → is_read_fault (R.counts input.new) ≡ is_read result }
+    ensures prepares { Prepares (map string_bytes words.now) (R.device input.old)
+        (R.device input.new) result }
+    ensures within { (R.device input.old).counts ≡ no_reads → IsReadWithin (R.device input.new).counts }
+    ensures read_fault { (R.device input.old).counts ≡ no_reads → is_read_fault (R.device input.new).counts ≡ is_read result }
 {
-    let settings = match options(alloc, words) {
-        Ok(settings) => settings,
-        Err(usage) => return Err(Fault::Usage(usage)),
-    };
+    let settings = options(alloc, words)?;
     match &settings.string {
         Some(text) => {
             let bytes = text.as_bytes();
             make_picture(alloc, &bytes[..INPUT_MAX.min(bytes.len())], &settings)
         }
-        None => match read_input(alloc, input) {
-            Ok(bytes) => make_picture(alloc, bytes.as_slice(), &settings),
-            Err(InputFault::Read) => Err(Fault::Read),
-            Err(InputFault::Memory) => Err(Fault::Memory),
-        },
+        None => {
+            let bytes = read_input(alloc, input)?;
+            make_picture(alloc, bytes.as_slice(), &settings)
+        }
     }
 }
 
 // Writes the drawing of a picture, and flushes the writer after its last byte.
 fn show<W: Sink>(picture: &Picture, out: &mut W) -> Result<(), Fault>
-    ensures ok { OnOk result (Draws (writer (W.taken out.old) (W.counts out.old)) (writer (W.taken out.new) (W.counts out.new))
+    ensures ok { OnOk result (Draws (W.device out.old) (W.device out.new)
         (drawing_of picture.now)) }
     ensures err { IfErr result (λ f. (f ≡ Fault.Write)
-        × Breaks (writer (W.taken out.old) (W.counts out.old)) (writer (W.taken out.new) (W.counts out.new))
+        × Breaks (W.device out.old) (W.device out.new)
         (drawing_of picture.now)) }
-    ensures fault { W.counts out.old ≡ no_writes → is_write_fault (W.counts out.new) ≡ is_write result }
-    ensures within { W.counts out.old ≡ no_writes → IsWrittenWithin (W.counts out.new) }
-    ensures offered { (W.counts out.new).offered ≤ max (W.counts out.old).offered PIECE }
+    ensures fault { (W.device out.old).counts ≡ no_writes → is_write_fault (W.device out.new).counts ≡ is_write result }
+    ensures within { (W.device out.old).counts ≡ no_writes → IsWrittenWithin (W.device out.new).counts }
+    ensures offered { (W.device out.new).counts.offered ≤ max (W.device out.old).counts.offered PIECE }
 {
-    let drawn = draw(&picture.symbols, picture.kind, picture.margin, out);
-    if drawn.is_err() {
-        return Err(Fault::Write);
-    }
-    if out.flush().is_err() {
-        return Err(Fault::Write);
-    }
-    Ok(())
+    draw(&picture.symbols, picture.kind, picture.margin, out)?;
+    out.flush().map_err(|_| Fault::Write)
 }
 
-// Does what the words ask for, but for telling of a fault.
+// Runs the command without reporting a fault.
 fn attempt<R: Source, W: Sink>(
     alloc: Global,
     words: &[String],
     input: &mut R,
     out: &mut W,
 ) -> Result<(), Fault>
-    ensures attempts { Attempts (map string_bytes words.now) (reader (R.remaining input.old) (R.counts input.old))
-        (reader (R.remaining input.new) (R.counts input.new)) (writer (W.taken out.old) (W.counts out.old))
-        (writer (W.taken out.new) (W.counts out.new)) result }
-    ensures input_within { R.counts input.old ≡ no_reads → IsReadWithin (R.counts input.new) }
-    ensures read_fault { R.counts input.old ≡ no_reads → is_read_fault (R.counts input.new) ≡ is_read result }
-    ensures write_fault { W.counts out.old ≡ no_writes → is_write_fault (W.counts out.new) ≡ is_write result }
-    ensures within { W.counts out.old ≡ no_writes → IsWrittenWithin (W.counts out.new) }
-    ensures offered { (W.counts out.new).offered ≤ max (W.counts out.old).offered PIECE }
+    ensures attempts { Attempts (map string_bytes words.now) (R.device input.old)
+        (R.device input.new) (W.device out.old)
+        (W.device out.new) result }
+    ensures input_within { (R.device input.old).counts ≡ no_reads → IsReadWithin (R.device input.new).counts }
+    ensures read_fault { (R.device input.old).counts ≡ no_reads → is_read_fault (R.device input.new).counts ≡ is_read result }
+    ensures write_fault { (W.device out.old).counts ≡ no_writes → is_write_fault (W.device out.new).counts ≡ is_write result }
+    ensures within { (W.device out.old).counts ≡ no_writes → IsWrittenWithin (W.device out.new).counts }
+    ensures offered { (W.device out.new).counts.offered ≤ max (W.device out.old).counts.offered PIECE }
 {
-    match picture_for(alloc, words, input) {
-        Ok(picture) => show(&picture, out),
-        Err(fault) => Err(fault),
-    }
+    let picture = picture_for(alloc, words, input)?;
+    show(&picture, out)
 }
 
 /// Runs the command: reads its words and its input, writes the drawing to `out`, and the line of a
@@ -186,9 +136,9 @@ pub fn run<R: Source, W: Sink, E: Sink>(
     err: &mut E,
 ) -> u8
     ensures { (outcome : Result (Unit {0}) Fault) × Runs (map string_bytes words.now)
-        (reader (R.remaining input.old) (R.counts input.old)) (reader (R.remaining input.new) (R.counts input.new))
-        (writer (W.taken out.old) (W.counts out.old)) (writer (W.taken out.new) (W.counts out.new))
-        (writer (E.taken err.old) (E.counts err.old)) (writer (E.taken err.new) (E.counts err.new)) outcome result }
+        (R.device input.old) (R.device input.new)
+        (W.device out.old) (W.device out.new)
+        (E.device err.old) (E.device err.new) outcome result }
 {
     match attempt(alloc, words, input, out) {
         Ok(()) => 0,

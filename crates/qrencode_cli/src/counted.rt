@@ -44,39 +44,30 @@ impl<T> Counted<T> {
 }
 
 impl<R: Read> Source for Counted<R> {
-    ghost remaining = { λ c. R.remaining c.inner };
+    ghost use Rattle.qrencode_cli.specs.Device.{reader};
 
-    ghost counts = { λ c. c.reads };
+    ghost device = { λ c. reader (R.remaining c.inner) c.reads };
 
     fn read(&mut self, buf: &mut [u8]) -> Result<usize, Trouble> {
-        let answer = match self.inner.read(buf) {
-            Ok(given) => Ok(given),
-            Err(error) => Err(trouble_of(error)),
-        };
+        let answer = self.inner.read(buf).map_err(trouble_of);
         self.reads.add(buf.len(), answer);
         answer
     }
 }
 
 impl<W: Write> Sink for Counted<W> {
-    ghost taken = { λ c. W.contents c.inner };
+    ghost use Rattle.qrencode_cli.specs.Device.{writer};
 
-    ghost counts = { λ c. c.writes };
+    ghost device = { λ c. writer (W.contents c.inner) c.writes };
 
     fn write(&mut self, buf: &[u8]) -> Result<usize, Trouble> {
-        let answer = match self.inner.write(buf) {
-            Ok(taken) => Ok(taken),
-            Err(error) => Err(trouble_of(error)),
-        };
+        let answer = self.inner.write(buf).map_err(trouble_of);
         self.writes.add(buf.len(), answer);
         answer
     }
 
     fn flush(&mut self) -> Result<(), Trouble> {
-        let answer = match self.inner.flush() {
-            Ok(()) => Ok(()),
-            Err(error) => Err(trouble_of(error)),
-        };
+        let answer = self.inner.flush().map_err(trouble_of);
         self.writes.add_flush(answer);
         answer
     }

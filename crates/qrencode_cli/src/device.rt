@@ -129,36 +129,34 @@ impl WriteCounts {
 
 /// Bytes that can be read.
 pub trait Source {
-    // The bytes that reads will give from here on, where they are known.
-    ghost remaining: { Self → Option (List ℕ) };
+    ghost use Rattle.qrencode_cli.specs.Device.{Reader};
 
-    // How the reads so far went.
-    ghost counts: { Self → ReadCounts };
+    // The bytes that reads will give from here on, where they are known, and how the reads so far went.
+    ghost device: { Self → Reader };
 
     /// Gives some bytes to the front of `buf`, and answers how many: none only at the end of the
     /// input, or where `buf` is empty.
     fn read(&mut self, buf: &mut [u8]) -> Result<usize, Trouble>
         ensures bound { IfOk result (λ n. n ≤ length buf.new) }
-        ensures bytes { ReadConsumes (remaining self.old) (remaining self.new) result buf.new }
-        ensures counted { counts self.new ≡ read_counted (length buf.new) result (counts self.old) };
+        ensures bytes { ReadConsumes (device self.old).remaining (device self.new).remaining result buf.new }
+        ensures counted { (device self.new).counts ≡ read_counted (length buf.new) result (device self.old).counts };
 }
 
 /// A place that takes bytes.
 pub trait Sink {
-    // The bytes taken so far, where they are known.
-    ghost taken: { Self → Option (List ℕ) };
+    ghost use Rattle.qrencode_cli.specs.Device.{Writer};
 
-    // How the writes and flushes so far went.
-    ghost counts: { Self → WriteCounts };
+    // The bytes taken so far, where they are known, and how the writes and flushes so far went.
+    ghost device: { Self → Writer };
 
     /// Takes some bytes from the front of `buf`, and answers how many.
     fn write(&mut self, buf: &[u8]) -> Result<usize, Trouble>
         ensures bound { IfOk result (λ n. n ≤ length buf.now) }
-        ensures bytes { WriteAppends (taken self.old) (taken self.new) result buf.now }
-        ensures counted { counts self.new ≡ write_counted (length buf.now) result (counts self.old) };
+        ensures bytes { WriteAppends (device self.old).taken (device self.new).taken result buf.now }
+        ensures counted { (device self.new).counts ≡ write_counted (length buf.now) result (device self.old).counts };
 
     /// Passes on what was taken.
     fn flush(&mut self) -> Result<(), Trouble>
-        ensures bytes { Keeps (taken self.old) (taken self.new) }
-        ensures counted { counts self.new ≡ flush_counted result (counts self.old) };
+        ensures bytes { Keeps (device self.old).taken (device self.new).taken }
+        ensures counted { (device self.new).counts ≡ flush_counted result (device self.old).counts };
 }

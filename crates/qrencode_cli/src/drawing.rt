@@ -63,7 +63,7 @@ fn put_drawing<W: Sink>(
     requires some { 0 < length symbols.now }
     requires few { length symbols.now ≤ 16 }
     requires one_side { HaveOneSide (squares_of symbols.now) }
-    ensures { Puts (writer (W.taken out.old) (W.counts out.old)) (writer (W.taken out.new) (W.counts out.new))
+    ensures { Puts (W.device out.old) (W.device out.new)
         pen.old pen.new (drawn kind margin (squares_of symbols.now)) result }
 {
     match kind {
@@ -89,15 +89,15 @@ pub fn draw<W: Sink>(
     requires some { 0 < length symbols.now }
     requires few { length symbols.now ≤ 16 }
     requires one_side { HaveOneSide (squares_of symbols.now) }
-    ensures ok { OnOk result (Appends (W.taken out.old) (W.taken out.new) (drawn kind margin (squares_of symbols.now))) }
-    ensures err { OnErr result (AppendsBeginning (W.taken out.old) (W.taken out.new)
+    ensures ok { OnOk result (Appends (W.device out.old).taken (W.device out.new).taken (drawn kind margin (squares_of symbols.now))) }
+    ensures err { OnErr result (AppendsBeginning (W.device out.old).taken (W.device out.new).taken
         (drawn kind margin (squares_of symbols.now))) }
-    ensures fault { W.counts out.old ≡ no_writes → is_write_fault (W.counts out.new) ≡ is_err result }
-    ensures taken { W.counts out.old ≡ no_writes
-        → OnOk result ((W.counts out.new).taken ≡ counted (length (drawn kind margin (squares_of symbols.now)))) }
-    ensures within { W.counts out.old ≡ no_writes → IsWrittenWithin (W.counts out.new) }
-    ensures offered { (W.counts out.new).offered ≤ max (W.counts out.old).offered PIECE }
-    ensures flushes { (W.counts out.new).flushes ≡ (W.counts out.old).flushes }
+    ensures fault { (W.device out.old).counts ≡ no_writes → is_write_fault (W.device out.new).counts ≡ is_err result }
+    ensures taken { (W.device out.old).counts ≡ no_writes
+        → OnOk result ((W.device out.new).counts.taken ≡ counted (length (drawn kind margin (squares_of symbols.now)))) }
+    ensures within { (W.device out.old).counts ≡ no_writes → IsWrittenWithin (W.device out.new).counts }
+    ensures offered { (W.device out.new).counts.offered ≤ max (W.device out.old).counts.offered PIECE }
+    ensures flushes { (W.device out.new).counts.flushes ≡ (W.device out.old).counts.flushes }
 {
     let mut pen = Pen::new();
     put_drawing(&mut pen, out, symbols, kind, margin)?;

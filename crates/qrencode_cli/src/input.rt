@@ -1,11 +1,13 @@
 //! Reading the input: every byte up to its end, or as many as no symbol and no series can hold.
 
-ghost use Rattle.std.specs.Prelude.{◌≡◌, ◌+◌, ◌≤◌, ◌↔◌, IfOk, IsTrue, IsErrOf, length, true};
+ghost use Rattle.std.specs.Prelude.{◌≡◌, ◌+◌, ◌≤◌, ◌↔◌, ◌⊎◌, IfErr, IfOk, IsTrue, IsErrOf, length, true};
 ghost use Rattle.std.specs.Io.KnownBytes.{Consumes};
 ghost use Rattle.qrencode_cli.specs.Device.{IsReadWithin, is_read_fault, no_reads};
 ghost use Rattle.qrencode_cli.specs.Input.{IsInputOf};
+ghost use Rattle.qrencode_cli.specs.declared.fault.Fault.{Fault};
 
 use crate::device::{Source, Trouble};
+use crate::fault::Fault;
 use qr_bits::INPUT_MAX;
 use std::alloc::Global;
 
@@ -14,26 +16,20 @@ pub(crate) const INTERRUPTIONS_MAX: u16 = 999;
 
 const CHUNK: usize = 4096;
 
-/// Why there is no input.
-#[derive(Clone, Copy, Debug, PartialEq, Eq)]
-pub(crate) enum InputFault {
-    Read,
-    Memory,
-}
-
 /// Reads to the end of the input, or to `INPUT_MAX` bytes.
-pub(crate) fn read_input<R: Source>(alloc: Global, input: &mut R) -> Result<Vec<u8>, InputFault>
-    ensures bytes { IfOk result (λ bytes. IsInputOf (R.remaining input.old) bytes.items) }
+pub(crate) fn read_input<R: Source>(alloc: Global, input: &mut R) -> Result<Vec<u8>, Fault>
+    ensures bytes { IfOk result (λ bytes. IsInputOf (R.device input.old).remaining bytes.items) }
     ensures bounded { IfOk result (λ bytes. length bytes.items ≤ INPUT_MAX) }
-    ensures consumed { IfOk result (λ bytes. Consumes (R.remaining input.old) (R.remaining input.new) bytes.items) }
+    ensures consumed { IfOk result (λ bytes. Consumes (R.device input.old).remaining (R.device input.new).remaining bytes.items) }
     // A read fault is answered exactly where a read met its cause.
-    ensures fault { R.counts input.old ≡ no_reads
-        → IsErrOf result InputFault.Read ↔ IsTrue (is_read_fault (R.counts input.new)) }
+    ensures fault { (R.device input.old).counts ≡ no_reads
+        → IsErrOf result Fault.Read ↔ IsTrue (is_read_fault (R.device input.new).counts) }
+    ensures only { IfErr result (λ f. (f ≡ Fault.Read) ⊎ (f ≡ Fault.Memory)) }
     // All that was given is the input, also of a device whose bytes are unknown.
-    ensures given { R.counts input.old ≡ no_reads
-        → IfOk result (λ bytes. (R.counts input.new).given ≡ length bytes.items) }
+    ensures given { (R.device input.old).counts ≡ no_reads
+        → IfOk result (λ bytes. (R.device input.new).counts.given ≡ length bytes.items) }
     // No read comes after the end of the input, after `INPUT_MAX` bytes or after a fault.
-    ensures within { R.counts input.old ≡ no_reads → IsReadWithin (R.counts input.new) }
+    ensures within { (R.device input.old).counts ≡ no_reads → IsReadWithin (R.device input.new).counts }
 {
     let mut bytes = Vec::new(alloc);
     let mut chunk = [0u8; CHUNK];
@@ -42,18 +38,14 @@ pub(crate) fn read_input<R: Source>(alloc: Global, input: &mut R) -> Result<Vec<
         let room = CHUNK.min(INPUT_MAX - bytes.len());
         match input.read(&mut chunk[..room]) {
             Ok(0) => break,
-            Ok(given) => {
-                if bytes.extend_from_slice(&chunk[..given]).is_err() {
-                    return Err(InputFault::Memory);
-                }
-            }
+            Ok(given) => bytes.extend_from_slice(&chunk[..given])?,
             Err(Trouble::Interrupted) => {
                 if interrupted == INTERRUPTIONS_MAX {
-                    return Err(InputFault::Read);
+                    return Err(Fault::Read);
                 }
                 interrupted += 1;
             }
-            Err(Trouble::Failed) => return Err(InputFault::Read),
+            Err(Trouble::Failed) => return Err(Fault::Read),
         }
     }
     Ok(bytes)

@@ -6,6 +6,7 @@ mod command;
 mod counted;
 mod device;
 mod drawing;
+mod fault;
 mod input;
 pub mod laws;
 mod pen;

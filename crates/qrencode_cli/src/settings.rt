@@ -1,17 +1,18 @@
 //! What the words ask for.
 
-ghost use Rattle.std.specs.Prelude.{◌≡◌, Ok, MatchResult, map, codes, option_map};
+ghost use Rattle.std.specs.Prelude.{◌≡◌, Ok, IfOk, MatchResult, map, codes, option_map};
 ghost use Rattle.std.specs.String.{string_bytes};
 ghost use Rattle.clap.specs.Words.{first_of, found_of, one_of};
 ghost use Rattle.clap.specs.Walk.{rows_of};
-ghost use Rattle.qrencode_cli.specs.Settings.{drawing_at, drawing_named, flag_at, level_at, level_named, number_at, settings_for, settings_of, version_at};
-ghost use Rattle.qrencode_cli.specs.Usage.{IsUsageFault, seen};
+ghost use Rattle.qrencode_cli.specs.Settings.{IsUsageFault, drawing_at, drawing_named, flag_at, level_at, level_named, number_at, rule_for, settings_for, settings_of, version_at};
 
-use crate::arguments::{MatchFault, matches};
+use crate::arguments::matches;
 use crate::drawing::Drawing;
 use clap::ArgMatches;
+use qr_bits::Rule;
 use qr_layout::{Level, Version};
-use std::alloc::Global;
+use std::alloc::{AllocError, Global};
+use std::marker::Model;
 use thiserror::Error;
 
 // The margin where none is asked for, in modules (6.3.8).
@@ -30,10 +31,49 @@ pub struct Settings {
     pub margin: u8,
     /// Whether the whole input is encoded in byte mode.
     pub bytes_only: bool,
+    /// Whether kanji mode may be used, unless the whole input is encoded in byte mode.
+    pub kanji: bool,
+    /// Whether the letters a to z are encoded as capitals, unless the whole input is encoded in byte mode.
+    pub fold: bool,
     /// Whether a series of symbols is drawn where one does not hold the input.
     pub structured: bool,
     /// The input, where the words hold it.
     pub string: Option<String>,
+}
+
+impl Model for Settings {
+    ghost use Rattle.std.specs.Prelude.{option_map};
+    ghost use Rattle.std.specs.String.{string_bytes};
+    ghost use Rattle.qrencode_cli.specs.Settings.{SettingsView};
+
+    ghost Value = { SettingsView };
+
+    ghost view = { λ s. record {
+      level = s.level;
+      smallest = s.smallest;
+      kind = s.kind;
+      margin = s.margin;
+      bytes_only = s.bytes_only;
+      kanji = s.kanji;
+      fold = s.fold;
+      structured = s.structured;
+      string = option_map string_bytes s.string;
+    } };
+}
+
+impl Settings {
+    // Which modes the segments may have.
+    pub(crate) fn rule(&self) -> Rule
+        ensures { result ≡ rule_for self.now }
+    {
+        if self.bytes_only {
+            Rule::BytesOnly
+        } else if self.kanji {
+            Rule::WithKanji
+        } else {
+            Rule::Auto
+        }
+    }
 }
 
 /// Why the words ask for nothing that can be drawn. The first of these that holds is answered.
@@ -54,6 +94,17 @@ pub enum UsageFault {
     /// Memory was refused.
     #[error("out of memory")]
     Memory,
+}
+
+impl From<AllocError> for UsageFault {
+    ghost use Rattle.std.specs.Prelude.{◌≡◌};
+    ghost use Rattle.qrencode_cli.specs.declared.settings.UsageFault.{UsageFault};
+
+    ghost from_gives = { λ _ f. f ≡ UsageFault.Memory };
+
+    fn from(_: AllocError) -> Self {
+        UsageFault::Memory
+    }
 }
 
 // The first value of an argument.
@@ -84,10 +135,7 @@ fn drawing_named(name: &str) -> Option<Drawing>
 fn level_in(matches: &ArgMatches<'_>) -> Option<Level>
     ensures { result ≡ level_at (first_of (codes "level") (rows_of (found_of matches.now))) }
 {
-    match text_in(matches, "level") {
-        Some(name) => level_named(name),
-        None => Some(Level::L),
-    }
+    text_in(matches, "level").map_or(Some(Level::L), level_named)
 }
 
 // The level of this name, in either case of its letter.
@@ -111,20 +159,14 @@ fn level_named(name: &str) -> Option<Level>
 fn drawing_in(matches: &ArgMatches<'_>) -> Option<Drawing>
     ensures { result ≡ drawing_at (first_of (codes "type") (rows_of (found_of matches.now))) }
 {
-    match text_in(matches, "type") {
-        Some(name) => drawing_named(name),
-        None => None,
-    }
+    text_in(matches, "type").and_then(drawing_named)
 }
 
 // Whether a flag stands. Its text is asked for, since that is what is known of matches.
 fn flag_in(matches: &ArgMatches<'_>, id: &str) -> bool
     ensures { result ≡ flag_at (first_of id.now (rows_of (found_of matches.now))) }
 {
-    match text_in(matches, id) {
-        Some(text) => text == "true",
-        None => false,
-    }
+    text_in(matches, id) == Some("true")
 }
 
 // The number of an argument, or another where it is not given.
@@ -134,7 +176,7 @@ fn number_in(matches: &ArgMatches<'_>, id: &str, otherwise: u8) -> u8
     match matches.try_get_one::<u8>(id) {
         Ok(Some(number)) => number,
         Ok(None) => otherwise,
-        // Never met: words with another text there are not taken.
+        // Unreachable: clap refuses other texts.
         Err(_) => 0,
     }
 }
@@ -147,23 +189,18 @@ fn version_in(matches: &ArgMatches<'_>) -> Option<Version>
 }
 
 // The string of the words, copied.
-fn string_in(alloc: Global, matches: &ArgMatches<'_>) -> Result<Option<String>, UsageFault>
-    ensures { MatchResult result
-        (λ s. option_map string_bytes s ≡ first_of (codes "string") (rows_of (found_of matches.now)))
-        (λ e. e ≡ UsageFault.Memory) }
+fn string_in(alloc: Global, matches: &ArgMatches<'_>) -> Result<Option<String>, AllocError>
+    ensures { IfOk result (λ s. option_map string_bytes s ≡ first_of (codes "string") (rows_of (found_of matches.now))) }
 {
     match text_in(matches, "string") {
-        Some(text) => match String::from_str(alloc, text) {
-            Ok(copy) => Ok(Some(copy)),
-            Err(_) => Err(UsageFault::Memory),
-        },
+        Some(text) => Ok(Some(String::from_str(alloc, text)?)),
         None => Ok(None),
     }
 }
 
 // The settings of the matches.
 fn settings_in(alloc: Global, matches: &ArgMatches<'_>) -> Result<Settings, UsageFault>
-    ensures { MatchResult result (λ s. settings_of (rows_of (found_of matches.now)) ≡ Ok (seen s))
+    ensures { MatchResult result (λ s. settings_of (rows_of (found_of matches.now)) ≡ Ok s)
         (IsUsageFault (settings_of (rows_of (found_of matches.now)))) }
 {
     let Some(level) = level_in(matches) else {
@@ -177,28 +214,24 @@ fn settings_in(alloc: Global, matches: &ArgMatches<'_>) -> Result<Settings, Usag
     if structured && smallest.is_none() {
         return Err(UsageFault::NeedsVersion);
     }
-    match string_in(alloc, matches) {
-        Ok(string) => Ok(Settings {
-            level,
-            smallest,
-            kind,
-            margin: number_in(matches, "margin", QUIET_ZONE),
-            bytes_only: flag_in(matches, "bytes-only"),
-            structured,
-            string,
-        }),
-        Err(fault) => Err(fault),
-    }
+    Ok(Settings {
+        level,
+        smallest,
+        kind,
+        margin: number_in(matches, "margin", QUIET_ZONE),
+        bytes_only: flag_in(matches, "bytes-only"),
+        kanji: flag_in(matches, "kanji"),
+        fold: flag_in(matches, "fold"),
+        structured,
+        string: string_in(alloc, matches)?,
+    })
 }
 
 /// Reads the words of a command line, of which the first is the program's name.
 pub fn options(alloc: Global, words: &[String]) -> Result<Settings, UsageFault>
-    ensures { MatchResult result (λ s. settings_for (map string_bytes words.now) ≡ Ok (seen s))
+    ensures { MatchResult result (λ s. settings_for (map string_bytes words.now) ≡ Ok s)
         (IsUsageFault (settings_for (map string_bytes words.now))) }
 {
-    match matches(alloc, words) {
-        Ok(matches) => settings_in(alloc, &matches),
-        Err(MatchFault::Words(text)) => Err(UsageFault::Words(text)),
-        Err(MatchFault::Memory) => Err(UsageFault::Memory),
-    }
+    let matches = matches(alloc, words)?;
+    settings_in(alloc, &matches)
 }

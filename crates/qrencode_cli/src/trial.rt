@@ -131,10 +131,9 @@ impl Trial {
 impl Source for Trial {
     ghost use Rattle.std.specs.Prelude.{Some};
     ghost use Rattle.qrencode_cli.specs.Trial.{bytes_left};
+    ghost use Rattle.qrencode_cli.specs.Device.{reader};
 
-    ghost remaining = { λ t. Some (bytes_left t) };
-
-    ghost counts = { λ t. t.reads };
+    ghost device = { λ t. reader (Some (bytes_left t)) t.reads };
 
     fn read(&mut self, buf: &mut [u8]) -> Result<usize, Trouble> {
         let left = self.bytes.len() - self.position;
@@ -153,10 +152,9 @@ impl Source for Trial {
 impl Sink for Trial {
     ghost use Rattle.std.specs.Prelude.{Some};
     ghost use Rattle.qrencode_cli.specs.Trial.{bytes_held};
+    ghost use Rattle.qrencode_cli.specs.Device.{writer};
 
-    ghost taken = { λ t. Some (bytes_held t) };
-
-    ghost counts = { λ t. t.writes };
+    ghost device = { λ t. writer (Some (bytes_held t)) t.writes };
 
     fn write(&mut self, buf: &[u8]) -> Result<usize, Trouble> {
         let free = if self.writes.calls < self.manner.stops_from {

@@ -12,5 +12,7 @@ returns c =
     let a3 = c.in_ok-with_type.ensures.shape c.required.ensures.local ∙ ap₂ with_rule a2 c.required.ensures.rule in
     let a4 = c.in_ok-with_margin.ensures.shape c.number-2.ensures.local ∙ ap₂ with_rule a3 c.number-2.ensures.rule in
     let a5 = c.in_ok-with_bytes_only.ensures.shape c.flag.ensures.local ∙ ap₂ with_rule a4 c.flag.ensures.rule in
-    let a6 = c.in_ok-with_structured.ensures.shape c.flag-2.ensures.local ∙ ap₂ with_rule a5 c.flag-2.ensures.rule in
-    IfOk-weaker c.arg-7.result _ _ (λ r h. h.shape c.word.ensures.local ∙ ap₂ with_rule a6 c.word.ensures.rule) c.arg-7.ensures
+    let a6 = c.in_ok-with_kanji.ensures.shape c.flag-2.ensures.local ∙ ap₂ with_rule a5 c.flag-2.ensures.rule in
+    let a7 = c.in_ok-with_fold.ensures.shape c.flag-3.ensures.local ∙ ap₂ with_rule a6 c.flag-3.ensures.rule in
+    let a8 = c.in_ok-with_structured.ensures.shape c.flag-4.ensures.local ∙ ap₂ with_rule a7 c.flag-4.ensures.rule in
+    IfOk-weaker c.arg-9.result _ _ (λ r h. h.shape c.word.ensures.local ∙ ap₂ with_rule a8 c.word.ensures.rule) c.arg-9.ensures

@@ -1,8 +1,11 @@
+use Rattle.std.proofs.lemmas.Result.{err_from_is_err_and}
 use Rattle.qrencode_cli.proofs.Running.{attempts-refused, attempts-shown}
 use Rattle.qrencode_cli.proofs.command.attempt.Goals as goal
 
-pub returns-in-Ok-clause-attempts : goal.returns-in-Ok-clause-attempts
-returns-in-Ok-clause-attempts g c = attempts-shown _ _ _ _ _ c.in-Ok.picture c.in-Ok.ensures.prepares c.show.result c.show.ensures.ok c.show.ensures.err
+pub returns-clause-attempts : goal.returns-clause-attempts
+returns-clause-attempts g c = attempts-shown _ _ _ _ _ c.in_ok-picture.picture c.in_ok-picture.ensures.prepares c.show.result c.show.ensures.ok c.show.ensures.err
 
-pub returns-in-Err-clause-attempts : goal.returns-in-Err-clause-attempts
-returns-in-Err-clause-attempts g c = attempts-refused _ _ _ _ c.in-Err.fault c.in-Err.ensures.prepares
+pub returns-in_err-picture-clause-attempts : goal.returns-in_err-picture-clause-attempts
+returns-in_err-picture-clause-attempts g c =
+    let p = err_from_is_err_and c.from_residual.result c.from_residual.ensures.1 in
+    rw (p.1, p.2) (attempts-refused _ _ _ _ c.in_err-picture.field-0.0 c.in_err-picture.ensures.prepares)

@@ -1,5 +1,4 @@
 use Rattle.std.proofs.Common.{Err, refl}
-use Rattle.qrencode_cli.specs.Device.{writer}
 use Rattle.qrencode_cli.proofs.Running.{tells-fault}
 use Rattle.qrencode_cli.proofs.command.run.Goals as goal
 
@@ -12,7 +11,7 @@ returns-in-Err g c = (
     is_fault = c.in-Err.ensures.attempts.is_fault;
     shows = c.in-Err.ensures.attempts.shows;
     reads = c.in-Err.ensures.attempts.reads;
-    tells = tells-fault (writer (g.E.Sink.taken c.args.err.now) (g.E.Sink.counts c.args.err.now)) (writer (g.E.Sink.taken c.write_text.new.out) (g.E.Sink.counts c.write_text.new.out)) c.in-Err.fault _ c.line.ensures c.write_text.result c.write_text.ensures.ok c.write_text.ensures.err c.write_text.ensures.fault c.write_text.ensures.taken c.write_text.ensures.flushes;
+    tells = tells-fault (g.E.Sink.device c.args.err.now) (g.E.Sink.device c.write_text.new.out) c.in-Err.fault _ c.line.ensures c.write_text.result c.write_text.ensures.ok c.write_text.ensures.err c.write_text.ensures.fault c.write_text.ensures.taken c.write_text.ensures.flushes;
     status_is = refl;
     read_fault = c.in-Err.ensures.read_fault;
     write_fault = c.in-Err.ensures.write_fault;

@@ -8,16 +8,16 @@ pub returns-then-taken-eq0-clause-writes : goal.returns-then-taken-eq0-clause-wr
 returns-then-taken-eq0-clause-writes g c =
     stops _ _ _ _ _ _ _ _ _ _ c.offers.invariant.sent (nothing_more _ _ _ _ c.if-taken-eq0.true c.in-Ok.ensures.bytes) c.offers.invariant.well
     (λ h. rw c.in-Ok.ensures.counted (fault-zero _ _ _ _ c.if-taken-eq0.true (grind (arith, common_steps)) h))
-    (within-after (g.W.Sink.counts c.offers.out) _ (length (take (length c.args.bytes.now - c.offers.at) (drop c.offers.at c.args.bytes.now))) _ c.write.result c.write.ensures.counted)
-    (offered-after (g.W.Sink.counts c.args.out.now) (g.W.Sink.counts c.offers.out) _ (length (take (length c.args.bytes.now - c.offers.at) (drop c.offers.at c.args.bytes.now))) c.write.result c.write.ensures.counted (grind (arith, common_steps)) c.offers.invariant.offered)
-    (flushes-after (g.W.Sink.counts c.args.out.now) (g.W.Sink.counts c.offers.out) _ (length (take (length c.args.bytes.now - c.offers.at) (drop c.offers.at c.args.bytes.now))) c.write.result c.write.ensures.counted c.offers.invariant.flushes)
+    (within-after (g.W.Sink.device c.offers.out).counts _ (length (take (length c.args.bytes.now - c.offers.at) (drop c.offers.at c.args.bytes.now))) _ c.write.result c.write.ensures.counted)
+    (offered-after (g.W.Sink.device c.args.out.now).counts (g.W.Sink.device c.offers.out).counts _ (length (take (length c.args.bytes.now - c.offers.at) (drop c.offers.at c.args.bytes.now))) c.write.result c.write.ensures.counted (grind (arith, common_steps)) c.offers.invariant.offered)
+    (flushes-after (g.W.Sink.device c.args.out.now).counts (g.W.Sink.device c.offers.out).counts _ (length (take (length c.args.bytes.now - c.offers.at) (drop c.offers.at c.args.bytes.now))) c.write.result c.write.ensures.counted c.offers.invariant.flushes)
 
 pub offers-preserved-in-Ok : goal.offers-preserved-in-Ok
 offers-preserved-in-Ok g c = record {
   sent = sent_more _ _ _ _ _ _ _ (take_rest c.args.bytes.now c.offers.at) c.offers.invariant.sent c.in-Ok.ensures.bytes;
   within = search rules;
   few = search rules;
-  many = counted-taken _ _ _ _ _ _ (g.W.Sink.counts c.offers.out) _ refl refl c.in-Ok.ensures.counted c.offers.invariant.many;
+  many = counted-taken _ _ _ _ _ _ (g.W.Sink.device c.offers.out).counts _ refl refl c.in-Ok.ensures.counted c.offers.invariant.many;
   well = λ h. well-taken _ _ _ _ _ c.in-Ok.ensures.counted c.if-taken-eq0.false (c.offers.invariant.well h);
   offered = search rules;
   flushes = search rules;
@@ -28,14 +28,14 @@ pub returns-then-tries-eq-INTERRUPTIONS_MAX-clause-writes :
 returns-then-tries-eq-INTERRUPTIONS_MAX-clause-writes g c =
     stops _ _ _ _ _ _ _ _ _ _ c.offers.invariant.sent c.in-Err-Interrupted.ensures.bytes c.offers.invariant.well
     (fault-tried _ _ _ _ _ c.in-Err-Interrupted.field-0-is c.if-tries-eq-INTERRUPTIONS_MAX.true c.in-Err-Interrupted.ensures.counted)
-    (within-after (g.W.Sink.counts c.offers.out) _ (length (take (length c.args.bytes.now - c.offers.at) (drop c.offers.at c.args.bytes.now))) _ c.write.result c.write.ensures.counted)
-    (offered-after (g.W.Sink.counts c.args.out.now) (g.W.Sink.counts c.offers.out) _ (length (take (length c.args.bytes.now - c.offers.at) (drop c.offers.at c.args.bytes.now))) c.write.result c.write.ensures.counted (grind (arith, common_steps)) c.offers.invariant.offered)
-    (flushes-after (g.W.Sink.counts c.args.out.now) (g.W.Sink.counts c.offers.out) _ (length (take (length c.args.bytes.now - c.offers.at) (drop c.offers.at c.args.bytes.now))) c.write.result c.write.ensures.counted c.offers.invariant.flushes)
+    (within-after (g.W.Sink.device c.offers.out).counts _ (length (take (length c.args.bytes.now - c.offers.at) (drop c.offers.at c.args.bytes.now))) _ c.write.result c.write.ensures.counted)
+    (offered-after (g.W.Sink.device c.args.out.now).counts (g.W.Sink.device c.offers.out).counts _ (length (take (length c.args.bytes.now - c.offers.at) (drop c.offers.at c.args.bytes.now))) c.write.result c.write.ensures.counted (grind (arith, common_steps)) c.offers.invariant.offered)
+    (flushes-after (g.W.Sink.device c.args.out.now).counts (g.W.Sink.device c.offers.out).counts _ (length (take (length c.args.bytes.now - c.offers.at) (drop c.offers.at c.args.bytes.now))) c.write.result c.write.ensures.counted c.offers.invariant.flushes)
 
 pub returns-in-Err-Failed-clause-writes : goal.returns-in-Err-Failed-clause-writes
 returns-in-Err-Failed-clause-writes g c =
     stops _ _ _ _ _ _ _ _ _ _ c.offers.invariant.sent c.in-Err-Failed.ensures.bytes c.offers.invariant.well
     (fault-failed _ _ _ _ _ c.in-Err-Failed.field-0-is c.in-Err-Failed.ensures.counted)
-    (within-after (g.W.Sink.counts c.offers.out) _ (length (take (length c.args.bytes.now - c.offers.at) (drop c.offers.at c.args.bytes.now))) _ c.write.result c.write.ensures.counted)
-    (offered-after (g.W.Sink.counts c.args.out.now) (g.W.Sink.counts c.offers.out) _ (length (take (length c.args.bytes.now - c.offers.at) (drop c.offers.at c.args.bytes.now))) c.write.result c.write.ensures.counted (grind (arith, common_steps)) c.offers.invariant.offered)
-    (flushes-after (g.W.Sink.counts c.args.out.now) (g.W.Sink.counts c.offers.out) _ (length (take (length c.args.bytes.now - c.offers.at) (drop c.offers.at c.args.bytes.now))) c.write.result c.write.ensures.counted c.offers.invariant.flushes)
+    (within-after (g.W.Sink.device c.offers.out).counts _ (length (take (length c.args.bytes.now - c.offers.at) (drop c.offers.at c.args.bytes.now))) _ c.write.result c.write.ensures.counted)
+    (offered-after (g.W.Sink.device c.args.out.now).counts (g.W.Sink.device c.offers.out).counts _ (length (take (length c.args.bytes.now - c.offers.at) (drop c.offers.at c.args.bytes.now))) c.write.result c.write.ensures.counted (grind (arith, common_steps)) c.offers.invariant.offered)
+    (flushes-after (g.W.Sink.device c.args.out.now).counts (g.W.Sink.device c.offers.out).counts _ (length (take (length c.args.bytes.now - c.offers.at) (drop c.offers.at c.args.bytes.now))) c.write.result c.write.ensures.counted c.offers.invariant.flushes)

@@ -6,13 +6,13 @@ use Rattle.qrencode_cli.proofs.pen.send.Given as goal
 
 abbrev pub invariant-offers : goal.invariant-offers
 invariant-offers g l = record {
-  sent : Appends (g.W.Sink.taken l.fn.out) (g.W.Sink.taken l.out) (take l.at l.bytes);
+  sent : Appends (g.W.Sink.device l.fn.out).taken (g.W.Sink.device l.out).taken (take l.at l.bytes);
   within : l.at ≤ length l.bytes;
   few : l.tries < 1000;
-  many : (g.W.Sink.counts l.fn.out).taken < 2 ^ 64 → (g.W.Sink.counts l.out).taken ≡ counted ((g.W.Sink.counts l.fn.out).taken + l.at);
-  well : IsWell (g.W.Sink.counts l.fn.out) l.interrupted → IsWell (g.W.Sink.counts l.out) l.tries;
-  offered : (g.W.Sink.counts l.out).offered ≤ max (g.W.Sink.counts l.fn.out).offered 1200;
-  flushes : (g.W.Sink.counts l.out).flushes ≡ (g.W.Sink.counts l.fn.out).flushes;
+  many : (g.W.Sink.device l.fn.out).counts.taken < 2 ^ 64 → (g.W.Sink.device l.out).counts.taken ≡ counted ((g.W.Sink.device l.fn.out).counts.taken + l.at);
+  well : IsWell (g.W.Sink.device l.fn.out).counts l.interrupted → IsWell (g.W.Sink.device l.out).counts l.tries;
+  offered : (g.W.Sink.device l.out).counts.offered ≤ max (g.W.Sink.device l.fn.out).counts.offered 1200;
+  flushes : (g.W.Sink.device l.out).counts.flushes ≡ (g.W.Sink.device l.fn.out).counts.flushes;
 }
 
 abbrev pub decreases-offers : goal.decreases-offers

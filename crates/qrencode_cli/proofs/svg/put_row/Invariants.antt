@@ -1,6 +1,5 @@
 use Rattle.std.proofs.Common.{◌≢◌, ◌≤◌, ◌<◌, ◌+◌, ◌-◌, ◌++◌}
 use Rattle.qr_matrix.specs.Grid.{colour}
-use Rattle.qrencode_cli.specs.Device.{writer}
 use Rattle.qrencode_cli.specs.Rasters.{texts_below}
 use Rattle.qrencode_cli.specs.Svg.{run_path}
 use Rattle.qrencode_cli.specs.Writing.{Writes}
@@ -11,7 +10,7 @@ invariant-loop-col g l = record {
   within : l.col ≤ l.matrix.side;
   begins : 0 < l.col → l.col < l.matrix.side → colour l.matrix l.row (l.col - 1) ≢ colour l.matrix l.row l.col;
   writes :
-      Writes (writer (g.W.Sink.taken l.fn.out) (g.W.Sink.counts l.fn.out)) (writer (g.W.Sink.taken l.out) (g.W.Sink.counts l.out))
+      Writes (g.W.Sink.device l.fn.out) (g.W.Sink.device l.out)
       l.fn.pen.interrupted l.pen.interrupted
       (l.fn.pen.piece.items ++ texts_below (l.margin + l.col) (run_path l.top l.margin l.matrix (l.margin + l.row))) l.pen.piece.items;
 }

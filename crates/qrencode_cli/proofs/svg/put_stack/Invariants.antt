@@ -1,5 +1,4 @@
 use Rattle.std.proofs.Common.{◌≡◌, ◌≤◌, ◌*◌, ◌++◌}
-use Rattle.qrencode_cli.specs.Device.{writer}
 use Rattle.qr_symbol.specs.Series.{squares_of}
 use Rattle.qrencode_cli.specs.Rasters.{raster_width, texts_below}
 use Rattle.qrencode_cli.specs.Svg.{square_at, symbol_path}
@@ -11,7 +10,7 @@ invariant-loop-symbol g l = record {
   top : l.top ≡ l.symbol-index * raster_width l.margin (square_at (squares_of l.symbols) 0);
   low : l.top ≤ 1000 * l.symbol-index;
   writes :
-      Writes (writer (g.W.Sink.taken l.fn.out) (g.W.Sink.counts l.fn.out)) (writer (g.W.Sink.taken l.out) (g.W.Sink.counts l.out))
+      Writes (g.W.Sink.device l.fn.out) (g.W.Sink.device l.out)
       l.fn.pen.interrupted l.pen.interrupted
       (l.fn.pen.piece.items ++ texts_below l.symbol-index
       (λ k. symbol_path (k * raster_width l.margin (square_at (squares_of l.symbols) k)) l.margin (square_at (squares_of l.symbols) k)))

@@ -1,8 +1,7 @@
 use Rattle.std.proofs.Common.{◌++◌, take}
-use Rattle.qrencode_cli.specs.Device.{writer}
 use Rattle.qrencode_cli.specs.Writing.{Writes}
 use Rattle.qrencode_cli.proofs.pen.Pen.put_all.Given as goal
 
 abbrev pub invariant-loop-byte : goal.invariant-loop-byte
-invariant-loop-byte g l = Writes (writer (g.W.Sink.taken l.fn.out) (g.W.Sink.counts l.fn.out)) (writer (g.W.Sink.taken l.out) (g.W.Sink.counts l.out))
+invariant-loop-byte g l = Writes (g.W.Sink.device l.fn.out) (g.W.Sink.device l.out)
     l.fn.self.interrupted l.self.interrupted (l.fn.self.piece.items ++ take l.byte-index l.text) l.self.piece.items

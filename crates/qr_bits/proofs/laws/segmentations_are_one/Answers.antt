@@ -1,0 +1,5 @@
+use Rattle.qr_bits.proofs.SegmentLists.{segmentation-one}
+use Rattle.qr_bits.proofs.laws.segmentations_are_one.Goals as goal
+
+pub returns : goal.returns
+returns c = segmentation-one

@@ -1,0 +1,127 @@
+//! Why the command draws nothing, or not all, and the line that tells of it.
+
+ghost use Rattle.std.specs.Prelude.{◌≡◌};
+ghost use Rattle.qrencode_cli.specs.Faults.{fault_line, refusal_line};
+
+use crate::pen::DrawFault;
+use crate::settings::UsageFault;
+use qr_symbol::EncodeFault;
+use std::alloc::{AllocError, AllocFailed};
+
+/// Why the words and the input have no drawing.
+#[derive(Debug, Drop)]
+pub(crate) enum Refusal {
+    Words(String),
+    Level,
+    Kind,
+    NeedsVersion,
+    Empty,
+    TooLong,
+    TooMany,
+}
+
+/// Why the command draws nothing, or not all.
+#[derive(Debug, Drop)]
+pub(crate) enum Fault {
+    Refused(Refusal),
+    Read,
+    Memory,
+    Write,
+}
+
+impl Refusal {
+    // The line that tells of it.
+    fn line(&self) -> &[u8]
+        ensures { result.now ≡ refusal_line self.now }
+    {
+        match self {
+            Refusal::Words(text) => text.as_bytes(),
+            Refusal::Level => b"qrencode: unknown level\n",
+            Refusal::Kind => b"qrencode: unknown type\n",
+            Refusal::NeedsVersion => b"qrencode: -S needs -v\n",
+            Refusal::Empty => b"qrencode: input is empty\n",
+            Refusal::TooLong => b"qrencode: input does not fit\n",
+            Refusal::TooMany => b"qrencode: more than 16 symbols\n",
+        }
+    }
+}
+
+impl Fault {
+    /// The line that tells of it.
+    pub(crate) fn line(&self) -> &[u8]
+        ensures { result.now ≡ fault_line self.now }
+    {
+        match self {
+            Fault::Refused(refusal) => refusal.line(),
+            Fault::Read => b"qrencode: read error\n",
+            Fault::Memory => b"qrencode: out of memory\n",
+            Fault::Write => b"qrencode: write error\n",
+        }
+    }
+}
+
+impl From<UsageFault> for Fault {
+    ghost use Rattle.std.specs.Prelude.{◌≡◌};
+    ghost use Rattle.qrencode_cli.specs.Faults.{fault_of_words};
+
+    ghost from_gives = { λ e f. f ≡ fault_of_words e };
+
+    fn from(fault: UsageFault) -> Self {
+        match fault {
+            UsageFault::Words(text) => Fault::Refused(Refusal::Words(text)),
+            UsageFault::Level => Fault::Refused(Refusal::Level),
+            UsageFault::Kind => Fault::Refused(Refusal::Kind),
+            UsageFault::NeedsVersion => Fault::Refused(Refusal::NeedsVersion),
+            UsageFault::Memory => Fault::Memory,
+        }
+    }
+}
+
+impl From<EncodeFault> for Fault {
+    ghost use Rattle.std.specs.Prelude.{◌≡◌};
+    ghost use Rattle.qrencode_cli.specs.Faults.{fault_of_input};
+
+    ghost from_gives = { λ e f. f ≡ fault_of_input e };
+
+    fn from(fault: EncodeFault) -> Self {
+        match fault {
+            EncodeFault::Empty => Fault::Refused(Refusal::Empty),
+            EncodeFault::TooLong => Fault::Refused(Refusal::TooLong),
+            EncodeFault::TooMany => Fault::Refused(Refusal::TooMany),
+            EncodeFault::Memory => Fault::Memory,
+        }
+    }
+}
+
+impl From<DrawFault> for Fault {
+    ghost use Rattle.std.specs.Prelude.{◌≡◌};
+    ghost use Rattle.qrencode_cli.specs.declared.fault.Fault.{Fault};
+
+    ghost from_gives = { λ _ f. f ≡ Fault.Write };
+
+    fn from(_: DrawFault) -> Self {
+        Fault::Write
+    }
+}
+
+impl From<AllocError> for Fault {
+    ghost use Rattle.std.specs.Prelude.{◌≡◌};
+    ghost use Rattle.qrencode_cli.specs.declared.fault.Fault.{Fault};
+
+    ghost from_gives = { λ _ f. f ≡ Fault.Memory };
+
+    fn from(_: AllocError) -> Self {
+        Fault::Memory
+    }
+}
+
+impl<T: Drop> From<AllocFailed<T>> for Fault {
+    ghost use Rattle.std.specs.Prelude.{◌≡◌};
+    ghost use Rattle.qrencode_cli.specs.declared.fault.Fault.{Fault};
+
+    ghost from_gives = { λ _ f. f ≡ Fault.Memory };
+
+    fn from(_: AllocFailed<T>) -> Self {
+        Fault::Memory
+    }
+}
