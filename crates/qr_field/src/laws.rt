@@ -1,9 +1,10 @@
 //! The laws of products, generator polynomials and error correction codewords (ISO/IEC 18004:2015, 7.5.2 and
 //! Annex A). Each function does nothing: its contract is the law.
 
-ghost use Rattle.std.specs.Prelude.{◌≡◌, ◌<◌, ◌≤◌, ℕ, ◌-◌, List, [], ◌∷◌, All, map, length, slice_index};
+ghost use Rattle.std.specs.Prelude.{◌≡◌, ◌<◌, ◌≤◌, ℕ, ◌-◌, List, [], ◌∷◌, ◌++◌, All, map, length, slice_index};
 ghost use Rattle.qr_field.specs.Bits.{IsProduct, product};
-ghost use Rattle.qr_field.specs.Polynomials.{IsByte, power, generator_of, IsCorrection, HasCorrection};
+ghost use Rattle.qr_field.specs.Polynomials.{IsByte, zeros, power, generator_of, IsCorrection, HasCorrection};
+ghost use Rattle.qr_field.specs.Distance.{differences, BlocksLieApart, DamageIsUnambiguous, ErasuresAreUnambiguous};
 ghost use Rattle.qr_field.specs.Worked.{lengths_in_use, printed_exponents};
 ghost use Rattle.qr_field.specs.Worked.{eight_digits, eight_digits_correction};
 
@@ -47,4 +48,30 @@ pub fn generators_compute()
 /// The definition of error correction codewords holds of those of `01234567` in version 1-M.
 pub fn correction_computes()
     ensures { IsCorrection eight_digits 10 eight_digits_correction }
+{}
+
+/// Two blocks of 255 codewords at most with the same numbers of data and error correction codewords differ in more
+/// places than there are error correction codewords, unless their data codewords are the same.
+pub fn blocks_lie_apart()
+    ensures { BlocksLieApart }
+{}
+
+/// A block that is damaged in at most half as many places as it has error correction codewords stands for the data
+/// codewords of one block only.
+pub fn damage_is_unambiguous()
+    ensures { DamageIsUnambiguous }
+{}
+
+/// The same where some places could not be read at all, as those under a blot: the number of these and twice the number
+/// of misread places together may be as large as the number of error correction codewords.
+pub fn erasures_are_unambiguous()
+    ensures { ErasuresAreUnambiguous }
+{}
+
+/// Blocks of 256 codewords may lie nearer to each other: these two with 2 error correction codewords differ in 2 places
+/// only.
+pub fn longer_blocks_lie_nearer()
+    ensures one { IsCorrection (1 ∷ zeros 253) 2 (0 ∷ 1 ∷ []) }
+    ensures other { IsCorrection (zeros 254) 2 (zeros 2) }
+    ensures near { differences ((1 ∷ zeros 253) ++ 0 ∷ 1 ∷ []) (zeros 254 ++ zeros 2) ≡ 2 }
 {}

@@ -6,7 +6,7 @@ use Rattle.std.proofs.lemmas.Nat.{div-add-mod'}
 use Rattle.qr_layout.specs.declared.level.Level.{Level}
 use Rattle.qr_layout.specs.declared.level.Level.TheVariants.{L, M, Q, H}
 use Rattle.qr_layout.specs.Versions.{total_codewords_of}
-use Rattle.qr_layout.specs.Blocks.{correction_len_of, block_count_of, data_codewords_of, blocks_of, AreWhole}
+use Rattle.qr_layout.specs.Blocks.{correction_len_of, block_count_of, data_codewords_of, blocks_of, longest_of, damage_of, AreWhole}
 use Rattle.qr_layout.proofs.RegionLemmas.{&&-left, &&-right}
 use Rattle.qr_layout.proofs.TableLemmas.{below, below-at}
 
@@ -19,7 +19,7 @@ one-at : (p : ℕ → Bool) → below 40 (λ i. p (i + 1)) ≡ true → (v : ℕ
 one-at p h v a b = let e : v - 1 + 1 ≡ v = omega arith in subst (λ (t : ℕ). p t ≡ true) e (below-at 40 (λ i. p (i + 1)) h (v - 1) (omega arith))
 
 -- a test at each level and version, read at one
-every-at : (p : Level → ℕ → Bool) → every p ≡ true → (l : Level) (v : ℕ) → 1 ≤ v → v ≤ 40 → p l v ≡ true
+pub every-at : (p : Level → ℕ → Bool) → every p ≡ true → (l : Level) (v : ℕ) → 1 ≤ v → v ≤ 40 → p l v ≡ true
 every-at p h L = one-at (p L) (&&-left (below 40 (λ i. p L (i + 1))) _ h)
 every-at p h M = one-at (p M) (&&-left (below 40 (λ i. p M (i + 1))) _ (&&-right (below 40 (λ i. p L (i + 1))) _ h))
 every-at p h Q = one-at (p Q) (&&-left (below 40 (λ i. p Q (i + 1))) _ (&&-right (below 40 (λ i. p M (i + 1))) _ (&&-right (below 40 (λ i. p L (i + 1))) _ h)))
@@ -140,3 +140,21 @@ blocks-sound l v h k =
       data_whole = blocks-sum (block_count_of v l) (data_codewords_of v l) (omega arith);
       total_whole = blocks-total l v (data_codewords_of v l % block_count_of v l) h k (omega arith);
     }
+
+-- no block has more than 153 codewords, computed
+longest-all : every (λ l v. leb (longest_of (blocks_of v l)) 153) ≡ true
+unfolding block_count_of correction_len_of data_codewords_of total_codewords_of
+longest-all = refl
+
+-- the longest block of each version and level
+pub blocks-short : (l : Level) (v : ℕ) → 1 ≤ v → v ≤ 40 → longest_of (blocks_of v l) ≤ 153
+blocks-short l v h k = leb-true _ _ (every-at (λ l v. leb (longest_of (blocks_of v l)) 153) longest-all l v h k)
+
+-- half the error correction codewords are enough of the longest block, computed
+damage-all : every (λ l v. leb (damage_of l * longest_of (blocks_of v l)) (100 * ((blocks_of v l).ec_len / 2))) ≡ true
+unfolding block_count_of correction_len_of data_codewords_of total_codewords_of
+damage-all = refl
+
+-- the damage that the blocks of each version and level stand
+pub damage-stood : (l : Level) (v : ℕ) → 1 ≤ v → v ≤ 40 → damage_of l * longest_of (blocks_of v l) ≤ 100 * ((blocks_of v l).ec_len / 2)
+damage-stood l v h k = leb-true _ _ (every-at (λ l v. leb (damage_of l * longest_of (blocks_of v l)) (100 * ((blocks_of v l).ec_len / 2))) damage-all l v h k)

@@ -1,5 +1,5 @@
 -- There is one order, and it is as long as the count says.
-use Rattle.std.proofs.Common.{◌≡◌, ◌≢◌, ℕ, zero, suc, ◌+◌, ◌-◌, ◌<◌, ◌≤◌, Bool, true, leb, List, [], ◌∷◌, ◌++◌, ◌&&◌, length, refl, sym, ◌∙◌, subst, inl, inr, arith}
+use Rattle.std.proofs.Common.{◌≡◌, ◌≢◌, ℕ, zero, suc, ◌+◌, ◌-◌, ◌<◌, ◌≤◌, Bool, true, leb, eqb, List, [], ◌∷◌, ◌++◌, ◌&&◌, length, refl, sym, ◌∙◌, subst, inl, inr, arith}
 use Rattle.std.proofs.lemmas.Bool.Decides.{nat_tests}
 use borrow.Author.Tests.{leb-true}
 use Rattle.std.specs.List.{Contains}
@@ -8,6 +8,8 @@ use Rattle.qr_layout.specs.Region.{is_in_region, InRegion}
 use Rattle.qr_layout.specs.Versions.{side_of}
 use Rattle.qr_layout.specs.Order.{Key, key_of, IsBefore, is_before, IsOrder, places_passing, number_of}
 use Rattle.qr_layout.specs.Versions.{total_codewords_of, remainder_bits_of, module_count_of}
+use Rattle.qr_layout.specs.Alignment.{centres_of}
+use Rattle.qr_layout.specs.Worked.{region_size}
 use Rattle.qr_layout.proofs.TableLemmas.{below, below-at, eqb-same}
 use Rattle.qr_layout.proofs.ListFacts.{Mem, Rises, Distinct, Mem-at, All-of-Mem, All-rec, Mem-left, Mem-right, Mem-append, Rises-of-pairs, one_rising}
 use Rattle.qr_layout.proofs.CountLemmas.{count-of}
@@ -59,6 +61,23 @@ only_order v ms ns o p = one_rising (Before v) (asym v) ms ns (Rises-of-pairs (B
 -- the region of each version has as many places as its codewords and remainder bits want
 count-at : (i : ℕ) → i < 40 → places_passing (side_of (i + 1)) (is_in_region (i + 1)) ≡ module_count_of (i + 1)
 count-at i l = region-count (i + 1) ∙ eqb-same _ _ (below-at 40 agrees agrees-40 i l)
+
+-- the forty sizes, computed
+sizes-agree : below 40 (λ i. eqb (module_count_of (i + 1)) (region_size (i + 1))) ≡ true
+unfolding centres_of total_codewords_of remainder_bits_of
+sizes-agree = refl
+
+-- the codewords and remainder bits fill what the function patterns leave
+pub size-at : (v : ℕ) → 1 ≤ v → v ≤ 40 → module_count_of v ≡ region_size v
+size-at v l h =
+    let e : v - 1 + 1 ≡ v = omega arith in
+    subst (λ (k : ℕ). module_count_of k ≡ region_size k) e (eqb-same _ _ (below-at 40 (λ i. eqb (module_count_of (i + 1)) (region_size (i + 1))) sizes-agree (v - 1) (omega arith)))
+
+-- and so many places the region has
+pub region-size : (v : ℕ) → 1 ≤ v → v ≤ 40 → places_passing (side_of v) (is_in_region v) ≡ region_size v
+region-size v l h =
+    let e : v - 1 + 1 ≡ v = omega arith in
+    subst (λ (k : ℕ). places_passing (side_of k) (is_in_region k) ≡ module_count_of k) e (count-at (v - 1) (omega arith)) ∙ size-at v l h
 
 -- the order has that many items
 pub order-length : (v : ℕ) (ms : List Module) → 1 ≤ v → v ≤ 40 → IsOrder v ms → length ms ≡ module_count_of v

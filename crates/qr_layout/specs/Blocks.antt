@@ -1,5 +1,5 @@
 -- How the codewords of a version and a level are cut into blocks. Public clauses cite this file.
-use Rattle.std.specs.Prelude.{◌≡◌, ℕ, ◌≤◌, ◌-◌, ◌+◌, ◌*◌, ◌/◌, ◌%◌, List, [], ◌∷◌}
+use Rattle.std.specs.Prelude.{◌≡◌, ℕ, ◌≤◌, ◌-◌, ◌+◌, ◌*◌, ◌/◌, ◌%◌, min, List, [], ◌∷◌}
 use Rattle.std.specs.List.{slice_index_or}
 use Rattle.qr_layout.specs.declared.blocks.Blocks.{Blocks}
 use Rattle.qr_layout.specs.declared.level.Level.{Level}
@@ -41,6 +41,17 @@ blocks_of v l = record {
   long = data_codewords_of v l % block_count_of v l;
   ec_len = correction_len_of v l;
 }
+
+-- how many codewords the longest block has, with those for error correction (ISO/IEC 18004:2015, 7.5.1, Table 9)
+abbrev pub longest_of : Blocks → ℕ
+longest_of b = b.short_len + min b.long 1 + b.ec_len
+
+-- of a hundred codewords of a block at a level, how many may be misread in any version [own]
+abbrev pub damage_of : Level → ℕ
+damage_of L = 9
+damage_of M = 17
+damage_of Q = 23
+damage_of H = 30
 
 -- the blocks hold the data codewords and, with their error correction, all codewords of the symbol (ISO/IEC 18004:2015,
 -- 7.5.1)

@@ -7,3 +7,4 @@ pub mod Order
 pub mod Roles
 pub mod Path
 pub mod StripPlaces
+pub mod Worked

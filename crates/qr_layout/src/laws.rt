@@ -1,21 +1,27 @@
 //! Laws that hold for every version, level and mask. Their statements are the clauses; but for `nth_place`, which
-//! walks, the functions do nothing.
+//! walks, and those that compare and clone, the functions do nothing.
 
-ghost use Rattle.std.specs.Prelude.{◌≡◌, ◌<◌, ◌≤◌, ◌-◌, ◌⊎◌, ◌↔◌, true, ℕ, List, ◌∷◌, ◌++◌, length, slice_get};
+ghost use Rattle.std.specs.Prelude.{◌≡◌, ◌<◌, ◌≤◌, ◌-◌, ◌*◌, ◌/◌, ◌⊎◌, ◌↔◌, true, ℕ, List, ◌∷◌, ◌++◌, length, map, slice_get, IsTrue, IfOk};
+ghost use Rattle.std.specs.List.{range_with_len};
 ghost use Rattle.qr_layout.specs.declared.region.Module.{Module};
+ghost use Rattle.qr_layout.specs.declared.level.Level.TheVariants.{L, M, Q, H};
 ghost use Rattle.qr_layout.specs.declared.role.Role.TheVariants.{Fixed, FormatBit, VersionBit, Region};
 ghost use Rattle.qr_layout.specs.Versions.{side_of, module_count_of};
-ghost use Rattle.qr_layout.specs.Blocks.{data_codewords_of, blocks_of, AreWhole};
+ghost use Rattle.qr_layout.specs.Blocks.{data_codewords_of, blocks_of, longest_of, damage_of, AreWhole};
 ghost use Rattle.qr_layout.specs.Words.{five_bits, format_word_of, version_word_of, IsFormatWord, IsVersionWord};
 ghost use Rattle.qr_layout.specs.Alignment.{centres_of, AreRegular};
 ghost use Rattle.qr_layout.specs.Region.{is_in_region, InRegion};
-ghost use Rattle.qr_layout.specs.Order.{IsOrder, number_of};
+ghost use Rattle.qr_layout.specs.Order.{IsOrder, number_of, places_passing};
 ghost use Rattle.qr_layout.specs.Roles.{first_place, second_place, version_place, transposed, role_of};
+ghost use Rattle.qr_layout.specs.Worked.{all_versions, printed_data, spaced_centres, region_size, row_6, row_8, column_8};
 
+use crate::blocks::Blocks;
 use crate::level::Level;
 use crate::region::Module;
+use crate::role::Role;
 use crate::steps::walk;
 use crate::version::Version;
+use std::alloc::AllocError;
 
 /// There is only one order.
 pub fn order_is_one(v: Version)
@@ -26,6 +32,13 @@ pub fn order_is_one(v: Version)
 pub fn order_is_full(v: Version)
     ensures count { (ms : List Module) → IsOrder v ms → length ms ≡ module_count_of v }
     ensures most { module_count_of v ≤ 29648 }
+{}
+
+/// The region is the square less the corners, the timing patterns between them, the alignment patterns and the version
+/// information; and so many modules are there for the codewords and the remainder bits.
+pub fn region_is_counted(v: Version)
+    ensures region { places_passing (side_of v) (is_in_region v) ≡ region_size v }
+    ensures filled { module_count_of v ≡ region_size v }
 {}
 
 /// A place's number is how many places stand before it in the order.
@@ -55,9 +68,39 @@ pub fn centres_are_regular(v: Version)
     ensures { 2 ≤ v → AreRegular v (centres_of v) }
 {}
 
+/// From version 2 on the centres are those of the rule of their spacing.
+#[tactic(auto, unfolding(crate::specs::Alignment::centres_of))]
+pub fn centres_are_spaced()
+    ensures { map centres_of (range_with_len 2 39) ≡ map spaced_centres (range_with_len 2 39) }
+{}
+
+/// The data codewords of all versions and levels are those that Table 7 prints.
+#[tactic(auto, unfolding(crate::specs::Blocks::data_codewords_of, crate::specs::Blocks::block_count_of, crate::specs::Blocks::correction_len_of, crate::specs::Versions::total_codewords_of))]
+pub fn data_codewords_compute()
+    ensures l { map (λ v. data_codewords_of v L) all_versions ≡ printed_data L }
+    ensures m { map (λ v. data_codewords_of v M) all_versions ≡ printed_data M }
+    ensures q { map (λ v. data_codewords_of v Q) all_versions ≡ printed_data Q }
+    ensures h { map (λ v. data_codewords_of v H) all_versions ≡ printed_data H }
+{}
+
 /// The blocks hold the codewords of the symbol.
 pub fn blocks_are_whole(v: Version, level: Level)
     ensures { AreWhole v level (blocks_of v level) }
+{}
+
+/// A block has at most 153 codewords, those for error correction included, and in version 27 at level L some have so
+/// many.
+#[tactic(auto, unfolding(crate::specs::Blocks::data_codewords_of, crate::specs::Blocks::block_count_of, crate::specs::Blocks::correction_len_of, crate::specs::Versions::total_codewords_of))]
+pub fn blocks_are_short(v: Version, level: Level)
+    ensures most { longest_of (blocks_of v level) ≤ 153 }
+    ensures reached { longest_of (blocks_of 27 L) ≡ 153 }
+{}
+
+/// Half the error correction codewords of a block, and so many misread codewords leave no doubt of its data codewords,
+/// are at least 9 % of its codewords at L, 17 % at M, 23 % at Q and 30 % at H.
+pub fn blocks_stand_damage(v: Version, level: Level)
+    ensures { damage_of level * longest_of (blocks_of v level)
+        ≤ 100 * ((blocks_of v level).ec_len / 2) }
 {}
 
 /// How many data codewords there are at most, by the versions that share the widths of the character count indicators.
@@ -75,6 +118,26 @@ pub fn format_words_are_remainders(level: Level, mask: u8)
 /// The version information is six bits and their remainder.
 pub fn version_words_are_remainders(v: Version)
     ensures { IsVersionWord v (version_word_of v) }
+{}
+
+/// The definitions of the two words compute the examples that Annexes C and D work out, and four more of their tables'
+/// rows.
+#[tactic(auto, unfolding(crate::specs::Words::format_word_of, crate::specs::Words::version_word_of, crate::specs::Words::remainder_of))]
+pub fn words_compute()
+    ensures l { format_word_of L 0 ≡ 0x77C4 }
+    ensures m { format_word_of M 5 ≡ 0x40CE }
+    ensures q { format_word_of Q 0 ≡ 0x355F }
+    ensures h { format_word_of H 7 ≡ 0x083B }
+    ensures version_7 { version_word_of 7 ≡ 0x07C94 }
+    ensures version_40 { version_word_of 40 ≡ 0x28C69 }
+{}
+
+/// What row 8, column 8 and row 6 of version 1 hold is what the standard's figures show there.
+#[tactic(auto, unfolding(crate::specs::Roles::role_of, crate::specs::Roles::pattern_colour, crate::specs::Roles::is_alignment_light, crate::specs::Roles::format_bit_at, crate::specs::Roles::version_bit_at, crate::specs::Alignment::centres_of))]
+pub fn roles_compute()
+    ensures across { map (role_of 1 8) (range_with_len 0 21) ≡ row_8 }
+    ensures down { map (λ r. role_of 1 r 8) (range_with_len 0 21) ≡ column_8 }
+    ensures timing { map (role_of 1 6) (range_with_len 0 21) ≡ row_6 }
 {}
 
 /// Each bit of the format information stands at its two places and nowhere else.
@@ -112,10 +175,121 @@ pub fn region_is_the_rest(v: Version)
         → (role_of v r c ≡ Region) ↔ (is_in_region v r c ≡ true) }
 {}
 
+/// Two versions compare as equal exactly where they are the same.
+pub fn versions_are_equal(a: Version, b: Version) -> bool
+    ensures { IsTrue result ↔ (a ≡ b) }
+{
+    a == b
+}
+
+/// Two levels compare as equal exactly where they are the same.
+pub fn levels_are_equal(a: Level, b: Level) -> bool
+    ensures { IsTrue result ↔ (a ≡ b) }
+{
+    a == b
+}
+
+/// Two modules compare as equal exactly where they are the same.
+pub fn modules_are_equal(a: Module, b: Module) -> bool
+    ensures { IsTrue result ↔ (a ≡ b) }
+{
+    a == b
+}
+
+/// Two roles compare as equal exactly where they are the same.
+pub fn roles_are_equal(a: Role, b: Role) -> bool
+    ensures { IsTrue result ↔ (a ≡ b) }
+{
+    a == b
+}
+
+/// Two cuts into blocks compare as equal exactly where they are the same.
+pub fn blocks_are_equal(a: Blocks, b: Blocks) -> bool
+    ensures { IsTrue result ↔ (a ≡ b) }
+{
+    a == b
+}
+
+/// A clone of a version is the same version.
+pub fn version_clones(a: Version) -> Result<Version, AllocError>
+    ensures { IfOk result (λ b. b ≡ a) }
+{
+    a.clone()
+}
+
+/// A clone of a level is the same level.
+pub fn level_clones(a: Level) -> Result<Level, AllocError>
+    ensures { IfOk result (λ b. b ≡ a) }
+{
+    a.clone()
+}
+
+/// A clone of a module is the same module.
+pub fn module_clones(a: Module) -> Result<Module, AllocError>
+    ensures { IfOk result (λ b. b ≡ a) }
+{
+    a.clone()
+}
+
+/// A clone of a role is the same role.
+pub fn role_clones(a: Role) -> Result<Role, AllocError>
+    ensures { IfOk result (λ b. b ≡ a) }
+{
+    a.clone()
+}
+
+/// A clone of a cut into blocks is the same cut into blocks.
+pub fn blocks_clones(a: Blocks) -> Result<Blocks, AllocError>
+    ensures { IfOk result (λ b. b ≡ a) }
+{
+    a.clone()
+}
+
 #[cfg(test)]
 mod tests {
     use super::*;
     use std::test::Fail;
+
+    // Equal where each field is, and unequal where one is not.
+    #[test]
+    fn equal_and_unequal_values(rt: HostRuntime) -> Result<(), Fail> {
+        let (first, second) = (
+            Version::new(1).ok_or("no version 1")?,
+            Version::new(2).ok_or("no version 2")?,
+        );
+        assert!(rt; versions_are_equal(first, first) && !versions_are_equal(first, second));
+        assert!(rt; levels_are_equal(Level::Q, Level::Q) && !levels_are_equal(Level::Q, Level::H));
+        assert!(rt;
+            roles_are_equal(Role::FormatBit(3), Role::FormatBit(3))
+                && !roles_are_equal(Role::FormatBit(3), Role::VersionBit(3))
+                && !roles_are_equal(Role::FormatBit(3), Role::FormatBit(4))
+        );
+        let place = Module { row: 1, col: 2 };
+        assert!(rt;
+            modules_are_equal(place, place)
+                && !modules_are_equal(place, Module { row: 1, col: 3 })
+                && !modules_are_equal(place, Module { row: 0, col: 2 })
+        );
+        let blocks = first.blocks(Level::L);
+        assert!(rt; blocks_are_equal(blocks, blocks));
+        assert!(rt; !blocks_are_equal(blocks, first.blocks(Level::M)));
+        Ok(())
+    }
+
+    #[test]
+    fn clones(rt: HostRuntime) -> Result<(), Fail> {
+        let version = Version::new(7).ok_or("no version 7")?;
+        let place = Module { row: 1, col: 2 };
+        assert_eq!(rt; version_clones(version)?, version);
+        assert_eq!(rt; level_clones(Level::H)?, Level::H);
+        assert_eq!(rt; module_clones(place)?, place);
+        assert_eq!(rt; role_clones(Role::Region)?, Role::Region);
+        assert_eq!(rt;
+            blocks_clones(version.blocks(Level::H))?,
+            version.blocks(Level::H)
+        );
+        Ok(())
+    }
 
     #[test]
     fn places_by_their_numbers(rt: HostRuntime) -> Result<(), Fail> {

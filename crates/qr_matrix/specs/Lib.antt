@@ -4,3 +4,4 @@ pub mod Sums
 pub mod Penalty
 pub mod Places
 pub mod Lines
+pub mod Worked

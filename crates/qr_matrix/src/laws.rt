@@ -1,15 +1,29 @@
 //! The laws of the penalty's counts (ISO/IEC 18004:2015, 7.8.3.1, Table 11): what is counted on rows of words is what
 //! the definitions count module by module, for every side up to 177. Bits past the side count for nothing. The first
-//! function does nothing, its contract is the law; the others count, and their contracts say what.
+//! two functions do nothing, their contracts are the laws; the others count, and their contracts say what.
 
 ghost use Rattle.std.specs.Prelude.{◌≡◌, ℕ, ◌≤◌, Bool, length};
-ghost use Rattle.qr_matrix.specs.Penalty.{over_lines, run_cost, block_count, window_count};
+ghost use Rattle.qr_matrix.specs.Penalty.{over_lines, run_cost, block_count, window_count, penalty_of};
 ghost use Rattle.qr_matrix.specs.Places.{place_cost};
 ghost use Rattle.qr_matrix.specs.Lines.{dark_in};
+ghost use Rattle.qr_matrix.specs.Worked.{all_dark, all_light, chequered, ratio_in_a_row, ratio_in_a_column};
 
 use crate::blocks::block_count;
 use crate::runs::runs_cost;
 use crate::windows::window_count;
+
+/// The definition of the penalty computes the points of these squares, which are counted by hand from Table 11; and it
+/// finds the ratio of a finder pattern after and before four light modules, at whatever place of a line.
+#[tactic(auto, unfolding(crate::specs::Penalty::penalty_of, crate::specs::Penalty::over_lines, crate::specs::Penalty::run_cost, crate::specs::Penalty::is_run, crate::specs::Penalty::window_count, crate::specs::Penalty::is_window, crate::specs::Penalty::block_count, crate::specs::Penalty::is_block, crate::specs::Penalty::dark_count, crate::specs::Penalty::dark_cost))]
+pub fn penalties_compute()
+    ensures one { penalty_of 1 all_light ≡ 100 }
+    ensures dark { penalty_of 5 all_dark ≡ 178 }
+    ensures light { penalty_of 21 all_light ≡ 2098 }
+    ensures chequers { penalty_of 21 chequered ≡ 0 }
+    ensures row { penalty_of 11 (ratio_in_a_row 0) ≡ 593 }
+    ensures column { penalty_of 11 (ratio_in_a_column 4) ≡ 593 }
+    ensures inside { over_lines 75 (ratio_in_a_row 60) (window_count 75) ≡ 2 }
+{}
 
 /// The runs of a line cost 1 for each place where five equal modules begin, and 2 more where the module before them is
 /// not equal or there is none.

@@ -1,16 +1,22 @@
 -- The parts of bytes: how long a front fits, and the lengths that are found one after the other.
-use Rattle.std.proofs.Common.{◌≡◌, ℕ, zero, suc, ◌+◌, ◌-◌, ◌*◌, ◌<◌, ◌≤◌, min, true, false, All, List, [], ◌∷◌, ◌++◌, take, drop, length, get_or, Some, refl, sym, ◌∙◌, ap, subst, append_assoc, inl, inr, arith}
-use Rattle.std.specs.List.{concat}
+use Rattle.std.proofs.Common.{◌≡◌, ℕ, zero, suc, ◌+◌, ◌-◌, ◌*◌, ◌<◌, ◌≤◌, min, true, false, leb, ◌⊎◌, All, List, [], ◌∷◌, ◌++◌, take, drop, length, get_or, Some, refl, sym, ◌∙◌, ap, subst, append_assoc, inl, inr, arith}
+use Rattle.std.specs.List.{concat, list_all}
+use Rattle.std.specs.Prelude.{IsTrue}
+use borrow.Author.Tests.{leb-true}
+use lib.ListN.{replicate}
 use Rattle.std.proofs.lemmas.List.{length-take, length-drop, append-nil, take-append-drop, drop-append-le, length-append}
 use Rattle.std.proofs.lemmas.List.Elements.{All-nil, All-cons, All-head, All-tail}
 use Rattle.std.proofs.lemmas.Bool.{and_from, cases_lt}
-use Rattle.std.proofs.Math.Seq.{drop-cons, drop-nil, drop-append-add, take-append_seam}
+use Rattle.std.proofs.Math.Seq.{drop-cons, drop-nil, drop-append-add, take-append_seam, take-length}
 use Rattle.qr_layout.specs.declared.level.Level.{Level}
 use Rattle.qr_bits.specs.declared.modes.Rule.{Rule}
 use Rattle.qr_bits.specs.declared.modes.Mode.TheVariants.{Byte, Kanji}
 use Rattle.qr_bits.specs.Segmentation.{runs_of, Covers, HasFit, IsLongestFit}
-use Rattle.qr_bits.specs.Modes.{may_use}
+use Rattle.qr_bits.specs.Modes.{may_use, count_width}
 use Rattle.qr_bits.specs.Padding.{room_of}
+use Rattle.qr_layout.specs.Versions.{total_codewords_of}
+use Rattle.qr_layout.specs.Blocks.{block_count_of, correction_len_of, data_codewords_of}
+use Rattle.qr_layout.proofs.BlockLemmas.{every, every-at}
 use Rattle.qr_bits.proofs.SegmentLists.{count_width_bound}
 use Rattle.qr_bits.proofs.Counts.{capacity_least, fitting_short}
 use Rattle.qr_bits.proofs.Choosing.{byte_used}
@@ -32,6 +38,58 @@ longest-some v l b [] n p q some h = absurd (omega arith)
 longest-some v l b (x ∷ xs) n p q some h =
     let least = capacity_least v l p q in
     let one = h.longest 1 (omega arith) (one-fits v b x (room_of v l) (omega arith)) in omega arith
+
+-- letters of byte mode may stand by any rule
+bytes-used : (b : Rule) (n : ℕ) → IsTrue (list_all (may_use b) (replicate n Byte))
+bytes-used b zero = refl
+bytes-used b (suc n) = and_from (may_use b Byte) _ (byte_used b) (bytes-used b n)
+
+-- the room after a header is enough for a byte segment of five bytes, computed
+five-all : every (λ l v. leb (4 + count_width v Byte + 40) (room_of v l)) ≡ true
+unfolding block_count_of correction_len_of data_codewords_of total_codewords_of
+five-all = refl
+
+-- so from one to five bytes fit after a header
+few-fit : (v : ℕ) (l : Level) (b : Rule) (xs : List ℕ) → 1 ≤ v → v ≤ 40 → 0 < length xs → length xs ≤ 5 → HasFit v b xs (room_of v l)
+unfolding runs_of Covers
+few-fit v l b [] p q some few = absurd (omega arith)
+few-fit v l b (x ∷ []) p q some few =
+    let five = leb-true _ _ (every-at (λ l v. leb (4 + count_width v Byte + 40) (room_of v l)) five-all l v p q) in
+    (Byte ∷ [], (bytes-used b 1, (omega arith, omega arith, refl, refl)), omega (arith, five))
+few-fit v l b (x ∷ y ∷ []) p q some few =
+    let five = leb-true _ _ (every-at (λ l v. leb (4 + count_width v Byte + 40) (room_of v l)) five-all l v p q) in
+    (Byte ∷ Byte ∷ [], (bytes-used b 2, (omega arith, omega arith, refl, refl)), omega (arith, five))
+few-fit v l b (x ∷ y ∷ z ∷ []) p q some few =
+    let five = leb-true _ _ (every-at (λ l v. leb (4 + count_width v Byte + 40) (room_of v l)) five-all l v p q) in
+    (Byte ∷ Byte ∷ Byte ∷ [], (bytes-used b 3, (omega arith, omega arith, refl, refl)), omega (arith, five))
+few-fit v l b (x ∷ y ∷ z ∷ w ∷ []) p q some few =
+    let five = leb-true _ _ (every-at (λ l v. leb (4 + count_width v Byte + 40) (room_of v l)) five-all l v p q) in
+    (Byte ∷ Byte ∷ Byte ∷ Byte ∷ [], (bytes-used b 4, (omega arith, omega arith, refl, refl)), omega (arith, five))
+few-fit v l b (x ∷ y ∷ z ∷ w ∷ u ∷ []) p q some few =
+    let five = leb-true _ _ (every-at (λ l v. leb (4 + count_width v Byte + 40) (room_of v l)) five-all l v p q) in
+    (Byte ∷ Byte ∷ Byte ∷ Byte ∷ Byte ∷ [], (bytes-used b 5, (omega arith, omega arith, refl, refl)), omega (arith, five))
+few-fit v l b (x ∷ y ∷ z ∷ w ∷ u ∷ t ∷ xs) p q some few = absurd (omega arith)
+
+-- so a part has at least five bytes, or all that is left
+pub part-least : (v : ℕ) (l : Level) (b : Rule) (x p : List ℕ) (ps : List (List ℕ)) → 1 ≤ v → v ≤ 40 → AreParts v l b x (p ∷ ps) → (5 ≤ length p) ⊎ (p ≡ x)
+unfolding AreParts
+part-least v l b x p ps i j h =
+    let n = h.0 in
+    let some = h.1 in
+    let cut = h.2 in
+    let within = cut.inside in
+    let many = length-take n x in
+    let same = ap length h.3 in
+    elim (cases_lt (length x) 5) [
+      | inl short ↦
+          let whole = cut.longest (length x) (omega arith) (subst (λ ys. HasFit v b ys (room_of v l)) (sym (take-length x)) (few-fit v l b x i j (omega arith) (omega arith))) in
+          let all : n ≡ length x = omega arith in
+          inr (h.3 ∙ (ap (λ k. take k x) all ∙ take-length x))
+      | inr long ↦
+          let front = length-take 5 x in
+          let five = cut.longest 5 (omega arith) (few-fit v l b (take 5 x) i j (omega (arith, front)) (omega (arith, front))) in
+          inl (omega (arith, many, same, five))
+    ]
 
 -- what fits behind a header has at most 7,089 bytes
 pub part-short : (v : ℕ) (l : Level) (b : Rule) (xs : List ℕ) → 1 ≤ v → v ≤ 40 → HasFit v b xs (room_of v l) → length xs ≤ 7089

@@ -13,12 +13,16 @@ use Rattle.qr_layout.proofs.OrderLemmas.{order-length}
 use Rattle.qr_layout.proofs.TableLemmas.{below, below-at}
 use Rattle.qr_bits.specs.Bits.{field, bits_of}
 use Rattle.qr_bits.proofs.BitLists.{length-field, length-bits_of}
+use Rattle.qr_bits.specs.Parsing.{parse, Fails}
+use Rattle.qr_bits.specs.declared.fault.ParseFault.{ParseFault}
+use Rattle.qr_bits.specs.declared.fault.ParseFault.TheVariants as unparsed
+use Rattle.qr_symbol.specs.Faults.{unread_for}
 use Rattle.qr_symbol.specs.declared.fault.ReadFault.{ReadFault}
 use Rattle.qr_symbol.specs.declared.fault.ReadFault.TheVariants as fault
 use Rattle.qr_matrix.specs.Grid.{Grid, colour}
 use Rattle.qr_symbol.specs.Masks.{inverts, inverted}
 use Rattle.qr_symbol.specs.Interleaving.{IsInterleaved}
-use Rattle.qr_symbol.specs.Reading.{unmasked, IsRead, IsFormat, IsOfVersion, IsUnread}
+use Rattle.qr_symbol.specs.Reading.{unmasked, IsRead, IsMessage, IsFormat, IsOfVersion, IsUnread}
 use Rattle.qr_symbol.proofs.BitLemmas.{differs-inverted}
 use Rattle.qr_symbol.proofs.MessageLemmas.{append-front}
 use Rattle.qr_symbol.proofs.ReadLemmas.{read-one}
@@ -78,3 +82,11 @@ pub not-checked : (g : Grid) (v : ℕ) (l : Level) (mask : ℕ) (cw : List ℕ) 
 not-checked g v l mask cw e s f r (inl m) none = subst (IsUnread g) (sym m) tt
 not-checked g v l mask cw e s f r (inr k) none =
     subst (IsUnread g) (sym k) (v, s, l, mask, f, λ d h. none k d h.many (subst (IsInterleaved v l d) (read-one v mask g h.codewords cw h.read r) h.sent))
+
+-- a message that is not parsed leaves the square unread
+pub not-parsed : (g : Grid) (v : ℕ) (l : Level) (mask : ℕ) (d : List ℕ) (e : ParseFault) → IsOfVersion g v → IsFormat g l mask
+    → IsMessage v l mask g d → Fails e (parse v (bits_of d)) → IsUnread g (unread_for e)
+not-parsed g v l mask d unparsed.Memory s f h k = tt
+not-parsed g v l mask d unparsed.BadMode s f h k = record { version = v; level = l; mask = mask; message = d; sized = s; format = f; holds = h; parsed = k }
+not-parsed g v l mask d unparsed.Cut s f h k = record { version = v; level = l; mask = mask; message = d; sized = s; format = f; holds = h; parsed = k }
+not-parsed g v l mask d unparsed.BadValue s f h k = record { version = v; level = l; mask = mask; message = d; sized = s; format = f; holds = h; parsed = k }

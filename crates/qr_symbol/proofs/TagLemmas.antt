@@ -120,7 +120,7 @@ pairs-of-Rises R [] h = λ i j d l m. absurd (omega arith)
 pairs-of-Rises R (x ∷ xs) h = AllPairs-cons R x xs (All-of-rec (R x) xs h.0) (pairs-of-Rises R xs h.1)
 
 -- no block is longer than a long one
-len-most : (c : Cut) (i : ℕ) → len_of c i ≤ c.short_len + 1
+pub len-most : (c : Cut) (i : ℕ) → len_of c i ≤ c.short_len + 1
 len-most c i = grind (arith, nat_tests)
 
 -- past the last place all tags have come

@@ -1,11 +1,14 @@
--- Why no symbol is made, where the data codewords were not, and the numbers of faults. Public clauses cite this file.
+-- Why no symbol is made, where the data codewords were not, why none is read, where they are not parsed, and the numbers of
+-- faults. Public clauses cite this file.
 use Rattle.std.specs.Prelude.{ℕ}
 use Rattle.qr_bits.specs.declared.fault.BitFault.{BitFault}
 use Rattle.qr_bits.specs.declared.fault.BitFault.TheVariants as bit
+use Rattle.qr_bits.specs.declared.fault.ParseFault.{ParseFault}
+use Rattle.qr_bits.specs.declared.fault.ParseFault.TheVariants as unparsed
 use Rattle.qr_symbol.specs.declared.fault.EncodeFault.{EncodeFault}
 use Rattle.qr_symbol.specs.declared.fault.EncodeFault.TheVariants as fault
 use Rattle.qr_symbol.specs.declared.fault.ReadFault.{ReadFault}
-use Rattle.qr_symbol.specs.declared.fault.ReadFault.TheVariants as read
+use Rattle.qr_symbol.specs.declared.fault.ReadFault.TheVariants as unread
 
 -- the same cause [own]
 abbrev pub fault_of : BitFault → EncodeFault
@@ -14,9 +17,16 @@ fault_of bit.TooLong = fault.TooLong
 
 -- the number of a fault of reading [own]
 abbrev pub read_fault_number : ReadFault → ℕ
-read_fault_number read.Memory = 1
-read_fault_number read.Side = 2
-read_fault_number read.Format = 3
-read_fault_number read.Check = 4
-read_fault_number (read.Segments why) = 5
-read_fault_number read.Series = 6
+read_fault_number unread.Memory = 1
+read_fault_number unread.Side = 2
+read_fault_number unread.Format = 3
+read_fault_number unread.Check = 4
+read_fault_number (unread.Segments why) = 5
+read_fault_number unread.Series = 6
+
+-- the same cause; lack of memory is one of its own [own]
+abbrev pub unread_for : ParseFault → ReadFault
+unread_for unparsed.Memory = unread.Memory
+unread_for unparsed.BadMode = unread.Segments unparsed.BadMode
+unread_for unparsed.Cut = unread.Segments unparsed.Cut
+unread_for unparsed.BadValue = unread.Segments unparsed.BadValue

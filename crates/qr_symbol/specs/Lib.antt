@@ -11,3 +11,4 @@ pub mod Joining
 pub mod Faults
 pub mod Interleaving
 pub mod Sending
+pub mod Distance

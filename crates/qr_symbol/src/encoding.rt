@@ -1,6 +1,6 @@
 //! The encoding of an input as one symbol (ISO/IEC 18004:2015, 7.1).
 
-ghost use Rattle.std.specs.Prelude.{◌≡◌, ◌+◌, ◌<◌, ◌≤◌, ◌↔◌, ◌⊎◌, Bool, [], length, Err, IfOk, IfErr};
+ghost use Rattle.std.specs.Prelude.{◌≡◌, ◌≢◌, ◌+◌, ◌<◌, ◌≤◌, ◌↔◌, ◌⊎◌, Bool, [], length, Err, IfOk, IfErr};
 ghost use Rattle.std.specs.Option.{ForSome};
 ghost use Rattle.qr_bits.specs.declared.modes.Rule.{Rule};
 ghost use Rattle.qr_bits.specs.Segmentation.{bits, Covers, IsLeastSegmentation};
@@ -41,8 +41,9 @@ pub fn encode(
     ensures level { IfOk result (λ s. s.level ≡ level) }
     ensures read { IfOk result (λ s. IsReadBack input.now s.version rule s.matrix) }
     ensures empty { (result ≡ Err EncodeFault.Empty) ↔ (input.now ≡ []) }
-    ensures too_long { result ≡ Err EncodeFault.TooLong
-        → HasNoVersion input.now level smallest rule }
+    ensures too_long { (result ≡ Err EncodeFault.TooLong)
+        ↔ ((result ≢ Err EncodeFault.Memory) × HasNoVersion input.now level smallest rule) }
+    ensures long { 7089 < length input.now → result ≡ Err EncodeFault.TooLong }
     ensures fault { IfErr result (λ e. (e ≡ EncodeFault.Empty) ⊎ (e ≡ EncodeFault.TooLong)
         ⊎ (e ≡ EncodeFault.Memory)) }
 {

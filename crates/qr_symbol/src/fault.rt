@@ -121,3 +121,17 @@ impl<T: Drop> From<AllocFailed<T>> for ReadFault {
         ReadFault::Memory
     }
 }
+
+impl From<ParseFault> for ReadFault {
+    ghost use Rattle.std.specs.Prelude.{◌≡◌};
+    ghost use Rattle.qr_symbol.specs.Faults.{unread_for};
+
+    ghost from_gives = { λ p e. e ≡ unread_for p };
+
+    fn from(fault: ParseFault) -> Self {
+        match fault {
+            ParseFault::Memory => ReadFault::Memory,
+            fault => ReadFault::Segments(fault),
+        }
+    }
+}

@@ -1,6 +1,7 @@
-//! The laws of masks, of interleaving, of reading and of series. Each function does nothing: its contract is the law.
+//! The laws of masks, of interleaving, of reading and of series. But for those that compare and clone, each function does
+//! nothing: its contract is the law.
 
-ghost use Rattle.std.specs.Prelude.{◌≡◌, ◌<◌, ◌≤◌, ◌+◌, ◌⊎◌, ℕ, false, List, length, map, None};
+ghost use Rattle.std.specs.Prelude.{◌≡◌, ◌<◌, ◌≤◌, ◌+◌, ◌⊎◌, ℕ, false, List, length, map, None, ◌↔◌, ◌∷◌, IsTrue, IfOk};
 ghost use Rattle.qr_layout.specs.declared.level.Level.{Level};
 ghost use Rattle.qr_layout.specs.declared.region.Module.{Module};
 ghost use Rattle.qr_layout.specs.Order.{IsOrder};
@@ -20,10 +21,13 @@ ghost use Rattle.qr_layout.specs.Versions.{total_codewords_of};
 ghost use Rattle.qr_layout.specs.Blocks.{data_codewords_of, blocks_of};
 ghost use Rattle.qr_bits.specs.declared.modes.Rule.{Rule};
 ghost use Rattle.qr_symbol.specs.Interleaving.{count_of, len_of, start_of, cut_len, data_cut, IsInterleaved};
+ghost use Rattle.qr_symbol.specs.Distance.{MessagesLieApart, DamagedMessagesAreOne};
 ghost use Rattle.qr_symbol.specs.Worked.{all_masks, first_rows, computed_rows};
 
+use crate::fault::{EncodeFault, ReadFault};
 use qr_bits::INPUT_MAX;
 use qr_layout::{Level, Version};
+use std::alloc::AllocError;
 
 /// The definition of the masks computes the first places of each mask pattern.
 pub fn masks_compute()
@@ -50,6 +54,18 @@ pub fn interleaving_is_one(version: Version, level: Level)
     ensures message { (d e xs : List ℕ) → length d ≡ data_codewords_of version level
         → length e ≡ data_codewords_of version level
         → IsInterleaved version level d xs → IsInterleaved version level e xs → d ≡ e }
+{}
+
+/// Two squares of a version and a level that hold different messages differ in some block by more codewords than it has
+/// error correction codewords.
+pub fn messages_lie_apart(version: Version, level: Level)
+    ensures { MessagesLieApart version level }
+{}
+
+/// What was read of a square stands for one message only, as long as in each block the codewords that were not read and
+/// twice those that were misread are no more than its error correction codewords.
+pub fn damaged_messages_are_one(version: Version, level: Level)
+    ensures { DamagedMessagesAreOne version level }
 {}
 
 /// The square of codewords is read as their bits.
@@ -129,6 +145,12 @@ pub fn series_are_shortest()
         → IsSeries x l rule v ss → NeedsParts v l rule x (length ss) }
 {}
 
+/// The first part of what is left of an input has at least five bytes, or it is all that is left.
+pub fn parts_are_long(version: Version, level: Level)
+    ensures { (rule : Rule) (x p : List ℕ) (ps : List (List ℕ))
+        → AreParts version level rule x (p ∷ ps) → (5 ≤ length p) ⊎ (p ≡ x) }
+{}
+
 /// The symbols of a series are joined to the input.
 pub fn series_are_joined(version: Version)
     ensures { (x : List ℕ) (l : Level) (rule : Rule) (ss : List Symbol)
@@ -142,3 +164,54 @@ pub fn long_inputs_have_none(version: Version)
     ensures series { (x : List ℕ) (l : Level) (rule : Rule) (ss : List Symbol)
         → INPUT_MAX ≤ length x → IsSeries x l rule version ss → ⊥ }
 {}
+
+/// Two faults of encoding compare as equal exactly where they are the same.
+pub fn encode_faults_are_equal(a: EncodeFault, b: EncodeFault) -> bool
+    ensures { IsTrue result ↔ (a ≡ b) }
+{
+    a == b
+}
+
+/// Two faults of reading compare as equal exactly where they are the same.
+pub fn read_faults_are_equal(a: ReadFault, b: ReadFault) -> bool
+    ensures { IsTrue result ↔ (a ≡ b) }
+{
+    a == b
+}
+
+/// A clone of a fault of encoding is the same fault.
+pub fn encode_fault_clones(a: EncodeFault) -> Result<EncodeFault, AllocError>
+    ensures { IfOk result (λ b. b ≡ a) }
+{
+    a.clone()
+}
+
+/// A clone of a fault of reading is the same fault.
+pub fn read_fault_clones(a: ReadFault) -> Result<ReadFault, AllocError>
+    ensures { IfOk result (λ b. b ≡ a) }
+{
+    a.clone()
+}
+
+#[cfg(test)]
+mod tests {
+    use super::*;
+    use qr_bits::ParseFault;
+    use std::test::Fail;
+
+    #[test]
+    fn equal_and_unequal_faults(rt: HostRuntime) -> Result<(), Fail> {
+        let (cut, bad_mode) = (
+            ReadFault::Segments(ParseFault::Cut),
+            ReadFault::Segments(ParseFault::BadMode),
+        );
+        assert!(rt; read_faults_are_equal(cut, cut) && !read_faults_are_equal(cut, bad_mode));
+        assert!(rt; !read_faults_are_equal(cut, ReadFault::Check));
+        let (empty, too_long) = (EncodeFault::Empty, EncodeFault::TooLong);
+        assert!(rt; encode_faults_are_equal(empty, empty));
+        assert!(rt; !encode_faults_are_equal(empty, too_long));
+        assert_eq!(rt; read_fault_clones(cut)?, cut);
+        assert_eq!(rt; encode_fault_clones(too_long)?, too_long);
+        Ok(())
+    }
+}

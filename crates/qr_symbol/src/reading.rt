@@ -1,8 +1,9 @@
 //! The reading of one symbol: its version by the side, its level and its mask by the format information, then the
 //! codewords, the message and what it says (ISO/IEC 18004:2015, 12).
 
-ghost use Rattle.std.specs.Prelude.{◌≡◌, ℕ, ◌<◌, ◌≤◌, length, IfOk, MatchOption, MatchResult};
+ghost use Rattle.std.specs.Prelude.{◌≡◌, ℕ, ◌<◌, ◌≤◌, Err, length, IfOk, MatchOption, MatchResult};
 ghost use Rattle.std.specs.Bool.{Decides};
+ghost use Rattle.qr_symbol.specs.declared.fault.ReadFault.{ReadFault};
 ghost use Rattle.qr_layout.specs.declared.level.Level.{Level};
 ghost use Rattle.qr_layout.specs.Roles.{first_place};
 ghost use Rattle.qr_layout.specs.Versions.{side_of, total_codewords_of};
@@ -12,7 +13,7 @@ use crate::drawing::is_bit_set;
 use crate::fault::ReadFault;
 use crate::mask::inverts;
 use crate::message::deinterleave;
-use qr_bits::{ParseFault, Parsed, parse};
+use qr_bits::{Parsed, parse};
 use qr_layout::{Level, Module, Version, format_word, walk};
 use qr_matrix::Matrix;
 use std::alloc::{AllocError, Global};
@@ -133,7 +134,9 @@ fn read_codewords(
 /// correction codewords must be theirs. The other function patterns, the second format information, the version
 /// information and the remainder bits are not looked at.
 pub fn read_symbol(alloc: Global, matrix: &Matrix) -> Result<Parsed, ReadFault>
-    ensures { MatchResult result (IsReading matrix.now) (IsUnread matrix.now) }
+    ensures read { MatchResult result (IsReading matrix.now) (IsUnread matrix.now) }
+    ensures side { IsUnread matrix.now ReadFault.Side → result ≡ Err ReadFault.Side }
+    ensures format { IsUnread matrix.now ReadFault.Format → result ≡ Err ReadFault.Format }
 {
     let Some(version) = version_of_side(matrix.side()) else {
         return Err(ReadFault::Side);
@@ -143,11 +146,7 @@ pub fn read_symbol(alloc: Global, matrix: &Matrix) -> Result<Parsed, ReadFault>
     };
     let codewords = read_codewords(alloc, version, mask, matrix)?;
     let message = deinterleave(alloc, version, level, &codewords)?;
-    match parse(alloc, &message, version) {
-        Ok(parsed) => Ok(parsed),
-        Err(ParseFault::Memory) => Err(ReadFault::Memory),
-        Err(fault) => Err(ReadFault::Segments(fault)),
-    }
+    Ok(parse(alloc, &message, version)?)
 }
 
 #[cfg(test)]

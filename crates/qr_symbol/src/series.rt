@@ -1,6 +1,6 @@
 //! The encoding of an input as a series of symbols, by structured append (ISO/IEC 18004:2015, 8).
 
-ghost use Rattle.std.specs.Prelude.{◌≡◌, ◌-◌, ◌<◌, ◌≤◌, ◌↔◌, ◌⊎◌, ℕ, false, List, [], ◌∷◌, ◌++◌, length, None, Some, Err, OnOk, IfOk, IfErr, MatchOption};
+ghost use Rattle.std.specs.Prelude.{◌≡◌, ◌≢◌, ◌-◌, ◌<◌, ◌≤◌, ◌↔◌, ◌⊎◌, ℕ, false, List, [], ◌∷◌, ◌++◌, length, None, Some, Err, OnOk, IfOk, IfErr, MatchOption};
 ghost use Rattle.qr_bits.specs.declared.modes.Rule.{Rule};
 ghost use Rattle.qr_bits.specs.declared.modes.Mode.{Mode};
 ghost use Rattle.qr_bits.specs.Segmentation.{HasFit, IsLongestFit};
@@ -41,8 +41,8 @@ pub fn encode_series(
     ensures shortest { IfOk result (λ ss. may_use rule Mode.Kanji ≡ false
         → NeedsParts version level rule input.now (length ss.items)) }
     ensures empty { (result ≡ Err EncodeFault.Empty) ↔ (input.now ≡ []) }
-    ensures too_many { result ≡ Err EncodeFault.TooMany
-        → HasNoSeries input.now level rule version }
+    ensures too_many { (result ≡ Err EncodeFault.TooMany)
+        ↔ ((result ≢ Err EncodeFault.Memory) × HasNoSeries input.now level rule version) }
     ensures fault { IfErr result (λ e. (e ≡ EncodeFault.Empty) ⊎ (e ≡ EncodeFault.TooMany)
         ⊎ (e ≡ EncodeFault.Memory)) }
 {

@@ -74,6 +74,7 @@ fn utf8(rt: HostRuntime) -> Result<(), Fail> {
     let out = one(rt.alloc(), Drawing::Utf8, 0)?;
     let text = out.bytes();
     assert_eq!(rt; line_count(text), 11);
+    assert_eq!(rt; line(text, 0), " ▄▄▄▄▄ █▀▀ ▄▄█ ▄▄▄▄▄ ".as_bytes());
     assert_eq!(rt; line(text, 10), "▄▄▄▄▄▄▄█▄██▄█▄▄▄██▄█▄".as_bytes());
     Ok(())
 }

@@ -1,9 +1,31 @@
 //! The program `qrencode`: it gives its words and its standard streams to the command.
 #![tactic(auto)]
 
-use qrencode_cli::{Counted, run};
+ghost use Rattle.std.specs.Prelude.{map};
+ghost use Rattle.std.specs.String.{string_bytes};
+ghost use Rattle.std.specs.Process.{exit_status};
+ghost use Rattle.qrencode_cli.specs.Answer.{RunsTo};
+
+use qrencode_cli::{Counted, Sink, Source, run};
+use std::alloc::Global;
 use std::env;
 use std::process::ExitCode;
+
+// Runs the command, and gives its status to the process.
+fn command<R: Source, W: Sink, E: Sink>(
+    alloc: Global,
+    words: &[String],
+    input: &mut R,
+    out: &mut W,
+    err: &mut E,
+) -> ExitCode
+    ensures { RunsTo (map string_bytes words.now)
+        (R.device input.old) (R.device input.new)
+        (W.device out.old) (W.device out.new)
+        (E.device err.old) (E.device err.new) (exit_status result) }
+{
+    ExitCode::from(run(alloc, words, input, out, err))
+}
 
 // Words that cannot be listed, for want of memory or since they are no text, end the program with
 // status 1 before anything is written.
@@ -18,6 +40,5 @@ fn main(rt: HostRuntime) -> ExitCode {
     let mut input = Counted::new(rt.stdin());
     let mut out = Counted::new(rt.stdout());
     let mut err = Counted::new(rt.stderr());
-    let status = run(rt.alloc(), words.as_slice(), &mut input, &mut out, &mut err);
-    ExitCode::from(status)
+    command(rt.alloc(), words.as_slice(), &mut input, &mut out, &mut err)
 }

@@ -1,13 +1,22 @@
 -- Why the words and the input have one answer.
-use Rattle.std.proofs.Common.{◌≡◌, ◌∙◌, inl, inr, ℕ, Bool, true, false, List, [], length, Ok, Err, ap, sym, subst, arith}
-use Rattle.clap.specs.Walk.{Text}
+use Rattle.std.proofs.Common.{◌≡◌, ◌≤◌, ◌∙◌, ◌&&◌, inl, inr, ℕ, Bool, true, false, cond, leb, List, [], ◌∷◌, length, Option, Some, None, unwrap_or, codes, Result, Ok, Err, refl, ap, sym, subst, arith}
+use Rattle.std.specs.Option.{is_none}
+use borrow.Author.Tests.{leb-true}
+use Rattle.clap.specs.Words.{Kinds, first_of, one_of}
+use Rattle.clap.specs.Walk.{Row, Text}
+use Rattle.qr_layout.specs.declared.level.Level.{Level}
+use Rattle.qr_bits.proofs.Mirror.{empty_fits}
 use Rattle.qr_matrix.specs.Grid.{Grid}
 use Rattle.qr_symbol.specs.Series.{HasNoSeries, IsSeries, squares_of}
+use Rattle.qr_symbol.specs.Symbols.{FitsVersion}
 use Rattle.qr_symbol.proofs.SeriesLemmas.{series-one}
 use Rattle.qr_symbol.proofs.SymbolLemmas.{symbol-one}
-use Rattle.qrencode_cli.specs.Answer.{AnswersAreOne, IsDrawing, RefusalsExcludeDrawings, held, input_for}
+use Rattle.qrencode_cli.specs.Answer.{AnswersAreOne, IsDrawing, IsRefusal, Refuses, RefusalsAreOne, RefusalsExcludeDrawings, held, input_for}
+use Rattle.qrencode_cli.specs.Arguments.{faults_for, rows_for}
 use Rattle.qrencode_cli.specs.Drawings.{drawn}
-use Rattle.qrencode_cli.specs.Settings.{SettingsView, rule_for, settings_for}
+use Rattle.qrencode_cli.specs.Settings.{Reason, SettingsView, checked_level, drawing_at, level_at, needs_version, no_matches, number_at, rule_for, settings_for, settings_with, taken_settings, unknown_level, unknown_type, version_numbered}
+use Rattle.qrencode_cli.specs.declared.drawing.Drawing.{Drawing}
+use Rattle.qrencode_cli.specs.declared.fault.Refusal.{Refusal}
 use Rattle.qrencode_cli.specs.Symbols.{AreSquares, AreSymbols, IsTooLong, IsTooMany, smallest_of}
 use Rattle.qrencode_cli.specs.declared.fault.Refusal.TheVariants as refusal
 
@@ -68,3 +77,106 @@ refusals-exclude words given d (refusal.Words text) a h = let e : Ok a.settings 
 refusals-exclude words given d refusal.Level a h = let e : Ok a.settings ≡ Err _ = sym a.taken ∙ h in cc
 refusals-exclude words given d refusal.Kind a h = let e : Ok a.settings ≡ Err _ = sym a.taken ∙ h in cc
 refusals-exclude words given d refusal.NeedsVersion a h = let e : Ok a.settings ≡ Err _ = sym a.taken ∙ h in cc
+
+-- ---- one reason
+
+-- no settings are a reason against them
+err-ok : (r : Reason) (s : SettingsView) → Err r ≡ Ok s → ⊥
+err-ok r s e = cc
+
+-- the settings are those that were checked
+series-checked : (b : Bool) (t s : SettingsView) → cond b (Err needs_version) (Ok t) ≡ Ok s → t ≡ s
+series-checked true t s e = absurd (err-ok needs_version s e)
+series-checked false t s e = cc
+
+-- what all settings of a level and a type have, the checked ones have
+checked-have : (P : SettingsView → Type 0) (l : Option Level) (k : Option Drawing) (f : Level → Drawing → SettingsView) → ((l : Level) (k : Drawing) → P (f l k))
+    → (s : SettingsView) → checked_level l k f ≡ Ok s → P s
+checked-have P None k f h s e = absurd (err-ok unknown_level s e)
+checked-have P (Some l) None f h s e = absurd (err-ok unknown_type s e)
+checked-have P (Some l) (Some k) f h s e = subst P (series-checked ((f l k).structured && is_none (f l k).smallest) (f l k) s e) (h l k)
+
+-- what all settings of matches have, those that are taken have
+taken-have : (P : SettingsView → Type 0) (kinds : Kinds) (rows : List Row) → ((l : Level) (k : Drawing) → P (settings_with rows l k))
+    → (s : SettingsView) → taken_settings kinds rows ≡ Ok s → P s
+taken-have P [] rows h s e = checked-have P (level_at (first_of (codes "level") rows)) (drawing_at (first_of (codes "type") rows)) (settings_with rows) h s e
+taken-have P (k ∷ kinds) rows h s e = absurd (err-ok no_matches s e)
+
+-- a version that is asked for is one of forty
+version-most : (n : ℕ) → unwrap_or (version_numbered n) 1 ≤ 40
+version-most n = by-test (leb 1 n) (leb n 40) (leb-true n 40)
+  where
+    by-test : (a b : Bool) → (b ≡ true → n ≤ 40) → unwrap_or (cond (a && b) (Some n) None) 1 ≤ 40
+    by-test true true h = h refl
+    by-test true false h = omega arith
+    by-test false b h = omega arith
+
+-- the smallest version of settings is at most 40
+smallest-most : (words : List Text) (s : SettingsView) → settings_for words ≡ Ok s → smallest_of s ≤ 40
+smallest-most words s e =
+    taken-have (λ s. smallest_of s ≤ 40) (faults_for words) (rows_for words) (λ l k. version-most (number_at 0 (one_of (codes "version") (rows_for words)))) s e
+
+-- an empty input fits each version
+empty-not-long : (words : List Text) (s : SettingsView) (input : List ℕ) → settings_for words ≡ Ok s → input ≡ [] → IsTooLong s input → ⊥
+empty-not-long words s input taken none long =
+    long.1 (smallest_of s) (omega arith) (smallest-most words s taken) (subst (λ (x : List ℕ). FitsVersion x s.level (rule_for s) (smallest_of s)) (sym none) (empty_fits (smallest_of s) (rule_for s) _))
+
+-- and so is no series
+empty-not-many : (s : SettingsView) (input : List ℕ) → input ≡ [] → IsTooMany s input → ⊥
+empty-not-many s input none many =
+    many.1.too_long (subst (λ (x : List ℕ). FitsVersion x s.level (rule_for s) (smallest_of s)) (sym none) (empty_fits (smallest_of s) (rule_for s) _))
+
+-- one symbol and a series are not asked for together
+long-not-many : (s : SettingsView) (x y : List ℕ) → IsTooLong s x → IsTooMany s y → ⊥
+long-not-many s x y long many = let e : true ≡ false = sym many.0 ∙ long.0 in cc
+
+-- what words ask for, as a number: why there are no settings, or that there are some
+class_of : Result SettingsView Reason → ℕ
+class_of (Ok s) = 0
+class_of (Err no_matches) = 1
+class_of (Err unknown_level) = 2
+class_of (Err unknown_type) = 3
+class_of (Err needs_version) = 4
+
+-- the number of a refusal's words
+class_told : Refusal → ℕ
+class_told (refusal.Words text) = 1
+class_told refusal.Level = 2
+class_told refusal.Kind = 3
+class_told refusal.NeedsVersion = 4
+class_told _ = 0
+
+-- a refusal tells what the words ask for
+class-is : (words : List Text) (given : List ℕ) (r : Refusal) → IsRefusal words given r → class_of (settings_for words) ≡ class_told r
+unfolding class_of class_told
+class-is words given (refusal.Words text) h = ap class_of h
+class-is words given refusal.Level h = ap class_of h
+class-is words given refusal.Kind h = ap class_of h
+class-is words given refusal.NeedsVersion h = ap class_of h
+class-is words given refusal.Empty h = ap class_of h.taken
+class-is words given refusal.TooLong h = ap class_of h.taken
+class-is words given refusal.TooMany h = ap class_of h.taken
+
+-- two reasons against one input are about one list of settings
+because-one : (words : List Text) (given : List ℕ) (P Q : SettingsView → List ℕ → Type 0) → Refuses words given P → Refuses words given Q
+    → (s : SettingsView) × (settings_for words ≡ Ok s) × P s (held s (input_for s given)) × Q s (held s (input_for s given))
+because-one words given P Q h k =
+    (k.settings, k.taken, subst (λ (s : SettingsView). P s (held s (input_for s given))) (settings-one words h.settings k.settings h.taken k.taken) h.because, k.because)
+
+-- words and an input are refused for one reason at most
+pub refusals-one : RefusalsAreOne
+unfolding class_told
+refusals-one words given (refusal.Words text) (refusal.Words other) h k = tt
+refusals-one words given refusal.Level refusal.Level h k = refl
+refusals-one words given refusal.Kind refusal.Kind h k = refl
+refusals-one words given refusal.NeedsVersion refusal.NeedsVersion h k = refl
+refusals-one words given refusal.Empty refusal.Empty h k = refl
+refusals-one words given refusal.TooLong refusal.TooLong h k = refl
+refusals-one words given refusal.TooMany refusal.TooMany h k = refl
+refusals-one words given refusal.Empty refusal.TooLong h k = let w = because-one words given (λ s x. x ≡ []) IsTooLong h k in absurd (empty-not-long words w.0 _ w.1 w.2 w.3)
+refusals-one words given refusal.TooLong refusal.Empty h k = let w = because-one words given IsTooLong (λ s x. x ≡ []) h k in absurd (empty-not-long words w.0 _ w.1 w.3 w.2)
+refusals-one words given refusal.Empty refusal.TooMany h k = let w = because-one words given (λ s x. x ≡ []) IsTooMany h k in absurd (empty-not-many w.0 _ w.2 w.3)
+refusals-one words given refusal.TooMany refusal.Empty h k = let w = because-one words given IsTooMany (λ s x. x ≡ []) h k in absurd (empty-not-many w.0 _ w.3 w.2)
+refusals-one words given refusal.TooLong refusal.TooMany h k = let w = because-one words given IsTooLong IsTooMany h k in absurd (long-not-many w.0 _ _ w.2 w.3)
+refusals-one words given refusal.TooMany refusal.TooLong h k = let w = because-one words given IsTooMany IsTooLong h k in absurd (long-not-many w.0 _ _ w.3 w.2)
+refusals-one words given r q h k = let e : class_told r ≡ class_told q = sym (class-is words given r h) ∙ class-is words given q k in absurd (omega (arith, e))

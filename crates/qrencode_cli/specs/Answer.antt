@@ -81,6 +81,15 @@ AnswersAreOne = (words : List Text) (given d e : List ℕ) → Asks words given 
 abbrev pub RefusalsExcludeDrawings : Type 0
 RefusalsExcludeDrawings = (words : List Text) (given d : List ℕ) (r : Refusal) → Asks words given d → IsRefusal words given r → ⊥
 
+-- the two refusals are one, clap's text left aside [own]
+abbrev pub AreAlike : Refusal → Refusal → Type 0
+AreAlike (refusal.Words text) (refusal.Words other) = Unit {0}
+AreAlike r q = r ≡ q
+
+-- Words and an input are refused for one reason at most [own].
+abbrev pub RefusalsAreOne : Type 0
+RefusalsAreOne = (words : List Text) (given : List ℕ) (r q : Refusal) → IsRefusal words given r → IsRefusal words given q → AreAlike r q
+
 -- the whole drawing was written, and after its last byte the writer was flushed once [own]
 pub record Draws (old new : Writer) (drawing : List ℕ) : Type 0 where
   pub grows : Appends old.taken new.taken drawing
@@ -150,3 +159,8 @@ pub record Runs (words : List Text) (in0 in1 : Reader) (out0 out1 err0 err1 : Wr
   pub out_within : out0.counts ≡ no_writes → IsWrittenWithin out1.counts
   pub err_within : err0.counts ≡ no_writes → IsWrittenWithin err1.counts
   pub offered : out1.counts.offered ≤ max out0.counts.offered PIECE
+
+-- a run of the command answers this status and does this to its devices, by some outcome [own]
+abbrev pub RunsTo : List Text → Reader → Reader → Writer → Writer → Writer → Writer → ℕ → Type 0
+RunsTo words in0 in1 out0 out1 err0 err1 status =
+    (outcome : Result (Unit {0}) Fault) × Runs words in0 in1 out0 out1 err0 err1 outcome status

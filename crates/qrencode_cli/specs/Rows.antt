@@ -56,6 +56,11 @@ pub record RowsOfWords : Type 0 where
       })
   pub inverse : IsTaken (codes "-l" ∷ codes "m" ∷ codes "-t" ∷ codes "asciiI" ∷ [])
       (record by_default { level = M; kind = AsciiInverse })
+  pub string_first : IsTaken (codes "A" ∷ codes "-t" ∷ codes "ASCII" ∷ []) (record by_default { string = Some (codes "A") })
+  pub joined_letters : IsTaken (codes "-8Sv2" ∷ codes "-tutf8" ∷ codes "A" ∷ [])
+      (record by_default { smallest = Some 2; kind = Utf8; bytes_only = true; structured = true; string = Some (codes "A") })
+  pub plus_5 : IsTaken (codes "-v+5" ∷ codes "-t" ∷ codes "ASCII" ∷ []) (record by_default { smallest = Some 5 })
+  pub minus_0 : IsTaken (codes "-m-0" ∷ codes "-t" ∷ codes "ASCII" ∷ []) (record by_default { margin = 0 })
   pub no_words : settings_for [] ≡ Err no_matches
   pub name_alone : IsRefused [] no_matches
   pub no_type : IsRefused (codes "-8" ∷ []) no_matches
@@ -82,3 +87,10 @@ pub record RowsOfWords : Type 0 where
   pub long_name : IsRefused (codes "--type" ∷ codes "ASCII" ∷ []) no_matches
   pub help : IsRefused (codes "-h" ∷ []) no_matches
   pub long_help : IsRefused (codes "--help" ∷ []) no_matches
+  pub margin_twice : IsRefused (codes "-m" ∷ codes "1" ∷ codes "-m" ∷ codes "1" ∷ codes "-t" ∷ codes "ASCII" ∷ []) no_matches
+  pub version_twice : IsRefused (codes "-v" ∷ codes "1" ∷ codes "-v" ∷ codes "1" ∷ codes "-t" ∷ codes "ASCII" ∷ []) no_matches
+  pub below_versions : IsRefused (codes "-v" ∷ codes "-1" ∷ codes "-t" ∷ codes "ASCII" ∷ []) no_matches
+  pub version_of_letters : IsRefused (codes "-v" ∷ codes "abc" ∷ codes "-t" ∷ codes "ASCII" ∷ []) no_matches
+  pub empty_version : IsRefused (codes "-v" ∷ codes "" ∷ codes "-t" ∷ codes "ASCII" ∷ []) no_matches
+  pub type_without_a_value : IsRefused (codes "-t" ∷ []) no_matches
+  pub two_strings_after_dashes : IsRefused (codes "-t" ∷ codes "ASCII" ∷ codes "--" ∷ codes "A" ∷ codes "B" ∷ []) no_matches

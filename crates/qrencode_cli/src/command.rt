@@ -4,7 +4,7 @@ ghost use Rattle.std.specs.Prelude.{◌≡◌, ◌≤◌, ◌<◌, ◌+◌, ◌�
 ghost use Rattle.std.specs.Prelude.{MatchResult, Result};
 ghost use Rattle.std.specs.Io.KnownBytes.{Appends};
 ghost use Rattle.std.specs.String.{string_bytes};
-ghost use Rattle.qrencode_cli.specs.Answer.{Breaks, Draws, IsDrawing, Runs, held};
+ghost use Rattle.qrencode_cli.specs.Answer.{Breaks, Draws, IsDrawing, RunsTo, held};
 ghost use Rattle.qrencode_cli.specs.Device.{IsReadWithin, IsWrittenWithin, is_read_fault, is_write_fault, no_reads, no_writes};
 ghost use Rattle.qrencode_cli.specs.Faults.{is_read, is_write};
 ghost use Rattle.qrencode_cli.specs.Steps.{AreDrawnFor, Attempts, IsInputFault, Prepares, drawing_of};
@@ -135,10 +135,10 @@ pub fn run<R: Source, W: Sink, E: Sink>(
     out: &mut W,
     err: &mut E,
 ) -> u8
-    ensures { (outcome : Result (Unit {0}) Fault) × Runs (map string_bytes words.now)
+    ensures { RunsTo (map string_bytes words.now)
         (R.device input.old) (R.device input.new)
         (W.device out.old) (W.device out.new)
-        (E.device err.old) (E.device err.new) outcome result }
+        (E.device err.old) (E.device err.new) result }
 {
     match attempt(alloc, words, input, out) {
         Ok(()) => 0,

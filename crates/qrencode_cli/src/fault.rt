@@ -125,3 +125,35 @@ impl<T: Drop> From<AllocFailed<T>> for Fault {
         Fault::Memory
     }
 }
+
+#[cfg(test)]
+mod tests {
+    use super::*;
+
+    #[test]
+    fn lines(rt: HostRuntime) {
+        let rows = [
+            (Fault::Refused(Refusal::Level), "qrencode: unknown level\n"),
+            (Fault::Refused(Refusal::Kind), "qrencode: unknown type\n"),
+            (
+                Fault::Refused(Refusal::NeedsVersion),
+                "qrencode: -S needs -v\n",
+            ),
+            (Fault::Refused(Refusal::Empty), "qrencode: input is empty\n"),
+            (
+                Fault::Refused(Refusal::TooLong),
+                "qrencode: input does not fit\n",
+            ),
+            (
+                Fault::Refused(Refusal::TooMany),
+                "qrencode: more than 16 symbols\n",
+            ),
+            (Fault::Read, "qrencode: read error\n"),
+            (Fault::Memory, "qrencode: out of memory\n"),
+            (Fault::Write, "qrencode: write error\n"),
+        ];
+        for (fault, line) in &rows {
+            assert_eq!(rt; fault.line(), line.as_bytes());
+        }
+    }
+}

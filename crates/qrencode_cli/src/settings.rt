@@ -193,7 +193,7 @@ fn number_in(matches: &ArgMatches<'_>, id: &str, otherwise: u8) -> u8
     match matches.try_get_one::<u8>(id) {
         Ok(Some(number)) => number,
         Ok(None) => otherwise,
-        // Unreachable: clap refuses other texts.
+        // Clap takes `-0` for a number, which it is not as a byte.
         Err(_) => 0,
     }
 }

@@ -1,7 +1,7 @@
 //! A device over bytes in memory, for tests: it can be slow, interrupted, failing or full.
 
 ghost use Rattle.std.specs.Prelude.{◌≡◌, ◌+◌, ◌≤◌, ◌<◌, ◌++◌, [], take, length, drop, Some, IfOk};
-ghost use Rattle.std.specs.Vec.{vec_len};
+ghost use Rattle.std.specs.Vec.{vec_len, vec_capacity};
 
 use crate::device::{ReadCounts, Sink, Source, Trouble, WriteCounts};
 use std::alloc::{AllocError, Global};
@@ -42,16 +42,18 @@ pub struct Trial {
     reads: ReadCounts,
     writes: WriteCounts,
     ghost within: { position ≤ vec_len bytes },
+    ghost roomy: { room ≤ vec_capacity bytes },
 }
 
 impl Trial {
     ghost use Rattle.qrencode_cli.specs.Device.{no_reads, no_writes};
-    ghost use Rattle.qrencode_cli.specs.Trial.{bytes_held, bytes_left};
+    ghost use Rattle.qrencode_cli.specs.Trial.{bytes_held, bytes_left, moved};
 
     /// A device that gives `bytes`.
     pub fn reader(alloc: Global, bytes: &[u8], manner: Manner) -> Result<Trial, AllocError>
         ensures left { IfOk result (λ t. bytes_left t ≡ bytes.now) }
         ensures unread { IfOk result (λ t. t.reads ≡ no_reads) }
+        ensures manner { IfOk result (λ t. t.manner ≡ manner) }
     {
         Ok(Trial {
             bytes: Vec::from_slice(alloc, bytes)?,
@@ -67,6 +69,8 @@ impl Trial {
     pub fn writer(alloc: Global, room: usize, manner: Manner) -> Result<Trial, AllocError>
         ensures held { IfOk result (λ t. bytes_held t ≡ []) }
         ensures unwritten { IfOk result (λ t. t.writes ≡ no_writes) }
+        ensures manner { IfOk result (λ t. t.manner ≡ manner) }
+        ensures room { IfOk result (λ t. t.room ≡ room) }
     {
         Ok(Trial {
             bytes: Vec::with_capacity(alloc, room)?,
@@ -107,6 +111,7 @@ impl Trial {
         ensures position { self.new.position ≡ self.old.position + n }
         ensures bytes { self.new.bytes ≡ self.old.bytes }
         ensures reads { self.new.reads ≡ self.old.reads }
+        ensures manner { self.new.manner ≡ self.old.manner }
     {
         let end = self.position + n;
         buf[..n].copy_from_slice(&self.bytes.as_slice()[self.position..end]);
@@ -115,6 +120,7 @@ impl Trial {
 
     // How many bytes a call moves, of those there are.
     fn moved(&self, call: u64, there: usize) -> Result<usize, Trouble>
+        ensures value { result ≡ moved self.now.manner call there }
         ensures bound { IfOk result (λ n. n ≤ there) }
         ensures some { IfOk result (λ n. 0 < there → 0 < n) }
     {
@@ -129,13 +135,20 @@ impl Trial {
 }
 
 impl Source for Trial {
-    ghost use Rattle.std.specs.Prelude.{Some};
-    ghost use Rattle.qrencode_cli.specs.Trial.{bytes_left};
-    ghost use Rattle.qrencode_cli.specs.Device.{reader};
+    ghost use Rattle.std.specs.Prelude.{◌≡◌, ◌≤◌, IfOk, Some, length, min};
+    ghost use Rattle.std.specs.Io.KnownBytes.{ReadConsumes};
+    ghost use Rattle.qrencode_cli.specs.Device.{reader, read_counted};
+    ghost use Rattle.qrencode_cli.specs.Trial.{bytes_left, moved};
 
     ghost device = { λ t. reader (Some (bytes_left t)) t.reads };
 
-    fn read(&mut self, buf: &mut [u8]) -> Result<usize, Trouble> {
+    fn read(&mut self, buf: &mut [u8]) -> Result<usize, Trouble>
+        ensures bound { IfOk result (λ n. n ≤ length buf.new) }
+        ensures bytes { ReadConsumes (Some (bytes_left self.old)) (Some (bytes_left self.new)) result buf.new }
+        ensures counted { self.new.reads ≡ read_counted (length buf.new) result self.old.reads }
+        ensures answer { result ≡ moved self.old.manner self.old.reads.calls (min (length (bytes_left self.old)) (length buf.old)) }
+        ensures manner { self.new.manner ≡ self.old.manner }
+    {
         let left = self.bytes.len() - self.position;
         let answer = match self.moved(self.reads.calls, left.min(buf.len())) {
             Ok(n) => {
@@ -150,13 +163,21 @@ impl Source for Trial {
 }
 
 impl Sink for Trial {
-    ghost use Rattle.std.specs.Prelude.{Some};
-    ghost use Rattle.qrencode_cli.specs.Trial.{bytes_held};
-    ghost use Rattle.qrencode_cli.specs.Device.{writer};
+    ghost use Rattle.std.specs.Prelude.{◌≡◌, ◌≤◌, IfOk, Ok, Err, if◌then◌else◌, length, min, Some};
+    ghost use Rattle.std.specs.Io.KnownBytes.{Keeps, WriteAppends};
+    ghost use Rattle.qrencode_cli.specs.Device.{writer, flush_counted, write_counted};
+    ghost use Rattle.qrencode_cli.specs.Trial.{bytes_held, free_of, moved};
 
     ghost device = { λ t. writer (Some (bytes_held t)) t.writes };
 
-    fn write(&mut self, buf: &[u8]) -> Result<usize, Trouble> {
+    fn write(&mut self, buf: &[u8]) -> Result<usize, Trouble>
+        ensures bound { IfOk result (λ n. n ≤ length buf.now) }
+        ensures bytes { WriteAppends (Some (bytes_held self.old)) (Some (bytes_held self.new)) result buf.now }
+        ensures counted { self.new.writes ≡ write_counted (length buf.now) result self.old.writes }
+        ensures answer { result ≡ moved self.old.manner self.old.writes.calls (min (free_of self.old) (length buf.now)) }
+        ensures manner { self.new.manner ≡ self.old.manner }
+        ensures room { self.new.room ≡ self.old.room }
+    {
         let free = if self.writes.calls < self.manner.stops_from {
             self.room.saturating_sub(self.bytes.len())
         } else {
@@ -176,7 +197,13 @@ impl Sink for Trial {
         answer
     }
 
-    fn flush(&mut self) -> Result<(), Trouble> {
+    fn flush(&mut self) -> Result<(), Trouble>
+        ensures bytes { Keeps (Some (bytes_held self.old)) (Some (bytes_held self.new)) }
+        ensures counted { self.new.writes ≡ flush_counted result self.old.writes }
+        ensures answer { result ≡ (if self.old.manner.flush_fails then Err Trouble.Failed else Ok tt) }
+        ensures manner { self.new.manner ≡ self.old.manner }
+        ensures room { self.new.room ≡ self.old.room }
+    {
         let answer = if self.manner.flush_fails {
             Err(Trouble::Failed)
         } else {

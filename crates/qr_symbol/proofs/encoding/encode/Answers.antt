@@ -1,5 +1,6 @@
-use Rattle.std.proofs.Common.{◌≡◌, length, Result, Err, sym, ap, arith}
-use Rattle.std.proofs.lemmas.Bool.{eqb-false}
+use Rattle.std.proofs.Common.{◌≡◌, ◌⊎◌, inl, inr, length, Result, Err, refl, sym, ap, ◌∙◌, arith, rules}
+use Rattle.std.proofs.lemmas.Bool.{eqb-false, eqb-true}
+use Rattle.std.proofs.lemmas.List.{nil_from_length}
 use Rattle.std.proofs.lemmas.Result.{err_from_is_err_and, IfOk-weaker}
 use Rattle.qr_bits.specs.declared.fault.BitFault.{BitFault}
 use Rattle.qr_bits.specs.declared.fault.BitFault.TheVariants.{Memory, TooLong}
@@ -8,6 +9,7 @@ use Rattle.qr_symbol.specs.declared.fault.EncodeFault.{EncodeFault}
 use Rattle.qr_symbol.specs.declared.fault.EncodeFault.TheVariants as fault
 use Rattle.qr_symbol.specs.declared.symbol.Symbol.{Symbol}
 use Rattle.qr_symbol.specs.Faults.{fault_of}
+use Rattle.qr_symbol.proofs.ExactLemmas.{too-long-exactly}
 use Rattle.qr_symbol.proofs.SymbolMaking.{symbol-found, symbol-back}
 use Rattle.qr_symbol.proofs.encoding.encode.Goals as goal
 
@@ -27,10 +29,20 @@ unfolding answer
 is_too_long Memory e = cc
 is_too_long TooLong e = cc
 
+-- The fault of bits is one of two.
+of_bits : (f : BitFault) → (fault_of f ≡ fault.Empty) ⊎ (fault_of f ≡ fault.TooLong) ⊎ (fault_of f ≡ fault.Memory)
+of_bits Memory = inr (inr refl)
+of_bits TooLong = inr (inl refl)
+
+pub returns-then-is_empty-clause-too_long : goal.returns-then-is_empty-clause-too_long
+returns-then-is_empty-clause-too_long c =
+    too-long-exactly c.args.input.now c.args.level c.args.smallest c.args.rule _ (omega arith) (λ e. cc) tt
+    (λ _. nil_from_length c.args.input.now (eqb-true (length c.args.input.now) 0 (sym c.is_empty.ensures ∙ c.if-is_empty.true))) (inl refl)
+
 pub returns-then-input-gt-LONGEST-clause-too_long : goal.returns-then-input-gt-LONGEST-clause-too_long
 returns-then-input-gt-LONGEST-clause-too_long c =
-    λ _ v a b fits.
-    let short = fitting_short v c.args.level c.args.rule c.args.input.now (omega arith) b fits in omega arith
+    too-long-exactly c.args.input.now c.args.level c.args.smallest c.args.rule _ (omega arith)
+    (λ _ v a b fits. let short = fitting_short v c.args.level c.args.rule c.args.input.now (omega arith) b fits in omega arith) tt (λ e. cc) (inr (inl refl))
 
 pub returns-in_err-fit-clause-empty : goal.returns-in_err-fit-clause-empty
 unfolding answer
@@ -42,7 +54,9 @@ pub returns-in_err-fit-clause-too_long : goal.returns-in_err-fit-clause-too_long
 unfolding answer
 returns-in_err-fit-clause-too_long c =
     let p = err_from_is_err_and c.from_residual.result c.from_residual.ensures.1 in
-    rw (p.1, p.2) (λ e. c.in_err-fit.ensures.too_long (ap (λ (f : BitFault). Err f) (is_too_long c.in_err-fit.field-0.0 e)))
+    rw (p.1, p.2) (too-long-exactly c.args.input.now c.args.level c.args.smallest c.args.rule _ (omega arith)
+    (λ e. c.in_err-fit.ensures.too_long (ap (λ (f : BitFault). Err f) (is_too_long c.in_err-fit.field-0.0 e))) tt
+    (λ e. absurd (not_empty c.in_err-fit.field-0.0 e)) (of_bits c.in_err-fit.field-0.0))
 
 pub returns-clause-symbol : goal.returns-clause-symbol
 returns-clause-symbol c =
@@ -58,3 +72,8 @@ pub returns-clause-read : goal.returns-clause-read
 returns-clause-read c =
     let made = c.symbol_at.ensures.made c.args.rule (rw c.deref.ensures.value c.in_ok-fit.ensures.segments) in
     symbol-back c.in_ok-fit.fit.version c.args.level c.args.rule c.args.input.now c.symbol_at.result (omega arith) (omega arith) made
+
+pub returns-clause-too_long : goal.returns-clause-too_long
+returns-clause-too_long c =
+    too-long-exactly c.args.input.now c.args.level c.args.smallest c.args.rule c.symbol_at.result (omega arith)
+    (λ e. search rules) (returns-clause-symbol c) (λ e. search rules) (search rules)

@@ -3,7 +3,8 @@ use Rattle.std.specs.Prelude.{IfOk}
 use Rattle.qr_layout.specs.declared.blocks.Blocks.{Blocks}
 use Rattle.qr_layout.specs.Blocks.{data_codewords_of}
 use Rattle.qr_layout.proofs.BlockLemmas.{blocks-sound}
-use Rattle.qr_symbol.specs.Interleaving.{cut_len, data_cut, correction_cut, IsFinalMessage}
+use Rattle.qr_symbol.specs.Interleaving.{cut_len, data_cut, correction_cut, IsFinalMessage, IsInterleaved}
+use Rattle.qr_symbol.proofs.ExactLemmas.{check-exactly, ok-both}
 use Rattle.qr_symbol.proofs.MessageLemmas.{data-cut-whole, cuts-whole, ok-also}
 use Rattle.qr_symbol.proofs.message.deinterleave.Goals as goal
 
@@ -27,6 +28,9 @@ returns-clause-read c =
     subst (λ (b : Blocks). IfOk c.deinterleave_blocks.result (λ d. IsFinalMessage b d.items c.args.codewords.now)) c.blocks-2.ensures c.deinterleave_blocks.ensures.read
 
 pub returns-clause-check : goal.returns-clause-check
-returns-clause-check c = λ e d n h.
+returns-clause-check c =
     let whole = ap (λ (b : Blocks). cut_len (data_cut b)) c.blocks-2.ensures ∙ data-cut-whole c.args.version c.args.level (omega arith) (omega arith) in
-    c.deinterleave_blocks.ensures.check e d (n ∙ sym whole) (subst (λ (b : Blocks). IsFinalMessage b d c.args.codewords.now) (sym c.blocks-2.ensures) h)
+    check-exactly (λ d. (length d ≡ data_codewords_of c.args.version c.args.level) × IsInterleaved c.args.version c.args.level d c.args.codewords.now) c.deinterleave_blocks.result
+    (λ e d h. c.deinterleave_blocks.ensures.check e d (h.0 ∙ sym whole) (subst (λ (b : Blocks). IsFinalMessage b d c.args.codewords.now) (sym c.blocks-2.ensures) h.1))
+    (ok-both _ _ c.deinterleave_blocks.result (returns-clause-many c) (returns-clause-read c))
+    c.deinterleave_blocks.ensures.fault

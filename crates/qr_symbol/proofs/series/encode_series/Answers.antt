@@ -1,9 +1,13 @@
-use Rattle.std.proofs.Common.{◌<◌, List, [], ◌∷◌, ◌++◌, length, ◌∙◌, ap, arith, rules}
+use Rattle.std.proofs.Common.{◌<◌, inl, inr, List, [], ◌∷◌, ◌++◌, length, refl, sym, ◌∙◌, ap, arith, rules}
+use Rattle.std.proofs.lemmas.Bool.{eqb-true}
+use Rattle.std.proofs.lemmas.List.{nil_from_length}
 use Rattle.std.proofs.lemmas.Bool.Decides.{nat_tests}
 use Rattle.std.proofs.lemmas.Option.{MatchOption-at_some}
-use Rattle.std.proofs.lemmas.Result.{IfOk-weaker}
+use Rattle.std.proofs.lemmas.Result.{IfOk-weaker, IfErr-weaker}
+use Rattle.qr_symbol.specs.declared.fault.EncodeFault.TheVariants.{Empty, TooMany}
 use Rattle.qr_symbol.specs.declared.symbol.Symbol.{Symbol}
 use Rattle.qr_symbol.specs.Symbols.{FitsVersion}
+use Rattle.qr_symbol.proofs.ExactLemmas.{too-many-exactly, memory-alone}
 use Rattle.qr_symbol.proofs.PartLemmas.{lengths-some}
 use Rattle.qr_symbol.proofs.SeriesLemmas.{lone-series, split-series, series-joined}
 use Rattle.qr_symbol.proofs.SizeLemmas.{series-shortest}
@@ -18,11 +22,6 @@ returns-in-Some-clause-series c =
 pub returns-in-Some-clause-joined : goal.returns-in-Some-clause-joined
 returns-in-Some-clause-joined c =
     series-joined c.args.input.now c.args.level c.args.rule c.args.version c.push.new.self.items (omega arith) (omega arith) (returns-in-Some-clause-series c)
-
-pub returns-in_err-lengths-clause-too_many : goal.returns-in_err-lengths-clause-too_many
-returns-in_err-lengths-clause-too_many c = λ many.
-    let long : FitsVersion c.args.input.now c.args.level c.args.rule c.args.version → ⊥ = search rules in
-    record { too_long = long; too_many = search rules; no_shorter = search rules }
 
 pub part_symbols-requires-clause-some : goal.part_symbols-requires-clause-some
 part_symbols-requires-clause-some c =
@@ -49,3 +48,19 @@ returns-in-Some-clause-shortest c =
 pub returns-clause-shortest : goal.returns-clause-shortest
 returns-clause-shortest c =
     IfOk-weaker c.part_symbols.result _ _ (λ ss series plain. series-shortest c.args.input.now c.args.level c.args.rule c.args.version ss.items plain (grind (arith, nat_tests)) series) (returns-clause-series c)
+
+pub returns-then-is_empty-clause-too_many : goal.returns-then-is_empty-clause-too_many
+returns-then-is_empty-clause-too_many c =
+    too-many-exactly c.args.input.now c.args.level c.args.rule c.args.version _ (λ e. cc) tt
+    (λ _. nil_from_length c.args.input.now (eqb-true (length c.args.input.now) 0 (sym c.is_empty.ensures ∙ c.if-is_empty.true))) (inl refl)
+
+pub returns-in-Some-clause-too_many : goal.returns-in-Some-clause-too_many
+returns-in-Some-clause-too_many c =
+    too-many-exactly c.args.input.now c.args.level c.args.rule c.args.version _ (λ e. cc) (returns-in-Some-clause-series c) (λ e. cc) tt
+
+pub returns-clause-too_many : goal.returns-clause-too_many
+returns-clause-too_many c =
+    too-many-exactly c.args.input.now c.args.level c.args.rule c.args.version c.part_symbols.result
+    (λ e. absurd (memory-alone c.part_symbols.result TooMany (λ f. cc) c.part_symbols.ensures.fault e)) (returns-clause-series c)
+    (λ e. absurd (memory-alone c.part_symbols.result Empty (λ f. cc) c.part_symbols.ensures.fault e))
+    (IfErr-weaker c.part_symbols.result _ _ (λ e f. inr (inr f)) c.part_symbols.ensures.fault)

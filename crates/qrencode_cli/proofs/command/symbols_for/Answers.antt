@@ -29,7 +29,7 @@ returns-in_err-symbol c =
     rw (p.1, p.2) (told-one c.args.settings.now c.args.input.now c.in_err-symbol.field-0.0 one
     (λ e. c.in_err-symbol.ensures.empty.0 (ap (λ (f : EncodeFault). Err f) e))
     (λ e. subst (λ (s : SettingsView). HasNoVersion c.args.input.now s.level (smallest_of s) (rule_for s)) c.settings.view_is
-    (rw (← smallest, ← same) (c.in_err-symbol.ensures.too_long (ap (λ (f : EncodeFault). Err f) e))))
+    (rw (← smallest, ← same) (c.in_err-symbol.ensures.too_long.0 (ap (λ (f : EncodeFault). Err f) e)).1))
     c.in_err-symbol.ensures.fault)
 
 pub returns : goal.returns

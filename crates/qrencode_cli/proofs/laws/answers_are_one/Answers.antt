@@ -1,5 +1,5 @@
-use Rattle.qrencode_cli.proofs.AnswerLemmas.{answers-one, refusals-exclude}
+use Rattle.qrencode_cli.proofs.AnswerLemmas.{answers-one, refusals-exclude, refusals-one}
 use Rattle.qrencode_cli.proofs.laws.answers_are_one.Goals as goal
 
 pub returns : goal.returns
-returns c = record { drawing = answers-one; refusal = refusals-exclude }
+returns c = record { drawing = answers-one; refusal = refusals-exclude; reason = refusals-one }

@@ -1,0 +1,6 @@
+use Rattle.std.proofs.Common.{arith}
+use Rattle.qr_layout.proofs.BlockLemmas.{blocks-short}
+use Rattle.qr_layout.proofs.laws.blocks_are_short.Goals as goal
+
+pub returns-clause-most : goal.returns-clause-most
+returns-clause-most c = blocks-short c.args.level c.args.v (omega arith) (omega arith)

@@ -1,0 +1,6 @@
+use Rattle.std.proofs.Common.{arith}
+use Rattle.qr_layout.proofs.BlockLemmas.{damage-stood}
+use Rattle.qr_layout.proofs.laws.blocks_stand_damage.Goals as goal
+
+pub returns : goal.returns
+returns c = damage-stood c.args.level c.args.v (omega arith) (omega arith)

@@ -1,0 +1,87 @@
+-- Refusals that come exactly where they should, unless memory is refused.
+use Rattle.std.proofs.Common.{◌≡◌, ◌≢◌, ◌≤◌, ◌↔◌, ◌⊎◌, inl, inr, ℕ, List, [], Result, Ok, Err, Vec, Global, sym, ap, subst, arith}
+use Rattle.std.specs.Prelude.{IfOk, IfErr}
+use Rattle.std.proofs.lemmas.Result.{IfErr-at_err}
+use Rattle.qr_layout.specs.declared.level.Level.{Level}
+use Rattle.qr_bits.specs.declared.modes.Rule.{Rule}
+use Rattle.qr_bits.specs.Padding.{capacity_of}
+use Rattle.qr_symbol.specs.declared.fault.EncodeFault.{EncodeFault}
+use Rattle.qr_symbol.specs.declared.fault.EncodeFault.TheVariants as fault
+use Rattle.qr_symbol.specs.declared.fault.ReadFault.{ReadFault}
+use Rattle.qr_symbol.specs.declared.fault.ReadFault.TheVariants as unread
+use Rattle.qr_symbol.specs.declared.symbol.Symbol.{Symbol}
+use Rattle.qr_symbol.specs.Symbols.{FitsVersion, IsSymbol, HasNoVersion}
+use Rattle.qr_symbol.specs.Series.{IsSeries, HasNoSeries}
+use Rattle.qr_bits.proofs.Mirror.{empty_fits}
+
+-- an answer is refused for this fault exactly where memory is not and the fact holds
+abbrev pub Refused : {X E : Type 0} → Result X E → (e memory : E) → Type 0 → Type 0
+Refused r e memory P = (r ≡ Err e) ↔ ((r ≢ Err memory) × P)
+
+-- an answer has one fault
+err-same : {X E : Type 0} (r : Result X E) (e f : E) → r ≡ Err e → r ≡ Err f → e ≡ f
+err-same r e f h k = cc
+
+-- from both directions
+exactly : {X E : Type 0} (r : Result X E) (e memory : E) (P : Type 0) → (e ≡ memory → ⊥) → (r ≡ Err e → P) →
+    (P → (r ≡ Err e) ⊎ (r ≡ Err memory)) → Refused r e memory P
+exactly r e memory P other f g = (λ h. (λ m. other (err-same r e memory h m), f h), λ w. elim (g w.1) [ inl h ↦ h | inr h ↦ absurd (w.0 h) ])
+
+-- more than any version holds: exactly where no version has room, unless memory was refused
+pub too-long-exactly : (x : List ℕ) (l : Level) (smallest : ℕ) (b : Rule) (r : Result Symbol EncodeFault) → smallest ≤ 40
+    → (r ≡ Err fault.TooLong → HasNoVersion x l smallest b) → IfOk r (λ s. IsSymbol x l smallest b s.version s.mask s.matrix)
+    → (r ≡ Err fault.Empty → x ≡ []) → IfErr r (λ e. (e ≡ fault.Empty) ⊎ (e ≡ fault.TooLong) ⊎ (e ≡ fault.Memory))
+    → Refused r fault.TooLong fault.Memory (HasNoVersion x l smallest b)
+too-long-exactly x l smallest b r most long made empty told = exactly r fault.TooLong fault.Memory (HasNoVersion x l smallest b) (λ e. cc) long (back r made empty told)
+  where
+    back : (r : Result Symbol EncodeFault) → IfOk r (λ s. IsSymbol x l smallest b s.version s.mask s.matrix) → (r ≡ Err fault.Empty → x ≡ [])
+        → IfErr r (λ e. (e ≡ fault.Empty) ⊎ (e ≡ fault.TooLong) ⊎ (e ≡ fault.Memory)) → HasNoVersion x l smallest b
+        → (r ≡ Err fault.TooLong) ⊎ (r ≡ Err fault.Memory)
+    back (Ok s) made empty told none = absurd (none s.version made.version.least made.version.most made.version.fits)
+    back (Err e) made empty (inl h) none =
+        absurd (none smallest (omega arith) most (subst (λ (y : List ℕ). FitsVersion y l b smallest) (sym (empty (ap (λ f. Err f) h))) (empty_fits smallest b (capacity_of smallest l))))
+    back (Err e) made empty (inr (inl h)) none = inl (ap (λ f. Err f) h)
+    back (Err e) made empty (inr (inr h)) none = inr (ap (λ f. Err f) h)
+
+-- more symbols than a series may have: exactly where there is no series, unless memory was refused
+pub too-many-exactly : (x : List ℕ) (l : Level) (b : Rule) (v : ℕ) (r : Result (Vec Symbol Global) EncodeFault)
+    → (r ≡ Err fault.TooMany → HasNoSeries x l b v) → IfOk r (λ ss. IsSeries x l b v ss.items)
+    → (r ≡ Err fault.Empty → x ≡ []) → IfErr r (λ e. (e ≡ fault.Empty) ⊎ (e ≡ fault.TooMany) ⊎ (e ≡ fault.Memory))
+    → Refused r fault.TooMany fault.Memory (HasNoSeries x l b v)
+too-many-exactly x l b v r many made empty told = exactly r fault.TooMany fault.Memory (HasNoSeries x l b v) (λ e. cc) many (back r made empty told)
+  where
+    no-series : (ss : List Symbol) → IsSeries x l b v ss → HasNoSeries x l b v → ⊥
+    no-series ss (inl a) none = none.too_long a.fits
+    no-series ss (inr a) none = let few = a.many in let more = none.too_many a.parts a.split in absurd (omega arith)
+
+    back : (r : Result (Vec Symbol Global) EncodeFault) → IfOk r (λ ss. IsSeries x l b v ss.items) → (r ≡ Err fault.Empty → x ≡ [])
+        → IfErr r (λ e. (e ≡ fault.Empty) ⊎ (e ≡ fault.TooMany) ⊎ (e ≡ fault.Memory)) → HasNoSeries x l b v
+        → (r ≡ Err fault.TooMany) ⊎ (r ≡ Err fault.Memory)
+    back (Ok ss) made empty told none = absurd (no-series ss.items made none)
+    back (Err e) made empty (inl h) none =
+        absurd (none.too_long (subst (λ (y : List ℕ). FitsVersion y l b v) (sym (empty (ap (λ f. Err f) h))) (empty_fits v b (capacity_of v l))))
+    back (Err e) made empty (inr (inl h)) none = inl (ap (λ f. Err f) h)
+    back (Err e) made empty (inr (inr h)) none = inr (ap (λ f. Err f) h)
+
+-- no final sequence: exactly where no data codewords have this one, unless memory was refused
+pub check-exactly : (Holds : List ℕ → Type 0) (r : Result (Vec ℕ Global) ReadFault)
+    → (r ≡ Err unread.Check → (d : List ℕ) → Holds d → ⊥) → IfOk r (λ d. Holds d.items)
+    → IfErr r (λ e. (e ≡ unread.Memory) ⊎ (e ≡ unread.Check))
+    → Refused r unread.Check unread.Memory ((d : List ℕ) → Holds d → ⊥)
+check-exactly Holds r none made told = exactly r unread.Check unread.Memory ((d : List ℕ) → Holds d → ⊥) (λ e. cc) none (back r made told)
+  where
+    back : (r : Result (Vec ℕ Global) ReadFault) → IfOk r (λ d. Holds d.items) → IfErr r (λ e. (e ≡ unread.Memory) ⊎ (e ≡ unread.Check))
+        → ((d : List ℕ) → Holds d → ⊥) → (r ≡ Err unread.Check) ⊎ (r ≡ Err unread.Memory)
+    back (Ok d) made told none = absurd (none d.items made)
+    back (Err e) made (inl h) none = inr (ap (λ f. Err f) h)
+    back (Err e) made (inr h) none = inl (ap (λ f. Err f) h)
+
+-- two facts of a value, if there is one
+pub ok-both : {X E : Type 0} (P Q : X → Type 0) (r : Result X E) → IfOk r P → IfOk r Q → IfOk r (λ x. P x × Q x)
+ok-both P Q (Ok x) p q = (p, q)
+ok-both P Q (Err e) p q = tt
+
+-- an answer whose only fault is memory has no other
+pub memory-alone : {X : Type 0} (r : Result X EncodeFault) (e : EncodeFault) → (e ≡ fault.Memory → ⊥) → IfErr r (λ f. f ≡ fault.Memory)
+    → r ≡ Err e → ⊥
+memory-alone r e other told h = other (IfErr-at_err (λ f. f ≡ fault.Memory) h told)

@@ -1,0 +1,36 @@
+-- How far two symbols lie apart, block by block. Public clauses cite this file.
+use Rattle.std.specs.Prelude.{◌≡◌, ℕ, ◌+◌, ◌*◌, ◌<◌, ◌≤◌, Option, List, [], ◌++◌, slice_index_or}
+use Rattle.qr_field.specs.Distance.{differences, erasures, errors}
+use Rattle.qr_layout.specs.declared.level.Level.{Level}
+use Rattle.qr_layout.specs.Blocks.{blocks_of}
+use Rattle.qr_matrix.specs.Grid.{Grid}
+use Rattle.qr_symbol.specs.Interleaving.{count_of, data_cut, block_of}
+use Rattle.qr_symbol.specs.Reading.{IsMessage}
+
+-- how many blocks a symbol has (ISO/IEC 18004:2015, 7.5.1, Table 9)
+abbrev pub blocks_in : ℕ → Level → ℕ
+blocks_in v l = count_of (data_cut (blocks_of v l))
+
+-- block i of the message that a square holds: its data codewords, and then its error correction codewords
+-- (ISO/IEC 18004:2015, 7.5.1)
+abbrev pub held_block : (v : ℕ) (l : Level) (mask : ℕ) (g : Grid) (d : List ℕ) → IsMessage v l mask g d → ℕ → List ℕ
+held_block v l mask g d m i = block_of (blocks_of v l) d i ++ slice_index_or m.sent.checks i []
+
+-- Two squares of a version and a level that hold different messages differ in some block by more codewords than it has
+-- error correction codewords [own].
+abbrev pub MessagesLieApart : ℕ → Level → Type 0
+MessagesLieApart v l =
+    (mask mask' : ℕ) (g g' : Grid) (d d' : List ℕ) → (m : IsMessage v l mask g d) → (m' : IsMessage v l mask' g' d')
+    → (d ≡ d' → ⊥) → (i : ℕ) × (i < blocks_in v l)
+    × ((blocks_of v l).ec_len + 1 ≤ differences (held_block v l mask g d m i) (held_block v l mask' g' d' m' i))
+
+-- What was read of a square, block by block, is a damaged form of one message only, where in each block the places not
+-- read and twice the places misread are no more than its error correction codewords (ISO/IEC 18004:2015, 7.5.1).
+abbrev pub DamagedMessagesAreOne : ℕ → Level → Type 0
+DamagedMessagesAreOne v l =
+    (mask mask' : ℕ) (g g' : Grid) (d d' : List ℕ) → (m : IsMessage v l mask g d) → (m' : IsMessage v l mask' g' d')
+    → (read : ℕ → List (Option ℕ)) (t : ℕ → ℕ)
+    → ((i : ℕ) → i < blocks_in v l → erasures (read i) + 2 * t i ≤ (blocks_of v l).ec_len)
+    → ((i : ℕ) → i < blocks_in v l → errors (read i) (held_block v l mask g d m i) ≤ t i)
+    → ((i : ℕ) → i < blocks_in v l → errors (read i) (held_block v l mask' g' d' m' i) ≤ t i)
+    → d ≡ d'
