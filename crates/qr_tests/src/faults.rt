@@ -79,7 +79,17 @@ fn of_words_alone(rt: HostRuntime) -> Result<(), Fail> {
             "-t",
         ),
         ("two texts", ["-t", "ASCII", "A", "B"].as_slice(), "'B'"),
-        ("kanji", ["-k", "-t", "ASCII"].as_slice(), "-k"),
+        ("no such option", ["-x", "-t", "ASCII"].as_slice(), "-x"),
+        (
+            "kanji mode asked for twice",
+            ["-k", "-k", "-t", "ASCII"].as_slice(),
+            "-k",
+        ),
+        (
+            "folding asked for twice",
+            ["-i", "-i", "-t", "ASCII"].as_slice(),
+            "-i",
+        ),
         (
             "help",
             ["-h"].as_slice(),

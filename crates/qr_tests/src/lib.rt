@@ -10,6 +10,8 @@ mod faults;
 #[cfg(test)]
 mod first_symbol;
 #[cfg(test)]
+mod folding;
+#[cfg(test)]
 mod runs;
 #[cfg(test)]
 mod series;

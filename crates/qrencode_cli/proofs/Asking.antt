@@ -8,6 +8,7 @@ use Rattle.qrencode_cli.specs.Drawings.{HaveOneSide}
 use Rattle.clap.specs.Walk.{Text}
 use Rattle.qr_bits.specs.declared.segment.TheConstants.{INPUT_MAX}
 use Rattle.qr_bits.specs.declared.segment.Rule.{Rule}
+use Rattle.qr_bits.specs.Folding.{folded}
 use Rattle.qr_layout.specs.Versions.{side_of}
 use Rattle.qr_symbol.specs.declared.fault.EncodeFault.{EncodeFault}
 use Rattle.qr_symbol.specs.declared.fault.EncodeFault.TheVariants as encode
@@ -51,6 +52,14 @@ input_for-string s text given buf n e is cut =
 -- what the reader gave
 pub input_for-reader : (s : SettingsView) (given : List ℕ) → s.string ≡ None → input_for s given ≡ given
 input_for-reader s given e = rw e refl
+
+-- under -i the symbols hold the folded input
+pub held-folded : (s : SettingsView) (rule : Rule) (input bytes : List ℕ) → s.fold ≡ true → rule ≡ rule_for s → bytes ≡ folded rule input → held s input ≡ bytes
+held-folded s rule input bytes fold same e = rw (fold, ← same) (sym e)
+
+-- without -i they hold the input
+pub held-plain : (s : SettingsView) (input : List ℕ) → s.fold ≡ false → held s input ≡ input
+held-plain s input fold = rw fold refl
 
 -- a symbol that is read as the input is joined to it
 joined-one : (input : List ℕ) (v : ℕ) (b : Rule) (g : Grid) → IsReadBack input v b g → IsJoined (g ∷ []) input

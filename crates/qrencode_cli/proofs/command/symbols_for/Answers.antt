@@ -13,7 +13,7 @@ pub returns-then-settings : goal.returns-then-settings
 returns-then-settings c =
     let smallest : c.unwrap_or-version.result ≡ unwrap_or c.settings.inside.smallest 1 =
     c.unwrap_or-version.ensures ∙ ap (unwrap_or c.settings.inside.smallest) c.in-Some.ensures.1 in
-    let same = c.rule.ensures ∙ ap rule_for (sym c.settings.view_is) in
+    let same = c.rule-rule.ensures ∙ ap rule_for (sym c.settings.view_is) in
     subst (λ (s : SettingsView). AreDrawnFor s c.args.input.now c.in_ok-symbols.symbols.items) c.settings.view_is
     (drawn-for-series _ _ _ _ _ c.if-settings.true (omega arith) (omega arith) smallest same
     (λ none. let bad : Ok c.in_ok-symbols.symbols ≡ Err Empty = c.in_ok-symbols.ensures.empty.1 none in cc)
@@ -23,7 +23,7 @@ pub returns-in_err-symbol : goal.returns-in_err-symbol
 returns-in_err-symbol c =
     let smallest : c.unwrap_or-version.result ≡ unwrap_or c.settings.inside.smallest 1 =
     c.unwrap_or-version.ensures ∙ ap (unwrap_or c.settings.inside.smallest) c.in-Some.ensures.1 in
-    let same = c.rule.ensures ∙ ap rule_for (sym c.settings.view_is) in
+    let same = c.rule-rule.ensures ∙ ap rule_for (sym c.settings.view_is) in
     let p = err_from_is_err_and c.from_residual-in_err-symbol.result c.from_residual-in_err-symbol.ensures.1 in
     let one = sym (ap (λ (s : SettingsView). s.structured) c.settings.view_is) ∙ c.if-settings.false in
     rw (p.1, p.2) (told-one c.args.settings.now c.args.input.now c.in_err-symbol.field-0.0 one
@@ -36,7 +36,7 @@ pub returns : goal.returns
 returns c =
     let smallest : c.unwrap_or-version.result ≡ unwrap_or c.settings.inside.smallest 1 =
     c.unwrap_or-version.ensures ∙ ap (unwrap_or c.settings.inside.smallest) c.in-Some.ensures.1 in
-    let same = c.rule.ensures ∙ ap rule_for (sym c.settings.view_is) in
+    let same = c.rule-rule.ensures ∙ ap rule_for (sym c.settings.view_is) in
     subst (λ (s : SettingsView). AreDrawnFor s c.args.input.now c.in_ok-symbols-2.symbols.items) c.settings.view_is
     (drawn-for-one _ _ _ _ c.in_ok-symbol.symbol _ c.if-settings.false (omega arith) smallest same
     (λ none. let bad : Ok c.in_ok-symbol.symbol ≡ Err Empty = c.in_ok-symbol.ensures.empty.1 none in cc)
