@@ -19,4 +19,5 @@ pub mod Values
 pub mod StreamReading
 pub mod DataLaws
 pub mod Pieces
+pub mod BytesOnly
 pub mod FoldingLemmas

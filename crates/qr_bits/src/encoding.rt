@@ -203,7 +203,7 @@ fn put_bytes(writer: &mut BitWriter, bytes: &[u8]) -> Result<(), AllocError>
     ensures { OnOk result (writer.new ≡ writer.old ++ bits_of bytes.now) }
 {
     for byte in bytes {
-        writer.put(8, u16::from(*byte))?;
+        writer.put_byte(*byte)?;
     }
     Ok(())
 }

@@ -4,21 +4,18 @@
 //! one with the fewest bits for itself and the best rest behind it. A row of the table takes nine
 //! bytes.
 
-ghost use Rattle.std.specs.Prelude.{◌≡◌, ◌<◌, ◌≤◌, Bool, true, length, reverse, IfOk, vec_len};
+ghost use Rattle.std.specs.Prelude.{◌≡◌, ◌+◌, ◌<◌, ◌≤◌, ℕ, Bool, false, true, length, reverse, IfOk, vec_len};
 ghost use Rattle.qr_bits.specs.declared.segment.Mode.{Mode};
 ghost use Rattle.qr_bits.specs.declared.place.Place.{Place};
 ghost use Rattle.qr_bits.specs.Letters.{is_kanji_pair, rank};
-ghost use Rattle.qr_bits.specs.Places.{begins, may_begin, may_end, IsChoice, IsChosenBelow};
+ghost use Rattle.qr_bits.specs.declared.segment.Rule.{Rule};
+ghost use Rattle.qr_bits.specs.Places.{begins, may_begin, place_after, step_bits, IsChoice, IsChosenBelow};
 ghost use Rattle.qr_bits.specs.ByPlaces.{at_place, IsBestTable};
 
 use crate::place::{ByPlace, NO_BITS, Place, after, step_bits};
 use crate::segment::{INPUT_MAX, Mode, Rule, is_alphanumeric, is_digit, is_kanji_pair, may_use};
 use qr_layout::Version;
 use std::alloc::{AllocError, Global};
-
-// The letters of one byte, in the order in which the first of equals is taken. That of a pair is the
-// last.
-const MODES: [Mode; 3] = [Mode::Numeric, Mode::Alphanumeric, Mode::Byte];
 
 // A letter, and the bits of the rest that begins with it.
 #[derive(Clone, Copy)]
@@ -41,41 +38,54 @@ fn may_begin(rule: Rule, byte: u8, mode: Mode) -> bool
     }
 }
 
-// The first of the letters of one byte that lead to the fewest bits, where `rest` tells the bits
-// after each.
-fn choose(version: Version, rule: Rule, place: Place, byte: u8, rest: &ByPlace<u32>) -> Choice
-    requires whole { may_end place ≡ true }
-    requires small { (p : Place) → at_place rest.now p < 10000000 }
-    ensures { (pair : Bool) → IsChosenBelow version rule place byte pair (at_place rest.now) 3 result.mode result.bits }
+// The choice, or a further letter if that may be taken and has fewer bits.
+#[inline(always)]
+fn or_letter(choice: Choice, mode: Mode, may: bool, bits: u32) -> Choice
+    ensures taken { may ≡ true → bits < choice.bits → result ≡ record { mode = mode; bits = bits } }
+    ensures kept { may ≡ true → choice.bits ≤ bits → result ≡ choice }
+    ensures passed { may ≡ false → result ≡ choice }
 {
-    let mut best = Choice {
-        mode: Mode::Byte,
-        bits: u32::MAX,
-    };
-    for mode in MODES {
-        if may_begin(rule, byte, mode) {
-            let bits = step_bits(version, place, mode) + rest.at(after(place, mode));
-            if bits < best.bits {
-                best = Choice { mode, bits };
-            }
-        }
-    }
-    best
-}
-
-// The choice, or a pair where that has fewer bits.
-fn or_pair(choice: Choice, bits: u32) -> Choice
-    ensures pair { bits < choice.bits → result ≡ record { mode = Mode.Kanji; bits = bits } }
-    ensures same { choice.bits ≤ bits → result ≡ choice }
-{
-    if bits < choice.bits {
-        Choice {
-            mode: Mode::Kanji,
-            bits,
-        }
+    if may && bits < choice.bits {
+        Choice { mode, bits }
     } else {
         choice
     }
+}
+
+// The bits of a rest that begins with this letter, where `rest` tells the bits after it.
+#[inline(always)]
+fn bits_from(version: Version, place: Place, mode: Mode, rest: &ByPlace<u32>) -> u32
+    requires { (p : Place) → at_place rest.now p < 10000000 }
+    ensures { result ≡ step_bits version place mode + at_place rest.now (place_after place mode) }
+{
+    step_bits(version, place, mode) + rest.at(after(place, mode))
+}
+
+// The first of the letters of one byte that lead to the fewest bits, where `rest` tells the bits after each. The flags
+// say whether the byte may be a digit's or a character's.
+#[inline(always)]
+fn choose(
+    version: Version,
+    place: Place,
+    digit: bool,
+    character: bool,
+    rest: &ByPlace<u32>,
+) -> Choice
+    requires { (p : Place) → at_place rest.now p < 10000000 }
+    ensures { (r : Rule) (x : ℕ) (pair : Bool) → digit ≡ may_begin r x pair Mode.Numeric
+        → character ≡ may_begin r x pair Mode.Alphanumeric
+        → IsChosenBelow version r place x pair (at_place rest.now) 3 result.mode result.bits }
+{
+    let none = Choice {
+        mode: Mode::Byte,
+        bits: u32::MAX,
+    };
+    let bits = bits_from(version, place, Mode::Numeric, rest);
+    let best = or_letter(none, Mode::Numeric, digit, bits);
+    let bits = bits_from(version, place, Mode::Alphanumeric, rest);
+    let best = or_letter(best, Mode::Alphanumeric, character, bits);
+    let bits = bits_from(version, place, Mode::Byte, rest);
+    or_letter(best, Mode::Byte, true, bits)
 }
 
 /// For each place before this byte the best letter, and the bits of the rest from there. The flag
@@ -93,24 +103,26 @@ pub(crate) fn row(
     ensures { (p : Place) → IsChoice version rule p byte pair (at_place rest.now)
         (at_place result.0 p) (at_place result.1 p) }
 {
-    let start = choose(version, rule, Place::Start, byte, rest);
-    let digit1 = choose(version, rule, Place::Digit1, byte, rest);
-    let digit2 = choose(version, rule, Place::Digit2, byte, rest);
-    let digit3 = choose(version, rule, Place::Digit3, byte, rest);
-    let character1 = choose(version, rule, Place::Character1, byte, rest);
-    let character2 = choose(version, rule, Place::Character2, byte, rest);
-    let in_bytes = choose(version, rule, Place::InBytes, byte, rest);
+    let digit = may_begin(rule, byte, Mode::Numeric);
+    let character = may_begin(rule, byte, Mode::Alphanumeric);
+    let start = choose(version, Place::Start, digit, character, rest);
+    let digit1 = choose(version, Place::Digit1, digit, character, rest);
+    let digit2 = choose(version, Place::Digit2, digit, character, rest);
+    let digit3 = choose(version, Place::Digit3, digit, character, rest);
+    let character1 = choose(version, Place::Character1, digit, character, rest);
+    let character2 = choose(version, Place::Character2, digit, character, rest);
+    let in_bytes = choose(version, Place::InBytes, digit, character, rest);
     if pair {
         let first = step_bits(version, Place::Start, Mode::Kanji) + rest.half_pair;
         let further = step_bits(version, Place::WholePair, Mode::Kanji) + rest.half_pair;
-        let whole_pair = or_pair(start, further);
-        let start = or_pair(start, first);
-        let digit1 = or_pair(digit1, first);
-        let digit2 = or_pair(digit2, first);
-        let digit3 = or_pair(digit3, first);
-        let character1 = or_pair(character1, first);
-        let character2 = or_pair(character2, first);
-        let in_bytes = or_pair(in_bytes, first);
+        let whole_pair = or_letter(start, Mode::Kanji, true, further);
+        let start = or_letter(start, Mode::Kanji, true, first);
+        let digit1 = or_letter(digit1, Mode::Kanji, true, first);
+        let digit2 = or_letter(digit2, Mode::Kanji, true, first);
+        let digit3 = or_letter(digit3, Mode::Kanji, true, first);
+        let character1 = or_letter(character1, Mode::Kanji, true, first);
+        let character2 = or_letter(character2, Mode::Kanji, true, first);
+        let in_bytes = or_letter(in_bytes, Mode::Kanji, true, first);
         let modes = ByPlace {
             start: start.mode,
             digit1: digit1.mode,
