@@ -10,6 +10,8 @@ mod faults;
 #[cfg(test)]
 mod first_symbol;
 #[cfg(test)]
+mod rows;
+#[cfg(test)]
 mod runs;
 #[cfg(test)]
 mod series;
