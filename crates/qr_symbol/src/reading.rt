@@ -234,8 +234,9 @@ mod tests {
                     Err(ReadFault::Format) => format = format.saturating_add(1),
                     Err(ReadFault::Check) => check = check.saturating_add(1),
                     Err(fault) => return Err(fault.into()),
-                    Ok(parsed) => {
-                        assert_eq!(rt; parsed.bytes.as_slice(), b"01234567".as_slice());
+                    Ok(_) => {
+                        let is_same = says(&rt, &symbol.matrix, Mode::Numeric, b"01234567")?;
+                        assert!(rt; is_same, "({row}, {col})");
                         read = read.saturating_add(1);
                     }
                 }

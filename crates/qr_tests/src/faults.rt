@@ -78,6 +78,16 @@ fn of_words_alone(rt: HostRuntime) -> Result<(), Fail> {
             ["-t", "ASCII", "-t", "ASCII"].as_slice(),
             "-t",
         ),
+        (
+            "a version given twice",
+            ["-v", "1", "-v", "1", "-t", "ASCII"].as_slice(),
+            "-v",
+        ),
+        (
+            "a margin given twice",
+            ["-m", "4", "-m", "4", "-t", "ASCII"].as_slice(),
+            "-m",
+        ),
         ("two texts", ["-t", "ASCII", "A", "B"].as_slice(), "'B'"),
         ("no such option", ["-x", "-t", "ASCII"].as_slice(), "-x"),
         (
@@ -130,6 +140,29 @@ fn of_length(rt: HostRuntime) -> Result<(), Fail> {
         assert_eq!(rt; r.out.bytes().len(), 177 * 355, "{level}");
         let r = run_with(rt.alloc(), &words, &digits[..most + 1], devices)?;
         assert_eq!(rt; r.status, 1, "{level}");
+        assert_eq!(rt; r.err.bytes(), b"qrencode: input does not fit\n".as_slice());
+        assert!(rt; r.out.bytes().is_empty());
+    }
+    Ok(())
+}
+
+// The longest inputs of letters and of bytes that fit a symbol at the lowest level, and one more of each.
+#[test]
+fn of_length_in_other_modes(rt: HostRuntime) -> Result<(), Fail> {
+    for (byte, most) in [(b'A', 4296usize), (b'a', 2953)] {
+        let input = vec![in rt.alloc(); byte; 4297]?;
+        let input = input.as_slice();
+        assert!(rt; input.len() == 4297 && most < 4297);
+        let words = ["-m", "0", "-t", "ASCII"];
+        let devices = Devices {
+            out_room: 70_000,
+            ..Devices::WELL
+        };
+        let r = run_with(rt.alloc(), &words, &input[..most], devices)?;
+        assert_eq!(rt; r.status, 0, "{most}");
+        assert_eq!(rt; r.out.bytes().len(), 177 * 355, "{most}");
+        let r = run_with(rt.alloc(), &words, &input[..most + 1], devices)?;
+        assert_eq!(rt; r.status, 1, "{most}");
         assert_eq!(rt; r.err.bytes(), b"qrencode: input does not fit\n".as_slice());
         assert!(rt; r.out.bytes().is_empty());
     }

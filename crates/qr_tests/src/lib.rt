@@ -12,6 +12,8 @@ mod first_symbol;
 #[cfg(test)]
 mod folding;
 #[cfg(test)]
+mod rows;
+#[cfg(test)]
 mod runs;
 #[cfg(test)]
 mod series;

@@ -36,18 +36,24 @@ impl Devices {
     };
 }
 
-/// Runs the command with these words, behind the program's name, on this input.
+/// The words of a command line, after the program's name.
+pub fn line_of(alloc: Global, words: &[&str]) -> Result<Vec<String>, AllocError> {
+    let mut list = Vec::new(alloc);
+    list.push(String::from_str(alloc, "qrencode")?)?;
+    for word in words {
+        list.push(String::from_str(alloc, word)?)?;
+    }
+    Ok(list)
+}
+
+/// Runs the command with these words, after the program's name, on this input.
 pub fn run_with(
     alloc: Global,
     words: &[&str],
     input: &[u8],
     devices: Devices,
 ) -> Result<Run, AllocError> {
-    let mut list = Vec::new(alloc);
-    list.push(String::from_str(alloc, "qrencode")?)?;
-    for word in words {
-        list.push(String::from_str(alloc, word)?)?;
-    }
+    let list = line_of(alloc, words)?;
     let mut input = Trial::reader(alloc, input, devices.input)?;
     let mut out = Trial::writer(alloc, devices.out_room, devices.out)?;
     let mut err = Trial::writer(alloc, devices.err_room, devices.err)?;

@@ -114,6 +114,23 @@ fn writers_fail_in_turn(rt: HostRuntime) -> Result<(), Fail> {
 }
 
 #[test]
+fn a_writer_that_takes_nothing(rt: HostRuntime) -> Result<(), Fail> {
+    let devices = Devices {
+        out: Manner {
+            stops_from: 0,
+            ..Manner::WELL
+        },
+        ..Devices::WELL
+    };
+    let r = run_with(rt.alloc(), &DRAW, b"A", devices)?;
+    assert_eq!(rt; r.status, 1);
+    assert_eq!(rt; r.err.bytes(), b"qrencode: write error\n".as_slice());
+    assert!(rt; r.out.bytes().is_empty());
+    assert_eq!(rt; r.out.writes().calls, 1);
+    Ok(())
+}
+
+#[test]
 fn no_room_for_all(rt: HostRuntime) -> Result<(), Fail> {
     let devices = Devices {
         out_room: 100,
