@@ -155,7 +155,7 @@ mod tests {
     use crate::encoding::encode;
     use crate::samples::{EIGHT_DIGITS, byte_symbol};
     use crate::symbol::build_masked;
-    use qr_bits::{Mode, Segment};
+    use qr_bits::{Mode, Rule, Segment};
     use std::test::Fail;
 
     // Whether a square is read as one segment, without a header.
@@ -252,7 +252,7 @@ mod tests {
     #[test]
     fn remainder_bits_inverted(rt: HostRuntime) -> Result<(), Fail> {
         let version = Version::new(2).ok_or("version 2")?;
-        let mut symbol = encode(rt.alloc(), b"A", Level::L, version, false)?;
+        let mut symbol = encode(rt.alloc(), b"A", Level::L, version, Rule::Auto)?;
         let mut inverted = 0u32;
         for module in walk(version).skip(8 * 44) {
             assert!(rt; module.row < symbol.matrix.side() && module.col < symbol.matrix.side());
@@ -296,7 +296,7 @@ mod tests {
         for number in 1..=40u8 {
             let version = Version::new(number).ok_or("no such version")?;
             for level in [Level::L, Level::M, Level::Q, Level::H] {
-                let symbol = encode(rt.alloc(), b"A", level, version, false)?;
+                let symbol = encode(rt.alloc(), b"A", level, version, Rule::Auto)?;
                 assert!(rt;
                     says(&rt, &symbol.matrix, Mode::Alphanumeric, b"A")?,
                     "version {number}, {level:?}"
