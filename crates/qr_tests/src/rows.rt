@@ -2,7 +2,7 @@
 
 ghost use Rattle.std.specs.Prelude.{◌≡◌, ◌<◌, ◌≤◌};
 ghost use Rattle.std.specs.List.{All, sum_by};
-ghost use Rattle.qr_bits.specs.declared.segment.TheConstants.{INPUT_MAX};
+ghost use Rattle.qr_bits.specs.declared.modes.TheConstants.{INPUT_MAX};
 
 use crate::runs::line_of;
 use qr_bits::{BitFault, Mode, ParseFault, Segment, bit_len};
