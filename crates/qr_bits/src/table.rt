@@ -11,7 +11,7 @@ ghost use Rattle.qr_bits.specs.Modes.{is_kanji_pair};
 ghost use Rattle.qr_bits.specs.Segmentation.{rank};
 ghost use Rattle.qr_bits.specs.declared.modes.Rule.{Rule};
 ghost use Rattle.qr_bits.specs.Places.{begins, may_begin, place_after, step_bits, IsChoice, IsChosenBelow};
-ghost use Rattle.qr_bits.specs.ByPlaces.{at_place, IsBestTable};
+ghost use Rattle.qr_bits.specs.ByPlaces.{at_place, bits_of, modes_of, IsBestTable};
 
 use crate::modes::{INPUT_MAX, Mode, Rule, is_alphanumeric, is_digit, is_kanji_pair, may_use};
 use crate::place::{ByPlace, NO_BITS, Place, after, step_bits};
@@ -89,6 +89,37 @@ fn choose(
     or_letter(best, Mode::Byte, true, bits)
 }
 
+// The letters of the choices, and their bits.
+#[inline(always)]
+fn apart(choices: ByPlace<Choice>) -> (ByPlace<Mode>, ByPlace<u32>)
+    ensures modes { result.0 ≡ modes_of choices }
+    ensures bits { result.1 ≡ bits_of choices }
+{
+    let modes = ByPlace {
+        start: choices.start.mode,
+        digit1: choices.digit1.mode,
+        digit2: choices.digit2.mode,
+        digit3: choices.digit3.mode,
+        character1: choices.character1.mode,
+        character2: choices.character2.mode,
+        in_bytes: choices.in_bytes.mode,
+        half_pair: choices.half_pair.mode,
+        whole_pair: choices.whole_pair.mode,
+    };
+    let bits = ByPlace {
+        start: choices.start.bits,
+        digit1: choices.digit1.bits,
+        digit2: choices.digit2.bits,
+        digit3: choices.digit3.bits,
+        character1: choices.character1.bits,
+        character2: choices.character2.bits,
+        in_bytes: choices.in_bytes.bits,
+        half_pair: choices.half_pair.bits,
+        whole_pair: choices.whole_pair.bits,
+    };
+    (modes, bits)
+}
+
 /// For each place before this byte the best letter, and the bits of the rest from there. The flag
 /// says that a pair may be taken. In the middle of a pair there is only its second letter, which
 /// adds no bits.
@@ -107,70 +138,36 @@ pub(crate) fn row(
     let digit = may_begin(rule, byte, Mode::Numeric);
     let character = may_begin(rule, byte, Mode::Alphanumeric);
     let start = choose(version, Place::Start, digit, character, rest);
-    let digit1 = choose(version, Place::Digit1, digit, character, rest);
-    let digit2 = choose(version, Place::Digit2, digit, character, rest);
-    let digit3 = choose(version, Place::Digit3, digit, character, rest);
-    let character1 = choose(version, Place::Character1, digit, character, rest);
-    let character2 = choose(version, Place::Character2, digit, character, rest);
-    let in_bytes = choose(version, Place::InBytes, digit, character, rest);
-    if pair {
-        let first = step_bits(version, Place::Start, Mode::Kanji) + rest.half_pair;
-        let further = step_bits(version, Place::WholePair, Mode::Kanji) + rest.half_pair;
-        let whole_pair = or_letter(start, Mode::Kanji, true, further);
-        let start = or_letter(start, Mode::Kanji, true, first);
-        let digit1 = or_letter(digit1, Mode::Kanji, true, first);
-        let digit2 = or_letter(digit2, Mode::Kanji, true, first);
-        let digit3 = or_letter(digit3, Mode::Kanji, true, first);
-        let character1 = or_letter(character1, Mode::Kanji, true, first);
-        let character2 = or_letter(character2, Mode::Kanji, true, first);
-        let in_bytes = or_letter(in_bytes, Mode::Kanji, true, first);
-        let modes = ByPlace {
-            start: start.mode,
-            digit1: digit1.mode,
-            digit2: digit2.mode,
-            digit3: digit3.mode,
-            character1: character1.mode,
-            character2: character2.mode,
-            in_bytes: in_bytes.mode,
-            half_pair: Mode::Kanji,
-            whole_pair: whole_pair.mode,
-        };
-        let bits = ByPlace {
-            start: start.bits,
-            digit1: digit1.bits,
-            digit2: digit2.bits,
-            digit3: digit3.bits,
-            character1: character1.bits,
-            character2: character2.bits,
-            in_bytes: in_bytes.bits,
-            half_pair: rest.whole_pair,
-            whole_pair: whole_pair.bits,
-        };
-        return (modes, bits);
+    let alone = ByPlace {
+        start,
+        digit1: choose(version, Place::Digit1, digit, character, rest),
+        digit2: choose(version, Place::Digit2, digit, character, rest),
+        digit3: choose(version, Place::Digit3, digit, character, rest),
+        character1: choose(version, Place::Character1, digit, character, rest),
+        character2: choose(version, Place::Character2, digit, character, rest),
+        in_bytes: choose(version, Place::InBytes, digit, character, rest),
+        half_pair: Choice {
+            mode: Mode::Kanji,
+            bits: rest.whole_pair,
+        },
+        whole_pair: start,
+    };
+    if !pair {
+        return apart(alone);
     }
-    let modes = ByPlace {
-        start: start.mode,
-        digit1: digit1.mode,
-        digit2: digit2.mode,
-        digit3: digit3.mode,
-        character1: character1.mode,
-        character2: character2.mode,
-        in_bytes: in_bytes.mode,
-        half_pair: Mode::Kanji,
-        whole_pair: start.mode,
-    };
-    let bits = ByPlace {
-        start: start.bits,
-        digit1: digit1.bits,
-        digit2: digit2.bits,
-        digit3: digit3.bits,
-        character1: character1.bits,
-        character2: character2.bits,
-        in_bytes: in_bytes.bits,
-        half_pair: rest.whole_pair,
-        whole_pair: start.bits,
-    };
-    (modes, bits)
+    let first = step_bits(version, Place::Start, Mode::Kanji) + rest.half_pair;
+    let further = step_bits(version, Place::WholePair, Mode::Kanji) + rest.half_pair;
+    apart(ByPlace {
+        start: or_letter(alone.start, Mode::Kanji, true, first),
+        digit1: or_letter(alone.digit1, Mode::Kanji, true, first),
+        digit2: or_letter(alone.digit2, Mode::Kanji, true, first),
+        digit3: or_letter(alone.digit3, Mode::Kanji, true, first),
+        character1: or_letter(alone.character1, Mode::Kanji, true, first),
+        character2: or_letter(alone.character2, Mode::Kanji, true, first),
+        in_bytes: or_letter(alone.in_bytes, Mode::Kanji, true, first),
+        half_pair: alone.half_pair,
+        whole_pair: or_letter(alone.whole_pair, Mode::Kanji, true, further),
+    })
 }
 
 // Whether a kanji pair may be taken at the beginning of the bytes.
