@@ -12,7 +12,7 @@ use Rattle.qr_field.specs.Polynomials.{IsByte, plus, power, IsCorrection}
 use Rattle.qr_field.specs.Distance.{difference, differences, erasures, errors}
 use Rattle.qr_field.proofs.BitLemmas.{xor-swap}
 use Rattle.qr_field.proofs.ByteLemmas.{product-by_zero, product-of_zero, product-by_one}
-use Rattle.qr_field.proofs.ProductLemmas.{product-lt, product-sum}
+use Rattle.qr_field.proofs.ProductLemmas.{product-lt, product-xor}
 use Rattle.qr_field.proofs.PowerLemmas.{power-lt, power-add}
 use Rattle.qr_field.proofs.FieldLemmas.{product-assoc, product-front, product-by_sum, product-factor, powers-sum, sum-none}
 use Rattle.qr_field.proofs.ListLemmas.{length-plus, bytes-plus}
@@ -128,7 +128,7 @@ value-lowered i k (c ∷ p) a =
     let head : product (product c (bit_xor own other)) (power (i * length (lowered k p))) ≡ bit_xor (product c (power ((i + 1) * m))) (product other (product c place)) =
     ap (λ t. product (product c (bit_xor own other)) (power (i * t))) (length-lowered k p)
     ∙ (ap (λ t. product t place) (product-by_sum c own other lc lo lk)
-    ∙ (product-sum (product c own) (product c other) place (product-lt c own lc) (product-lt c other lc)
+    ∙ (sym (product-xor (product c own) (product c other) place (product-lt c own lc) (product-lt c other lc))
     ∙ (ap (λ t. bit_xor t (product (product c other) place)) first
     ∙ ap (bit_xor (product c (power ((i + 1) * m)))) second))) in
     let v = value_at i p in
