@@ -1,18 +1,20 @@
 -- Where bytes alone may stand there is one lettering: each letter is Byte.
-use Rattle.std.proofs.Common.{◌≡◌, ℕ, zero, suc, ◌+◌, true, false, ◌==◌, List, [], ◌∷◌, length, refl, sym, ◌∙◌, ap, subst, arith, inr, lit<}
+use Rattle.std.proofs.Common.{◌≡◌, ℕ, zero, suc, ◌+◌, ◌*◌, ◌<◌, ◌≤◌, min, take, ⊎_elim, true, false, ◌==◌, List, [], ◌∷◌, length, refl, sym, ◌∙◌, ap, subst, arith, inr, lit<}
 use Rattle.std.specs.List.{list_all}
-use Rattle.std.proofs.lemmas.Bool.{and_from, and_parts, eqb-true, false≢true}
+use Rattle.std.proofs.lemmas.List.{length-take-le}
+use Rattle.std.proofs.lemmas.Bool.{and_from, and_parts, cases_lt, eqb-true, false≢true}
 use Rattle.qr_bits.specs.declared.modes.Mode.{Mode}
 use Rattle.qr_bits.specs.declared.modes.Mode.TheVariants.{Numeric, Alphanumeric, Byte, Kanji}
 use Rattle.qr_bits.specs.declared.modes.Rule.TheVariants.{BytesOnly}
 use Rattle.qr_bits.specs.declared.segmentation.Segment.{Segment}
 use Rattle.qr_bits.specs.declared.place.Place.{Place}
 use Rattle.qr_bits.specs.declared.place.Place.TheVariants.{Start}
-use Rattle.qr_bits.specs.Segmentation.{bits, with_front, runs_of, IsLettering, NotAfter, IsLeastSegmentation}
-use Rattle.qr_bits.specs.Modes.{is_kanji_pair, may_use}
+use Rattle.qr_bits.specs.Segmentation.{bits, with_front, runs_of, IsLettering, NotAfter, IsLeastSegmentation, IsLongestFit}
+use Rattle.qr_bits.specs.Modes.{is_kanji_pair, may_use, count_width}
 use Rattle.qr_bits.specs.Places.{begins, place_after, may_begin, may_end, may_take, allowed}
 use Rattle.qr_bits.specs.Growing.{byte_segments}
 use Rattle.qr_bits.proofs.Choosing.{take_begin}
+use Rattle.qr_bits.proofs.SegmentLists.{least_fits}
 use Rattle.qr_bits.proofs.Letterings.{may_end-after, can_take, is_lettering, covers_by, by_covers}
 
 -- the letter of bytes for each byte
@@ -95,3 +97,32 @@ bytes_some (suc n) h = refl
 pub bytes_none : (n : ℕ) → (n == 0) ≡ true → [] ≡ byte_segments n
 bytes_none zero h = refl
 bytes_none (suc n) h = absurd (omega (arith, eqb-true (suc n) 0 h))
+
+-- the one segment of n bytes has at most these bits
+bits-most : (v n : ℕ) → bits v (byte_segments n) ≤ 4 + count_width v Byte + 8 * n
+bits-most v zero = omega arith
+bits-most v (suc n) = omega arith
+
+-- and no fewer, if there is a byte
+bits-least : (v n : ℕ) → 0 < n → 4 + count_width v Byte + 8 * n ≤ bits v (byte_segments n)
+bits-least v zero h = absurd (omega arith)
+bits-least v (suc n) h = omega arith
+
+-- The longest prefix that fits as bytes is the longest of all.
+pub bytes_longest : (v : ℕ) (xs : List ℕ) (room n k : ℕ) → n ≡ min (length xs) k → 4 + count_width v Byte + 8 * k ≤ room → room < 4 + count_width v Byte + 8 * (k + 1)
+    → IsLongestFit v BytesOnly xs room n
+bytes_longest v xs room n k e fits most =
+    let inside : n ≤ length xs = omega arith in
+    let len = length-take-le n xs inside in
+    record {
+      inside = inside;
+      fits = ((least_fits v BytesOnly (take n xs) _ (bytes_least v (take n xs))).1 room).1 (rw len (omega (arith, bits-most v n)));
+      longest = λ j h fit.
+          ⊎_elim
+          (λ (none : j < 1). omega arith)
+          (λ (some : 1 ≤ j).
+          let few = ((least_fits v BytesOnly (take j xs) _ (bytes_least v (take j xs))).1 room).0 fit in
+          let same = length-take-le j xs h in
+          omega (arith, bits-least v j some, rw same at few))
+          (cases_lt j 1);
+    }

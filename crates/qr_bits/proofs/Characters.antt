@@ -1,7 +1,8 @@
 -- The 45 characters: each has a place.
-use Rattle.std.proofs.Common.{◌≡◌, ℕ, ◌<◌, ◌≤◌, ◌==◌, Bool, true, false, not, nat_lt, List, length, get_or, Option, Some, refl, sym, ◌∙◌, ⊎_elim, arith}
+use Rattle.std.proofs.Common.{◌≡◌, ℕ, ◌<◌, ◌≤◌, ◌==◌, Bool, true, false, not, nat_le, nat_lt, List, length, get_or, Option, Some, refl, sym, ◌∙◌, ⊎_elim, arith}
+use borrow.Author.Tests.{leb-true}
 use Rattle.std.specs.List.{list_any, position, position_or_len}
-use Rattle.std.proofs.lemmas.Bool.{cases_lt, false≢true, lt-ltb, ltb-true, eqb-true, eq-eqb}
+use Rattle.std.proofs.lemmas.Bool.{cases_lt, false≢true, lt-ltb, ltb-true, eqb-true, eq-eqb, ne_eqb}
 use Rattle.std.proofs.lemmas.List.Folds.{list_any_none, list_any_at}
 use Rattle.std.proofs.lemmas.List.Sums.{fails_before_first, passes_at_first, position_or_len_is}
 use Rattle.std.proofs.lemmas.List.Elements.{All-from_get_or}
@@ -51,6 +52,27 @@ not_true : (b : Bool) → not b ≡ true → b ≡ false
 not_true true h = cc
 not_true false h = refl
 
+-- there are 45 characters
+many : length characters ≡ 45
+unfolding characters
+many = refl
+
+-- a character is no later than Z
+low : ℕ → Bool
+low i = nat_le (character i) 90
+
+-- each of the 45 characters is so
+all_low : below 45 low ≡ true
+unfolding low character characters
+all_low = refl
+
+-- a byte after Z is no character
+pub past_z : (b : ℕ) → 90 < b → is_alphanumeric b ≡ false
+unfolding is_alphanumeric low character
+past_z b h =
+    list_any_none (λ c. c == b) characters (All-from_get_or (λ x. (x == b) ≡ false) characters 0
+    (λ i k. ne_eqb _ _ (λ e. let l = leb-true _ 90 (below-at 45 low all_low i (omega (arith, many))) in absurd (omega arith))))
+
 -- no two of the first n characters are one
 differs : ℕ → ℕ → Bool
 differs i k = not (character k == character i)
@@ -68,11 +90,6 @@ small i = nat_lt (character i) 256
 all_small : below 45 small ≡ true
 unfolding small character characters
 all_small = refl
-
--- there are 45 characters
-many : length characters ≡ 45
-unfolding characters
-many = refl
 
 -- the value of a character is its place
 pub character_taken : (n : ℕ) → n < 45 → (is_alphanumeric (character n) ≡ true) × (character_value (character n) ≡ n) × (character n < 256)

@@ -53,14 +53,27 @@ impl BitWriter {
         Ok(())
     }
 
-    /// Writes a number in a field of this width.
-    pub(crate) fn put(&mut self, width: u8, number: u16) -> Result<(), AllocError>
+    // Writes a number in a field of this width, bit by bit.
+    fn put_bits(&mut self, width: u8, number: u16) -> Result<(), AllocError>
         requires { width ≤ 16 }
         ensures { OnOk result (self.new ≡ self.old ++ field width number) }
     {
         for i in (0..width).rev() {
             self.push(number >> i & 1 == 1)?;
         }
+        Ok(())
+    }
+
+    /// Writes a number in a field of this width, its last eight bits at once.
+    pub(crate) fn put(&mut self, width: u8, number: u16) -> Result<(), AllocError>
+        requires { width ≤ 16 }
+        ensures { OnOk result (self.new ≡ self.old ++ field width number) }
+    {
+        if width < 8 {
+            return self.put_bits(width, number);
+        }
+        self.put_bits(width - 8, number / 256)?;
+        self.put_byte((number % 256) as u8)?;
         Ok(())
     }
 

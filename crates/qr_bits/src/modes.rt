@@ -139,13 +139,17 @@ pub(crate) const CHARACTERS: [u8; 45] = *b"0123456789ABCDEFGHIJKLMNOPQRSTUVWXYZ 
 pub(crate) fn is_digit(byte: u8) -> bool
     ensures { result ≡ is_digit byte }
 {
-    b'0' <= byte && byte <= b'9'
+    byte.is_ascii_digit()
 }
 
 #[tactic(auto, unfolding(crate::specs::Modes::is_alphanumeric, crate::specs::Modes::characters))]
 pub(crate) fn is_alphanumeric(byte: u8) -> bool
     ensures { result ≡ is_alphanumeric byte }
 {
+    // No character comes after Z.
+    if byte > b'Z' {
+        return false;
+    }
     CHARACTERS.iter().any(|character| *character == byte)
 }
 

@@ -1,67 +1,8 @@
-use Rattle.std.proofs.Common.{◌≡◌, ◌+◌, ◌-◌, ◌≤◌, ◌<◌, ℕ, [], ◌∷◌, take, length, arith, subst, ⊎_elim}
-use Rattle.std.proofs.lemmas.Bool.{cases_lt}
-use Rattle.qr_bits.specs.Segmentation.{HasFit}
-use Rattle.qr_bits.specs.Modes.{is_kanji_pair}
-use Rattle.qr_bits.specs.Places.{turned}
-use Rattle.qr_bits.specs.ByPlaces.{at_place}
-use Rattle.qr_bits.proofs.Tables.{best_none, small_more, zeros}
-use Rattle.qr_bits.proofs.Mirror.{empty_fits, front_more, front_fits, front_least}
+use Rattle.std.proofs.Common.{◌≡◌, ◌-◌, length, min, arith}
+use Rattle.qr_bits.proofs.BytesOnly.{bytes_longest}
 use Rattle.qr_bits.proofs.segmentation.longest_fit.Goals as goal
-use Rattle.qr_bits.proofs.segmentation.longest_fit.Goals.{then-from-room, else-from-room}
 
-pub loop-i-init : goal.loop-i-init
-loop-i-init c = record {
-  inside = omega arith;
-  fits = empty_fits c.args.version c.args.rule _;
-  longest = λ k h fit. h;
-  small = λ p. omega (arith, zeros p);
-  best = ([], best_none c.args.version c.args.rule (turned is_kanji_pair) _ zeros);
-}
-
-pub row-requires : goal.row-requires
-row-requires c = λ p. omega (arith, c.loop-i.invariant.small p)
-
-pub loop-i-preserved : goal.loop-i-preserved
-unfolding at_place
-loop-i-preserved c =
-    let v = c.args.version in
-    let r = c.args.rule in
-    let xs = c.args.input.now in
-    let i = c.loop-i.i in
-    let inv = c.loop-i.invariant in
-    let below = front_more v r xs i c.ends_with_pair-pair.result inv.best.0 c.row.result.0 c.loop-i.rest c.row.result.1 (omega arith) c.ends_with_pair-pair.ensures inv.best.1 c.row.ensures in
-    let room = c.capacity-room.result - 20 in
-    elim c.if-from-room.branch [
-      | then-from-room w ↦
-          let fit : HasFit v r (take (i + 1) xs) room = front_fits v r (take (i + 1) xs) _ (at_place c.row.result.1) room below (omega (arith, w.if-from-room.true, c.from.ensures)) in
-          rw w.longest-is (record {
-            inside = omega arith;
-            fits = fit;
-            longest = λ k h _. h;
-            small = small_more v r _ _ c.row.result.0 c.loop-i.rest c.row.result.1 i inv.small c.row.ensures;
-            best = (c.row.result.0 ∷ inv.best.0, below);
-          })
-      | else-from-room w ↦
-          rw w.longest-is (record {
-            inside = omega (arith, inv.inside);
-            fits = inv.fits;
-            longest = λ k h fit. ⊎_elim
-                (λ (l : i < k).
-                let e : k ≡ i + 1 = omega arith in
-                let q : HasFit v r (take (i + 1) xs) room = subst (λ (n : ℕ). HasFit v r (take n xs) room) e fit in
-                absurd (omega (arith, front_least v r (take (i + 1) xs) _ (at_place c.row.result.1) room below q, w.if-from-room.false, c.from.ensures)))
-                (λ (l : k ≤ i). inv.longest k l fit)
-                (cases_lt i k);
-            small = small_more v r _ _ c.row.result.0 c.loop-i.rest c.row.result.1 i inv.small c.row.ensures;
-            best = (c.row.result.0 ∷ inv.best.0, below);
-          })
-    ]
-
-pub returns : goal.returns
-returns c =
-    let all : c.loop-i.i ≡ length c.args.input.now = omega arith in
-    rw (← c.capacity-room.ensures.value) (record {
-      inside = omega (arith, c.loop-i.invariant.inside);
-      fits = c.loop-i.invariant.fits;
-      longest = λ k h fit. c.loop-i.invariant.longest k (omega arith) fit;
-    })
+pub returns-in-BytesOnly : goal.returns-in-BytesOnly
+returns-in-BytesOnly c =
+    rw (c.in-BytesOnly.is, ← c.capacity-room.ensures.value)
+    (bytes_longest c.args.version c.args.input.now (c.capacity-room.result - 20) c.min.result c.bytes_in.result c.min.ensures c.bytes_in.ensures.fits c.bytes_in.ensures.most)

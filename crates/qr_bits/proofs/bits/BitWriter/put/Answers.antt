@@ -1,14 +1,11 @@
-use Rattle.std.proofs.Common.{◌≡◌, ◌-◌, sym, arith, append-nil, append_assoc}
+use Rattle.std.proofs.Common.{◌≡◌, ◌-◌, ◌/◌, ◌%◌, ◌++◌, List, Bool, sym, ◌∙◌, ap, arith, append_assoc}
 use Rattle.qr_bits.specs.Bits.{field}
-use Rattle.qr_bits.proofs.BitLists.{field-shift, shifted-bit}
+use Rattle.qr_bits.proofs.BitLists.{field-high}
 use Rattle.qr_bits.proofs.bits.BitWriter.put.Goals as goal
 
-pub loop-i-init : goal.loop-i-init
-unfolding field
-loop-i-init c = let none : c.args.width - c.args.width ≡ 0 = omega arith in rw none (sym (append-nil c.args.self.now))
-
-pub loop-i-preserved : goal.loop-i-preserved
-loop-i-preserved c =
-    let i = c.loop-i.i in
-    let more = field-shift c.args.width c.args.number i (omega arith) (omega arith) in
-    rw (more, c.in_ok-push.ensures, c.loop-i.invariant, shifted-bit c.args.number (i - 1)) (append_assoc c.args.self.now _ _)
+pub returns : goal.returns
+returns c =
+    let w = c.args.width in
+    let n = c.args.number in
+    rw (c.in_ok-put_byte.ensures, c.in_ok-put_bits.ensures)
+    (append_assoc c.args.self.now (field (w - 8) (n / 256)) (field 8 (n % 256)) ∙ ap (λ (t : List Bool). c.args.self.now ++ t) (sym (field-high w n (omega (arith, c.if-width-lt8.false)))))

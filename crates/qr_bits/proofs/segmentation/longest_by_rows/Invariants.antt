@@ -7,7 +7,7 @@ use Rattle.qr_bits.specs.Modes.{is_kanji_pair}
 use Rattle.qr_bits.specs.Places.{turned}
 use Rattle.qr_bits.specs.ByPlaces.{at_place, follow}
 use Rattle.qr_bits.proofs.Best.{BestBelow}
-use Rattle.qr_bits.proofs.segmentation.longest_fit.Given as goal
+use Rattle.qr_bits.proofs.segmentation.longest_by_rows.Given as goal
 
 -- the longest so far, and the best rests of the front that was looked at, read backwards
 abbrev pub invariant-loop-i : goal.invariant-loop-i
