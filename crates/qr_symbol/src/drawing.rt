@@ -1,7 +1,7 @@
 //! How the modules of a symbol get their colours: the function patterns with the format and version information, and
 //! the codewords' bits along the walk over the encoding region (ISO/IEC 18004:2015, 7.7.2 and 7.7.3).
 
-ghost use Rattle.std.specs.Prelude.{◌≡◌, ◌+◌, ◌-◌, ◌*◌, ◌<◌, ◌≤◌, ◌==◌, ◌&&◌, if◌then◌else◌, nat_le, nat_lt, false, slice_index};
+ghost use Rattle.std.specs.Prelude.{◌≡◌, ℕ, List, ◌+◌, ◌-◌, ◌<◌, ◌≤◌, ◌==◌, ◌&&◌, if◌then◌else◌, nat_le, nat_lt, false, slice_index};
 ghost use Rattle.std.specs.List.{list_any};
 ghost use Rattle.qr_layout.specs.Versions.{side_of};
 ghost use Rattle.qr_layout.specs.Alignment.{alignment_places, centres_of};
@@ -13,24 +13,13 @@ ghost use Rattle.qr_bits.specs.Bits.{codeword_bit};
 ghost use Rattle.qr_matrix.specs.Grid.{square, colour, light, IsSquare};
 ghost use Rattle.qr_matrix.specs.Lines.{has_bit};
 ghost use Rattle.qr_symbol.specs.Colour.{word_bit};
-ghost use Rattle.qr_symbol.specs.Drawing.{fixed_colour, paint_of, placed_colour, placed_if, number_after, number_along, placed_along, format_or, masked_grid, region_grid};
+ghost use Rattle.qr_symbol.specs.Drawing.{fixed_colour, paint_of, placed_colour, placed_if, number_after, number_along, placed_along, IsWindow, format_or, masked_grid, region_grid};
 
 use crate::mask::pattern;
 use qr_layout::{
     Level, Module, Role, Strip, Version, alignment_centres, all_strips, cell, format_word,
 };
 use qr_matrix::Matrix;
-
-// Bit `number` of the codewords, the highest bit of a codeword first, and light past their end.
-fn bit_at(codewords: &[u8], number: usize) -> bool
-    ensures { result ≡ codeword_bit codewords.now number }
-{
-    if number / 8 < codewords.len() {
-        codewords[number / 8] >> (7 - number % 8) & 1 == 1
-    } else {
-        false
-    }
-}
 
 // A codeword, and 0 past their end.
 fn codeword_at(codewords: &[u8], place: usize) -> u8
@@ -39,25 +28,40 @@ fn codeword_at(codewords: &[u8], place: usize) -> u8
     codewords.get(place).copied().unwrap_or(0)
 }
 
-// Two codewords as one number, the first the higher.
-fn two_codewords(codewords: &[u8], place: usize) -> u32
-    requires { place ≤ 5000 }
-    ensures { result ≡ 256 * slice_index codewords.now place + slice_index codewords.now (place + 1) }
-{
-    if place + 1 < codewords.len() {
-        return 256 * u32::from(codewords[place]) + u32::from(codewords[place + 1]);
-    }
-    256 * u32::from(codeword_at(codewords, place)) + u32::from(codeword_at(codewords, place + 1))
+// Eight codewords as one word, and the number of their first bit, which is the word's highest.
+#[derive(Clone, Copy)]
+struct Window {
+    bits: u64,
+    first: usize,
 }
 
-// Two bits of the codewords from `number` on, the first the higher.
-fn two_bits(codewords: &[u8], number: usize) -> u8
+// The eight codewords from that of a bit on.
+fn window_at(codewords: &[u8], number: usize) -> Window
     requires { number ≤ 40000 }
-    ensures small { result < 4 }
-    ensures first { has_bit result 1 ≡ codeword_bit codewords.now number }
-    ensures second { has_bit result 0 ≡ codeword_bit codewords.now (number + 1) }
+    ensures bits { IsWindow codewords.now result }
+    ensures least { result.first ≤ number }
+    ensures most { number ≤ result.first + 7 }
 {
-    (two_codewords(codewords, number / 8) >> (14 - number % 8) & 3) as u8
+    let place = number / 8;
+    let mut bits = 0u64;
+    for next in 0..8 {
+        bits = 256 * bits + u64::from(codeword_at(codewords, place + next));
+    }
+    Window {
+        bits,
+        first: 8 * place,
+    }
+}
+
+// Two bits of a window from `number` on, the first the higher.
+fn two_bits(window: Window, number: usize) -> u8
+    requires least { window.first ≤ number }
+    requires most { number ≤ window.first + 62 }
+    ensures small { result < 4 }
+    ensures first { has_bit result 1 ≡ has_bit window.bits (63 - (number - window.first)) }
+    ensures second { has_bit result 0 ≡ has_bit window.bits (62 - (number - window.first)) }
+{
+    (window.bits >> (62 - (number - window.first)) & 3) as u8
 }
 
 // Bit `i` of a word of format or version information, bit 0 being the lowest.
@@ -241,38 +245,34 @@ pub(crate) fn draw_region(matrix: &mut Matrix, v: Version)
 }
 
 // Gives the modules of a row of a strip that are in the encoding region, as `within` says with the right one its higher
-// bit, the next bits of the codewords, and returns the number of the bit after them.
-fn draw_pair(
-    matrix: &mut Matrix,
-    codewords: &[u8],
-    number: usize,
-    right: Module,
-    within: u8,
-) -> usize
+// bit, the next of two bits of the codewords, and returns the number of the bit after them.
+fn draw_pair(matrix: &mut Matrix, bits: u8, number: usize, right: Module, within: u8) -> usize
     requires row_in { right.row < matrix.old.side }
     requires left_in { 1 ≤ right.col }
     requires col_in { right.col < matrix.old.side }
     requires within { within < 4 }
+    requires bits { bits < 4 }
     requires few { number ≤ 40000 }
     ensures number { result ≡ number_after (has_bit within 0) (number_after (has_bit within 1) number) }
     ensures few { result ≤ number + 2 }
-    ensures matrix { matrix.new ≡ placed_if (has_bit within 0) codewords.now
-        (number_after (has_bit within 1) number)
-        (placed_if (has_bit within 1) codewords.now number matrix.old right.row right.col)
+    ensures matrix { (cw : List ℕ) → has_bit bits 1 ≡ codeword_bit cw number
+        → has_bit bits 0 ≡ codeword_bit cw (number + 1)
+        → matrix.new ≡ placed_if (has_bit within 0) cw (number_after (has_bit within 1) number)
+        (placed_if (has_bit within 1) cw number matrix.old right.row right.col)
         right.row (right.col - 1) }
 {
     let Module { row, col } = right;
     if within == 3 {
-        matrix.set_pair(row, col, two_bits(codewords, number));
+        matrix.set_pair(row, col, bits);
         return number + 2;
     }
     match within {
         2 => {
-            matrix.set(row, col, bit_at(codewords, number));
+            matrix.set(row, col, bits / 2 == 1);
             number + 1
         }
         1 => {
-            matrix.set(row, col - 1, bit_at(codewords, number));
+            matrix.set(row, col - 1, bits / 2 == 1);
             number + 1
         }
         _ => number,
@@ -300,6 +300,7 @@ fn draw_strip(
 {
     let side = v.side();
     let mut number = first;
+    let mut window = window_at(codewords, first);
     for passed in 0..side {
         let row = if strip.upward {
             side - 1 - passed
@@ -308,7 +309,11 @@ fn draw_strip(
         };
         let col = strip.right;
         let within = region.pair(row, col);
-        number = draw_pair(matrix, codewords, number, Module { row, col }, within);
+        if number > window.first + 62 {
+            window = window_at(codewords, number);
+        }
+        let bits = two_bits(window, number);
+        number = draw_pair(matrix, bits, number, Module { row, col }, within);
     }
     number
 }

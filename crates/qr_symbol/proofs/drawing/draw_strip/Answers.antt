@@ -1,15 +1,22 @@
-use Rattle.std.proofs.Common.{◌≡◌, ◌<◌, suc, ◌+◌, ◌-◌, cond, sym, ap, ◌∙◌, arith}
+use Rattle.std.proofs.Common.{◌≡◌, ◌<◌, ◌≤◌, ℕ, Bool, true, false, suc, ◌+◌, ◌-◌, cond, sym, ap, subst, ◌∙◌, arith}
 use Rattle.qr_layout.specs.declared.region.Module.{Module}
 use Rattle.qr_layout.specs.Versions.{side_of}
 use Rattle.qr_layout.specs.Region.{is_in_region}
 use Rattle.qr_layout.specs.StripPlaces.{both_of, rows_from}
 use Rattle.qr_matrix.specs.Grid.{Grid}
 use Rattle.qr_matrix.specs.Lines.{has_bit}
-use Rattle.qr_symbol.specs.Drawing.{number_after, number_along, placed_along, placed_if}
+use Rattle.qr_symbol.specs.Drawing.{IsWindow, number_after, number_along, placed_along, placed_if}
 use Rattle.qr_symbol.proofs.DrawingLemmas.{row-number, row-placed, side-placed}
+use Rattle.qr_symbol.specs.declared.drawing.Window.{Window}
+use Rattle.qr_bits.specs.Bits.{codeword_bit}
 use Rattle.qr_symbol.proofs.KeptPlaces.{region-told}
 use Rattle.qr_symbol.proofs.drawing.draw_strip.Goals as goal
-use Rattle.qr_symbol.proofs.drawing.draw_strip.Goals.{then-strip, else-strip}
+use Rattle.qr_symbol.proofs.drawing.draw_strip.Goals.{then-strip, else-strip, then-number-window, else-number-window}
+
+-- the number of a bit does not fall
+number_after-more : (t : Bool) (n : ℕ) → n ≤ number_after t n
+number_after-more true n = omega arith
+number_after-more false n = omega arith
 
 pub loop-passed-preserved : goal.loop-passed-preserved
 loop-passed-preserved c =
@@ -40,10 +47,23 @@ loop-passed-preserved c =
     let u : has_bit within 0 ≡ is_in_region v row (x.right - 1) = region-told v c.args.region.now left (has_bit within 0) c.requires.region inside (omega (arith, c.requires.right_in)) c.pair-within.ensures.left in
     let e : s - k ≡ suc m = omega arith in
     let q = c.draw_pair-number.ensures.number in
-    let p = c.draw_pair-number.ensures.matrix in
+    let w = c.if-number-window.window in
+    let d = number - w.first in
+    let now : IsWindow cw w × (w.first ≤ number) × (number ≤ w.first + 62) = elim c.if-number-window.branch [
+      | then-number-window b ↦ subst (λ (z : Window). IsWindow cw z × (z.first ≤ number) × (number ≤ z.first + 62)) (sym b.window-is) (b.window_at-window-then-number-window.ensures.bits, b.window_at-window-then-number-window.ensures.least, omega (arith, b.window_at-window-then-number-window.ensures.most))
+      | else-number-window b ↦ subst (λ (z : Window). IsWindow cw z × (z.first ≤ number) × (number ≤ z.first + 62)) (sym b.window-is) (i.window, i.held, omega (arith, b.if-number-window.false))
+    ] in
+    let e1 : w.first + d ≡ number = omega (arith, now.1) in
+    let e2 : w.first + (d + 1) ≡ number + 1 = omega (arith, now.1) in
+    let e3 : 62 - d ≡ 63 - (d + 1) = omega arith in
+    let bit1 = c.two_bits-bits.ensures.first ∙ (now.0 d (omega (arith, now.2)) ∙ ap (codeword_bit cw) e1) in
+    let bit0 = c.two_bits-bits.ensures.second ∙ (ap (has_bit w.bits) e3 ∙ (now.0 (d + 1) (omega (arith, now.2)) ∙ ap (codeword_bit cw) e2)) in
+    let p = c.draw_pair-number.ensures.matrix cw bit1 bit0 in
     let one = placed_if (has_bit within 1) cw number g row x.right in
     record {
       side = i.side;
+      window = now.0;
+      held = omega (arith, now.1, q, number_after-more (has_bit within 0) (number_after (has_bit within 1) number), number_after-more (has_bit within 1) number);
       square = ap (λ (h : Grid). h.side) p ∙ (side-placed (has_bit within 0) cw (number_after (has_bit within 1) number) row (x.right - 1) one ∙ (side-placed (has_bit within 1) cw number row x.right g ∙ i.square));
       few = omega (arith, i.few, c.draw_pair-number.ensures.few);
       next = rw q (row-number v s k m number row x (has_bit within 1) (has_bit within 0) e r t u ∙ i.next);

@@ -1,4 +1,4 @@
-use Rattle.std.proofs.Common.{◌≡◌, ℕ, ◌%◌, eqb, sym, ◌∙◌, arith}
+use Rattle.std.proofs.Common.{◌≡◌, ◌%◌, eqb, sym, ◌∙◌, arith}
 use Rattle.std.proofs.lemmas.Bool.Decides.{nat_tests}
 use Rattle.qr_layout.specs.declared.strips.Strip.{Strip}
 use Rattle.qr_layout.specs.StripPlaces.{strip_at}
