@@ -60,7 +60,7 @@ length-padded n stream h =
     let parts = whole_length n (length stream) h (length (terminated (8 * n) stream)) (length-terminated n stream) (length w) (length-filled_terminated n stream) in
     omega (arith, length-append w (bits_of (pads (n - length w / 8))), length-bits_of (pads (n - length w / 8)), length-pads (n - length w / 8), parts.0, parts.1, parts.2)
 
--- behind the stream stands an end
+-- after the stream stands an end
 tail_of : (n : ℕ) (stream : List Bool) → length stream ≤ 8 * n → (tail : List Bool) × (padded n stream ≡ stream ++ tail) × (ends tail ≡ true)
 unfolding padded ends
 tail_of n stream h =

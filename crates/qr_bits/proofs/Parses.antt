@@ -16,7 +16,7 @@ pub bind_ok : {A B : Type 0} (r : Result A ParseFault) (f : A → Result B Parse
 bind_ok (Ok x) f y h = (x, refl, h)
 bind_ok (Err e) f y h = cc
 
--- a reading behind a test that succeeds: the test was passed
+-- a reading after a test that succeeds: the test was passed
 pub guard_ok : {A : Type 0} (b : Bool) (e : ParseFault) (r : Result A ParseFault) (y : A) → cond b (Err e) r ≡ Ok y → (b ≡ false) × (r ≡ Ok y)
 guard_ok true e r y h = cc
 guard_ok false e r y h = (refl, h)
@@ -118,7 +118,7 @@ segments_step v bits h =
     ∙ rw h (each_rest (segment_at v bits) (length bits) v
     (λ s q. enough (length bits) (length s.2) v s.2 (omega (arith, segment_shorter v bits s (not_ended bits h) q)) (omega arith)))
 
--- what is read, behind what was read before
+-- what is read, after what was read before
 abbrev pub behind : List Segment → List ℕ → Result (List Segment × List ℕ) ParseFault → Result (List Segment × List ℕ) ParseFault
 behind segs xs read = read >>= λ r. Ok (segs ++ r.0, xs ++ r.1)
 

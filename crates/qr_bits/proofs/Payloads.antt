@@ -18,21 +18,21 @@ value_take_below w bs =
     let short : length (take w bs) ≤ w = omega (arith, length-take w bs) in
     omega (arith, value_below (take w bs), pow-le-pow_right {n = 2} (lit< tt) short)
 
--- what is read, behind what was read before
+-- what is read, after what was read before
 abbrev pub with_front : List ℕ → Result (List ℕ) ParseFault → Result (List ℕ) ParseFault
 with_front front read = read >>= λ xs. Ok (front ++ xs)
 
--- where all that is read behind a front succeeds, the rest does
+-- where all that is read after a prefix succeeds, the rest does
 pub with_front-ok : (front : List ℕ) (read : Result (List ℕ) ParseFault) (ys : List ℕ) → with_front front read ≡ Ok ys → (xs : List ℕ) × (read ≡ Ok xs) × (ys ≡ front ++ xs)
 with_front-ok front (Ok xs) ys h = (xs, refl, cc)
 with_front-ok front (Err e) ys h = cc
 
--- where all that is read behind a front fails, the rest does
+-- where all that is read after a prefix fails, the rest does
 pub with_front-err : (front : List ℕ) (read : Result (List ℕ) ParseFault) (e : ParseFault) → with_front front read ≡ Err e → read ≡ Err e
 with_front-err front (Ok xs) e h = cc
 with_front-err front (Err d) e h = cc
 
--- two fronts are one
+-- two prefixes are one
 pub with_front-twice : (front middle : List ℕ) (read : Result (List ℕ) ParseFault) → with_front front (read >>= λ xs. Ok (middle ++ xs)) ≡ with_front (front ++ middle) read
 with_front-twice front middle (Ok xs) = ap Ok (sym (append_assoc front middle xs))
 with_front-twice front middle (Err e) = refl
@@ -43,7 +43,7 @@ with_front-twice front middle (Err e) = refl
 pub payload_less : (n : ℕ) → 3 ≤ n → payload_bits Numeric n ≡ 10 + payload_bits Numeric (n - 3)
 payload_less n h = let e : n ≡ 3 + (n - 3) = omega arith in ap (payload_bits Numeric) e ∙ three_more (n - 3)
 
--- a group of three digits, and the digits behind it
+-- a group of three digits, and the digits after it
 pub digits_more : (front : List ℕ) (n : ℕ) (bits : List Bool) → 3 ≤ n → value (take 10 bits) < 1000
     → with_front front (digits_of n bits) ≡ with_front (front ++ digit (value (take 10 bits) / 100) ∷ digit (value (take 10 bits) / 10) ∷ digit (value (take 10 bits)) ∷ []) (digits_of (n - 3) (drop 10 bits))
 unfolding digits_of
@@ -93,7 +93,7 @@ digits_none bits = refl
 pub payload_two_less : (n : ℕ) → 2 ≤ n → payload_bits Alphanumeric n ≡ 11 + payload_bits Alphanumeric (n - 2)
 payload_two_less n h = let e : n ≡ 2 + (n - 2) = omega arith in ap (payload_bits Alphanumeric) e ∙ two_more (n - 2)
 
--- a pair of characters, and the characters behind it
+-- a pair of characters, and the characters after it
 pub characters_more : (front : List ℕ) (n : ℕ) (bits : List Bool) → 2 ≤ n → value (take 11 bits) < 2025
     → with_front front (characters_of n bits) ≡ with_front (front ++ character (value (take 11 bits) / 45) ∷ character (value (take 11 bits) % 45) ∷ []) (characters_of (n - 2) (drop 11 bits))
 unfolding characters_of
@@ -127,7 +127,7 @@ characters_none bits = refl
 
 -- ---- bytes
 
--- a byte, and the bytes behind it
+-- a byte, and the bytes after it
 pub bytes_more : (front : List ℕ) (n : ℕ) (bits : List Bool) → 0 < n → front ++ bytes_of n bits ≡ (front ++ value (take 8 bits) ∷ []) ++ bytes_of (n - 1) (drop 8 bits)
 unfolding bytes_of
 bytes_more front zero bits h = absurd (omega arith)

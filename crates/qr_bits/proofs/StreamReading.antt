@@ -195,7 +195,7 @@ opens v m xs rest =
 all_take : (n : ℕ) (xs : List ℕ) → All (λ b. b < 256) xs → All (λ b. b < 256) (take n xs) × All (λ b. b < 256) (drop n xs)
 all_take n xs h = (All-take (λ b. b < 256) n xs h, All-drop (λ b. b < 256) n xs h)
 
--- Segments are read again as they were written, where an end stands behind them.
+-- Segments are read again as they were written, where an end stands after them.
 pub segments_again : (v : ℕ) (xs : List ℕ) (segs : List Segment) (tail : List Bool) → All (λ b. b < 256) xs → Suits xs segs → CountsFit v segs → ends tail ≡ true
     → segments_of v (segments_stream v xs segs ++ tail) ≡ Ok (segs, xs)
 unfolding segments_stream Suits CountsFit

@@ -25,7 +25,7 @@ bit_step a zero bs h = ap (λ (n : ℕ). value_from n bs) (omega arith)
 bit_step a (suc zero) bs h = refl
 bit_step a (suc (suc d)) bs h = absurd (omega arith)
 
--- the number of a field behind another number
+-- the number of a field after another number
 value_from-field : (a w n : ℕ) → value_from a (field w n) ≡ a * 2 ^ w + n % 2 ^ w
 unfolding field
 value_from-field a zero n = omega arith
@@ -72,7 +72,7 @@ three_of_digits a b c h i j k l m = (omega arith, omega arith, omega arith, omeg
 pub take-field : (w n : ℕ) (rest : List Bool) → take w (field w n ++ rest) ≡ field w n
 take-field w n rest = let e = take-append_seam (field w n) rest in rw (length-field w n) at e
 
--- what stands behind a field
+-- what stands after a field
 pub drop-field : (w n : ℕ) (rest : List Bool) → drop w (field w n ++ rest) ≡ rest
 drop-field w n rest = let e = drop-append_seam (field w n) rest in rw (length-field w n) at e
 

@@ -27,7 +27,7 @@ all_at p (x ∷ xs) (suc i) h l = all_at p xs i (and_parts (p x) _ h).1 (omega a
 
 -- ---- digits
 
--- a group of three digits, and the digits behind it
+-- a group of three digits, and the digits after it
 pub digits_three : (xs : List ℕ) → 3 ≤ length xs
     → digit_bits xs ≡ field 10 (100 * (get_or xs 0 0 - 48) + 10 * (get_or xs 1 0 - 48) + (get_or xs 2 0 - 48)) ++ digit_bits (drop 3 xs)
 unfolding digit_bits
@@ -59,7 +59,7 @@ digits_none_left (a ∷ xs) h = absurd (omega arith)
 
 -- ---- characters
 
--- a pair of characters, and the characters behind it
+-- a pair of characters, and the characters after it
 pub characters_two : (xs : List ℕ) → 2 ≤ length xs
     → character_bits xs ≡ field 11 (45 * character_value (get_or xs 0 0) + character_value (get_or xs 1 0)) ++ character_bits (drop 2 xs)
 unfolding character_bits
@@ -196,6 +196,6 @@ pub stream_end : (v : ℕ) (xs : List ℕ) (segs : List Segment) (i : ℕ) → l
 unfolding segments_stream
 stream_end v xs segs i h = rw (drop_all i segs h) refl
 
--- one more part behind what is written, and then the rest
+-- one more part after what is written, and then the rest
 pub append_next : (front part rest whole next : List Bool) → whole ≡ front ++ (part ++ rest) → next ≡ front ++ part → next ++ rest ≡ whole
 append_next front part rest whole next e f = rw f (append_assoc front part rest ∙ sym e)

@@ -7,7 +7,7 @@ unfoldable pub field : ℕ → ℕ → List Bool
 field zero n = []
 field (suc w) n = (n / 2 ^ w % 2 == 1) ∷ field w n
 
--- the number that bits make behind the number a
+-- the number that bits make after the number a
 abbrev pub value_from : ℕ → List Bool → ℕ
 value_from a [] = a
 value_from a (true ∷ bs) = value_from (2 * a + 1) bs

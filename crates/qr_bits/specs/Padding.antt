@@ -11,7 +11,7 @@ use Rattle.qr_bits.specs.Stream.{IsStream}
 abbrev pub capacity_of : ℕ → Level → ℕ
 capacity_of v l = 8 * data_codewords_of v l
 
--- the bits that the data codewords hold behind a header (ISO/IEC 18004:2015, 7.4.10, 8.1)
+-- the bits that the data codewords hold after a header (ISO/IEC 18004:2015, 7.4.10, 8.1)
 abbrev pub room_of : ℕ → Level → ℕ
 room_of v l = capacity_of v l - 20
 
@@ -23,7 +23,7 @@ terminated capacity stream = stream ++ replicate (min 4 (capacity - length strea
 abbrev pub filled : List Bool → List Bool
 filled stream = stream ++ replicate ((8 - length stream % 8) % 8) false
 
--- n pad codewords: EC and 11 (hexadecimal) by turns (ISO/IEC 18004:2015, 7.4.10)
+-- n pad codewords: EC and 11 (hexadecimal) in turn (ISO/IEC 18004:2015, 7.4.10)
 unfoldable pub pads : ℕ → List ℕ
 pads zero = []
 pads (suc zero) = 0xEC ∷ []
@@ -35,7 +35,7 @@ padded n stream =
     let whole = filled (terminated (8 * n) stream) in
     whole ++ bits_of (pads (n - length whole / 8))
 
--- The codewords are the data codewords of these bytes in these segments behind this header: the bytes whose bits are the
+-- The codewords are the data codewords of these bytes in these segments after this header: the bytes whose bits are the
 -- padded stream. There are none where there is no stream, or where it is longer than the capacity (ISO/IEC 18004:2015, 7.4.10).
 pub record IsData (v : ℕ) (l : Level) (xs : List ℕ) (segs : List Segment) (h : Option Header) (cw : List ℕ) : Type 0 where
   pub stream : List Bool

@@ -101,7 +101,7 @@ mode_of n =
 unfoldable pub ends : List Bool → Bool
 ends bits = nat_lt (length bits) 4 || value (take 4 bits) == terminator
 
--- a number in w bits and the bits behind it, or Cut where they are not there (ISO/IEC 18004:2015, 7.4.1)
+-- a number in w bits and the bits after it, or Cut where they are not there (ISO/IEC 18004:2015, 7.4.1)
 unfoldable pub number_at : ℕ → List Bool → Result (ℕ × List Bool) ParseFault
 number_at w bits = if nat_lt (length bits) w then Err Cut else Ok (value (take w bits), drop w bits)
 
@@ -111,7 +111,7 @@ unfoldable pub payload_at : Mode → ℕ → List Bool → Result (List ℕ × L
 payload_at m n bits =
     if nat_lt (length bits) (payload_bits m (len_of m n)) then Err Cut else (values_of m n bits >>= λ xs. Ok (xs, drop (payload_bits m (len_of m n)) bits))
 
--- a segment, its bytes, and the bits behind it: indicator, count, data (ISO/IEC 18004:2015, 7.4.1)
+-- a segment, its bytes, and the bits after it: indicator, count, data (ISO/IEC 18004:2015, 7.4.1)
 unfoldable pub segment_at : ℕ → List Bool → Result (Segment × List ℕ × List Bool) ParseFault
 segment_at v bits =
     mode_of (value (take 4 bits)) >>= λ m.
@@ -134,13 +134,13 @@ segments_of v bits = segments_at (length bits) v bits
 unfoldable pub begins_header : List Bool → Bool
 begins_header bits = nat_le 4 (length bits) && value (take 4 bits) == header_indicator
 
--- a header, behind its indicator, and the bits behind it (ISO/IEC 18004:2015, 8.1 to 8.3)
+-- a header, after its indicator, and the bits after it (ISO/IEC 18004:2015, 8.1 to 8.3)
 unfoldable pub header_at : List Bool → Result (Header × List Bool) ParseFault
 header_at bits =
     if nat_lt (length bits) 16 then Err Cut
     else Ok (record { position = value (take 4 bits); last = value (take 4 (drop 4 bits)); parity = value (take 8 (drop 8 bits)) }, drop 16 bits)
 
--- the header, where its indicator is the first, and the bits behind it (ISO/IEC 18004:2015, 8.1)
+-- the header, where its indicator is the first, and the bits after it (ISO/IEC 18004:2015, 8.1)
 unfoldable pub first_header : List Bool → Result (Option Header × List Bool) ParseFault
 first_header bits = if begins_header bits then (header_at (drop 4 bits) >>= λ h. Ok (Some h.0, h.1)) else Ok (None, bits)
 

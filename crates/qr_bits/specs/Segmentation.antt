@@ -62,7 +62,8 @@ IsLeastSegmentation v r xs segs = (ms : List Mode) × IsLetters v r xs ms × (se
 abbrev pub HasFit : ℕ → Rule → List ℕ → ℕ → Type 0
 HasFit v r xs n = (ms : List Mode) × IsLettering r xs ms × (bits v (runs_of ms) ≤ n)
 
--- The front of n bytes is the longest of which some lettering has at most room bits: of all fronts [own].
+-- The prefix of n bytes fits: some lettering of it has at most `room` bits. It is the longest of all prefixes that fit
+-- [own].
 pub record IsLongestFit (v : ℕ) (r : Rule) (xs : List ℕ) (room n : ℕ) : Type 0 where
   pub inside : n ≤ length xs
   pub fits : HasFit v r (take n xs) room

@@ -53,7 +53,7 @@ unfoldable pub CountsFit : ℕ → List Segment → Type 0
 CountsFit v [] = Unit {0}
 CountsFit v (s ∷ ss) = (count_of s.mode s.len < 2 ^ count_width v s.mode) × CountsFit v ss
 
--- The bits are the stream of these bytes in these segments behind this header: where the segments take the bytes, each
+-- The bits are the stream of these bytes in these segments after this header: where the segments take the bytes, each
 -- part suits its mode and all numbers fit, the header's bits and then those of the segments (ISO/IEC 18004:2015, 7.4.1, 8.1).
 pub record IsStream (v : ℕ) (xs : List ℕ) (segs : List Segment) (h : Option Header) (stream : List Bool) : Type 0 where
   pub bytes : All (λ b. b < 256) xs

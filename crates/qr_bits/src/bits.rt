@@ -12,7 +12,7 @@ use std::marker::Model;
 #[derive(Drop)]
 pub(crate) struct BitWriter {
     whole: Vec<u8>,
-    // The bits behind the whole codewords: a number of `width` bits, fewer than eight.
+    // The bits after the whole codewords: a number of `width` bits, fewer than eight.
     rest: u8,
     width: u8,
 }

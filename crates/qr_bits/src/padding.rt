@@ -64,7 +64,7 @@ pub fn codewords(
     Ok(codewords)
 }
 
-// Pad codewords by turns, up to this number of codewords (7.4.10).
+// Pad codewords in turn, up to this number of codewords (7.4.10).
 fn pad(codewords: &mut Vec<u8>, len: usize) -> Result<(), AllocError>
     ensures written { OnOk result (codewords.new.items
         ≡ codewords.old.items ++ pads (len - vec_len codewords.old)) }

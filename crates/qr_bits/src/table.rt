@@ -1,7 +1,7 @@
 //! The best letter for each byte and each place before it: a table filled from the back.
 //!
 //! The bits of a rest depend only on the place before it, so for each place the best letter is the
-//! one with the fewest bits for itself and the best rest behind it. A row of the table takes nine
+//! one with the fewest bits for itself and the best rest after it. A row of the table takes nine
 //! bytes.
 
 ghost use Rattle.std.specs.Prelude.{◌≡◌, ◌+◌, ◌<◌, ◌≤◌, ℕ, Bool, false, true, length, reverse, IfOk, vec_len};

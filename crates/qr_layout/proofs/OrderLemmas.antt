@@ -119,7 +119,7 @@ Rises-front R [] back m h x k = absurd k
 Rises-front R (y ∷ ys) back m h x (inl e) = subst (λ z. R z m) e (Mem-at (R y) (ys ++ m ∷ back) m h.0 (Mem-right m ys (m ∷ back) (inl refl)))
 Rises-front R (y ∷ ys) back m h x (inr k) = Rises-front R ys back m h.1 x k
 
--- the front of a rising list rises
+-- the prefix of a rising list rises
 Rises-first : {X : Type 0} (R : X → X → Type 0) (front back : List X) → Rises R (front ++ back) → Rises R front
 Rises-first R [] back h = tt
 Rises-first R (x ∷ xs) back h = (All-of-Mem (R x) xs (λ y k. Mem-at (R x) (xs ++ back) y h.0 (Mem-left y xs back k)), Rises-first R xs back h.1)

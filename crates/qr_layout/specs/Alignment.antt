@@ -32,7 +32,7 @@ pub record AreRegular (v : ℕ) (cs : List ℕ) : Type 0 where
 abbrev pub is_corner_pair : ℕ → ℕ → ℕ → Bool
 is_corner_pair s a b = (a == 6 && b == 6) || (a == 6 && b == s - 7) || (a == s - 7 && b == 6)
 
--- the centres of the alignment patterns: where the rows and columns meet, but for the three corners (ISO/IEC
+-- the centres of the alignment patterns: where the rows and columns meet, except for the three corners (ISO/IEC
 -- 18004:2015, 6.3.6)
 abbrev pub alignment_places : ℕ → List ℕ → List Module
 alignment_places s cs = flat_map (λ a. flat_map (λ b. if is_corner_pair s a b then [] else record { row = a; col = b } ∷ []) cs) cs

@@ -31,8 +31,8 @@ printed_data H =
     406 ∷ 442 ∷ 464 ∷ 514 ∷ 538 ∷ 596 ∷ 628 ∷ 661 ∷ 701 ∷ 745 ∷ 793 ∷ 845 ∷ 901 ∷ 961 ∷ 986 ∷ 1054 ∷ 1096 ∷ 1142 ∷
     1222 ∷ 1276 ∷ []
 
--- the gap between the alignment patterns' centres, but for the first one, with k centres: the least even number that is
--- enough, and 26 in version 32 (ISO/IEC 18004:2015, Annex E)
+-- the gap between the alignment patterns' centres, except for the first one, with k centres: the least even number that
+-- is enough, and 26 in version 32 (ISO/IEC 18004:2015, Annex E)
 abbrev pub gap_between : ℕ → ℕ → ℕ
 gap_between v k = if v == 32 then 26 else 2 * ((side_of v - 13 + 2 * (k - 1) - 1) / (2 * (k - 1)))
 

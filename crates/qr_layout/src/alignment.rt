@@ -112,7 +112,7 @@ fn is_beside(centres: &[u8], side: u8, a: u8, col: u8) -> bool
         .any(|b| is_near(*b, col) && !is_corner_pair(side, a, *b))
 }
 
-// The same for some row of the centres.
+// Whether the place is in an alignment pattern round some row and some column of the centres.
 fn is_on_centre(centres: &[u8], side: u8, row: u8, col: u8) -> bool
     requires { 21 ≤ side }
     ensures { result ≡ list_any (λ a. nat_le (a - 2) row && nat_lt row (a + 3)

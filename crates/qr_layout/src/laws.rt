@@ -1,5 +1,5 @@
-//! Laws that hold for every version, level and mask. Their statements are the clauses; but for `nth_place`, which
-//! walks, and those that compare and clone, the functions do nothing.
+//! Laws that hold for every version, level and mask. Their statements are the clauses; except for `nth_place`, which
+//! walks, and the functions that compare and clone, they do nothing.
 
 ghost use Rattle.std.specs.Prelude.{◌≡◌, ◌<◌, ◌≤◌, ◌-◌, ◌*◌, ◌/◌, ◌⊎◌, ◌↔◌, true, ℕ, List, ◌∷◌, ◌++◌, length, map, slice_get, IsTrue, IfOk};
 ghost use Rattle.std.specs.List.{range_with_len};

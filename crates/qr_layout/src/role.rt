@@ -59,7 +59,7 @@ fn is_light_beside(centres: &[u8], side: u8, a: u8, row: u8, col: u8) -> bool
     centres.iter().any(|b| !is_corner_pair(side, a, *b) && is_first_ring(a, *b, row, col))
 }
 
-// The same for some a too.
+// Whether the place is on the light ring round (a, b) for some a and some b.
 fn is_light_among(centres: &[u8], side: u8, row: u8, col: u8) -> bool
     requires { 21 ≤ side }
     ensures { result ≡ list_any (λ a. list_any (λ b. not (is_corner_pair side a b)

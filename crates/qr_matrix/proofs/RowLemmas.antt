@@ -16,7 +16,7 @@ size-is s words q l e f = count_below-cut 192 s (has words) q l e f
 
 -- ---- neighbours of one colour
 
--- the places that do not differ from the next, but for the last, are joined to it
+-- the places that do not differ from the next, except for the last, are joined to it
 pub joins-bit : (s : ℕ) (line : ℕ → Bool) (c : ℕ) (r i d y : Bool) → 0 < s → r ≡ (i && not d) → i ≡ ltb c (s - 1) → d ≡ not (is_same (line c) y) → y ≡ line (c + 1) → r ≡ joins s line c
 unfolding joins
 joins-bit s line c r i d y h e f g k =

@@ -9,7 +9,7 @@ all_dark r c = true
 abbrev pub all_light : ℕ → ℕ → Bool
 all_light r c = false
 
--- dark and light modules by turns, along rows and columns [own]
+-- dark and light modules in turn, along rows and columns [own]
 abbrev pub chequered : ℕ → ℕ → Bool
 chequered r c = (r + c) % 2 == 0
 

@@ -76,7 +76,7 @@ gather-end c sent xs p next l e h =
 
 -- ---- one message at most
 
--- the front of a joined list
+-- the prefix of a joined list
 take-front : {X : Type 0} (n : ℕ) (xs ys : List X) → length xs ≡ n → take n (xs ++ ys) ≡ xs
 take-front zero [] ys e = refl
 take-front zero (x ∷ xs) ys e = absurd (omega arith)

@@ -28,7 +28,7 @@ readings-push [] (d ∷ cs) g c a h = absurd a
 readings-push (f ∷ gs) [] g c a h = absurd a
 readings-push (f ∷ gs) (d ∷ cs) g c a h = (a.0, readings-push gs cs g c a.1 h)
 
--- behind squares that are read, a square that is not is the first
+-- after squares that are read, a square that is not is the first
 first-unread : (gs rest : List Grid) (cs : List Content) (g : Grid) (e : ReadFault) → AreReadings gs cs → IsUnread g e → IsFirstUnread (gs ++ g ∷ rest) e
 unfolding AreReadings IsFirstUnread
 first-unread [] rest [] g e a u = inl u
@@ -43,7 +43,7 @@ squares-more ss i s l e =
     ∙ (map-append (λ (x : Symbol). x.matrix) (take i ss) (get_or ss i s ∷ [])
     ∙ ap (λ (x : Symbol). squares_of (take i ss) ++ x.matrix ∷ []) (sym e))
 
--- the squares before a symbol, its own, and those behind it
+-- the squares before a symbol, its own, and those after it
 squares-around : (ss : List Symbol) (i : ℕ) (s : Symbol) → i < length ss → s ≡ get_or ss i s → squares_of ss ≡ squares_of (take i ss) ++ s.matrix ∷ squares_of (drop (i + 1) ss)
 squares-around ss i s l e =
     ap squares_of (sym (take-append-drop i ss))
@@ -74,7 +74,7 @@ unread-unjoined gs fault.Check u = u
 unread-unjoined gs (fault.Segments x) u = u
 unread-unjoined gs fault.Series u = absurd (never-series gs u)
 
--- for the fault of a symbol behind those that are read, the symbols are not joined
+-- for the fault of a symbol after those that are read, the symbols are not joined
 pub unjoined-at : (ss : List Symbol) (i : ℕ) (s : Symbol) (cs : List Content) (e : ReadFault) → i < length ss → s ≡ get_or ss i s → AreReadings (squares_of (take i ss)) cs → IsUnread s.matrix e → IsUnjoined (squares_of ss) e
 unjoined-at ss i s cs e l p a u =
     unread-unjoined (squares_of ss) e (subst (λ (gs : List Grid). IsFirstUnread gs e) (sym (squares-around ss i s l p)) (first-unread (squares_of (take i ss)) (squares_of (drop (i + 1) ss)) cs s.matrix e a u))
@@ -117,7 +117,7 @@ joining-one gs x y h k = h.joined ∙ (ap bytes_of_all (readings-one gs h.conten
 
 -- ---- and not joined for one reason
 
--- where all squares are read, one is refused for want of memory alone
+-- where all squares are read, one is refused for lack of memory alone
 read-unread : (gs : List Grid) (cs : List Content) (e : ReadFault) → AreReadings gs cs → IsFirstUnread gs e → e ≡ fault.Memory
 unfolding AreReadings IsFirstUnread
 read-unread [] cs e a u = absurd u
@@ -125,7 +125,7 @@ read-unread (g ∷ gs) [] e a u = absurd a
 read-unread (g ∷ gs) (c ∷ cs) e a (inl u) = read-refused g c e a.0 u
 read-unread (g ∷ gs) (c ∷ cs) e a (inr w) = read-unread gs cs e a.1 w.2
 
--- the first fault is one, or want of memory
+-- the first fault is one, or lack of memory
 first-one : (gs : List Grid) (e f : ReadFault) → IsFirstUnread gs e → IsFirstUnread gs f → (e ≡ fault.Memory) ⊎ ((f ≡ fault.Memory) ⊎ (e ≡ f))
 unfolding IsFirstUnread
 first-one [] e f u v = absurd u
@@ -134,7 +134,7 @@ first-one (g ∷ gs) e f (inl u) (inr z) = inl (read-refused g z.0 e z.1 u)
 first-one (g ∷ gs) e f (inr w) (inl v) = inr (inl (read-refused g w.0 f w.1 v))
 first-one (g ∷ gs) e f (inr w) (inr z) = first-one gs e f w.2 z.2
 
--- squares are not joined for want of memory, for the first fault, or since they are no series
+-- squares are not joined for lack of memory, for the first fault, or since they are no series
 told : (gs : List Grid) (e : ReadFault) → IsUnjoined gs e → (e ≡ fault.Memory) ⊎ (IsFirstUnread gs e ⊎ ((e ≡ fault.Series) × IsNoSeries gs))
 told gs fault.Memory u = inl refl
 told gs fault.Side u = inr (inl u)
@@ -143,7 +143,7 @@ told gs fault.Check u = inr (inl u)
 told gs (fault.Segments x) u = inr (inl u)
 told gs fault.Series u = inr (inr (refl, u))
 
--- squares that are joined are refused for want of memory alone
+-- squares that are joined are refused for lack of memory alone
 pub joined-refused : (gs : List Grid) (x : List ℕ) (e : ReadFault) → IsJoined gs x → IsUnjoined gs e → e ≡ fault.Memory
 joined-refused gs x e h u = elim (told gs e u) [
   | inl m ↦ m
@@ -153,7 +153,7 @@ joined-refused gs x e h u = elim (told gs e u) [
   ]
 ]
 
--- squares are refused for one reason, or for want of memory
+-- squares are refused for one reason, or for lack of memory
 pub unjoined-one : (gs : List Grid) (e f : ReadFault) → IsUnjoined gs e → IsUnjoined gs f → (e ≡ fault.Memory) ⊎ ((f ≡ fault.Memory) ⊎ (e ≡ f))
 unjoined-one gs e f u v = by_told (told gs e u) (told gs f v)
   where

@@ -33,7 +33,7 @@ final-one b d xs ys h k =
     ∙ (ap (λ (ts : List Tag). map (codeword_at (data_cut b) d) k.data_tags ++ map (check_at h.checks) ts) u
     ∙ (ap (λ (cs : List (List ℕ)). map (codeword_at (data_cut b) d) k.data_tags ++ map (check_at cs) k.check_tags) e ∙ sym k.whole)))
 
--- joined lists with fronts of one length are equal part by part
+-- joined lists with prefixes of one length are equal part by part
 pub append-front : {X : Type 0} (xs ys us vs : List X) → length xs ≡ length ys → xs ++ us ≡ ys ++ vs → (xs ≡ ys) × (us ≡ vs)
 append-front [] [] us vs n e = (refl, e)
 append-front [] (y ∷ ys) us vs n e = absurd (omega arith)

@@ -1,4 +1,4 @@
--- The parts of bytes: how long a front fits, and the lengths that are found one after the other.
+-- The parts of bytes: how long a prefix fits, and the lengths that are found one after the other.
 use Rattle.std.proofs.Common.{◌≡◌, ℕ, zero, suc, ◌+◌, ◌-◌, ◌*◌, ◌<◌, ◌≤◌, min, true, false, leb, ◌⊎◌, All, List, [], ◌∷◌, ◌++◌, take, drop, length, get_or, Some, refl, sym, ◌∙◌, ap, subst, append_assoc, inl, inr, arith}
 use Rattle.std.specs.List.{concat, list_all}
 use Rattle.std.specs.Prelude.{IsTrue}
@@ -25,14 +25,14 @@ use Rattle.qr_symbol.specs.declared.symbol.Symbol.{Symbol}
 use Rattle.qr_symbol.specs.Series.{AreParts, FitParts, NeedsParts, IsSymbolOf, AreSymbolsFrom}
 use Rattle.qr_symbol.specs.Parts.{AreLengths, parts_of}
 
--- ---- how long a front fits
+-- ---- how long a prefix fits
 
 -- one byte has no more than 28 bits
 one-fits : (v : ℕ) (b : Rule) (x n : ℕ) → 28 ≤ n → HasFit v b (x ∷ []) n
 unfolding runs_of Covers
 one-fits v b x n h = (Byte ∷ [], (and_from (may_use b Byte) true (byte_used b) refl, (omega arith, omega arith, refl, refl)), omega (arith, count_width_bound v Byte))
 
--- so the longest front that fits is not empty
+-- so the longest prefix that fits is not empty
 pub longest-some : (v : ℕ) (l : Level) (b : Rule) (xs : List ℕ) (n : ℕ) → 1 ≤ v → v ≤ 40 → 0 < length xs → IsLongestFit v b xs (room_of v l) n → 0 < n
 longest-some v l b [] n p q some h = absurd (omega arith)
 longest-some v l b (x ∷ xs) n p q some h =
@@ -91,18 +91,18 @@ part-least v l b x p ps i j h =
           inl (omega (arith, many, same, five))
     ]
 
--- what fits behind a header has at most 7,089 bytes
+-- what fits after a header has at most 7,089 bytes
 pub part-short : (v : ℕ) (l : Level) (b : Rule) (xs : List ℕ) → 1 ≤ v → v ≤ 40 → HasFit v b xs (room_of v l) → length xs ≤ 7089
 part-short v l b xs p q fit = fitting_short v l b xs p q (fit.0, fit.1, (let few = fit.2 in omega arith))
 
--- the front of a front
+-- the prefix of a prefix
 take-less : {X : Type 0} (k m : ℕ) (xs : List X) → k ≤ m → take k (take m xs) ≡ take k xs
 take-less zero m xs h = refl
 take-less (suc k) zero xs h = absurd (omega arith)
 take-less (suc k) (suc m) [] h = refl
 take-less (suc k) (suc m) (x ∷ xs) h = ap (λ zs. x ∷ zs) (take-less k m xs (omega arith))
 
--- the longest front that fits is that of any front of so many bytes
+-- the longest prefix that fits is that of any prefix of so many bytes
 pub longest-cut : (v : ℕ) (l : Level) (b : Rule) (xs : List ℕ) (m n : ℕ) → 1 ≤ v → v ≤ 40 → min (length xs) 7089 ≤ m → IsLongestFit v b (take m xs) (room_of v l) n → IsLongestFit v b xs (room_of v l) n
 longest-cut v l b xs m n p q long h =
     let room = room_of v l in
@@ -150,7 +150,7 @@ pub lengths-more : (v : ℕ) (l : Level) (b : Rule) (whole found rest : List ℕ
 unfolding AreLengths
 lengths-more v l b whole found rest n some fit all ns h = rw append_assoc (all (n ∷ ns) (some, fit, h))
 
--- the longest front is one
+-- the longest prefix is one
 longest-one : (v : ℕ) (b : Rule) (xs : List ℕ) (room m n : ℕ) → IsLongestFit v b xs room m → IsLongestFit v b xs room n → m ≡ n
 longest-one v b xs room m n h k =
     let below = k.longest m h.inside h.fits in
@@ -186,20 +186,20 @@ parts-long v l b x (p ∷ ps) i j h =
 
 -- ---- no fewer parts
 
--- what is left behind the first of two lists
+-- what is left after the first of two lists
 behind-all : {X : Type 0} (k : ℕ) (xs ys : List X) → length xs ≤ k → drop k (xs ++ ys) ≡ drop (k - length xs) ys
 behind-all k xs ys i =
     let sum : k ≡ length xs + (k - length xs) = omega arith in
     ap (λ (n : ℕ). drop n (xs ++ ys)) sum ∙ drop-append-add xs ys (k - length xs)
 
--- bytes without a front of them need no more bits
+-- bytes without a prefix of them need no more bits
 rest-fits : (v : ℕ) (b : Rule) (k : ℕ) (xs : List ℕ) (n : ℕ) → may_use b Kanji ≡ false → HasFit v b xs n → HasFit v b (drop k xs) n
 rest-fits v b k xs n plain fit =
     let whole : xs ≡ take k xs ++ (drop k xs ++ []) = rw (append-nil (drop k xs)) (sym (take-append-drop k xs)) in
     let all : HasFit v b (take k xs ++ (drop k xs ++ [])) n = subst (λ (ys : List ℕ). HasFit v b ys n) whole fit in
     piece_fits v b (take k xs) (drop k xs) [] n plain all
 
--- bytes without a front of them are cut into no more parts that fit
+-- bytes without a prefix of them are cut into no more parts that fit
 rest-parts : (v : ℕ) (l : Level) (b : Rule) (k : ℕ) (ps : List (List ℕ)) → may_use b Kanji ≡ false → All (λ p. HasFit v b p (room_of v l)) ps
     → (qs : List (List ℕ)) × FitParts v l b (drop k (concat ps)) qs × (length qs ≤ length ps)
 rest-parts v l b k [] plain h = ([], (drop-nil k, h), omega arith)
@@ -214,7 +214,7 @@ rest-parts v l b k (p ∷ ps) plain h =
           (r.0, (behind-all k p (concat ps) i ∙ r.1.0, r.1.1), omega (arith, r.2)))
     ]
 
--- where the rest behind the longest front needs k parts, the bytes need one more
+-- where the rest after the longest prefix needs k parts, the bytes need one more
 pub needs-more : (v : ℕ) (l : Level) (b : Rule) (x : List ℕ) (n k : ℕ) → may_use b Kanji ≡ false → 0 < length x → IsLongestFit v b x (room_of v l) n → NeedsParts v l b (drop n x) k → NeedsParts v l b x (k + 1)
 needs-more v l b x n k plain some fit needs [] cut = absurd (omega (arith, ap length cut.0))
 needs-more v l b x n k plain some fit needs (p ∷ ps) cut =

@@ -60,7 +60,7 @@ read-from v l mask cw (suc n) front (m ∷ rest) p o i h =
     let both : map (unmasked mask (grid_of v l mask cw)) (take (suc n) (m ∷ rest)) ≡ get_or bits k false ∷ take n (drop (suc k) bits) = (let head = here ∙ sym bit in λ i. head i ∷ later i) in
     both ∙ ap (λ (xs : List Bool). take (suc n) xs) (sym c)
 
--- the front of the full length is the whole
+-- the prefix of the full length is the whole
 take-whole : {X : Type 0} (xs : List X) (n : ℕ) → length xs ≡ n → take n xs ≡ xs
 take-whole [] zero e = refl
 take-whole [] (suc n) e = refl

@@ -58,15 +58,15 @@ refused g r h (fault.Segments unparsed.Cut) u = inr (unparsed.Cut, refl, gives-o
 refused g r h (fault.Segments unparsed.BadValue) u = inr (unparsed.BadValue, refl, gives-one g r (Err unparsed.BadValue) h (fault-gives g unparsed.BadValue u))
 refused g r h fault.Series u = absurd u
 
--- a square that is read is refused for want of memory alone
+-- a square that is read is refused for lack of memory alone
 pub read-refused : (g : Grid) (p : Content) (e : ReadFault) → IsReading g p → IsUnread g e → e ≡ fault.Memory
 read-refused g p e h u = elim (refused g (Ok p) (read-gives g p h) e u) [ inl m ↦ m | inr w ↦ (let x = w.2 in absurd (cc)) ]
 
--- a square whose message is not parsed is refused for that, or for want of memory
+-- a square whose message is not parsed is refused for that, or for lack of memory
 parse-refused : (g : Grid) (x : ParseFault) (e : ReadFault) → IsNotParsed g x → IsUnread g e → (e ≡ fault.Memory) ⊎ (fault.Segments x ≡ e)
 parse-refused g x e h u = elim (refused g (Err x) (fault-gives g x h) e u) [ inl m ↦ inl m | inr w ↦ (let s = w.1 in let t = w.2 in inr (cc)) ]
 
--- a square is refused for one reason, or for want of memory
+-- a square is refused for one reason, or for lack of memory
 pub refused-one : (g : Grid) (e f : ReadFault) → IsUnread g e → IsUnread g f → (e ≡ fault.Memory) ⊎ ((f ≡ fault.Memory) ⊎ (e ≡ f))
 refused-one g fault.Memory f a b = inl refl
 refused-one g fault.Side f a b = inr (by_fault f b)

@@ -36,7 +36,7 @@ final-bytes b d cw a h =
     let i = (h.check_order.in_blocks k t l).0 in
     byte-at (get_or h.checks u.block []) u.place (h.each u.block (omega arith)).bytes)))
 
--- a symbol is read as the bytes of which it is the symbol, in their segments and behind their header
+-- a symbol is read as the bytes of which it is the symbol, in their segments and after their header
 pub symbol-read : (v : ℕ) (l : Level) (b : Rule) (x : List ℕ) (h : Option Header) (mask : ℕ) (g : Grid) → 1 ≤ v → v ≤ 40 → (s : IsSymbolAt v l b x h mask g) → IsReading g (record { header = h; segments = s.segments; bytes = x })
 symbol-read v l b x h mask g p q s =
     let bytes = final-bytes (blocks_of v l) s.message s.codewords s.written.bytes s.sent in

@@ -40,7 +40,7 @@ split-series x l b v ns ss long cut few made =
 
 -- ---- one series
 
--- bytes have one symbol of a version and level behind a header or none
+-- bytes have one symbol of a version and level after a header or none
 pub symbol-of-one : (v : ℕ) (l : Level) (b : Rule) (x : List ℕ) (h : Option Header) (s t : Symbol) → IsSymbolOf v l b x h s → IsSymbolOf v l b x h t → s ≡ t
 symbol-of-one v l b x h s t a c =
     let same = symbol-at-one v l b x h s.mask t.mask s.matrix t.matrix a.made c.made in

@@ -32,7 +32,7 @@ version-one xs l least rule v w a b =
       | inr i ↦ elim (cases_lt w v) [ inl j ↦ absurd (a.first w b.least j b.fits) | inr j ↦ omega arith ]
     ]
 
--- Bytes have only one symbol of a version and level behind a header or none.
+-- Bytes have only one symbol of a version and level after a header or none.
 pub symbol-at-one : (v : ℕ) (l : Level) (rule : Rule) (xs : List ℕ) (head : Option Header) (m n : ℕ) (g h : Grid) → IsSymbolAt v l rule xs head m g → IsSymbolAt v l rule xs head n h → (m ≡ n) × (g ≡ h)
 symbol-at-one v l rule xs head m n g h a b =
     let segments : a.segments ≡ b.segments = segmentation-one v rule xs a.segments b.segments a.chosen b.chosen in

@@ -64,14 +64,14 @@ symbol-fits v l b x mask g s =
     let few = s.written.fits in
     fit.1 (omega (arith, length-stream v x s.segments None s.written.stream s.written.is_stream))
 
--- segments of least bits have room behind a header where some do
+-- segments of least bits have room after a header where some do
 pub behind-header : (v : ℕ) (l : Level) (b : Rule) (x : List ℕ) (segs : List Segment) (h : Header) → 1 ≤ v → v ≤ 40 → IsLeastSegmentation v b x segs → HasFit v b x (room_of v l)
     → header_bits (Some h) + bits v segs ≤ capacity_of v l
 behind-header v l b x segs h p q chosen fits =
     let least = capacity_least v l p q in
     let few = ((least_fits v b x segs chosen).1 (room_of v l)).0 fits in omega arith
 
--- where there is room, a symbol is not made for want of memory alone
+-- where there is room, a symbol is not made for lack of memory alone
 pub memory-alone : (room used : ℕ) (r : Result Symbol EncodeFault) → used ≤ room → (r ≡ Err fault.TooLong → room < used)
     → IfErr r (λ e. (e ≡ fault.TooLong) ⊎ (e ≡ fault.Memory)) → IfErr r (λ e. e ≡ fault.Memory)
 memory-alone room used (Ok s) few more why = tt

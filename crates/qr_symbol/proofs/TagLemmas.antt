@@ -44,7 +44,7 @@ All-push-rec : {X : Type 0} (P : X → Type 0) (xs : List X) (y : X) → AllByRe
 All-push-rec P [] y h k = (k, tt)
 All-push-rec P (x ∷ xs) y h k = (h.0, All-push-rec P xs y h.1 k)
 
--- a rising list with a larger item behind it
+-- a rising list with a larger item after it
 Rises-push : {X : Type 0} (R : X → X → Type 0) (xs : List X) (y : X) → Rises R xs → ((x : X) → Mem x xs → R x y) → Rises R (xs ++ y ∷ [])
 Rises-push R [] y h f = (tt, tt)
 Rises-push R (x ∷ xs) y h f = (All-push-rec (R x) xs y h.0 (f x (inl refl)), Rises-push R xs y h.1 (λ z m. f z (inr m)))

@@ -89,8 +89,8 @@ pub record IsNotParsed (g : Grid) (e : ParseFault) : Type 0 where
   pub holds : IsMessage version level mask g message
   pub parsed : parse version (bits_of message) ≡ Err e
 
--- the square is not read, for this fault: its side is that of no version; its side is, but its format information is that
--- of no level and mask; these are there, but it holds no message; it holds one that cannot be parsed. Memory may be refused
+-- the square is not read, for this fault: no version has its side; one has, but no level and mask have its format
+-- information; they have, but it holds no message; it holds one that cannot be parsed. Memory may be refused
 -- for any square, and no single square is a wrong series (ISO/IEC 18004:2015, 12)
 abbrev pub IsUnread : Grid → ReadFault → Type 0
 IsUnread g unread.Memory = Unit {0}

@@ -5,7 +5,7 @@ use Rattle.qr_layout.specs.declared.blocks.Blocks.{Blocks}
 use Rattle.qr_symbol.specs.declared.message.Cut.{Cut}
 use Rattle.qr_symbol.specs.Interleaving.{Tag, IsTag, IsTagOrder, start_of, cut_len, correction_cut, codeword_at, block_of, check_at}
 
--- the codewords by rising tags, behind others
+-- the codewords by rising tags, after others
 pub record IsSent (c : Cut) (d before after : List ℕ) : Type 0 where
   pub tags : List Tag
   pub order : IsTagOrder c tags

@@ -17,14 +17,14 @@ use Rattle.qr_symbol.specs.Symbols.{FitsVersion, IsSymbolAt}
 abbrev pub squares_of : List Symbol → List Grid
 squares_of symbols = map (λ s. s.matrix) symbols
 
--- the parts of the bytes: each is the longest front of what is left that fits a symbol behind a header, and none is
+-- the parts of the bytes: each is the longest prefix of what is left that fits a symbol after a header, and none is
 -- empty [own]
 unfoldable pub AreParts : ℕ → Level → Rule → List ℕ → List (List ℕ) → Type 0
 AreParts v l rule x [] = x ≡ []
 AreParts v l rule x (p ∷ ps) = (n : ℕ) × (0 < n) × IsLongestFit v rule x (room_of v l) n × (p ≡ take n x)
     × AreParts v l rule (drop n x) ps
 
--- the bytes are cut into these parts, of which each fits a symbol behind a header; a part may be empty [own]
+-- the bytes are cut into these parts, of which each fits a symbol after a header; a part may be empty [own]
 abbrev pub FitParts : ℕ → Level → Rule → List ℕ → List (List ℕ) → Type 0
 FitParts v l rule x parts = (x ≡ concat parts) × All (λ p. HasFit v rule p (room_of v l)) parts
 
@@ -32,13 +32,13 @@ FitParts v l rule x parts = (x ≡ concat parts) × All (λ p. HasFit v rule p (
 abbrev pub NeedsParts : ℕ → Level → Rule → List ℕ → ℕ → Type 0
 NeedsParts v l rule x n = (parts : List (List ℕ)) → FitParts v l rule x parts → n ≤ length parts
 
--- the symbol is that of the bytes behind a header or none, of version v and level l (ISO/IEC 18004:2015, 7.1, 8.1)
+-- the symbol is that of the bytes after a header or none, of version v and level l (ISO/IEC 18004:2015, 7.1, 8.1)
 pub record IsSymbolOf (v : ℕ) (l : Level) (rule : Rule) (x : List ℕ) (h : Option Header) (s : Symbol) : Type 0 where
   pub version : s.version ≡ v
   pub level : s.level ≡ l
   pub made : IsSymbolAt v l rule x h s.mask s.matrix
 
--- the symbols are those of the parts, one after the other, from position k on: each behind its position, the number of
+-- the symbols are those of the parts, one after the other, from position k on: each after its position, the number of
 -- symbols less 1, and the parity (ISO/IEC 18004:2015, 8.1 to 8.3)
 unfoldable pub AreSymbolsFrom : ℕ → Level → Rule → (last parity k : ℕ) → List (List ℕ) → List Symbol → Type 0
 AreSymbolsFrom v l rule last parity k [] [] = Unit {0}

@@ -27,7 +27,7 @@ pub record IsVersion (x : List ℕ) (l : Level) (smallest : ℕ) (rule : Rule) (
 abbrev pub HasNoVersion : List ℕ → Level → ℕ → Rule → Type 0
 HasNoVersion x l smallest rule = (v : ℕ) → smallest ≤ v → v ≤ 40 → FitsVersion x l rule v → ⊥
 
--- g is the symbol, of version v and level l and with this mask, of the bytes behind a header or none: the bytes are cut
+-- g is the symbol, of version v and level l and with this mask, of the bytes after a header or none: the bytes are cut
 -- into the segments of least bits, written as data codewords, interleaved with their error correction codewords, placed,
 -- and masked (ISO/IEC 18004:2015, 7.1, 8.1)
 pub record IsSymbolAt (v : ℕ) (l : Level) (rule : Rule) (x : List ℕ) (h : Option Header) (mask : ℕ) (g : Grid) : Type 0 where

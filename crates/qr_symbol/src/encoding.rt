@@ -57,7 +57,7 @@ pub fn encode(
     symbol_at(alloc, input, &fit.segments, None, fit.version, level)
 }
 
-// The symbol of bytes in these segments, behind a header or none (7.1, 8.1).
+// The symbol of bytes in these segments, after a header or none (7.1, 8.1).
 pub(crate) fn symbol_at(
     alloc: Global,
     input: &[u8],

@@ -65,7 +65,7 @@ pub enum ReadFault {
     /// Memory was refused.
     #[error("out of memory")]
     Memory,
-    /// The side is that of no version.
+    /// No version has this side.
     #[error("the side is that of no version")]
     Side,
     /// The format information beside the top left finder pattern is that of no level and mask.

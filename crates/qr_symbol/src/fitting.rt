@@ -1,7 +1,7 @@
 //! The least version that an input fits, and the segments of the input in it (ISO/IEC 18004:2015, 7.1 and 7.4.1).
 //!
 //! The bits of segments depend on the version by the widths of the character count indicators alone, and these change
-//! only behind the versions 9 and 26. So an input is cut into segments once for each of the three ranges of versions.
+//! only after the versions 9 and 26. So an input is cut into segments once for each of the three ranges of versions.
 
 ghost use Rattle.std.specs.Prelude.{◌≡◌, ◌≤◌, ◌<◌, ℕ, List, length, IfOk, MatchOption};
 ghost use Rattle.qr_bits.specs.declared.modes.Rule.{Rule};
@@ -44,7 +44,7 @@ fn last_of_width(version: Version) -> u8
     }
 }
 
-// The first version that may hold so many bytes: the ranges whose symbols all hold fewer are passed over.
+// The first version that may hold `len` bytes: the ranges whose symbols all hold fewer are passed over.
 fn first_for(len: usize) -> u8
     ensures first { 1 ≤ result }
     ensures last { result ≤ 40 }
@@ -60,7 +60,7 @@ fn first_for(len: usize) -> u8
     1
 }
 
-// The least version from `first` to `last` whose data codewords hold so many bits.
+// The least version from `first` to `last` whose data codewords hold at least `bits` bits.
 fn first_with_room(level: Level, first: Version, last: u8, bits: u64) -> Option<Version>
     requires { last ≤ 40 }
     ensures { MatchOption result

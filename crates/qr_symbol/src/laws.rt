@@ -95,7 +95,7 @@ pub fn contents_are_one()
     ensures { (g : Grid) (p q : Content) → IsReading g p → IsReading g q → p ≡ q }
 {}
 
-/// A square that is read as a content is refused for want of memory alone, and any square for one other reason at most.
+/// A square that is read as a content can only be refused for lack of memory. No square has two other reasons.
 pub fn refusals_are_one()
     ensures read { (g : Grid) (p : Content) (e : ReadFault) → IsReading g p → IsUnread g e
         → e ≡ ReadFault.Memory }
@@ -108,7 +108,7 @@ pub fn joinings_are_one()
     ensures { (gs : List Grid) (x y : List ℕ) → IsJoined gs x → IsJoined gs y → x ≡ y }
 {}
 
-/// Squares that are joined to bytes are refused for want of memory alone, and any squares for one other reason at most.
+/// Squares that are joined to bytes can only be refused for lack of memory. No squares have two other reasons.
 pub fn joining_refusals_are_one()
     ensures joined { (gs : List Grid) (x : List ℕ) (e : ReadFault) → IsJoined gs x
         → IsUnjoined gs e → e ≡ ReadFault.Memory }
@@ -134,7 +134,7 @@ pub fn series_are_one()
         → IsSeries x l rule v ss → IsSeries x l rule v ts → ss ≡ ts }
 {}
 
-/// The parts of an input fit behind headers, and no fewer parts do; so its series is the shortest.
+/// The parts of an input fit after headers, and no fewer parts do; so its series is the shortest.
 pub fn series_are_shortest()
     ensures fit { (v : ℕ) (l : Level) (rule : Rule) (x : List ℕ) (parts : List (List ℕ))
         → AreParts v l rule x parts → FitParts v l rule x parts }

@@ -248,7 +248,7 @@ mod tests {
         Ok(())
     }
 
-    // The seven modules of version 2 behind its 44 codewords.
+    // The seven modules of version 2 after its 44 codewords.
     #[test]
     fn remainder_bits_inverted(rt: HostRuntime) -> Result<(), Fail> {
         let version = Version::new(2).ok_or("version 2")?;

@@ -1,4 +1,4 @@
-//! What tests read: codewords, and symbols of version 1 in one segment of byte mode, behind a header or none.
+//! What tests read: codewords, and symbols of version 1 in one segment of byte mode, after a header or none.
 
 ghost use Rattle.std.specs.Prelude.{◌<◌, ◌≤◌, length};
 ghost use Rattle.std.specs.Option.{ForSome};

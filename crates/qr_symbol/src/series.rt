@@ -22,7 +22,7 @@ use qr_layout::{Level, Version};
 use std::alloc::Global;
 
 /// The series of symbols of an input, all of one version and level (ISO/IEC 18004:2015, 8). Where the input fits one
-/// symbol, that is a plain symbol, without a header. Else it is cut into parts, and each part is the longest front of
+/// symbol, that is a plain symbol, without a header. Else it is cut into parts, and each part is the longest prefix of
 /// the rest that fits a symbol after its header, whether or not each shorter one fits. The rule tells which modes the
 /// segments may have. Without kanji mode the series is the shortest: no cut into fewer parts fits.
 ///
@@ -83,7 +83,7 @@ fn lone_symbol(
     Ok(Some(symbol))
 }
 
-// The lengths of the parts of an input: of each rest, the longest front that fits a symbol behind a header.
+// The lengths of the parts of an input: of each rest, the longest prefix that fits a symbol after a header.
 fn part_lengths(
     alloc: Global,
     input: &[u8],
@@ -113,7 +113,7 @@ fn part_lengths(
     Ok(lengths)
 }
 
-// The length of the longest front that fits a symbol behind a header. No more bytes are looked at than fit any symbol.
+// The length of the longest prefix that fits a symbol after a header. No more bytes are looked at than fit any symbol.
 fn front_len(
     alloc: Global,
     rest: &[u8],
@@ -132,7 +132,7 @@ fn front_len(
     Ok(longest_fit(alloc, front, version, level, rule)?)
 }
 
-// The symbols of the parts of these lengths, each behind its header (8.1 to 8.3).
+// The symbols of the parts of these lengths, each after its header (8.1 to 8.3).
 fn part_symbols(
     alloc: Global,
     input: &[u8],
@@ -168,7 +168,7 @@ fn part_symbols(
     Ok(symbols)
 }
 
-// The symbol of a part behind its header.
+// The symbol of a part after its header.
 fn part_symbol(
     alloc: Global,
     part: &[u8],
@@ -195,7 +195,7 @@ mod tests {
     use crate::reading::read_symbol;
     use std::test::Fail;
 
-    // Whether a symbol is read as these bytes behind this header or none.
+    // Whether a symbol is read as these bytes after this header or none.
     fn says(
         rt: &HostRuntime,
         symbol: &Symbol,

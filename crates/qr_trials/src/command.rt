@@ -17,7 +17,7 @@ fn line(alloc: Global, words: &[&str]) -> Result<Vec<String>, AllocError> {
     Ok(list)
 }
 
-// Whether the words are those, behind the program's name.
+// Whether the words are those, after the program's name.
 fn are(list: &[String], words: &[&str]) -> bool {
     list.iter()
         .skip(1)

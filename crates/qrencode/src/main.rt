@@ -27,7 +27,7 @@ fn command<R: Source, W: Sink, E: Sink>(
     ExitCode::from(run(alloc, words, input, out, err))
 }
 
-// Words that cannot be listed, for want of memory or since they are no text, end the program with
+// Words that cannot be listed, for lack of memory or because they are not text, end the program with
 // status 1 before anything is written.
 fn main(rt: HostRuntime) -> ExitCode {
     let words: Vec<String> = match env::args(&rt) {

@@ -5,7 +5,7 @@ use Rattle.qrencode_cli.specs.Writing.{Stops, Writes}
 use Rattle.qrencode_cli.specs.declared.pen.DrawFault.{DrawFault}
 use Rattle.qrencode_cli.specs.declared.pen.Pen.{Pen}
 
--- the pen put a text behind what it held
+-- the pen put a text after what it held
 abbrev pub Puts : Writer → Writer → Pen → Pen → List ℕ → {T : Type 0} → Result T DrawFault → Type 0
 Puts old new before after text r = MatchResult r
     (λ _. Writes old new before.interrupted after.interrupted (before.piece.items ++ text) after.piece.items)

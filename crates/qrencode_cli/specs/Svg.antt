@@ -4,7 +4,7 @@ use Rattle.std.specs.List.{prefix_len, range_with_len}
 use Rattle.qr_matrix.specs.Grid.{Grid, light}
 use Rattle.qrencode_cli.specs.Rasters.{is_dark_at, raster_width, texts_below}
 
--- a text, and a number in decimal digits behind it [own]
+-- a text, and a number in decimal digits after it [own]
 unfoldable pub numbered : List ℕ → ℕ → List ℕ
 numbered text number = text ++ decimal number
 

@@ -18,7 +18,7 @@ pub record Sends (old new : Writer) (text held : List ℕ) : Type 0 where
   pub whole : sent ++ held ≡ text
   pub many : old.counts.taken < 2 ^ 64 → new.counts.taken ≡ counted (old.counts.taken + length sent)
 
--- the text was written, but for what is held; the interruptions went from `tried` to `tries`
+-- the text was written, except for what is held; the interruptions went from `tried` to `tries`
 pub record Writes (old new : Writer) (tried tries : ℕ) (text held : List ℕ) : Type 0 where
   pub sends : Sends old new text held
   pub well : IsWell old.counts tried → IsWell new.counts tries

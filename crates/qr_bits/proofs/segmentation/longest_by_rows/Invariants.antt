@@ -9,7 +9,7 @@ use Rattle.qr_bits.specs.ByPlaces.{at_place, follow}
 use Rattle.qr_bits.proofs.Best.{BestBelow}
 use Rattle.qr_bits.proofs.segmentation.longest_by_rows.Given as goal
 
--- the longest so far, and the best rests of the front that was looked at, read backwards
+-- the longest so far, and the best rests of the prefix that was looked at, read backwards
 abbrev pub invariant-loop-i : goal.invariant-loop-i
 invariant-loop-i l = record {
   inside : l.longest ≤ l.i;
