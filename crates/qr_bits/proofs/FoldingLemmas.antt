@@ -6,7 +6,7 @@ use Rattle.qr_bits.specs.declared.modes.Rule.{Rule}
 use Rattle.qr_bits.specs.declared.modes.Rule.TheVariants.{Auto, BytesOnly, WithKanji}
 use Rattle.qr_bits.specs.Modes.{is_kanji_pair}
 use Rattle.qr_bits.specs.Folding.{capital, folded, folded_around_pairs}
-use Rattle.qr_bits.specs.Places.{begins}
+use Rattle.qr_bits.specs.Steps.Place.{begins}
 
 -- a pair stays
 pub folded_pair : (xs : List ℕ) → begins WithKanji is_kanji_pair xs ≡ true → folded_around_pairs xs ≡ take 2 xs ++ folded_around_pairs (drop 2 xs)

@@ -10,7 +10,7 @@ use Rattle.qr_bits.specs.Bits.{field, bits_of}
 use Rattle.qr_bits.specs.Header.{header_indicator, header_stream, HeaderFits, header_bits}
 use Rattle.qr_bits.specs.Stream.{IsStream}
 use Rattle.qr_bits.specs.Padding.{capacity_of, terminated, filled, pads, padded, IsData}
-use Rattle.qr_bits.proofs.BitLists.{length-field, length-bits_of, bits_of-append, field-zero}
+use Rattle.qr_bits.proofs.BitLemmas.{length-field, length-bits_of, bits_of-append, field-zero}
 
 -- one more pad codeword
 pub pads-push : (n : ℕ) → pads (n + 1) ≡ pads n ++ cond (n % 2 == 0) 0xEC 0x11 ∷ []

@@ -6,7 +6,5 @@ pub mod Stream
 pub mod Padding
 pub mod Parsing
 pub mod Folding
-pub mod Places
-pub mod ByPlaces
-pub mod Growing
 pub mod Laws
+pub mod Steps

@@ -10,8 +10,8 @@ ghost use Rattle.qr_bits.specs.declared.place.Place.{Place};
 ghost use Rattle.qr_bits.specs.Modes.{is_kanji_pair};
 ghost use Rattle.qr_bits.specs.Segmentation.{rank};
 ghost use Rattle.qr_bits.specs.declared.modes.Rule.{Rule};
-ghost use Rattle.qr_bits.specs.Places.{begins, may_begin, place_after, step_bits, IsChoice, IsChosenBelow};
-ghost use Rattle.qr_bits.specs.ByPlaces.{at_place, bits_of, modes_of, IsBestTable};
+ghost use Rattle.qr_bits.specs.Steps.Place.{begins, may_begin, place_after, step_bits, IsChoice, IsChosenBelow};
+ghost use Rattle.qr_bits.specs.Steps.Table.{at_place, bits_of, modes_of, IsBestTable};
 
 use crate::modes::{INPUT_MAX, Mode, Rule, is_alphanumeric, is_digit, is_kanji_pair, may_use};
 use crate::place::{ByPlace, NO_BITS, Place, after, step_bits};
@@ -26,7 +26,7 @@ struct Choice {
 }
 
 // Whether this letter of one byte may be taken for this byte, where no half of a pair is open.
-#[tactic(auto, unfolding(crate::specs::Places::may_begin))]
+#[tactic(auto, unfolding(crate::specs::Steps::Place::may_begin))]
 fn may_begin(rule: Rule, byte: u8, mode: Mode) -> bool
     requires { rank mode < 3 }
     ensures { (pair : Bool) → result ≡ may_begin rule byte pair mode }
@@ -123,7 +123,7 @@ fn apart(choices: ByPlace<Choice>) -> (ByPlace<Mode>, ByPlace<u32>)
 /// For each place before this byte the best letter, and the bits of the rest from there. The flag
 /// says that a pair may be taken. In the middle of a pair there is only its second letter, which
 /// adds no bits.
-#[tactic(auto, unfolding(crate::specs::Places::may_end))]
+#[tactic(auto, unfolding(crate::specs::Steps::Place::may_end))]
 pub(crate) fn row(
     version: Version,
     rule: Rule,
@@ -171,7 +171,7 @@ pub(crate) fn row(
 }
 
 // Whether a kanji pair may be taken at the beginning of the bytes.
-#[tactic(auto, unfolding(crate::specs::Places::begins))]
+#[tactic(auto, unfolding(crate::specs::Steps::Place::begins))]
 pub(crate) fn begins_with_pair(rule: Rule, bytes: &[u8]) -> bool
     ensures { result ≡ begins rule is_kanji_pair bytes.now }
 {

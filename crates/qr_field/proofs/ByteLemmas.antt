@@ -2,7 +2,7 @@
 use Rattle.std.proofs.Common.{◌≡◌, ℕ, zero, suc, ◌*◌, ◌<◌, Bool, true, false, ◌&&◌, eqb, refl, subst, inl, inr, arith}
 use Rattle.std.proofs.lemmas.Bool.Decides.{nat_tests}
 use Rattle.std.proofs.lemmas.Bool.{cases_lt}
-use Rattle.qr_field.specs.Bits.{carryless, product, remainder_of}
+use Rattle.qr_field.specs.Galois.{carryless, product, remainder_of}
 
 -- a test at each number below n
 abbrev pub below : ℕ → (ℕ → Bool) → Bool

@@ -7,8 +7,8 @@ use Rattle.std.proofs.lemmas.Nat.{xor_of_8}
 use Rattle.std.proofs.lemmas.Bool.{cases_eq, cases_lt, eq-eqb, ne_eqb}
 use Rattle.std.proofs.lemmas.List.{take_at}
 use Rattle.std.proofs.lemmas.List.Elements.{All-nil, All-cons, All-head, All-tail}
-use Rattle.qr_field.specs.Bits.{product}
-use Rattle.qr_field.specs.Polynomials.{IsByte, plus, power, IsCorrection}
+use Rattle.qr_field.specs.Galois.{product}
+use Rattle.qr_field.specs.Polynomial.{IsByte, plus, power, IsCorrection}
 use Rattle.qr_field.specs.Distance.{difference, differences, erasures, errors}
 use Rattle.qr_field.proofs.BitLemmas.{xor-swap}
 use Rattle.qr_field.proofs.ByteLemmas.{product-by_zero, product-of_zero, product-by_one}

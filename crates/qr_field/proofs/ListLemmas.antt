@@ -6,8 +6,8 @@ use Rattle.std.proofs.lemmas.Nat.{xor_comm, xor_of_8}
 use Rattle.std.proofs.lemmas.List.{length-map, append-nil, drop_all, take_all, length-take}
 use Rattle.std.proofs.lemmas.List.Elements.{All-map, All-nil, All-cons, All-head, All-tail}
 use borrow.Author.Tests.{ltb-true}
-use Rattle.qr_field.specs.Bits.{product}
-use Rattle.qr_field.specs.Polynomials.{IsByte, plus, zeros, scaled, times}
+use Rattle.qr_field.specs.Galois.{product}
+use Rattle.qr_field.specs.Polynomial.{IsByte, plus, zeros, scaled, times}
 use Rattle.qr_field.proofs.ByteLemmas.{&&-left, &&-right}
 use Rattle.qr_field.proofs.BitLemmas.{xor-cancel}
 use Rattle.qr_field.proofs.ProductLemmas.{product-lt}

@@ -1,6 +1,6 @@
 -- How far two lists of codewords lie apart, and what of a damaged block is still known. Public clauses cite this file.
 use Rattle.std.specs.Prelude.{◌≡◌, ℕ, ◌+◌, ◌*◌, ◌≤◌, ◌==◌, if◌then◌else◌, Option, None, Some, List, [], ◌∷◌, ◌++◌, length}
-use Rattle.qr_field.specs.Polynomials.{IsCorrection}
+use Rattle.qr_field.specs.Polynomial.{IsCorrection}
 
 -- 1 where two codewords differ, and 0 where they agree [own]
 abbrev pub difference : ℕ → ℕ → ℕ

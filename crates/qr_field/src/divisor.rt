@@ -1,8 +1,8 @@
 //! Division by a generator polynomial whose multiples are at hand (ISO/IEC 18004:2015, 7.5.2).
 
 ghost use Rattle.std.specs.Prelude.{◌≡◌, ◌≤◌, ℕ, List, length};
-ghost use Rattle.qr_field.specs.Packing.{HasMultiples, divisor_of, packed, value_of};
-ghost use Rattle.qr_field.specs.Polynomials.{IsCorrection, scaled};
+ghost use Rattle.qr_field.specs.Steps.Register.{HasMultiples, divisor_of, packed, value_of};
+ghost use Rattle.qr_field.specs.Polynomial.{IsCorrection, scaled};
 
 use crate::polynomial::generator;
 use crate::register::Register;
@@ -20,7 +20,7 @@ pub struct Divisor {
 
 impl Model for Divisor {
     ghost use Rattle.std.specs.Prelude.{◌≤◌, ℕ};
-    ghost use Rattle.qr_field.specs.Packing.{HasMultiples, divisor_of};
+    ghost use Rattle.qr_field.specs.Steps.Register.{HasMultiples, divisor_of};
 
     ghost Value = { ℕ };
 

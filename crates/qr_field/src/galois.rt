@@ -3,7 +3,7 @@
 //! their exclusive or.
 
 ghost use Rattle.std.specs.Prelude.{◌≡◌, ℕ};
-ghost use Rattle.qr_field.specs.Bits.{IsProduct, product};
+ghost use Rattle.qr_field.specs.Galois.{IsProduct, product};
 
 use crate::logarithm::{logarithm, power_of};
 

@@ -2,11 +2,11 @@
 //! Annex A). Each function does nothing: its contract is the law.
 
 ghost use Rattle.std.specs.Prelude.{◌≡◌, ◌<◌, ◌≤◌, ℕ, ◌-◌, List, [], ◌∷◌, ◌++◌, All, map, length, slice_index};
-ghost use Rattle.qr_field.specs.Bits.{IsProduct, product};
-ghost use Rattle.qr_field.specs.Polynomials.{IsByte, zeros, power, generator_of, IsCorrection, HasCorrection};
+ghost use Rattle.qr_field.specs.Galois.{IsProduct, product};
+ghost use Rattle.qr_field.specs.Polynomial.{IsByte, zeros, power, generator_of, IsCorrection, HasCorrection};
 ghost use Rattle.qr_field.specs.Distance.{differences, BlocksLieApart, DamageIsUnambiguous, ErasuresAreUnambiguous};
-ghost use Rattle.qr_field.specs.Worked.{lengths_in_use, printed_exponents};
-ghost use Rattle.qr_field.specs.Worked.{eight_digits, eight_digits_correction};
+ghost use Rattle.qr_field.specs.Laws.{lengths_in_use, printed_exponents};
+ghost use Rattle.qr_field.specs.Laws.{eight_digits, eight_digits_correction};
 
 use crate::logarithm::{LOGARITHMS, POWERS};
 

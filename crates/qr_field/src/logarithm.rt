@@ -2,7 +2,7 @@
 //! are all its elements but 0, each once, and return to 1 after 255 of them.
 
 ghost use Rattle.std.specs.Prelude.{◌≡◌, ◌<◌, ◌≤◌};
-ghost use Rattle.qr_field.specs.Polynomials.{power};
+ghost use Rattle.qr_field.specs.Polynomial.{power};
 
 // 2 to the powers 0 to 254.
 pub(crate) static POWERS: [u8; 255] = [

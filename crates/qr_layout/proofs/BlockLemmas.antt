@@ -5,7 +5,7 @@ use borrow.Author.Tests.{leb-true}
 use Rattle.std.proofs.lemmas.Nat.{div-add-mod'}
 use Rattle.qr_layout.specs.declared.level.Level.{Level}
 use Rattle.qr_layout.specs.declared.level.Level.TheVariants.{L, M, Q, H}
-use Rattle.qr_layout.specs.Versions.{total_codewords_of}
+use Rattle.qr_layout.specs.Version.{total_codewords_of}
 use Rattle.qr_layout.specs.Blocks.{correction_len_of, block_count_of, data_codewords_of, blocks_of, longest_of, damage_of, AreWhole}
 use Rattle.qr_layout.proofs.RegionLemmas.{&&-left, &&-right}
 use Rattle.qr_layout.proofs.TableLemmas.{below, below-at}

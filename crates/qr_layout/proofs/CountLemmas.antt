@@ -3,7 +3,7 @@ use Rattle.std.proofs.Common.{◌≡◌, ◌≢◌, ℕ, zero, suc, ◌+◌, ◌
 use Rattle.std.proofs.lemmas.Bool.{cases_lt}
 use Rattle.qr_layout.specs.declared.region.Module.{Module}
 use Rattle.qr_layout.specs.Order.{sum_below, places_passing}
-use Rattle.qr_layout.proofs.ListFacts.{Mem, Distinct, Mem-at, All-of-Mem, Mem-append, Mem-left, Mem-right, length-le_members}
+use Rattle.qr_layout.proofs.ListLemmas.{Mem, Distinct, Mem-at, All-of-Mem, Mem-append, Mem-left, Mem-right, length-le_members}
 
 -- sums of equal terms are equal
 pub sum_below-same : (n : ℕ) (f g : ℕ → ℕ) → ((k : ℕ) → k < n → f k ≡ g k) → sum_below n f ≡ sum_below n g

@@ -3,10 +3,10 @@ use Rattle.std.proofs.Common.{◌≡◌, ℕ, zero, suc, ◌<◌, ◌≤◌, Lis
 use Rattle.std.proofs.Math.Seq.{get_or-append_seam}
 use Rattle.qr_layout.specs.declared.region.Module.{Module}
 use Rattle.qr_layout.specs.Region.{InRegion}
-use Rattle.qr_layout.specs.Versions.{module_count_of}
+use Rattle.qr_layout.specs.Version.{module_count_of}
 use Rattle.qr_layout.specs.Order.{IsOrder, number_of}
-use Rattle.qr_layout.specs.Path.{to_come, start_of}
-use Rattle.qr_layout.proofs.ListFacts.{split, length-mid}
+use Rattle.qr_layout.specs.Steps.Order.{to_come, start_of}
+use Rattle.qr_layout.proofs.ListLemmas.{split, length-mid}
 use Rattle.qr_layout.proofs.OrderLemmas.{order-has, order-length, number-at}
 use Rattle.qr_layout.proofs.WalkLemmas.{to_come-start}
 

@@ -5,15 +5,15 @@ use borrow.Author.Tests.{leb-true}
 use Rattle.std.specs.List.{Contains}
 use Rattle.qr_layout.specs.declared.region.Module.{Module}
 use Rattle.qr_layout.specs.Region.{is_in_region, InRegion}
-use Rattle.qr_layout.specs.Versions.{side_of}
+use Rattle.qr_layout.specs.Version.{side_of}
 use Rattle.qr_layout.specs.Order.{Key, key_of, IsBefore, is_before, IsOrder, places_passing, number_of}
-use Rattle.qr_layout.specs.Versions.{total_codewords_of, remainder_bits_of, module_count_of}
+use Rattle.qr_layout.specs.Version.{total_codewords_of, remainder_bits_of, module_count_of}
 use Rattle.qr_layout.specs.Alignment.{centres_of}
-use Rattle.qr_layout.specs.Worked.{region_size}
+use Rattle.qr_layout.specs.Laws.{region_size}
 use Rattle.qr_layout.proofs.TableLemmas.{below, below-at, eqb-same}
-use Rattle.qr_layout.proofs.ListFacts.{Mem, Rises, Distinct, Mem-at, All-of-Mem, All-rec, Mem-left, Mem-right, Mem-append, Rises-of-pairs, one_rising}
+use Rattle.qr_layout.proofs.ListLemmas.{Mem, Rises, Distinct, Mem-at, All-of-Mem, All-rec, Mem-left, Mem-right, Mem-append, Rises-of-pairs, one_rising}
 use Rattle.qr_layout.proofs.CountLemmas.{count-of}
-use Rattle.qr_layout.proofs.FastCount.{region-count, agrees, agrees-40}
+use Rattle.qr_layout.proofs.FastCountLemmas.{region-count, agrees, agrees-40}
 use Rattle.qr_layout.proofs.RegionLemmas.{row-in, col-in, &&-left, &&-right}
 
 -- no two keys are each before the other

@@ -3,10 +3,10 @@ use Rattle.std.proofs.Common.{◌≡◌, ℕ, zero, suc, ◌+◌, ◌-◌, ◌*�
 use Rattle.std.proofs.Math.Nat.{mul-le-mul_right}
 use Rattle.std.proofs.lemmas.Bool.Decides.{nat_tests}
 use Rattle.std.proofs.lemmas.Bool.{cases_lt}
-use Rattle.qr_layout.specs.declared.steps.Cursor.{Cursor}
-use Rattle.qr_layout.specs.Versions.{side_of}
+use Rattle.qr_layout.specs.declared.order.Cursor.{Cursor}
+use Rattle.qr_layout.specs.Version.{side_of}
 use Rattle.qr_layout.specs.Order.{column_without_timing, strip_of, key_of, IsBefore}
-use Rattle.qr_layout.specs.Path.{half_of, column_of, place_of, rank_of, left_of, next_of, IsCursor}
+use Rattle.qr_layout.specs.Steps.Order.{half_of, column_of, place_of, rank_of, left_of, next_of, IsCursor}
 
 -- a positive number of times w is at least w
 pub mul-le_one : (p w : ℕ) → 0 < p → w ≤ p * w

@@ -2,8 +2,8 @@
 use Rattle.std.proofs.Common.{◌≡◌, ℕ, zero, suc, ◌+◌, ◌-◌, ◌*◌, ◌<◌, ◌≤◌, Bool, true, false, ◌&&◌, ◌||◌, cond, eqb, ltb, leb, Option, None, Some, refl, sym, ap, ◌∙◌, subst, inl, inr, ◌⊎◌, arith}
 use Rattle.std.proofs.lemmas.Bool.Decides.{nat_tests}
 use Rattle.std.proofs.lemmas.Bool.{cases_lt}
-use Rattle.qr_layout.specs.Versions.{side_of}
-use Rattle.qr_layout.specs.Roles.{first_place, second_place, version_place, transposed, is_at, one_below, format_bit_at, version_bit_at}
+use Rattle.qr_layout.specs.Version.{side_of}
+use Rattle.qr_layout.specs.Role.{first_place, second_place, version_place, transposed, is_at, one_below, format_bit_at, version_bit_at}
 
 -- the search stops at a number that passes
 one-hit : (n : ℕ) (p : ℕ → Bool) → p n ≡ true → one_below (suc n) p ≡ Some n

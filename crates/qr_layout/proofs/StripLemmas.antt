@@ -4,13 +4,13 @@ use Rattle.std.proofs.lemmas.List.Elements.{All-from_recursion}
 use Rattle.std.proofs.lemmas.Bool.Decides.{nat_tests}
 use Rattle.std.specs.List.{All, AllByRecursion}
 use Rattle.qr_layout.specs.declared.region.Module.{Module}
-use Rattle.qr_layout.specs.declared.steps.Cursor.{Cursor}
+use Rattle.qr_layout.specs.declared.order.Cursor.{Cursor}
 use Rattle.qr_layout.specs.declared.strips.Strip.{Strip}
 use Rattle.qr_layout.specs.Region.{is_in_region}
-use Rattle.qr_layout.specs.Versions.{side_of}
+use Rattle.qr_layout.specs.Version.{side_of}
 use Rattle.qr_layout.specs.Order.{IsOrder, in_region_of}
-use Rattle.qr_layout.specs.Path.{column_of, place_of, left_of, next_of, places_within, to_come, start_of}
-use Rattle.qr_layout.specs.StripPlaces.{rows_from, both_of, places_of, strip_at, strips_to_come}
+use Rattle.qr_layout.specs.Steps.Order.{column_of, place_of, left_of, next_of, places_within, to_come, start_of}
+use Rattle.qr_layout.specs.Strips.{rows_from, both_of, places_of, strip_at, strips_to_come}
 use Rattle.qr_layout.proofs.WalkLemmas.{places-nil, places-suc, to_come-start}
 
 -- the right places of the next n rows, in the region or not
@@ -183,7 +183,3 @@ strips-inside v n e = All-from_recursion (Inside v) _ (all-inside v (8 + 2 * n) 
 pub strips-next : (p : ℕ) (x : Strip) → 0 < p → x ≡ strip_at p → strips_to_come p ≡ x ∷ strips_to_come (p - 1)
 strips-next zero x l e = absurd (omega arith)
 strips-next (suc p) x l e = let f : p ≡ suc p - 1 = omega arith in ap (λ z. z ∷ strips_to_come p) (sym e) ∙ ap (λ z. x ∷ strips_to_come z) f
-
--- past the last one there is none
-pub strips-end : (p : ℕ) → p ≡ 0 → strips_to_come p ≡ []
-strips-end p e = ap strips_to_come e

@@ -5,8 +5,8 @@ use Rattle.std.specs.Int.{bit_at}
 use borrow.Author.Tests.{ltb-true}
 use Rattle.qr_layout.specs.declared.level.Level.{Level}
 use Rattle.qr_layout.specs.declared.level.Level.TheVariants.{L, M, Q, H}
-use Rattle.qr_layout.specs.declared.words.TheConstants.{FORMAT_WORDS, VERSION_WORDS}
-use Rattle.qr_layout.specs.Words.{remainder_of, format_with, five_bits, format_word_of, version_word_of, level_bits, sum_of_shifts, IsRemainder, IsFormatWord, IsVersionWord}
+use Rattle.qr_layout.specs.declared.format.TheConstants.{FORMAT_WORDS, VERSION_WORDS}
+use Rattle.qr_layout.specs.Format.{remainder_of, format_with, five_bits, format_word_of, version_word_of, level_bits, sum_of_shifts, IsRemainder, IsFormatWord, IsVersionWord}
 use Rattle.qr_layout.proofs.RegionLemmas.{&&-left, &&-right}
 use Rattle.qr_layout.proofs.TableLemmas.{below, below-at, eqb-same}
 

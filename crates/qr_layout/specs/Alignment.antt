@@ -2,7 +2,7 @@
 use Rattle.std.specs.Prelude.{◌≡◌, ℕ, ◌+◌, ◌-◌, ◌*◌, ◌/◌, ◌%◌, ◌<◌, ◌≤◌, Bool, ◌&&◌, ◌||◌, ◌==◌, if◌then◌else◌, List, [], ◌∷◌, length}
 use Rattle.std.specs.List.{flat_map, slice_index_or}
 use Rattle.qr_layout.specs.declared.region.Module.{Module}
-use Rattle.qr_layout.specs.Versions.{side_of}
+use Rattle.qr_layout.specs.Version.{side_of}
 
 -- the rows, and columns, of the alignment patterns' centres in the versions 1 to 40, in turn (ISO/IEC 18004:2015, Annex
 -- E)

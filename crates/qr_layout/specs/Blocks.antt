@@ -4,7 +4,7 @@ use Rattle.std.specs.List.{slice_index_or}
 use Rattle.qr_layout.specs.declared.blocks.Blocks.{Blocks}
 use Rattle.qr_layout.specs.declared.level.Level.{Level}
 use Rattle.qr_layout.specs.declared.level.Level.TheVariants.{L, M, Q, H}
-use Rattle.qr_layout.specs.Versions.{total_codewords_of}
+use Rattle.qr_layout.specs.Version.{total_codewords_of}
 
 -- the error correction codewords of each block in the versions 1 to 40, in turn (ISO/IEC 18004:2015, 7.5.1, Table 9)
 abbrev pub correction_table : Level → List ℕ

@@ -1,10 +1,10 @@
-pub mod Versions
+pub mod Version
 pub mod Blocks
-pub mod Words
+pub mod Format
 pub mod Alignment
 pub mod Region
 pub mod Order
-pub mod Roles
-pub mod Path
-pub mod StripPlaces
-pub mod Worked
+pub mod Role
+pub mod Strips
+pub mod Laws
+pub mod Steps

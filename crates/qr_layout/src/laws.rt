@@ -6,20 +6,20 @@ ghost use Rattle.std.specs.List.{range_with_len};
 ghost use Rattle.qr_layout.specs.declared.region.Module.{Module};
 ghost use Rattle.qr_layout.specs.declared.level.Level.TheVariants.{L, M, Q, H};
 ghost use Rattle.qr_layout.specs.declared.role.Role.TheVariants.{Fixed, FormatBit, VersionBit, Region};
-ghost use Rattle.qr_layout.specs.Versions.{side_of, module_count_of};
+ghost use Rattle.qr_layout.specs.Version.{side_of, module_count_of};
 ghost use Rattle.qr_layout.specs.Blocks.{data_codewords_of, blocks_of, longest_of, damage_of, AreWhole};
-ghost use Rattle.qr_layout.specs.Words.{five_bits, format_word_of, version_word_of, IsFormatWord, IsVersionWord};
+ghost use Rattle.qr_layout.specs.Format.{five_bits, format_word_of, version_word_of, IsFormatWord, IsVersionWord};
 ghost use Rattle.qr_layout.specs.Alignment.{centres_of, AreRegular};
 ghost use Rattle.qr_layout.specs.Region.{is_in_region, InRegion};
 ghost use Rattle.qr_layout.specs.Order.{IsOrder, number_of, places_passing};
-ghost use Rattle.qr_layout.specs.Roles.{first_place, second_place, version_place, transposed, role_of};
-ghost use Rattle.qr_layout.specs.Worked.{all_versions, printed_data, spaced_centres, region_size, row_6, row_8, column_8};
+ghost use Rattle.qr_layout.specs.Role.{first_place, second_place, version_place, transposed, role_of};
+ghost use Rattle.qr_layout.specs.Laws.{all_versions, printed_data, spaced_centres, region_size, row_6, row_8, column_8};
 
 use crate::blocks::Blocks;
 use crate::level::Level;
 use crate::region::Module;
 use crate::role::Role;
-use crate::steps::walk;
+use crate::order::walk;
 use crate::version::Version;
 use std::alloc::AllocError;
 
@@ -75,7 +75,7 @@ pub fn centres_are_spaced()
 {}
 
 /// The data codewords of all versions and levels are those that Table 7 prints.
-#[tactic(auto, unfolding(crate::specs::Blocks::data_codewords_of, crate::specs::Blocks::block_count_of, crate::specs::Blocks::correction_len_of, crate::specs::Versions::total_codewords_of))]
+#[tactic(auto, unfolding(crate::specs::Blocks::data_codewords_of, crate::specs::Blocks::block_count_of, crate::specs::Blocks::correction_len_of, crate::specs::Version::total_codewords_of))]
 pub fn data_codewords_compute()
     ensures l { map (λ v. data_codewords_of v L) all_versions ≡ printed_data L }
     ensures m { map (λ v. data_codewords_of v M) all_versions ≡ printed_data M }
@@ -90,7 +90,7 @@ pub fn blocks_are_whole(v: Version, level: Level)
 
 /// A block has at most 153 codewords, those for error correction included, and in version 27 at level L some have so
 /// many.
-#[tactic(auto, unfolding(crate::specs::Blocks::data_codewords_of, crate::specs::Blocks::block_count_of, crate::specs::Blocks::correction_len_of, crate::specs::Versions::total_codewords_of))]
+#[tactic(auto, unfolding(crate::specs::Blocks::data_codewords_of, crate::specs::Blocks::block_count_of, crate::specs::Blocks::correction_len_of, crate::specs::Version::total_codewords_of))]
 pub fn blocks_are_short(v: Version, level: Level)
     ensures most { longest_of (blocks_of v level) ≤ 153 }
     ensures reached { longest_of (blocks_of 27 L) ≡ 153 }
@@ -122,7 +122,7 @@ pub fn version_words_are_remainders(v: Version)
 
 /// The definitions of the two words compute the examples that Annexes C and D work out, and four more of their tables'
 /// rows.
-#[tactic(auto, unfolding(crate::specs::Words::format_word_of, crate::specs::Words::version_word_of, crate::specs::Words::remainder_of))]
+#[tactic(auto, unfolding(crate::specs::Format::format_word_of, crate::specs::Format::version_word_of, crate::specs::Format::remainder_of))]
 pub fn words_compute()
     ensures l { format_word_of L 0 ≡ 0x77C4 }
     ensures m { format_word_of M 5 ≡ 0x40CE }
@@ -133,7 +133,7 @@ pub fn words_compute()
 {}
 
 /// What row 8, column 8 and row 6 of version 1 hold is what the standard's figures show there.
-#[tactic(auto, unfolding(crate::specs::Roles::role_of, crate::specs::Roles::pattern_colour, crate::specs::Roles::is_alignment_light, crate::specs::Roles::format_bit_at, crate::specs::Roles::version_bit_at, crate::specs::Alignment::centres_of))]
+#[tactic(auto, unfolding(crate::specs::Role::role_of, crate::specs::Role::pattern_colour, crate::specs::Role::is_alignment_light, crate::specs::Role::format_bit_at, crate::specs::Role::version_bit_at, crate::specs::Alignment::centres_of))]
 pub fn roles_compute()
     ensures across { map (role_of 1 8) (range_with_len 0 21) ≡ row_8 }
     ensures down { map (λ r. role_of 1 r 8) (range_with_len 0 21) ≡ column_8 }

@@ -3,9 +3,9 @@
 
 ghost use Rattle.std.specs.Prelude.{◌≡◌, ◌≢◌, ◌<◌, ◌≤◌, ◌==◌, ◌&&◌, not};
 ghost use Rattle.std.specs.List.{list_any};
-ghost use Rattle.qr_layout.specs.Versions.{side_of};
+ghost use Rattle.qr_layout.specs.Version.{side_of};
 ghost use Rattle.qr_layout.specs.Alignment.{is_corner_pair};
-ghost use Rattle.qr_layout.specs.Roles.{gap_of, ring_of, finder_ring, is_alignment_light, pattern_colour, format_bit_at, version_bit_at, role_of};
+ghost use Rattle.qr_layout.specs.Role.{gap_of, ring_of, finder_ring, is_alignment_light, pattern_colour, format_bit_at, version_bit_at, role_of};
 
 use crate::alignment::{centre_list, is_corner_pair, is_in_alignment};
 use crate::region::is_in_version_block;
@@ -79,7 +79,7 @@ fn is_alignment_light(v: Version, row: u8, col: u8) -> bool
 }
 
 // The colour of a function pattern's module.
-#[tactic(auto, unfolding(crate::specs::Roles::pattern_colour))]
+#[tactic(auto, unfolding(crate::specs::Role::pattern_colour))]
 fn pattern_colour(v: Version, row: u8, col: u8) -> Option<bool>
     ensures { result ≡ pattern_colour v row col }
 {
@@ -177,7 +177,7 @@ fn version_bit(v: Version, row: u8, col: u8) -> Option<u8>
 }
 
 /// What the module at a row and a column, both below the side, holds.
-#[tactic(auto, unfolding(crate::specs::Roles::role_of))]
+#[tactic(auto, unfolding(crate::specs::Role::role_of))]
 pub fn cell(v: Version, row: u8, col: u8) -> Role
     requires row_in { row < side_of v }
     requires col_in { col < side_of v }

@@ -5,8 +5,8 @@ ghost use Rattle.std.specs.Prelude.{◌≡◌, ◌<◌, ◌≤◌, List};
 ghost use Rattle.std.specs.Iterator.{YieldsFirst, item_count};
 ghost use Rattle.std.specs.List.{All};
 ghost use Rattle.qr_layout.specs.Order.{IsOrder, in_region_of};
-ghost use Rattle.qr_layout.specs.StripPlaces.{places_of};
-ghost use Rattle.qr_layout.specs.Versions.{side_of};
+ghost use Rattle.qr_layout.specs.Strips.{places_of};
+ghost use Rattle.qr_layout.specs.Version.{side_of};
 ghost use Rattle.qr_layout.specs.declared.strips.Strip.{Strip};
 
 use crate::version::Version;
@@ -30,7 +30,7 @@ pub struct Strips {
 
 impl Model for Strips {
     ghost use Rattle.std.specs.Prelude.{◌≤◌, List};
-    ghost use Rattle.qr_layout.specs.StripPlaces.{strips_to_come};
+    ghost use Rattle.qr_layout.specs.Strips.{strips_to_come};
     ghost use Rattle.qr_layout.specs.declared.strips.Strip.{Strip};
 
     ghost Value = { List Strip };

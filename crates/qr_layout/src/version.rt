@@ -2,8 +2,8 @@
 //! 6.3.2 and 7.1, Table 1).
 
 ghost use Rattle.std.specs.Prelude.{◌≡◌, ◌≤◌, SomeIff};
-ghost use Rattle.qr_layout.specs.Versions.{side_of};
-ghost use Rattle.qr_layout.specs.Versions.{total_codewords_of, remainder_bits_of};
+ghost use Rattle.qr_layout.specs.Version.{side_of};
+ghost use Rattle.qr_layout.specs.Version.{total_codewords_of, remainder_bits_of};
 
 use std::marker::Model;
 
@@ -69,7 +69,7 @@ impl Version {
     }
 
     /// How many codewords a symbol holds, for data and for error correction, from 26 to 3,706.
-    #[tactic(auto, unfolding(crate::specs::Versions::total_codewords_of))]
+    #[tactic(auto, unfolding(crate::specs::Version::total_codewords_of))]
     pub fn total_codewords(self) -> u16
         ensures { result ≡ total_codewords_of self }
     {
@@ -77,7 +77,7 @@ impl Version {
     }
 
     /// How many modules are left over when the codewords are placed: 0, 3, 4 or 7.
-    #[tactic(auto, unfolding(crate::specs::Versions::remainder_bits_of))]
+    #[tactic(auto, unfolding(crate::specs::Version::remainder_bits_of))]
     pub fn remainder_bits(self) -> u8
         ensures { result ≡ remainder_bits_of self }
     {

@@ -10,8 +10,8 @@ use mathlib.Core.Bool.{beq}
 use Rattle.qr_bits.specs.Bits.{codeword_bit}
 use Rattle.qr_matrix.specs.Lines.{has_bit}
 use Rattle.qr_matrix.proofs.PlaceLemmas.{has_bit-and, has_bit-ones, has_bit-shr}
-use Rattle.qr_symbol.specs.Masks.{inverted}
-use Rattle.qr_symbol.specs.Colour.{word_bit}
+use Rattle.qr_symbol.specs.Mask.{inverted}
+use Rattle.qr_symbol.specs.Symbol.{word_bit}
 
 -- a word of 32 bits has no bit from 32 on
 pub word-past : (word i : ℕ) → word < 2 ^ 32 → 32 ≤ i → false ≡ word_bit word i

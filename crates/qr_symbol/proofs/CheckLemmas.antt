@@ -4,11 +4,11 @@ use Rattle.std.proofs.lemmas.Bool.Decides.{nat_tests}
 use Rattle.std.proofs.lemmas.Bool.{cases_lt}
 use Rattle.std.proofs.lemmas.List.{get_or_append_left, get_or-append_right}
 use Rattle.std.specs.List.{All}
-use Rattle.qr_field.specs.Polynomials.{IsCorrection}
+use Rattle.qr_field.specs.Polynomial.{IsCorrection}
 use Rattle.qr_layout.specs.declared.blocks.Blocks.{Blocks}
-use Rattle.qr_symbol.specs.declared.message.Cut.{Cut}
+use Rattle.qr_symbol.specs.declared.interleaving.Cut.{Cut}
 use Rattle.qr_symbol.specs.Interleaving.{count_of, len_of, start_of, IsTag, codeword_at, data_cut, correction_cut, block_of, check_at, IsFinalMessage}
-use Rattle.qr_symbol.specs.Sending.{IsSent, IsChecks}
+use Rattle.qr_symbol.specs.Steps.Interleaving.{IsSent, IsChecks}
 use Rattle.qr_symbol.proofs.TagLemmas.{start-next, start-most}
 
 -- a block's error correction codewords are as many as those of any other

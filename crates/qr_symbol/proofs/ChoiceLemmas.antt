@@ -2,11 +2,11 @@
 use Rattle.std.proofs.Common.{◌≡◌, ℕ, ◌+◌, ◌<◌, ◌≤◌, inl, inr, List, ap, arith}
 use Rattle.std.proofs.lemmas.Bool.{cases_lt}
 use Rattle.qr_layout.specs.declared.level.Level.{Level}
-use Rattle.qr_layout.specs.Versions.{side_of}
+use Rattle.qr_layout.specs.Version.{side_of}
 use Rattle.qr_matrix.specs.Grid.{Grid, colour}
 use Rattle.qr_symbol.specs.Choice.{IsFirstLeast, IsMask, mask_penalty}
 use Rattle.qr_matrix.specs.Penalty.{penalty_of}
-use Rattle.qr_symbol.specs.Drawing.{masked_penalty, region_grid, plain_grid}
+use Rattle.qr_symbol.specs.Steps.Drawing.{masked_penalty, region_grid, plain_grid}
 use Rattle.qr_symbol.proofs.DrawingLemmas.{masked-all}
 
 -- of one number

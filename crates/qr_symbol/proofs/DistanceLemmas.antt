@@ -4,12 +4,12 @@ use Rattle.std.proofs.lemmas.Bool.{cases_lt}
 use Rattle.std.proofs.lemmas.List.{length-take}
 use Rattle.std.proofs.Math.Seq.{take-add, take-length}
 use Rattle.qr_field.specs.Distance.{differences}
-use Rattle.qr_field.proofs.DistanceLemmas.{near-same, unambiguous-known}
+use Rattle.qr_field.proofs.Facts.{near-same, unambiguous-known}
 use Rattle.qr_layout.specs.declared.level.Level.{Level}
 use Rattle.qr_layout.specs.Blocks.{blocks_of}
-use Rattle.qr_layout.proofs.BlockLemmas.{laws-of}
+use Rattle.qr_layout.proofs.Facts.{laws-of}
 use Rattle.qr_matrix.specs.Grid.{Grid}
-use Rattle.qr_symbol.specs.declared.message.Cut.{Cut}
+use Rattle.qr_symbol.specs.declared.interleaving.Cut.{Cut}
 use Rattle.qr_symbol.specs.Interleaving.{count_of, len_of, start_of, cut_len, data_cut, block_of}
 use Rattle.qr_symbol.specs.Reading.{IsMessage}
 use Rattle.qr_symbol.specs.Distance.{blocks_in, held_block, MessagesLieApart, DamagedMessagesAreOne}

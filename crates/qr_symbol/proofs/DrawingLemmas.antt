@@ -5,24 +5,21 @@ use Rattle.qr_layout.specs.declared.level.Level.{Level}
 use Rattle.qr_layout.specs.declared.region.Module.{Module}
 use Rattle.qr_layout.specs.declared.role.Role.{Role}
 use Rattle.qr_layout.specs.declared.role.Role.TheVariants.{Fixed, FormatBit, VersionBit, Region}
-use Rattle.qr_layout.specs.Versions.{side_of}
-use Rattle.qr_layout.specs.Words.{format_word_of, version_word_of}
+use Rattle.qr_layout.specs.Version.{side_of}
+use Rattle.qr_layout.specs.Format.{format_word_of, version_word_of}
 use Rattle.qr_layout.specs.Region.{is_in_region}
-use Rattle.qr_layout.specs.Roles.{role_of}
+use Rattle.qr_layout.specs.Role.{role_of}
 use Rattle.qr_layout.specs.Order.{IsOrder, in_region_of, number_of}
-use Rattle.qr_layout.specs.StripPlaces.{both_of, rows_from}
+use Rattle.qr_layout.specs.Strips.{both_of, rows_from}
 use Rattle.qr_layout.specs.declared.strips.Strip.{Strip}
-use Rattle.qr_layout.proofs.ListFacts.{Mem}
-use Rattle.qr_layout.proofs.OrderLemmas.{order-has, order-mem, order-small, number-at}
-use Rattle.qr_layout.proofs.RegionLemmas.{row-in, col-in}
-use Rattle.qr_layout.proofs.RoleLaws.{region-role, role-region, version-only}
+use Rattle.qr_layout.proofs.Facts.{Mem, order-has, order-mem, order-small, number-at, row-in, col-in, region-role, role-region, version-only}
 use Rattle.qr_bits.specs.Bits.{codeword_bit}
 use Rattle.qr_matrix.specs.Grid.{Grid, square, colour, painted, IsSquare}
-use Rattle.qr_symbol.specs.Masks.{inverts, inverted}
-use Rattle.qr_symbol.specs.Colour.{word_bit, colour_by, colour_of, grid_of}
-use Rattle.qr_symbol.specs.Drawing.{fixed_colour, placed_colour, placed_if, number_after, number_along, placed_along, format_or, masked_colour, masked_grid, region_grid, plain_grid}
+use Rattle.qr_symbol.specs.Mask.{inverts, inverted}
+use Rattle.qr_symbol.specs.Symbol.{word_bit, colour_by, colour_of, grid_of}
+use Rattle.qr_symbol.specs.Steps.Drawing.{fixed_colour, placed_colour, placed_if, number_after, number_along, placed_along, format_or, masked_colour, masked_grid, region_grid, plain_grid}
 use Rattle.qr_matrix.proofs.GridLemmas.{same-place, square-same, colour-square, colour-painted-here, colour-painted-there}
-use Rattle.qr_symbol.proofs.KeptPlaces.{kept-in, kept-out, kept-push-in, kept-push-out}
+use Rattle.qr_symbol.proofs.KeptPlaceLemmas.{kept-in, kept-out, kept-push-in, kept-push-out}
 
 -- the module in a row and a column
 abbrev pub at : ℕ → ℕ → Module

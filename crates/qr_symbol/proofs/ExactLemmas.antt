@@ -10,9 +10,9 @@ use Rattle.qr_symbol.specs.declared.fault.EncodeFault.TheVariants as fault
 use Rattle.qr_symbol.specs.declared.fault.ReadFault.{ReadFault}
 use Rattle.qr_symbol.specs.declared.fault.ReadFault.TheVariants as unread
 use Rattle.qr_symbol.specs.declared.symbol.Symbol.{Symbol}
-use Rattle.qr_symbol.specs.Symbols.{FitsVersion, IsSymbol, HasNoVersion}
+use Rattle.qr_symbol.specs.Encoding.{FitsVersion, IsSymbol, HasNoVersion}
 use Rattle.qr_symbol.specs.Series.{IsSeries, HasNoSeries}
-use Rattle.qr_bits.proofs.Mirror.{empty_fits}
+use Rattle.qr_bits.proofs.Facts.{empty_fits}
 
 -- an answer is refused for this fault exactly where memory is not and the fact holds
 abbrev pub Refused : {X E : Type 0} → Result X E → (e memory : E) → Type 0 → Type 0

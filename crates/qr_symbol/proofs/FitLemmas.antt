@@ -8,8 +8,8 @@ use Rattle.qr_bits.specs.declared.segmentation.Segment.{Segment}
 use Rattle.qr_bits.specs.Modes.{count_width}
 use Rattle.qr_bits.specs.Segmentation.{bits, runs_of, IsLetters, IsLeastSegmentation}
 use Rattle.qr_bits.specs.Padding.{capacity_of}
-use Rattle.qr_bits.proofs.SegmentLists.{least_fits}
-use Rattle.qr_symbol.specs.Symbols.{FitsVersion, IsVersion}
+use Rattle.qr_bits.proofs.Facts.{least_fits}
+use Rattle.qr_symbol.specs.Encoding.{FitsVersion, IsVersion}
 
 -- Segments have as many bits in versions of the same widths.
 bits-same : (u v : ℕ) → ((m : Mode) → count_width u m ≡ count_width v m) → (segs : List Segment) → bits u segs ≡ bits v segs

@@ -8,13 +8,12 @@ use Rattle.std.proofs.lemmas.Nat.Bits.{same_from_bits_below, bit_at-lt}
 use borrow.Author.Tests.{ltb-true}
 use Rattle.qr_layout.specs.declared.level.Level.{Level}
 use Rattle.qr_layout.specs.declared.level.Level.TheVariants.{L, M, Q, H}
-use Rattle.qr_layout.specs.Versions.{side_of}
-use Rattle.qr_layout.specs.Words.{remainder_of, format_with, five_bits, level_bits, format_word_of}
-use Rattle.qr_layout.specs.Roles.{first_place}
-use Rattle.qr_layout.proofs.TableLemmas.{below, below-at, eqb-same}
-use Rattle.qr_layout.proofs.RoleLaws.{format-first}
+use Rattle.qr_layout.specs.Version.{side_of}
+use Rattle.qr_layout.specs.Format.{remainder_of, format_with, five_bits, level_bits, format_word_of}
+use Rattle.qr_layout.specs.Role.{first_place}
+use Rattle.qr_layout.proofs.Facts.{below, below-at, eqb-same, format-first}
 use Rattle.qr_matrix.specs.Grid.{Grid}
-use Rattle.qr_symbol.specs.Colour.{colour_by, colour_of, grid_of}
+use Rattle.qr_symbol.specs.Symbol.{colour_by, colour_of, grid_of}
 use Rattle.qr_symbol.specs.Reading.{IsFormat}
 use Rattle.qr_matrix.proofs.GridLemmas.{colour-square}
 

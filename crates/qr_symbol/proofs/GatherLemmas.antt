@@ -1,11 +1,11 @@
 -- Putting codewords back into their blocks.
 use Rattle.std.proofs.Common.{◌≡◌, ℕ, zero, suc, ◌+◌, ◌<◌, ◌≤◌, List, [], ◌∷◌, ◌++◌, map, take, length, get_or, set, refl, sym, ◌∙◌, ap, subst, inl, inr, arith}
 use Rattle.std.proofs.lemmas.List.{take_more, get_or-set_same, get_or-set_other, length-set, length-map, length-take, map-append, ext_get_or}
-use Rattle.qr_layout.proofs.ListFacts.{Mem}
+use Rattle.qr_layout.proofs.Facts.{Mem}
 use Rattle.qr_layout.specs.declared.blocks.Blocks.{Blocks}
-use Rattle.qr_symbol.specs.declared.message.Cut.{Cut}
+use Rattle.qr_symbol.specs.declared.interleaving.Cut.{Cut}
 use Rattle.qr_symbol.specs.Interleaving.{Tag, IsBefore, count_of, start_of, cut_len, IsTag, codeword_at, data_cut, check_at, IsFinalMessage}
-use Rattle.qr_symbol.specs.Sending.{IsGathered}
+use Rattle.qr_symbol.specs.Steps.Interleaving.{IsGathered}
 use Rattle.qr_symbol.proofs.TagLemmas.{tag, TagsBefore, tags-push, tags-pass, tags-row, tags-end, tag-in}
 use Rattle.qr_symbol.proofs.RankLemmas.{tag-one, rank_of, rank-push, rank-pass, rank-row, rank-end, rank-in, tags-one, tag-of, map-at, Mem-of-Contains}
 use Rattle.qr_symbol.proofs.MessageLemmas.{final-one}

@@ -10,7 +10,7 @@ use Rattle.qr_matrix.specs.Grid.{Grid}
 use Rattle.qr_symbol.specs.Reading.{IsReading, IsUnread}
 use Rattle.qr_symbol.specs.Series.{squares_of}
 use Rattle.qr_symbol.specs.Joining.{AreReadings, bytes_of_all, HaveHeaders, BelongTogether, IsJoined, IsFirstUnread, IsNoSeries, IsUnjoined}
-use Rattle.qr_symbol.proofs.RoundTrip.{reading-one}
+use Rattle.qr_symbol.proofs.RoundTripLemmas.{reading-one}
 use Rattle.qr_symbol.proofs.RefusalLemmas.{read-refused, refused-one}
 
 -- ---- squares and contents, in turn

@@ -2,13 +2,13 @@
 use Rattle.std.proofs.Common.{◌≡◌, ℕ, ◌+◌, ◌-◌, ◌*◌, ◌<◌, ◌≤◌, List, [], ◌∷◌, ◌++◌, map, length, length-append, get_or, refl, sym, ◌∙◌, ap, subst, arith}
 use Rattle.std.specs.Prelude.{Result, Ok, Err, IfOk}
 use Rattle.std.proofs.lemmas.List.{length-map, ext_get_or}
-use Rattle.qr_field.specs.Polynomials.{IsCorrection}
-use Rattle.qr_field.proofs.PolynomialLemmas.{correction-one}
+use Rattle.qr_field.specs.Polynomial.{IsCorrection}
+use Rattle.qr_field.proofs.Facts.{correction-one}
 use Rattle.qr_layout.specs.declared.blocks.Blocks.{Blocks}
 use Rattle.qr_layout.specs.declared.level.Level.{Level}
-use Rattle.qr_layout.specs.Versions.{total_codewords_of}
+use Rattle.qr_layout.specs.Version.{total_codewords_of}
 use Rattle.qr_layout.specs.Blocks.{data_codewords_of, blocks_of}
-use Rattle.qr_layout.proofs.BlockLemmas.{blocks-sound}
+use Rattle.qr_layout.proofs.Facts.{blocks-sound}
 use Rattle.qr_symbol.specs.Interleaving.{Tag, count_of, start_of, cut_len, codeword_at, data_cut, correction_cut, block_of, check_at, IsFinalMessage}
 use Rattle.qr_symbol.proofs.RankLemmas.{tags-one, tags-many, tag-of, map-at, Mem-of-Contains}
 

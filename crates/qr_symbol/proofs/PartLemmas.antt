@@ -14,16 +14,13 @@ use Rattle.qr_bits.specs.declared.modes.Mode.TheVariants.{Byte, Kanji}
 use Rattle.qr_bits.specs.Segmentation.{runs_of, Covers, HasFit, IsLongestFit}
 use Rattle.qr_bits.specs.Modes.{may_use, count_width}
 use Rattle.qr_bits.specs.Padding.{room_of}
-use Rattle.qr_layout.specs.Versions.{total_codewords_of}
+use Rattle.qr_layout.specs.Version.{total_codewords_of}
 use Rattle.qr_layout.specs.Blocks.{block_count_of, correction_len_of, data_codewords_of}
-use Rattle.qr_layout.proofs.BlockLemmas.{every, every-at}
-use Rattle.qr_bits.proofs.SegmentLists.{count_width_bound}
-use Rattle.qr_bits.proofs.Counts.{capacity_least, fitting_short}
-use Rattle.qr_bits.proofs.Choosing.{byte_used}
-use Rattle.qr_bits.proofs.Pieces.{piece_fits}
+use Rattle.qr_layout.proofs.Facts.{every, every-at}
+use Rattle.qr_bits.proofs.Facts.{count_width_bound, capacity_least, fitting_short, byte_used, piece_fits}
 use Rattle.qr_symbol.specs.declared.symbol.Symbol.{Symbol}
 use Rattle.qr_symbol.specs.Series.{AreParts, FitParts, NeedsParts, IsSymbolOf, AreSymbolsFrom}
-use Rattle.qr_symbol.specs.Parts.{AreLengths, parts_of}
+use Rattle.qr_symbol.specs.Steps.Series.{AreLengths, parts_of}
 
 -- ---- how long a prefix fits
 

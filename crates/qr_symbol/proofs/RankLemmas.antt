@@ -4,8 +4,8 @@ use Rattle.std.proofs.lemmas.Bool.Decides.{nat_tests}
 use Rattle.std.proofs.lemmas.Bool.{cases_lt}
 use Rattle.std.proofs.Math.Nat.{mul-suc, mul-le-mul_left, mul_comm}
 use Rattle.std.specs.List.{All, AllByRecursion, Contains}
-use Rattle.qr_layout.proofs.ListFacts.{Mem, Mem-at, Rises-of-pairs, one_rising}
-use Rattle.qr_symbol.specs.declared.message.Cut.{Cut}
+use Rattle.qr_layout.proofs.Facts.{Mem, Mem-at, Rises-of-pairs, one_rising}
+use Rattle.qr_symbol.specs.declared.interleaving.Cut.{Cut}
 use Rattle.qr_symbol.specs.Interleaving.{Tag, IsBefore, count_of, len_of, start_of, cut_len, IsTag, IsTagOrder}
 use Rattle.qr_symbol.proofs.TagLemmas.{tag, TagsBefore, tags-start, tags-push, tags-pass, tags-row, tags-end, start-next, start-most}
 

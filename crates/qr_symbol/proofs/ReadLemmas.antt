@@ -9,20 +9,17 @@ use Rattle.std.specs.Int.{bit_at}
 use Rattle.std.proofs.lemmas.Nat.Bits.{same_from_bits_below, bit_at-lt}
 use Rattle.qr_layout.specs.declared.level.Level.{Level}
 use Rattle.qr_layout.specs.declared.region.Module.{Module}
-use Rattle.qr_layout.specs.Versions.{side_of, total_codewords_of}
+use Rattle.qr_layout.specs.Version.{side_of, total_codewords_of}
 use Rattle.qr_layout.specs.Blocks.{data_codewords_of, blocks_of}
 use Rattle.qr_layout.specs.Order.{IsOrder, number_of}
-use Rattle.qr_layout.specs.Path.{to_come, start_of}
-use Rattle.qr_layout.proofs.OrderLemmas.{order-mem, order-length, number-at, only_order}
-use Rattle.qr_layout.proofs.WalkLemmas.{to_come-start}
-use Rattle.qr_layout.proofs.RoleLaws.{region-role}
+use Rattle.qr_layout.specs.Steps.Order.{to_come, start_of}
+use Rattle.qr_layout.proofs.Facts.{order-mem, order-length, number-at, only_order, to_come-start, region-role}
 use Rattle.qr_bits.specs.Bits.{field, bits_of, codeword_bit}
 use Rattle.qr_bits.specs.Parsing.{bytes_of}
-use Rattle.qr_bits.proofs.BitLists.{length-field, length-bits_of, bits_at}
-use Rattle.qr_bits.proofs.Values.{bytes_takes}
+use Rattle.qr_bits.proofs.Facts.{length-field, length-bits_of, bits_at, bytes_takes}
 use Rattle.qr_matrix.specs.Grid.{Grid}
-use Rattle.qr_symbol.specs.Masks.{inverts, inverted}
-use Rattle.qr_symbol.specs.Colour.{colour_by, colour_of, grid_of}
+use Rattle.qr_symbol.specs.Mask.{inverts, inverted}
+use Rattle.qr_symbol.specs.Symbol.{colour_by, colour_of, grid_of}
 use Rattle.qr_symbol.specs.Interleaving.{IsInterleaved}
 use Rattle.qr_symbol.specs.Reading.{unmasked, read_bits, IsRead, IsMessage}
 use Rattle.qr_matrix.proofs.GridLemmas.{colour-square}

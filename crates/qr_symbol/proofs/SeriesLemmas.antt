@@ -6,17 +6,16 @@ use Rattle.qr_bits.specs.declared.modes.Rule.{Rule}
 use Rattle.qr_bits.specs.declared.header.Header.{Header}
 use Rattle.qr_bits.specs.Parsing.{Content}
 use Rattle.qr_bits.specs.Header.{parity_of}
-use Rattle.qr_bits.proofs.Counts.{fitting_short}
-use Rattle.qr_bits.proofs.Mirror.{empty_fits}
+use Rattle.qr_bits.proofs.Facts.{fitting_short, empty_fits}
 use Rattle.qr_symbol.specs.declared.symbol.Symbol.{Symbol}
 use Rattle.qr_matrix.specs.Grid.{Grid}
-use Rattle.qr_symbol.specs.Symbols.{FitsVersion, HasNoVersion}
+use Rattle.qr_symbol.specs.Encoding.{FitsVersion, HasNoVersion}
 use Rattle.qr_symbol.specs.Series.{squares_of, AreParts, IsSymbolOf, AreSymbolsFrom, IsSplit, IsLone, IsSeries}
-use Rattle.qr_symbol.specs.Parts.{AreLengths, parts_of}
+use Rattle.qr_symbol.specs.Steps.Series.{AreLengths, parts_of}
 use Rattle.qr_symbol.specs.Joining.{AreReadings, bytes_of_all, HaveHeaders, IsJoined}
 use Rattle.qr_symbol.proofs.SymbolLemmas.{symbol-at-one}
-use Rattle.qr_symbol.proofs.RoundTrip.{symbol-read}
-use Rattle.qr_symbol.proofs.SymbolMaking.{symbol-fits}
+use Rattle.qr_symbol.proofs.RoundTripLemmas.{symbol-read}
+use Rattle.qr_symbol.proofs.SymbolMakingLemmas.{symbol-fits}
 use Rattle.qr_symbol.proofs.PartLemmas.{parts-are, length-parts, parts-one, parts-some, parts-long}
 
 -- ---- what makes a series

@@ -7,13 +7,12 @@ use Rattle.qr_bits.specs.declared.modes.Rule.{Rule}
 use Rattle.qr_bits.specs.declared.segmentation.Segment.{Segment}
 use Rattle.qr_bits.specs.declared.header.Header.{Header}
 use Rattle.qr_bits.specs.Padding.{IsData}
-use Rattle.qr_bits.proofs.DataLaws.{data_one}
-use Rattle.qr_bits.proofs.SegmentLists.{segmentation-one}
+use Rattle.qr_bits.proofs.Facts.{data_one, segmentation-one}
 use Rattle.qr_matrix.specs.Grid.{Grid}
 use Rattle.qr_symbol.specs.Interleaving.{IsInterleaved}
-use Rattle.qr_symbol.specs.Colour.{grid_of}
+use Rattle.qr_symbol.specs.Symbol.{grid_of}
 use Rattle.qr_symbol.specs.Choice.{IsFirstLeast, IsMask, mask_penalty}
-use Rattle.qr_symbol.specs.Symbols.{IsVersion, IsSymbolAt, SymbolsAreOne}
+use Rattle.qr_symbol.specs.Encoding.{IsVersion, IsSymbolAt, SymbolsAreOne}
 use Rattle.qr_symbol.proofs.MessageLemmas.{final-one}
 
 -- The first number of the least measure is one.

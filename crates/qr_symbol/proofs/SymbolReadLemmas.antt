@@ -7,20 +7,19 @@ use borrow.Author.Tests.{ltb-true}
 use Rattle.qr_layout.specs.declared.region.Module.{Module}
 use Rattle.qr_layout.specs.declared.level.Level.{Level}
 use Rattle.qr_layout.specs.Blocks.{data_codewords_of}
-use Rattle.qr_layout.specs.Versions.{total_codewords_of, remainder_bits_of}
+use Rattle.qr_layout.specs.Version.{total_codewords_of, remainder_bits_of}
 use Rattle.qr_layout.specs.Order.{IsOrder}
-use Rattle.qr_layout.proofs.OrderLemmas.{order-length}
-use Rattle.qr_layout.proofs.TableLemmas.{below, below-at}
+use Rattle.qr_layout.proofs.Facts.{order-length, below, below-at}
 use Rattle.qr_bits.specs.Bits.{field, bits_of}
-use Rattle.qr_bits.proofs.BitLists.{length-field, length-bits_of}
+use Rattle.qr_bits.proofs.Facts.{length-field, length-bits_of}
 use Rattle.qr_bits.specs.Parsing.{parse, Fails}
 use Rattle.qr_bits.specs.declared.fault.ParseFault.{ParseFault}
 use Rattle.qr_bits.specs.declared.fault.ParseFault.TheVariants as unparsed
-use Rattle.qr_symbol.specs.Faults.{unread_for}
+use Rattle.qr_symbol.specs.Fault.{unread_for}
 use Rattle.qr_symbol.specs.declared.fault.ReadFault.{ReadFault}
 use Rattle.qr_symbol.specs.declared.fault.ReadFault.TheVariants as fault
 use Rattle.qr_matrix.specs.Grid.{Grid, colour}
-use Rattle.qr_symbol.specs.Masks.{inverts, inverted}
+use Rattle.qr_symbol.specs.Mask.{inverts, inverted}
 use Rattle.qr_symbol.specs.Interleaving.{IsInterleaved}
 use Rattle.qr_symbol.specs.Reading.{unmasked, IsRead, IsMessage, IsFormat, IsOfVersion, IsUnread}
 use Rattle.qr_symbol.proofs.BitLemmas.{differs-inverted}

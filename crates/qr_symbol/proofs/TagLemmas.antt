@@ -6,10 +6,10 @@ use Rattle.std.proofs.lemmas.List.Kept.{AllPairs-cons}
 use Rattle.std.proofs.lemmas.List.{map-append}
 use Rattle.std.proofs.Math.Nat.{mul-suc, mul-le-mul_left}
 use Rattle.std.specs.List.{All, AllPairs, AllByRecursion, Contains}
-use Rattle.qr_layout.proofs.ListFacts.{Mem, Rises, All-of-Mem}
-use Rattle.qr_symbol.specs.declared.message.Cut.{Cut}
+use Rattle.qr_layout.proofs.Facts.{Mem, Rises, All-of-Mem}
+use Rattle.qr_symbol.specs.declared.interleaving.Cut.{Cut}
 use Rattle.qr_symbol.specs.Interleaving.{Tag, IsBefore, count_of, len_of, start_of, IsTag, IsTagOrder, cut_len, codeword_at}
-use Rattle.qr_symbol.specs.Sending.{IsSent}
+use Rattle.qr_symbol.specs.Steps.Interleaving.{IsSent}
 
 -- the tag of a place and a block
 abbrev pub tag : ℕ → ℕ → Tag

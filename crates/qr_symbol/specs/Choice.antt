@@ -1,9 +1,9 @@
 -- The choice of the mask. Public clauses cite IsMask.
 use Rattle.std.specs.Prelude.{◌≡◌, ℕ, ◌<◌, ◌≤◌, ◌⊎◌, List}
 use Rattle.qr_layout.specs.declared.level.Level.{Level}
-use Rattle.qr_layout.specs.Versions.{side_of}
+use Rattle.qr_layout.specs.Version.{side_of}
 use Rattle.qr_matrix.specs.Grid.{colour}
-use Rattle.qr_symbol.specs.Colour.{grid_of}
+use Rattle.qr_symbol.specs.Symbol.{grid_of}
 use Rattle.qr_matrix.specs.Penalty.{penalty_of}
 
 -- of the numbers below n, m has the least measure f, and it is the smallest among equals [own]

@@ -2,11 +2,11 @@
 -- clauses cite IsInterleaved, data_cut and the words that cut a message into blocks.
 use Rattle.std.specs.Prelude.{◌≡◌, ℕ, ◌+◌, ◌-◌, ◌*◌, ◌<◌, ◌⊎◌, nat_lt, if◌then◌else◌, List, [], ◌++◌, map, take, drop, length, slice_index_or}
 use Rattle.std.specs.List.{All, AllPairs, Contains}
-use Rattle.qr_field.specs.Polynomials.{IsCorrection}
+use Rattle.qr_field.specs.Polynomial.{IsCorrection}
 use Rattle.qr_layout.specs.declared.blocks.Blocks.{Blocks}
 use Rattle.qr_layout.specs.declared.level.Level.{Level}
 use Rattle.qr_layout.specs.Blocks.{blocks_of}
-use Rattle.qr_symbol.specs.declared.message.Cut.{Cut}
+use Rattle.qr_symbol.specs.declared.interleaving.Cut.{Cut}
 
 -- how many blocks a cut has [own]
 abbrev pub count_of : Cut → ℕ

@@ -4,11 +4,11 @@ use Rattle.std.specs.Prelude.{◌≡◌, ℕ, ◌-◌, ◌*◌, ◌<◌, ◌≤�
 use Rattle.std.specs.List.{All}
 use Rattle.qr_layout.specs.declared.level.Level.{Level}
 use Rattle.qr_layout.specs.declared.region.Module.{Module}
-use Rattle.qr_layout.specs.Versions.{side_of, total_codewords_of}
+use Rattle.qr_layout.specs.Version.{side_of, total_codewords_of}
 use Rattle.qr_layout.specs.Blocks.{data_codewords_of}
-use Rattle.qr_layout.specs.Words.{format_word_of}
+use Rattle.qr_layout.specs.Format.{format_word_of}
 use Rattle.qr_layout.specs.Order.{IsOrder}
-use Rattle.qr_layout.specs.Roles.{first_place}
+use Rattle.qr_layout.specs.Role.{first_place}
 use Rattle.qr_bits.specs.declared.modes.Rule.{Rule}
 use Rattle.qr_bits.specs.declared.segmentation.Segment.{Segment}
 use Rattle.qr_bits.specs.Segmentation.{IsLeastSegmentation}
@@ -19,8 +19,8 @@ use Rattle.qr_bits.specs.declared.fault.ParseFault.TheVariants as unparsed
 use Rattle.qr_symbol.specs.declared.fault.ReadFault.{ReadFault}
 use Rattle.qr_symbol.specs.declared.fault.ReadFault.TheVariants as unread
 use Rattle.qr_matrix.specs.Grid.{Grid, colour}
-use Rattle.qr_symbol.specs.Masks.{inverts, inverted}
-use Rattle.qr_symbol.specs.Colour.{word_bit}
+use Rattle.qr_symbol.specs.Mask.{inverts, inverted}
+use Rattle.qr_symbol.specs.Symbol.{word_bit}
 use Rattle.qr_symbol.specs.Interleaving.{IsInterleaved}
 
 -- the colour of a module of the encoding region without its mask (ISO/IEC 18004:2015, 12)

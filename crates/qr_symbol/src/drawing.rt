@@ -3,17 +3,17 @@
 
 ghost use Rattle.std.specs.Prelude.{◌≡◌, ℕ, List, ◌+◌, ◌-◌, ◌<◌, ◌≤◌, ◌==◌, ◌&&◌, if◌then◌else◌, nat_le, nat_lt, false, slice_index};
 ghost use Rattle.std.specs.List.{list_any};
-ghost use Rattle.qr_layout.specs.Versions.{side_of};
+ghost use Rattle.qr_layout.specs.Version.{side_of};
 ghost use Rattle.qr_layout.specs.Alignment.{alignment_places, centres_of};
 ghost use Rattle.qr_layout.specs.Region.{corner_rectangles, is_alignment, is_in_rectangle, timing_lines, version_rectangles};
-ghost use Rattle.qr_layout.specs.Roles.{first_place, is_alignment_light, ring_of, role_of, second_place};
-ghost use Rattle.qr_layout.specs.StripPlaces.{both_of, rows_from};
-ghost use Rattle.qr_layout.specs.Words.{format_word_of, version_word_of};
+ghost use Rattle.qr_layout.specs.Role.{first_place, is_alignment_light, ring_of, role_of, second_place};
+ghost use Rattle.qr_layout.specs.Strips.{both_of, rows_from};
+ghost use Rattle.qr_layout.specs.Format.{format_word_of, version_word_of};
 ghost use Rattle.qr_bits.specs.Bits.{codeword_bit};
 ghost use Rattle.qr_matrix.specs.Grid.{square, colour, light, IsSquare};
 ghost use Rattle.qr_matrix.specs.Lines.{has_bit};
-ghost use Rattle.qr_symbol.specs.Colour.{word_bit};
-ghost use Rattle.qr_symbol.specs.Drawing.{fixed_colour, paint_of, placed_colour, placed_if, number_after, number_along, placed_along, IsWindow, format_or, masked_grid, region_grid};
+ghost use Rattle.qr_symbol.specs.Symbol.{word_bit};
+ghost use Rattle.qr_symbol.specs.Steps.Drawing.{fixed_colour, paint_of, placed_colour, placed_if, number_after, number_along, placed_along, IsWindow, format_or, masked_grid, region_grid};
 
 use crate::mask::pattern;
 use qr_layout::{
@@ -72,7 +72,7 @@ pub(crate) fn is_bit_set(word: u32, i: u8) -> bool
 }
 
 // The colour of a module outside the encoding region.
-#[tactic(auto, unfolding(crate::specs::Drawing::fixed_colour))]
+#[tactic(auto, unfolding(crate::specs::Steps::Drawing::fixed_colour))]
 fn fixed_colour(format: u32, version: u32, role: Role) -> bool
     ensures { result ≡ fixed_colour format version role }
 {
@@ -85,7 +85,7 @@ fn fixed_colour(format: u32, version: u32, role: Role) -> bool
 }
 
 // What a module is painted.
-#[tactic(auto, unfolding(crate::specs::Drawing::paint_of))]
+#[tactic(auto, unfolding(crate::specs::Steps::Drawing::paint_of))]
 fn paint(v: Version, format: Option<u32>, row: u8, col: u8) -> bool
     requires row_in { row < side_of v }
     requires col_in { col < side_of v }

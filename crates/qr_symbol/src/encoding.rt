@@ -8,13 +8,13 @@ ghost use Rattle.qr_bits.specs.Padding.{capacity_of};
 ghost use Rattle.qr_bits.specs.Header.{header_bits};
 ghost use Rattle.qr_symbol.specs.declared.fault.EncodeFault.{EncodeFault};
 ghost use Rattle.qr_symbol.specs.Reading.{IsReadBack};
-ghost use Rattle.qr_symbol.specs.Symbols.{HasNoVersion, IsSymbol};
+ghost use Rattle.qr_symbol.specs.Encoding.{HasNoVersion, IsSymbol};
 ghost use Rattle.qr_symbol.specs.Series.{IsSymbolOf};
 
 use crate::choice::build;
 use crate::fault::EncodeFault;
-use crate::fitting::least_fit;
-use crate::message::interleave;
+use crate::version_choice::least_fit;
+use crate::interleaving::interleave;
 use crate::symbol::Symbol;
 use qr_bits::{Header, INPUT_MAX, Rule, Segment, codewords};
 use qr_layout::{Level, Version};

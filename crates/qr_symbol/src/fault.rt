@@ -47,7 +47,7 @@ impl<T: Drop> From<AllocFailed<T>> for EncodeFault {
 
 impl From<BitFault> for EncodeFault {
     ghost use Rattle.std.specs.Prelude.{◌≡◌};
-    ghost use Rattle.qr_symbol.specs.Faults.{fault_of};
+    ghost use Rattle.qr_symbol.specs.Fault.{fault_of};
 
     ghost from_gives = { λ b e. e ≡ fault_of b };
 
@@ -83,7 +83,7 @@ pub enum ReadFault {
 }
 
 impl ReadFault {
-    ghost use Rattle.qr_symbol.specs.Faults.{read_fault_number};
+    ghost use Rattle.qr_symbol.specs.Fault.{read_fault_number};
 
     /// Its number, which stays what it is.
     pub fn number(&self) -> u8
@@ -124,7 +124,7 @@ impl<T: Drop> From<AllocFailed<T>> for ReadFault {
 
 impl From<ParseFault> for ReadFault {
     ghost use Rattle.std.specs.Prelude.{◌≡◌};
-    ghost use Rattle.qr_symbol.specs.Faults.{unread_for};
+    ghost use Rattle.qr_symbol.specs.Fault.{unread_for};
 
     ghost from_gives = { λ p e. e ≡ unread_for p };
 

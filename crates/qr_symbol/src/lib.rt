@@ -6,22 +6,22 @@ mod choice;
 mod drawing;
 mod encoding;
 mod fault;
-mod fitting;
+mod interleaving;
 mod joining;
 pub mod laws;
 mod mask;
-mod message;
 mod reading;
 #[cfg(test)]
 mod samples;
 mod series;
 mod symbol;
+mod version_choice;
 
 pub use choice::build;
 pub use encoding::encode;
 pub use fault::{EncodeFault, ReadFault};
+pub use interleaving::{deinterleave, interleave};
 pub use joining::read_series;
-pub use message::{deinterleave, interleave};
 pub use qr_matrix::{Matrix, penalty};
 pub use reading::read_symbol;
 pub use series::encode_series;

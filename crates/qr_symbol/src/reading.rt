@@ -5,14 +5,14 @@ ghost use Rattle.std.specs.Prelude.{◌≡◌, ℕ, ◌<◌, ◌≤◌, Err, len
 ghost use Rattle.std.specs.Bool.{Decides};
 ghost use Rattle.qr_symbol.specs.declared.fault.ReadFault.{ReadFault};
 ghost use Rattle.qr_layout.specs.declared.level.Level.{Level};
-ghost use Rattle.qr_layout.specs.Roles.{first_place};
-ghost use Rattle.qr_layout.specs.Versions.{side_of, total_codewords_of};
+ghost use Rattle.qr_layout.specs.Role.{first_place};
+ghost use Rattle.qr_layout.specs.Version.{side_of, total_codewords_of};
 ghost use Rattle.qr_symbol.specs.Reading.{IsFormat, IsRead, IsReading, IsUnread};
 
 use crate::drawing::is_bit_set;
 use crate::fault::ReadFault;
 use crate::mask::inverts;
-use crate::message::deinterleave;
+use crate::interleaving::deinterleave;
 use qr_bits::{Parsed, parse};
 use qr_layout::{Level, Module, Version, format_word, walk};
 use qr_matrix::Matrix;

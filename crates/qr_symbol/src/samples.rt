@@ -4,7 +4,7 @@ ghost use Rattle.std.specs.Prelude.{◌<◌, ◌≤◌, length};
 ghost use Rattle.std.specs.Option.{ForSome};
 
 use crate::choice::build;
-use crate::message::interleave;
+use crate::interleaving::interleave;
 use crate::symbol::Symbol;
 use qr_bits::{Header, INPUT_MAX, Mode, Segment, codewords, covers};
 use qr_layout::{Level, Version};

@@ -8,10 +8,10 @@ ghost use Rattle.qr_bits.specs.Modes.{may_use};
 ghost use Rattle.qr_bits.specs.Padding.{room_of};
 ghost use Rattle.qr_bits.specs.Header.{parity_of};
 ghost use Rattle.qr_symbol.specs.declared.fault.EncodeFault.{EncodeFault};
-ghost use Rattle.qr_symbol.specs.Symbols.{FitsVersion};
+ghost use Rattle.qr_symbol.specs.Encoding.{FitsVersion};
 ghost use Rattle.qr_symbol.specs.Series.{squares_of, AreParts, NeedsParts, IsSymbolOf, AreSymbolsFrom, IsSeries, HasNoSeries};
 ghost use Rattle.qr_symbol.specs.Joining.{IsJoined};
-ghost use Rattle.qr_symbol.specs.Parts.{AreLengths, parts_of};
+ghost use Rattle.qr_symbol.specs.Steps.Series.{AreLengths, parts_of};
 
 use crate::encoding::{LONGEST, symbol_at};
 use crate::fault::EncodeFault;

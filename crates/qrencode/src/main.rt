@@ -4,7 +4,7 @@
 ghost use Rattle.std.specs.Prelude.{map};
 ghost use Rattle.std.specs.String.{string_bytes};
 ghost use Rattle.std.specs.Process.{exit_status};
-ghost use Rattle.qrencode_cli.specs.Answer.{RunsTo};
+ghost use Rattle.qrencode_cli.specs.Command.{RunsTo};
 
 use qrencode_cli::{Counted, Sink, Source, run};
 use std::alloc::Global;

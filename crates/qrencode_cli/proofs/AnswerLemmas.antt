@@ -5,19 +5,18 @@ use borrow.Author.Tests.{leb-true}
 use Rattle.clap.specs.Words.{Kinds, first_of, one_of}
 use Rattle.clap.specs.Walk.{Row, Text}
 use Rattle.qr_layout.specs.declared.level.Level.{Level}
-use Rattle.qr_bits.proofs.Mirror.{empty_fits}
+use Rattle.qr_bits.proofs.Facts.{empty_fits}
 use Rattle.qr_matrix.specs.Grid.{Grid}
 use Rattle.qr_symbol.specs.Series.{HasNoSeries, IsSeries, squares_of}
-use Rattle.qr_symbol.specs.Symbols.{FitsVersion}
-use Rattle.qr_symbol.proofs.SeriesLemmas.{series-one}
-use Rattle.qr_symbol.proofs.SymbolLemmas.{symbol-one}
-use Rattle.qrencode_cli.specs.Answer.{AnswersAreOne, IsDrawing, IsRefusal, Refuses, RefusalsAreOne, RefusalsExcludeDrawings, held, input_for}
+use Rattle.qr_symbol.specs.Encoding.{FitsVersion}
+use Rattle.qr_symbol.proofs.Facts.{series-one, symbol-one}
+use Rattle.qrencode_cli.specs.Command.{AnswersAreOne, IsDrawing, IsRefusal, Refuses, RefusalsAreOne, RefusalsExcludeDrawings, held, input_for}
 use Rattle.qrencode_cli.specs.Arguments.{faults_for, rows_for}
-use Rattle.qrencode_cli.specs.Drawings.{drawn}
+use Rattle.qrencode_cli.specs.Drawing.{drawn}
 use Rattle.qrencode_cli.specs.Settings.{Reason, SettingsView, checked_level, drawing_at, level_at, needs_version, no_matches, number_at, rule_for, settings_for, settings_with, taken_settings, unknown_level, unknown_type, version_numbered}
 use Rattle.qrencode_cli.specs.declared.drawing.Drawing.{Drawing}
 use Rattle.qrencode_cli.specs.declared.fault.Refusal.{Refusal}
-use Rattle.qrencode_cli.specs.Symbols.{AreSquares, AreSymbols, IsTooLong, IsTooMany, smallest_of}
+use Rattle.qrencode_cli.specs.Picture.{AreSquares, AreSymbols, IsTooLong, IsTooMany, smallest_of}
 use Rattle.qrencode_cli.specs.declared.fault.Refusal.TheVariants as refusal
 
 -- words that are taken give one list of settings

@@ -2,7 +2,7 @@
 use Rattle.std.specs.Prelude.{ℕ, ◌+◌, ◌-◌, ◌*◌, ◌==◌, Bool, not, ◌&&◌, ◌||◌, if◌then◌else◌, List, [], ◌++◌, length, slice_index_or, codes, decimal}
 use Rattle.std.specs.List.{prefix_len, range_with_len}
 use Rattle.qr_matrix.specs.Grid.{Grid, light}
-use Rattle.qrencode_cli.specs.Rasters.{is_dark_at, raster_width, texts_below}
+use Rattle.qrencode_cli.specs.Raster.{is_dark_at, raster_width, texts_below}
 
 -- a text, and a number in decimal digits after it [own]
 unfoldable pub numbered : List ℕ → ℕ → List ℕ

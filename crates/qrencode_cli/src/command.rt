@@ -4,10 +4,10 @@ ghost use Rattle.std.specs.Prelude.{◌≡◌, ◌≤◌, ◌<◌, ◌+◌, ◌�
 ghost use Rattle.std.specs.Prelude.{MatchResult, Result};
 ghost use Rattle.std.specs.Io.KnownBytes.{Appends};
 ghost use Rattle.std.specs.String.{string_bytes};
-ghost use Rattle.qrencode_cli.specs.Answer.{Breaks, Draws, IsDrawing, RunsTo, held};
+ghost use Rattle.qrencode_cli.specs.Command.{Breaks, Draws, IsDrawing, RunsTo, held};
 ghost use Rattle.qrencode_cli.specs.Device.{IsReadWithin, IsWrittenWithin, is_read_fault, is_write_fault, no_reads, no_writes};
-ghost use Rattle.qrencode_cli.specs.Faults.{is_read, is_write};
-ghost use Rattle.qrencode_cli.specs.Steps.{AreDrawnFor, Attempts, IsInputFault, Prepares, drawing_of};
+ghost use Rattle.qrencode_cli.specs.Fault.{is_read, is_write};
+ghost use Rattle.qrencode_cli.specs.Steps.Command.{AreDrawnFor, Attempts, IsInputFault, Prepares, drawing_of};
 ghost use Rattle.qrencode_cli.specs.declared.fault.Fault.{Fault};
 
 use crate::device::{Sink, Source};

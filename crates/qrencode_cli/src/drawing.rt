@@ -5,14 +5,14 @@ ghost use Rattle.std.specs.Prelude.{◌≡◌, ◌≤◌, ◌<◌, ◌+◌, ◌+
 ghost use Rattle.std.specs.Io.KnownBytes.{Appends};
 ghost use Rattle.qrencode_cli.specs.Device.{AppendsBeginning, IsWrittenWithin, counted, is_write_fault, no_writes, writer};
 ghost use Rattle.qr_symbol.specs.Series.{squares_of};
-ghost use Rattle.qrencode_cli.specs.Drawings.{HaveOneSide, drawn};
-ghost use Rattle.qrencode_cli.specs.Pens.{Puts};
-ghost use Rattle.qrencode_cli.specs.Rasters.{is_dark_at, raster_width};
+ghost use Rattle.qrencode_cli.specs.Drawing.{HaveOneSide, drawn};
+ghost use Rattle.qrencode_cli.specs.Steps.Pen.{Puts};
+ghost use Rattle.qrencode_cli.specs.Raster.{is_dark_at, raster_width};
 
 use crate::device::Sink;
 use crate::pen::{DrawFault, PIECE, Pen};
 use crate::svg::put_document;
-use crate::text_drawing::{Cells, put_texts};
+use crate::text::{Cells, put_texts};
 use qr_symbol::{Matrix, Symbol};
 
 /// A type of drawing.
@@ -37,7 +37,7 @@ pub(crate) fn raster_width(matrix: &Matrix, margin: u8) -> u16
 }
 
 // Whether a place of the raster is dark.
-#[tactic(auto, unfolding(crate::specs::Rasters::is_dark_at))]
+#[tactic(auto, unfolding(crate::specs::Raster::is_dark_at))]
 pub(crate) fn is_dark_at(matrix: &Matrix, margin: u8, y: u16, x: u16) -> bool
     ensures { result ≡ is_dark_at margin matrix.now y x }
 {

@@ -1,7 +1,7 @@
 //! Why the command draws nothing, or not all, and the line that tells of it.
 
 ghost use Rattle.std.specs.Prelude.{◌≡◌};
-ghost use Rattle.qrencode_cli.specs.Faults.{fault_line, refusal_line};
+ghost use Rattle.qrencode_cli.specs.Fault.{fault_line, refusal_line};
 
 use crate::pen::DrawFault;
 use crate::settings::UsageFault;
@@ -62,7 +62,7 @@ impl Fault {
 
 impl From<UsageFault> for Fault {
     ghost use Rattle.std.specs.Prelude.{◌≡◌};
-    ghost use Rattle.qrencode_cli.specs.Faults.{fault_of_words};
+    ghost use Rattle.qrencode_cli.specs.Fault.{fault_of_words};
 
     ghost from_gives = { λ e f. f ≡ fault_of_words e };
 
@@ -79,7 +79,7 @@ impl From<UsageFault> for Fault {
 
 impl From<EncodeFault> for Fault {
     ghost use Rattle.std.specs.Prelude.{◌≡◌};
-    ghost use Rattle.qrencode_cli.specs.Faults.{fault_of_input};
+    ghost use Rattle.qrencode_cli.specs.Fault.{fault_of_input};
 
     ghost from_gives = { λ e f. f ≡ fault_of_input e };
 

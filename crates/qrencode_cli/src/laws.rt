@@ -5,8 +5,8 @@ ghost use Rattle.std.specs.Prelude.{◌≡◌, ◌-◌, ◌^◌, ◌↔◌, fals
 ghost use Rattle.qr_bits.specs.declared.modes.TheConstants.{INPUT_MAX};
 ghost use Rattle.qrencode_cli.specs.declared.input.TheConstants.{INTERRUPTIONS_MAX};
 ghost use Rattle.qrencode_cli.specs.declared.pen.TheConstants.{PIECE};
-ghost use Rattle.qrencode_cli.specs.Answer.{AnswersAreOne, RefusalsAreOne, RefusalsExcludeDrawings};
-ghost use Rattle.qrencode_cli.specs.Rows.{RowsOfWords};
+ghost use Rattle.qrencode_cli.specs.Command.{AnswersAreOne, RefusalsAreOne, RefusalsExcludeDrawings};
+ghost use Rattle.qrencode_cli.specs.Laws.{RowsOfWords};
 
 use crate::device::{ReadCounts, Trouble, WriteCounts};
 use crate::drawing::Drawing;

@@ -13,7 +13,7 @@ mod pen;
 mod picture;
 mod settings;
 mod svg;
-mod text_drawing;
+mod text;
 mod trial;
 
 pub use command::run;

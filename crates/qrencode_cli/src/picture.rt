@@ -2,7 +2,7 @@
 
 ghost use Rattle.std.specs.Prelude.{◌<◌, ◌≤◌, length};
 ghost use Rattle.qr_symbol.specs.Series.{squares_of};
-ghost use Rattle.qrencode_cli.specs.Drawings.{HaveOneSide};
+ghost use Rattle.qrencode_cli.specs.Drawing.{HaveOneSide};
 
 use crate::drawing::Drawing;
 use qr_symbol::Symbol;

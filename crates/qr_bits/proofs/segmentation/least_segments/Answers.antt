@@ -4,12 +4,12 @@ use Rattle.qr_bits.specs.declared.modes.Mode.{Mode}
 use Rattle.qr_bits.specs.declared.segmentation.Segment.{Segment}
 use Rattle.qr_bits.specs.declared.place.Place.TheVariants.{Start}
 use Rattle.qr_bits.specs.Segmentation.{runs_of}
-use Rattle.qr_bits.specs.Growing.{with_back}
-use Rattle.qr_bits.specs.ByPlaces.{follow}
-use Rattle.qr_bits.proofs.Backs.{runs_of-push, sum_by-runs_of}
+use Rattle.qr_bits.specs.Steps.Segmentation.{with_back}
+use Rattle.qr_bits.specs.Steps.Table.{follow}
+use Rattle.qr_bits.proofs.BackLemmas.{runs_of-push, sum_by-runs_of}
 use Rattle.qr_bits.specs.declared.place.ByPlace.{ByPlace}
 use Rattle.std.proofs.lemmas.List.{reverse-append, length_push, append-nil, nil_from_length}
-use Rattle.qr_bits.proofs.Tables.{follow-cons, follow-nil, letters_from_table}
+use Rattle.qr_bits.proofs.TableLemmas.{follow-cons, follow-nil, letters_from_table}
 use Rattle.qr_bits.proofs.segmentation.least_segments.Goals as goal
 
 pub loop-modes-init : goal.loop-modes-init

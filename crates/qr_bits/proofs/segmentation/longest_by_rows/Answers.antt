@@ -2,10 +2,10 @@ use Rattle.std.proofs.Common.{◌≡◌, ◌+◌, ◌-◌, ◌≤◌, ◌<◌, �
 use Rattle.std.proofs.lemmas.Bool.{cases_lt}
 use Rattle.qr_bits.specs.Segmentation.{HasFit}
 use Rattle.qr_bits.specs.Modes.{is_kanji_pair}
-use Rattle.qr_bits.specs.Places.{turned}
-use Rattle.qr_bits.specs.ByPlaces.{at_place}
-use Rattle.qr_bits.proofs.Tables.{best_none, small_more, zeros}
-use Rattle.qr_bits.proofs.Mirror.{empty_fits, front_more, front_fits, front_least}
+use Rattle.qr_bits.specs.Steps.Place.{turned}
+use Rattle.qr_bits.specs.Steps.Table.{at_place}
+use Rattle.qr_bits.proofs.TableLemmas.{best_none, small_more, zeros}
+use Rattle.qr_bits.proofs.MirrorLemmas.{empty_fits, front_more, front_fits, front_least}
 use Rattle.qr_bits.proofs.segmentation.longest_by_rows.Goals as goal
 use Rattle.qr_bits.proofs.segmentation.longest_by_rows.Goals.{then-from-room, else-from-room}
 

@@ -4,9 +4,9 @@ use Rattle.qr_bits.specs.declared.place.Place.{Place}
 use Rattle.qr_bits.specs.declared.place.ByPlace.{ByPlace}
 use Rattle.qr_bits.specs.Segmentation.{HasFit}
 use Rattle.qr_bits.specs.Modes.{is_kanji_pair}
-use Rattle.qr_bits.specs.Places.{turned}
-use Rattle.qr_bits.specs.ByPlaces.{at_place, follow}
-use Rattle.qr_bits.proofs.Best.{BestBelow}
+use Rattle.qr_bits.specs.Steps.Place.{turned}
+use Rattle.qr_bits.specs.Steps.Table.{at_place, follow}
+use Rattle.qr_bits.proofs.BestLemmas.{BestBelow}
 use Rattle.qr_bits.proofs.segmentation.longest_by_rows.Given as goal
 
 -- the longest so far, and the best rests of the prefix that was looked at, read backwards

@@ -1,5 +1,5 @@
 use Rattle.std.proofs.Common.{◌≡◌, ◌-◌, length, min, arith}
-use Rattle.qr_bits.proofs.BytesOnly.{bytes_longest}
+use Rattle.qr_bits.proofs.BytesOnlyLemmas.{bytes_longest}
 use Rattle.qr_bits.proofs.segmentation.longest_fit.Goals as goal
 
 pub returns-in-BytesOnly : goal.returns-in-BytesOnly

@@ -1,6 +1,6 @@
 use Rattle.std.proofs.Common.{sym, append-nil, append_assoc, take}
 use Rattle.qr_bits.specs.Bits.{bits_of}
-use Rattle.qr_bits.proofs.BitLists.{bits_of-take}
+use Rattle.qr_bits.proofs.BitLemmas.{bits_of-take}
 use Rattle.qr_bits.proofs.stream.put_bytes.Goals as goal
 
 pub loop-byte-init : goal.loop-byte-init

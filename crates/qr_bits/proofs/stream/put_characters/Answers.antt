@@ -1,7 +1,7 @@
 use Rattle.std.proofs.Common.{List, Bool, ◌++◌, drop, sym, ◌∙◌, ap, arith, append-nil, append_assoc}
 use Rattle.qr_bits.specs.Modes.{is_alphanumeric}
 use Rattle.qr_bits.specs.Stream.{character_bits}
-use Rattle.qr_bits.proofs.Writing.{all_rest, characters_two, characters_one_left, characters_none_left}
+use Rattle.qr_bits.proofs.WritingLemmas.{all_rest, characters_two, characters_one_left, characters_none_left}
 use Rattle.qr_bits.proofs.stream.put_characters.Goals as goal
 
 pub loop-rest-preserved : goal.loop-rest-preserved

@@ -1,7 +1,7 @@
 use Rattle.std.proofs.Common.{List, Bool, ◌++◌, drop, sym, ◌∙◌, ap, arith, append-nil, append_assoc}
 use Rattle.qr_bits.specs.Modes.{is_digit}
 use Rattle.qr_bits.specs.Stream.{digit_bits}
-use Rattle.qr_bits.proofs.Writing.{all_rest, digits_three, digits_two_left, digits_one_left, digits_none_left}
+use Rattle.qr_bits.proofs.WritingLemmas.{all_rest, digits_three, digits_two_left, digits_one_left, digits_none_left}
 use Rattle.qr_bits.proofs.stream.put_digits.Goals as goal
 
 pub loop-rest-preserved : goal.loop-rest-preserved

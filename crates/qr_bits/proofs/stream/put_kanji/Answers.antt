@@ -1,7 +1,7 @@
 use Rattle.std.proofs.Common.{List, Bool, ◌++◌, drop, sym, ◌∙◌, ap, arith, append-nil, append_assoc}
 use Rattle.qr_bits.specs.Modes.{is_kanji_pair}
 use Rattle.qr_bits.specs.Stream.{kanji_bits}
-use Rattle.qr_bits.proofs.Writing.{in_twos-first, kanji_two, kanji_none}
+use Rattle.qr_bits.proofs.WritingLemmas.{in_twos-first, kanji_two, kanji_none}
 use Rattle.qr_bits.proofs.stream.put_kanji.Goals as goal
 
 pub kanji_value-requires : goal.kanji_value-requires

@@ -1,5 +1,5 @@
 use Rattle.std.proofs.Common.{◌+◌, ◌<◌, arith}
-use Rattle.qr_bits.proofs.Choosing.{step_bits_bound}
+use Rattle.qr_bits.proofs.ChoiceLemmas.{step_bits_bound}
 use Rattle.qr_bits.proofs.table.bits_from.Goals as goal
 
 pub overflow_add-result : goal.overflow_add-result

@@ -1,5 +1,5 @@
 use Rattle.std.proofs.Common.{◌≡◌, ◌⊎◌, ◌+◌, ◌%◌, inl, inr, ◌∙◌, arith}
-use Rattle.qr_field.specs.Bits.{product}
+use Rattle.qr_field.specs.Galois.{product}
 use Rattle.qr_field.proofs.ProductLemmas.{product-none, product-definition, product-only}
 use Rattle.qr_field.proofs.PowerLemmas.{product-of_powers}
 use Rattle.qr_field.proofs.galois.mul.Goals as goal

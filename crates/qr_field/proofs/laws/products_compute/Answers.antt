@@ -1,5 +1,5 @@
 use Rattle.std.proofs.Common.{refl}
-use Rattle.qr_field.specs.Bits.{product, remainder_of, carryless}
+use Rattle.qr_field.specs.Galois.{product, remainder_of, carryless}
 use Rattle.qr_field.proofs.laws.products_compute.Goals as goal
 
 pub returns-clause-reduced : goal.returns-clause-reduced

@@ -1,5 +1,5 @@
 use Rattle.std.proofs.Common.{◌≡◌, ◌++◌, take, drop}
-use Rattle.qr_field.specs.Steps.{carried}
+use Rattle.qr_field.specs.Steps.Polynomial.{carried}
 use Rattle.qr_field.proofs.polynomial.carry.Given as goal
 
 abbrev pub invariant-loop-i : goal.invariant-loop-i

@@ -1,6 +1,6 @@
 use Rattle.std.proofs.Common.{◌≡◌, ◌∷◌}
 use Rattle.arrayvec.specs.ArrayVec.{array_vec_len}
-use Rattle.qr_field.specs.Polynomials.{power, generator_of}
+use Rattle.qr_field.specs.Polynomial.{power, generator_of}
 use Rattle.qr_field.proofs.polynomial.generator.Given as goal
 
 abbrev pub invariant-loop-i : goal.invariant-loop-i

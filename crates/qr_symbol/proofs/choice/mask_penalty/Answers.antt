@@ -1,9 +1,9 @@
 use Rattle.std.proofs.Common.{◌∙◌, ap}
-use Rattle.qr_layout.specs.Versions.{side_of}
-use Rattle.qr_layout.specs.Words.{format_word_of}
+use Rattle.qr_layout.specs.Version.{side_of}
+use Rattle.qr_layout.specs.Format.{format_word_of}
 use Rattle.qr_matrix.specs.Grid.{Grid, colour}
 use Rattle.qr_matrix.specs.Penalty.{penalty_of}
-use Rattle.qr_symbol.specs.Drawing.{masked_colour}
+use Rattle.qr_symbol.specs.Steps.Drawing.{masked_colour}
 use Rattle.qr_symbol.proofs.DrawingLemmas.{square-is}
 use Rattle.qr_symbol.proofs.choice.mask_penalty.Goals as goal
 

@@ -2,8 +2,8 @@ use Rattle.std.proofs.Common.{ℕ, false, eqb, take, get_or, ap, ◌∙◌, arit
 use Rattle.std.specs.List.{list_any}
 use Rattle.std.proofs.lemmas.List.{take_all}
 use Rattle.qr_layout.specs.declared.region.Module.{Module}
-use Rattle.qr_layout.specs.Versions.{side_of}
-use Rattle.qr_layout.specs.Roles.{ring_of, is_alignment_light}
+use Rattle.qr_layout.specs.Version.{side_of}
+use Rattle.qr_layout.specs.Role.{ring_of, is_alignment_light}
 use Rattle.qr_matrix.specs.Grid.{Grid, colour}
 use Rattle.qr_symbol.proofs.PaintLemmas.{over, over-item, over-same, inside-at}
 use Rattle.qr_symbol.proofs.drawing.clear_rings.Goals as goal

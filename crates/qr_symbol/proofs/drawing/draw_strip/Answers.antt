@@ -1,15 +1,15 @@
 use Rattle.std.proofs.Common.{◌≡◌, ◌<◌, ◌≤◌, ℕ, Bool, true, false, suc, ◌+◌, ◌-◌, cond, sym, ap, subst, ◌∙◌, arith}
 use Rattle.qr_layout.specs.declared.region.Module.{Module}
-use Rattle.qr_layout.specs.Versions.{side_of}
+use Rattle.qr_layout.specs.Version.{side_of}
 use Rattle.qr_layout.specs.Region.{is_in_region}
-use Rattle.qr_layout.specs.StripPlaces.{both_of, rows_from}
+use Rattle.qr_layout.specs.Strips.{both_of, rows_from}
 use Rattle.qr_matrix.specs.Grid.{Grid}
 use Rattle.qr_matrix.specs.Lines.{has_bit}
-use Rattle.qr_symbol.specs.Drawing.{IsWindow, number_after, number_along, placed_along, placed_if}
+use Rattle.qr_symbol.specs.Steps.Drawing.{IsWindow, number_after, number_along, placed_along, placed_if}
 use Rattle.qr_symbol.proofs.DrawingLemmas.{row-number, row-placed, side-placed}
 use Rattle.qr_symbol.specs.declared.drawing.Window.{Window}
 use Rattle.qr_bits.specs.Bits.{codeword_bit}
-use Rattle.qr_symbol.proofs.KeptPlaces.{region-told}
+use Rattle.qr_symbol.proofs.KeptPlaceLemmas.{region-told}
 use Rattle.qr_symbol.proofs.drawing.draw_strip.Goals as goal
 use Rattle.qr_symbol.proofs.drawing.draw_strip.Goals.{then-strip, else-strip, then-number-window, else-number-window}
 

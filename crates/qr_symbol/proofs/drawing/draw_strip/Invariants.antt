@@ -1,7 +1,7 @@
 use Rattle.std.proofs.Common.{◌≡◌, ◌+◌, ◌-◌, ◌*◌, ◌≤◌}
-use Rattle.qr_layout.specs.StripPlaces.{both_of, rows_from}
-use Rattle.qr_layout.specs.Versions.{side_of}
-use Rattle.qr_symbol.specs.Drawing.{IsWindow, number_along, placed_along}
+use Rattle.qr_layout.specs.Strips.{both_of, rows_from}
+use Rattle.qr_layout.specs.Version.{side_of}
+use Rattle.qr_symbol.specs.Steps.Drawing.{IsWindow, number_along, placed_along}
 use Rattle.qr_symbol.proofs.drawing.draw_strip.Given as goal
 
 abbrev pub invariant-loop-passed : goal.invariant-loop-passed

@@ -2,10 +2,10 @@ use Rattle.std.proofs.Common.{take, get_or, ◌+◌, ◌-◌, ap, sym, ◌∙◌
 use Rattle.std.specs.List.{list_any}
 use Rattle.std.proofs.lemmas.List.{take_all}
 use Rattle.qr_layout.specs.declared.region.Module.{Module}
-use Rattle.qr_layout.specs.Versions.{side_of}
+use Rattle.qr_layout.specs.Version.{side_of}
 use Rattle.qr_layout.specs.Alignment.{alignment_places, centres_of}
 use Rattle.qr_layout.specs.Region.{is_alignment, is_in_rectangle, square_round}
-use Rattle.qr_layout.proofs.AlignmentLemmas.{list_any-map}
+use Rattle.qr_layout.proofs.Facts.{list_any-map}
 use Rattle.qr_matrix.specs.Grid.{Grid, colour}
 use Rattle.qr_symbol.proofs.PaintLemmas.{over-rectangle, over-item, over-same, inside-at}
 use Rattle.qr_symbol.proofs.drawing.fill_alignment.Goals as goal

@@ -4,13 +4,13 @@ use Rattle.std.proofs.lemmas.List.{nil_from_length}
 use Rattle.std.proofs.lemmas.Result.{err_from_is_err_and, IfOk-weaker}
 use Rattle.qr_bits.specs.declared.fault.BitFault.{BitFault}
 use Rattle.qr_bits.specs.declared.fault.BitFault.TheVariants.{Memory, TooLong}
-use Rattle.qr_bits.proofs.Counts.{fitting_short}
+use Rattle.qr_bits.proofs.Facts.{fitting_short}
 use Rattle.qr_symbol.specs.declared.fault.EncodeFault.{EncodeFault}
 use Rattle.qr_symbol.specs.declared.fault.EncodeFault.TheVariants as fault
 use Rattle.qr_symbol.specs.declared.symbol.Symbol.{Symbol}
-use Rattle.qr_symbol.specs.Faults.{fault_of}
+use Rattle.qr_symbol.specs.Fault.{fault_of}
 use Rattle.qr_symbol.proofs.ExactLemmas.{too-long-exactly}
-use Rattle.qr_symbol.proofs.SymbolMaking.{symbol-found, symbol-back}
+use Rattle.qr_symbol.proofs.SymbolMakingLemmas.{symbol-found, symbol-back}
 use Rattle.qr_symbol.proofs.encoding.encode.Goals as goal
 
 -- the answer of a fault

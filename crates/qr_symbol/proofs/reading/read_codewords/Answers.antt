@@ -6,7 +6,7 @@ use Rattle.std.proofs.lemmas.List.{append-nil}
 use Rattle.std.proofs.lemmas.List.Elements.{All-push}
 use Rattle.qr_layout.specs.Order.{IsOrder}
 use Rattle.qr_bits.specs.Bits.{bits_of, field}
-use Rattle.qr_bits.proofs.BitLists.{bool_byte-bit, field-more, bits_of-more}
+use Rattle.qr_bits.proofs.Facts.{bool_byte-bit, field-more, bits_of-more}
 use Rattle.qr_symbol.specs.Reading.{unmasked}
 use Rattle.qr_symbol.proofs.DrawingLemmas.{whole-next, whole-push, in-square}
 use Rattle.qr_symbol.proofs.SymbolReadLemmas.{bit-read, all-read, read-whole}

@@ -1,6 +1,6 @@
 use Rattle.std.proofs.Common.{ℕ, length, Err, sym, ◌∙◌, ap, subst, arith}
 use Rattle.std.proofs.lemmas.Result.{err_from_is_err_and}
-use Rattle.qr_layout.proofs.BlockLemmas.{laws-of}
+use Rattle.qr_layout.proofs.Facts.{laws-of}
 use Rattle.qr_symbol.specs.declared.fault.ReadFault.{ReadFault}
 use Rattle.qr_symbol.specs.Reading.{IsRead, IsMessage}
 use Rattle.qr_symbol.proofs.SymbolReadLemmas.{not-checked, not-parsed}

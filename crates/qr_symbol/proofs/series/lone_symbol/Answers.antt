@@ -1,6 +1,5 @@
 use Rattle.std.proofs.Common.{arith}
-use Rattle.qr_bits.proofs.Counts.{fitting_short}
-use Rattle.qr_bits.proofs.SegmentLists.{least_fits, covers_all}
+use Rattle.qr_bits.proofs.Facts.{fitting_short, least_fits, covers_all}
 use Rattle.qr_symbol.proofs.series.lone_symbol.Goals as goal
 
 pub returns-then-input-gt-LONGEST-clause-symbol : goal.returns-then-input-gt-LONGEST-clause-symbol

@@ -2,7 +2,7 @@ use Rattle.std.proofs.Common.{◌≡◌, false, ℕ, ◌+◌, ◌≤◌, List, �
 use Rattle.qr_symbol.specs.Series.{AreParts, NeedsParts}
 use Rattle.qr_bits.specs.declared.modes.Mode.TheVariants.{Kanji}
 use Rattle.qr_bits.specs.Modes.{may_use}
-use Rattle.qr_symbol.specs.Parts.{AreLengths}
+use Rattle.qr_symbol.specs.Steps.Series.{AreLengths}
 use Rattle.qr_symbol.proofs.series.part_lengths.Given as goal
 
 -- the lengths so far and those of the rest are those of the input; the parts of the input are as many as the lengths so far

@@ -3,7 +3,7 @@ use Rattle.std.specs.Prelude.{vec_len}
 use Rattle.qr_bits.specs.Header.{parity_of}
 use Rattle.qr_symbol.specs.declared.symbol.Symbol.{Symbol}
 use Rattle.qr_symbol.specs.Series.{AreSymbolsFrom}
-use Rattle.qr_symbol.specs.Parts.{AreLengths, parts_of}
+use Rattle.qr_symbol.specs.Steps.Series.{AreLengths, parts_of}
 use Rattle.qr_symbol.proofs.series.part_symbols.Given as goal
 
 -- the symbols so far and those of the rest are those of the whole

@@ -1,5 +1,5 @@
 use Rattle.std.proofs.lemmas.Result.{err_from_is_err_and}
-use Rattle.qrencode_cli.proofs.Running.{attempts-refused, attempts-shown}
+use Rattle.qrencode_cli.proofs.RunningLemmas.{attempts-refused, attempts-shown}
 use Rattle.qrencode_cli.proofs.command.attempt.Goals as goal
 
 pub returns-clause-attempts : goal.returns-clause-attempts

@@ -1,8 +1,8 @@
 use Rattle.std.proofs.Common.{◌≡◌, ◌∙◌, ap, List, ℕ, MatchResult, subst, sym}
-use Rattle.qrencode_cli.specs.Answer.{IsDrawing, held}
+use Rattle.qrencode_cli.specs.Command.{IsDrawing, held}
 use Rattle.qrencode_cli.specs.Settings.{SettingsView}
-use Rattle.qrencode_cli.specs.Steps.{IsInputFault, drawing_of}
-use Rattle.qrencode_cli.proofs.Asking.{held-folded, held-plain}
+use Rattle.qrencode_cli.specs.Steps.Command.{IsInputFault, drawing_of}
+use Rattle.qrencode_cli.proofs.AskingLemmas.{held-folded, held-plain}
 use Rattle.qrencode_cli.proofs.command.make_picture.Goals as goal
 
 pub returns-then-settings : goal.returns-then-settings

@@ -2,11 +2,11 @@ use Rattle.std.proofs.Common.{◌≡◌, ◌∙◌, ap, subst, sym, unwrap_or, a
 use Rattle.std.proofs.lemmas.Result.{err_from_is_err_and}
 use Rattle.qr_symbol.specs.declared.fault.EncodeFault.{EncodeFault}
 use Rattle.qr_symbol.specs.declared.fault.EncodeFault.TheVariants.{Empty}
-use Rattle.qr_symbol.specs.Symbols.{HasNoVersion}
+use Rattle.qr_symbol.specs.Encoding.{HasNoVersion}
 use Rattle.qrencode_cli.specs.Settings.{SettingsView, rule_for}
-use Rattle.qrencode_cli.specs.Symbols.{smallest_of}
-use Rattle.qrencode_cli.specs.Steps.{AreDrawnFor}
-use Rattle.qrencode_cli.proofs.Asking.{drawn-for-one, drawn-for-series, told-one}
+use Rattle.qrencode_cli.specs.Picture.{smallest_of}
+use Rattle.qrencode_cli.specs.Steps.Command.{AreDrawnFor}
+use Rattle.qrencode_cli.proofs.AskingLemmas.{drawn-for-one, drawn-for-series, told-one}
 use Rattle.qrencode_cli.proofs.command.symbols_for.Goals as goal
 
 pub returns-then-settings : goal.returns-then-settings

@@ -1,7 +1,7 @@
 use Rattle.std.proofs.Common.{rules, refl, arith, length, take, drop, ◌-◌}
 use Rattle.std.proofs.lemmas.Grind.{common_steps}
 use Rattle.std.proofs.lemmas.List.{take_rest}
-use Rattle.qrencode_cli.proofs.Sending.{sent_more, nothing_more, well-taken, fault-failed, fault-tried, fault-zero, offered-after, within-after, flushes-after, counted-taken, stops}
+use Rattle.qrencode_cli.proofs.SendingLemmas.{sent_more, nothing_more, well-taken, fault-failed, fault-tried, fault-zero, offered-after, within-after, flushes-after, counted-taken, stops}
 use Rattle.qrencode_cli.proofs.pen.send.Goals as goal
 
 pub returns-then-taken-eq0-clause-writes : goal.returns-then-taken-eq0-clause-writes

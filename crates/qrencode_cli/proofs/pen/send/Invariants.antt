@@ -1,7 +1,7 @@
 use Rattle.std.proofs.Common.{◌≡◌, ◌+◌, ◌-◌, ◌^◌, ◌<◌, ◌≤◌, length, take, max}
 use Rattle.std.specs.Io.KnownBytes.{Appends}
 use Rattle.qrencode_cli.specs.Device.{counted}
-use Rattle.qrencode_cli.specs.Writing.{IsWell}
+use Rattle.qrencode_cli.specs.Steps.Writing.{IsWell}
 use Rattle.qrencode_cli.proofs.pen.send.Given as goal
 
 abbrev pub invariant-offers : goal.invariant-offers

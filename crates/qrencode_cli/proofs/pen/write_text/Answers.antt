@@ -1,4 +1,4 @@
-use Rattle.qrencode_cli.proofs.Writing.{finish_stops}
+use Rattle.qrencode_cli.proofs.WritingLemmas.{finish_stops}
 use Rattle.qrencode_cli.proofs.pen.write_text.Goals as goal
 
 pub returns-clause-err : goal.returns-clause-err

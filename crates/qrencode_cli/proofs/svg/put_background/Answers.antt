@@ -1,7 +1,7 @@
 use Rattle.std.proofs.lemmas.Result.{err_from_is_err_and}
-use Rattle.qrencode_cli.proofs.Lines.{put_then, stops_first}
-use Rattle.qrencode_cli.proofs.Paths.{background-parts}
-use Rattle.qrencode_cli.proofs.Writing.{writes_on, writes_stop}
+use Rattle.qrencode_cli.proofs.LineLemmas.{put_then, stops_first}
+use Rattle.qrencode_cli.proofs.PathLemmas.{background-parts}
+use Rattle.qrencode_cli.proofs.WritingLemmas.{writes_on, writes_stop}
 use Rattle.qrencode_cli.proofs.svg.put_background.Goals as goal
 
 pub returns-in_err-put_numbered : goal.returns-in_err-put_numbered

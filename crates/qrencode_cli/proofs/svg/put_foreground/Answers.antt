@@ -3,9 +3,9 @@ use Rattle.std.specs.Prelude.{codes}
 use Rattle.std.proofs.lemmas.Result.{err_from_is_err_and}
 use Rattle.qr_symbol.specs.Series.{squares_of}
 use Rattle.qrencode_cli.specs.Svg.{stack_path}
-use Rattle.qrencode_cli.proofs.Lines.{put_then, stops_first}
-use Rattle.qrencode_cli.proofs.Paths.{foreground-parts}
-use Rattle.qrencode_cli.proofs.Writing.{writes_on, writes_stop}
+use Rattle.qrencode_cli.proofs.LineLemmas.{put_then, stops_first}
+use Rattle.qrencode_cli.proofs.PathLemmas.{foreground-parts}
+use Rattle.qrencode_cli.proofs.WritingLemmas.{writes_on, writes_stop}
 use Rattle.qrencode_cli.proofs.svg.put_foreground.Goals as goal
 
 pub returns-in_err-put_all : goal.returns-in_err-put_all

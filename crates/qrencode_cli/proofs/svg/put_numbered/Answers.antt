@@ -2,7 +2,7 @@ use Rattle.std.proofs.Common.{◌≡◌, ◌∙◌}
 use Rattle.std.specs.Prelude.{decimal}
 use Rattle.std.proofs.lemmas.Result.{err_from_is_err_and}
 use Rattle.qrencode_cli.specs.Svg.{numbered}
-use Rattle.qrencode_cli.proofs.Lines.{put_then, stops_first}
+use Rattle.qrencode_cli.proofs.LineLemmas.{put_then, stops_first}
 use Rattle.qrencode_cli.proofs.svg.put_numbered.Goals as goal
 
 pub returns-in_err-put_all : goal.returns-in_err-put_all

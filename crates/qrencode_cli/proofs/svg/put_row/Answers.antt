@@ -1,7 +1,7 @@
 use Rattle.std.proofs.Common.{◌≡◌, ◌+◌, ◌∙◌, true, false, refl, sym, arith}
 use Rattle.std.proofs.lemmas.Result.{err_from_is_err_and}
 use Rattle.qr_matrix.specs.Grid.{colour}
-use Rattle.qrencode_cli.proofs.Paths.{dark_path, dark_run, light_run, put_nothing, put_run, put_same, row_begins, row_ends, run_border, run_stops}
+use Rattle.qrencode_cli.proofs.PathLemmas.{dark_path, dark_run, light_run, put_nothing, put_run, put_same, row_begins, row_ends, run_border, run_stops}
 use Rattle.qrencode_cli.proofs.svg.put_row.Goals as goal
 
 pub loop-col-init : goal.loop-col-init

@@ -1,8 +1,8 @@
 use Rattle.std.proofs.Common.{◌≢◌, ◌≤◌, ◌<◌, ◌+◌, ◌-◌, ◌++◌}
 use Rattle.qr_matrix.specs.Grid.{colour}
-use Rattle.qrencode_cli.specs.Rasters.{texts_below}
+use Rattle.qrencode_cli.specs.Raster.{texts_below}
 use Rattle.qrencode_cli.specs.Svg.{run_path}
-use Rattle.qrencode_cli.specs.Writing.{Writes}
+use Rattle.qrencode_cli.specs.Steps.Writing.{Writes}
 use Rattle.qrencode_cli.proofs.svg.put_row.Given as goal
 
 abbrev pub invariant-loop-col : goal.invariant-loop-col

@@ -1,7 +1,7 @@
 use Rattle.std.proofs.Common.{refl, arith}
 use Rattle.std.proofs.lemmas.Result.{err_from_is_err_and}
-use Rattle.qrencode_cli.proofs.Lines.{put_none}
-use Rattle.qrencode_cli.proofs.Paths.{next_top, put_run, put_same, run_stops, stack_at, stack_ends}
+use Rattle.qrencode_cli.proofs.LineLemmas.{put_none}
+use Rattle.qrencode_cli.proofs.PathLemmas.{next_top, put_run, put_same, run_stops, stack_at, stack_ends}
 use Rattle.qrencode_cli.proofs.svg.put_stack.Goals as goal
 
 pub loop-symbol-init : goal.loop-symbol-init

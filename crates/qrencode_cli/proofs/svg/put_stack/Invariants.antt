@@ -1,8 +1,8 @@
 use Rattle.std.proofs.Common.{◌≡◌, ◌≤◌, ◌*◌, ◌++◌}
 use Rattle.qr_symbol.specs.Series.{squares_of}
-use Rattle.qrencode_cli.specs.Rasters.{raster_width, texts_below}
+use Rattle.qrencode_cli.specs.Raster.{raster_width, texts_below}
 use Rattle.qrencode_cli.specs.Svg.{square_at, symbol_path}
-use Rattle.qrencode_cli.specs.Writing.{Writes}
+use Rattle.qrencode_cli.specs.Steps.Writing.{Writes}
 use Rattle.qrencode_cli.proofs.svg.put_stack.Given as goal
 
 abbrev pub invariant-loop-symbol : goal.invariant-loop-symbol

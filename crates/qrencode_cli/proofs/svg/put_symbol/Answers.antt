@@ -1,8 +1,8 @@
 use Rattle.std.proofs.Common.{ap, refl, arith}
 use Rattle.std.proofs.lemmas.Result.{err_from_is_err_and}
-use Rattle.qrencode_cli.specs.Rasters.{texts_below}
+use Rattle.qrencode_cli.specs.Raster.{texts_below}
 use Rattle.qrencode_cli.specs.Svg.{row_path}
-use Rattle.qrencode_cli.proofs.Paths.{put_nothing, put_run, put_same, run_stops, symbol_begins, symbol_ends}
+use Rattle.qrencode_cli.proofs.PathLemmas.{put_nothing, put_run, put_same, run_stops, symbol_begins, symbol_ends}
 use Rattle.qrencode_cli.proofs.svg.put_symbol.Goals as goal
 
 pub loop-row-init : goal.loop-row-init

@@ -1,7 +1,7 @@
 use Rattle.std.proofs.Common.{◌+◌, ◌++◌}
-use Rattle.qrencode_cli.specs.Rasters.{texts_below}
+use Rattle.qrencode_cli.specs.Raster.{texts_below}
 use Rattle.qrencode_cli.specs.Svg.{row_path}
-use Rattle.qrencode_cli.specs.Writing.{Writes}
+use Rattle.qrencode_cli.specs.Steps.Writing.{Writes}
 use Rattle.qrencode_cli.proofs.svg.put_symbol.Given as goal
 
 abbrev pub invariant-loop-row : goal.invariant-loop-row

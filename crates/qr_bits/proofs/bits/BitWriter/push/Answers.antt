@@ -1,6 +1,6 @@
 use Rattle.std.proofs.Common.{◌≡◌, arith, append-nil}
 use Rattle.qr_bits.specs.Bits.{field, bits_of}
-use Rattle.qr_bits.proofs.BitLists.{field-more, bits_of-more}
+use Rattle.qr_bits.proofs.BitLemmas.{field-more, bits_of-more}
 use Rattle.qr_bits.proofs.bits.BitWriter.push.Goals as goal
 
 pub returns-then-self-lt7 : goal.returns-then-self-lt7

@@ -1,6 +1,6 @@
 use Rattle.std.proofs.Common.{◌≡◌, ◌-◌, ◌/◌, ◌%◌, ◌++◌, List, Bool, sym, ◌∙◌, ap, arith, append_assoc}
 use Rattle.qr_bits.specs.Bits.{field}
-use Rattle.qr_bits.proofs.BitLists.{field-high}
+use Rattle.qr_bits.proofs.BitLemmas.{field-high}
 use Rattle.qr_bits.proofs.bits.BitWriter.put.Goals as goal
 
 pub returns : goal.returns

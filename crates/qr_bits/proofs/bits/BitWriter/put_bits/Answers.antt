@@ -1,6 +1,6 @@
 use Rattle.std.proofs.Common.{◌≡◌, ◌-◌, sym, arith, append-nil, append_assoc}
 use Rattle.qr_bits.specs.Bits.{field}
-use Rattle.qr_bits.proofs.BitLists.{field-shift, shifted-bit}
+use Rattle.qr_bits.proofs.BitLemmas.{field-shift, shifted-bit}
 use Rattle.qr_bits.proofs.bits.BitWriter.put_bits.Goals as goal
 
 pub loop-i-init : goal.loop-i-init

@@ -1,5 +1,5 @@
 use Rattle.std.proofs.Common.{◌≡◌, ◌+◌, ◌*◌, arith}
-use Rattle.qr_bits.proofs.BitLists.{byte-behind, power-fits}
+use Rattle.qr_bits.proofs.BitLemmas.{byte-behind, power-fits}
 use Rattle.qr_bits.proofs.bits.BitWriter.put_byte.Goals as goal
 
 pub returns : goal.returns

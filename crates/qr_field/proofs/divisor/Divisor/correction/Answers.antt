@@ -1,7 +1,7 @@
 use Rattle.std.proofs.Common.{◌≡◌, ℕ, ◌<◌, ◌+◌, ◌%◌, ◌^◌, List, take, get_or, sym, ap, ◌∙◌, subst, arith, bit_xor}
 use Rattle.std.proofs.lemmas.List.{take_all}
-use Rattle.qr_field.specs.Packing.{IsHeld, packed, unpacked, divisor_of, value_of}
-use Rattle.qr_field.specs.Polynomials.{scaled, IsCorrection}
+use Rattle.qr_field.specs.Steps.Register.{IsHeld, packed, unpacked, divisor_of, value_of}
+use Rattle.qr_field.specs.Polynomial.{scaled, IsCorrection}
 use Rattle.qr_field.proofs.DivisorLemmas.{held-start, held-step, held-all}
 use Rattle.qr_field.proofs.PolynomialLemmas.{correction-one}
 use Rattle.qr_field.proofs.divisor.Divisor.correction.Goals as goal

@@ -1,7 +1,7 @@
 use Rattle.std.proofs.Common.{◌≡◌, ◌%◌, ◌/◌, ◌^◌, get_or, ap, ◌∙◌, arith, bit_xor, bit_and}
 use Rattle.std.proofs.lemmas.Nat.{and_mask}
-use Rattle.qr_field.specs.Packing.{divisor_of, packed, value_of, blank}
-use Rattle.qr_field.specs.Polynomials.{scaled}
+use Rattle.qr_field.specs.Steps.Register.{divisor_of, packed, value_of, blank}
+use Rattle.qr_field.specs.Polynomial.{scaled}
 use Rattle.qr_field.proofs.DivisorLemmas.{multiple-of_halves}
 use Rattle.qr_field.proofs.divisor.Divisor.multiple.Goals as goal
 

@@ -1,0 +1,105 @@
+-- The 45 characters: each has a place.
+use Rattle.std.proofs.Common.{◌≡◌, ℕ, ◌<◌, ◌≤◌, ◌==◌, Bool, true, false, not, nat_le, nat_lt, List, length, get_or, Option, Some, refl, sym, ◌∙◌, ⊎_elim, arith}
+use borrow.Author.Tests.{leb-true}
+use Rattle.std.specs.List.{list_any, position, position_or_len}
+use Rattle.std.proofs.lemmas.Bool.{cases_lt, false≢true, lt-ltb, ltb-true, eqb-true, eq-eqb, ne_eqb}
+use Rattle.std.proofs.lemmas.List.Folds.{list_any_none, list_any_at}
+use Rattle.std.proofs.lemmas.List.Sums.{fails_before_first, passes_at_first, position_or_len_is}
+use Rattle.std.proofs.lemmas.List.Elements.{All-from_get_or}
+use Rattle.qr_bits.specs.Modes.{characters, is_alphanumeric, character_value}
+use Rattle.qr_bits.specs.Parsing.{character}
+use Rattle.qr_layout.proofs.Facts.{below, below-at}
+
+-- an element that passes has a place
+found : (p : ℕ → Bool) (xs : List ℕ) → list_any p xs ≡ true → position_or_len p xs < length xs
+found p xs h =
+    ⊎_elim
+    (λ (l : position_or_len p xs < length xs). l)
+    (λ (l : length xs ≤ position_or_len p xs).
+    absurd (false≢true (sym (list_any_none p xs (All-from_get_or (λ x. p x ≡ false) xs 0 (λ i k. fails_before_first p xs i 0 (omega arith)))) ∙ h)))
+    (cases_lt (position_or_len p xs) (length xs))
+
+-- a character has a value below 45
+pub character_found : (b : ℕ) → is_alphanumeric b ≡ true → character_value b < 45
+unfolding is_alphanumeric character_value characters
+character_found b h = found (λ c. c == b) characters h
+
+-- the place of one of the 45 characters
+pub character_place : (b : ℕ) → is_alphanumeric b ≡ true → position (λ c. c == b) characters ≡ Some (character_value b)
+unfolding is_alphanumeric character_value
+character_place b h = rw (lt-ltb _ _ (found (λ c. c == b) characters h)) refl
+
+-- an option that holds a number
+abbrev pub some : ℕ → Option ℕ
+some n = Some n
+
+-- values of one are one
+pub same_some : (a b : ℕ) → some a ≡ some b → a ≡ b
+same_some a b h = cc
+
+-- a character is the one of its value
+pub character_again : (b : ℕ) → is_alphanumeric b ≡ true → character (character_value b) ≡ b
+unfolding is_alphanumeric character_value character
+character_again b h = eqb-true _ _ (passes_at_first (λ c. c == b) characters 0 (found (λ c. c == b) characters h))
+
+-- a character stands at its place
+at_place : (n : ℕ) → get_or characters n 0 ≡ character n
+unfolding character
+at_place n = refl
+
+-- what is not so is false
+not_true : (b : Bool) → not b ≡ true → b ≡ false
+not_true true h = cc
+not_true false h = refl
+
+-- there are 45 characters
+many : length characters ≡ 45
+unfolding characters
+many = refl
+
+-- a character is no later than Z
+low : ℕ → Bool
+low i = nat_le (character i) 90
+
+-- each of the 45 characters is so
+all_low : below 45 low ≡ true
+unfolding low character characters
+all_low = refl
+
+-- a byte after Z is no character
+pub past_z : (b : ℕ) → 90 < b → is_alphanumeric b ≡ false
+unfolding is_alphanumeric low character
+past_z b h =
+    list_any_none (λ c. c == b) characters (All-from_get_or (λ x. (x == b) ≡ false) characters 0
+    (λ i k. ne_eqb _ _ (λ e. let l = leb-true _ 90 (below-at 45 low all_low i (omega (arith, many))) in absurd (omega arith))))
+
+-- no two of the first n characters are one
+differs : ℕ → ℕ → Bool
+differs i k = not (character k == character i)
+
+-- no two of the 45 characters are one
+all_differ : below 45 (λ i. below i (differs i)) ≡ true
+unfolding differs character characters
+all_differ = refl
+
+-- the character is a byte
+small : ℕ → Bool
+small i = nat_lt (character i) 256
+
+-- each of the 45 characters is a byte
+all_small : below 45 small ≡ true
+unfolding small character characters
+all_small = refl
+
+-- the value of a character is its place
+pub character_taken : (n : ℕ) → n < 45 → (is_alphanumeric (character n) ≡ true) × (character_value (character n) ≡ n) × (character n < 256)
+unfolding is_alphanumeric character_value differs small character
+character_taken n h =
+    let here : (get_or characters n 0 == character n) ≡ true = eq-eqb _ _ (at_place n) in
+    let inside : n < length characters = omega (arith, many) in (
+      list_any_at (λ c. c == character n) characters n 0 inside here,
+      position_or_len_is (λ c. c == character n) characters n 0 (omega arith)
+          (λ k l. not_true _ (rw (at_place k) at (below-at n (differs n) (below-at 45 (λ i. below i (differs i)) all_differ n h) k l)))
+          (λ _. here),
+      ltb-true _ _ (below-at 45 small all_small n h),
+    )

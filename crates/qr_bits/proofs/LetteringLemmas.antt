@@ -1,0 +1,258 @@
+-- The letterings of a text are what can be taken letter by letter.
+use Rattle.std.proofs.Common.{◌≡◌, ℕ, suc, ◌+◌, ◌<◌, ◌≤◌, Bool, true, false, ◌==◌, ◌&&◌, List, [], ◌∷◌, length, IsTrue, take, drop, refl, sym, ◌∙◌, subst, arith, lit<}
+use Rattle.std.specs.List.{list_all}
+use Rattle.std.proofs.lemmas.Bool.{cond_both, and_parts, and_from, false≢true, eqb-true}
+use Rattle.qr_bits.specs.declared.modes.Mode.{Mode}
+use Rattle.qr_bits.specs.declared.modes.Mode.TheVariants.{Numeric, Alphanumeric, Byte, Kanji}
+use Rattle.qr_bits.specs.declared.modes.Rule.{Rule}
+use Rattle.qr_bits.specs.declared.segmentation.Segment.{Segment}
+use Rattle.qr_bits.specs.declared.place.Place.{Place}
+use Rattle.qr_bits.specs.declared.place.Place.TheVariants.{Start, Digit1, Digit2, Character1, HalfPair, WholePair}
+use Rattle.qr_bits.specs.Modes.{is_digit, is_alphanumeric, in_twos, is_kanji_pair, may_use, suits}
+use Rattle.qr_bits.specs.Segmentation.{Covers, rank, with_front, runs_of, IsLettering}
+use Rattle.qr_bits.specs.Steps.Place.{place_after, begins, may_begin, may_take, may_end, allowed}
+use Rattle.qr_bits.proofs.BestLemmas.{same_rank}
+use Rattle.qr_bits.proofs.ChoiceLemmas.{take_begin, place_after-whole}
+
+-- the mode suits the bytes, where pairs are twos that pass the test
+abbrev pub suits_by : (ℕ → ℕ → Bool) → Mode → List ℕ → Bool
+suits_by test Numeric xs = list_all is_digit xs
+suits_by test Alphanumeric xs = list_all is_alphanumeric xs
+suits_by test Byte xs = true
+suits_by test Kanji xs = in_twos test xs
+
+-- the segments cover the bytes, where pairs are twos that pass the test
+unfoldable pub CoversBy : (ℕ → ℕ → Bool) → List ℕ → List Segment → Type 0
+CoversBy test xs [] = xs ≡ []
+CoversBy test xs (s ∷ ss) = (0 < s.len) × (s.len ≤ length xs) × IsTrue (suits_by test s.mode (take s.len xs)) × CoversBy test (drop s.len xs) ss
+
+-- a lettering, where pairs are twos that pass the test
+abbrev pub IsLetteringBy : (ℕ → ℕ → Bool) → Rule → List ℕ → List Mode → Type 0
+IsLetteringBy test r xs ms = IsTrue (list_all (may_use r) ms) × CoversBy test xs (runs_of ms)
+
+-- with the test for kanji pairs the mode suits as it is defined
+suits-by : (m : Mode) (xs : List ℕ) → suits m xs ≡ suits_by is_kanji_pair m xs
+suits-by Numeric xs = refl
+suits-by Alphanumeric xs = refl
+suits-by Byte xs = refl
+suits-by Kanji xs = refl
+
+-- with the test for kanji pairs segments cover as it is defined
+pub covers_by : (xs : List ℕ) (segs : List Segment) → Covers xs segs → CoversBy is_kanji_pair xs segs
+unfolding Covers CoversBy
+covers_by xs [] h = h
+covers_by xs (s ∷ ss) h = (h.0, h.1, sym (suits-by s.mode (take s.len xs)) ∙ h.2, covers_by (drop s.len xs) ss h.3)
+
+-- and the other way
+pub by_covers : (xs : List ℕ) (segs : List Segment) → CoversBy is_kanji_pair xs segs → Covers xs segs
+unfolding Covers CoversBy
+by_covers xs [] h = h
+by_covers xs (s ∷ ss) h = (h.0, h.1, suits-by s.mode (take s.len xs) ∙ h.2, by_covers (drop s.len xs) ss h.3)
+
+-- no segment is empty
+abbrev Positive : List Segment → Type 0
+Positive [] = Unit {0}
+Positive (s ∷ ss) = (0 < s.len) × Positive ss
+
+Positive-with_front : (m : Mode) (segs : List Segment) → Positive segs → Positive (with_front m segs)
+Positive-with_front m [] h = (lit< tt, tt)
+Positive-with_front m (s ∷ ss) h = cond_both (rank m == rank s.mode) _ _ (λ (r : List Segment). Positive r) (λ _. (omega arith, h.1)) (λ _. (lit< tt, h))
+
+Positive-runs_of : (ms : List Mode) → Positive (runs_of ms)
+unfolding runs_of
+Positive-runs_of [] = tt
+Positive-runs_of (m ∷ ms) = Positive-with_front m (runs_of ms) (Positive-runs_of ms)
+
+-- ---- one letter that is no kanji letter
+
+suits_cons : (test : ℕ → ℕ → Bool) (m : Mode) (x : ℕ) (xs : List ℕ) → rank m < 3 → suits_by test m (x ∷ []) ≡ true → suits_by test m xs ≡ true → suits_by test m (x ∷ xs) ≡ true
+suits_cons test Numeric x xs k h t = and_from (is_digit x) _ (and_parts (is_digit x) true h).0 t
+suits_cons test Alphanumeric x xs k h t = and_from (is_alphanumeric x) _ (and_parts (is_alphanumeric x) true h).0 t
+suits_cons test Byte x xs k h t = refl
+suits_cons test Kanji x xs k h t = absurd (omega arith)
+
+suits_uncons : (test : ℕ → ℕ → Bool) (m : Mode) (x : ℕ) (xs : List ℕ) → rank m < 3 → suits_by test m (x ∷ xs) ≡ true → (suits_by test m (x ∷ []) ≡ true) × (suits_by test m xs ≡ true)
+suits_uncons test Numeric x xs k h = let p = and_parts (is_digit x) _ h in (and_from (is_digit x) true p.0 refl, p.1)
+suits_uncons test Alphanumeric x xs k h = let p = and_parts (is_alphanumeric x) _ h in (and_from (is_alphanumeric x) true p.0 refl, p.1)
+suits_uncons test Byte x xs k h = (refl, refl)
+suits_uncons test Kanji x xs k h = absurd (omega arith)
+
+add_one : (test : ℕ → ℕ → Bool) (m : Mode) (x : ℕ) (xs : List ℕ) (segs : List Segment) → rank m < 3 → suits_by test m (x ∷ []) ≡ true → CoversBy test xs segs → CoversBy test (x ∷ xs) (with_front m segs)
+unfolding CoversBy
+add_one test m x xs [] k h c = (lit< tt, omega arith, h, c)
+add_one test m x xs (s ∷ ss) k h c =
+    cond_both (rank m == rank s.mode) _ _ (λ (r : List Segment). CoversBy test (x ∷ xs) r)
+    (λ e.
+    let same = same_rank m s.mode (eqb-true _ _ e) in
+    let t : suits_by test m (take s.len xs) ≡ true = rw same c.2 in
+    let one : 1 + s.len ≡ suc s.len = omega arith in
+    (omega arith, omega arith, rw one (suits_cons test m x (take s.len xs) k h t), rw one c.3))
+    (λ e. (lit< tt, omega arith, h, c))
+
+drop_one : (test : ℕ → ℕ → Bool) (m : Mode) (x : ℕ) (xs : List ℕ) (segs : List Segment) → rank m < 3 → Positive segs → CoversBy test (x ∷ xs) (with_front m segs) → (suits_by test m (x ∷ []) ≡ true) × CoversBy test xs segs
+unfolding CoversBy
+drop_one test m x xs [] k p c = (c.2, c.3)
+drop_one test m x xs (s ∷ ss) k p c =
+    cond_both (rank m == rank s.mode) _ _ (λ (r : List Segment). CoversBy test (x ∷ xs) r → (suits_by test m (x ∷ []) ≡ true) × CoversBy test xs (s ∷ ss))
+    (λ e c.
+    let same = same_rank m s.mode (eqb-true _ _ e) in
+    let one : 1 + s.len ≡ suc s.len = omega arith in
+    let t : suits_by test m (x ∷ take s.len xs) ≡ true = rw one at c.2 in
+    let d : CoversBy test (drop s.len xs) ss = rw one at c.3 in
+    let parts = suits_uncons test m x (take s.len xs) k t in
+    (parts.0, (p.0, omega arith, rw (← same) parts.1, d)))
+    (λ e c. (c.2, c.3))
+    c
+
+-- no letter is left where no byte is
+none_left : (test : ℕ → ℕ → Bool) (m : Mode) (segs : List Segment) → CoversBy test [] (with_front m segs) → ⊥
+unfolding CoversBy
+none_left test m [] c = absurd (omega (arith, c.1))
+none_left test m (s ∷ ss) c =
+    cond_both (rank m == rank s.mode) _ _ (λ (r : List Segment). CoversBy test [] r → ⊥) (λ e c. absurd (omega (arith, c.1))) (λ e c. absurd (omega (arith, c.1))) c
+
+-- ---- two kanji letters
+
+add_pair : (test : ℕ → ℕ → Bool) (x y : ℕ) (xs : List ℕ) (segs : List Segment) → test x y ≡ true → CoversBy test xs segs → CoversBy test (x ∷ y ∷ xs) (with_front Kanji (with_front Kanji segs))
+unfolding CoversBy
+add_pair test x y xs [] h c = (lit< tt, omega arith, and_from (test x y) true h refl, c)
+add_pair test x y xs (s ∷ ss) h c =
+    cond_both (3 == rank s.mode) _ _ (λ (r : List Segment). CoversBy test (x ∷ y ∷ xs) (with_front Kanji r))
+    (λ e.
+    let same = same_rank Kanji s.mode (eqb-true _ _ e) in
+    let t : in_twos test (take s.len xs) ≡ true = subst (λ (m : Mode). suits_by test m (take s.len xs) ≡ true) (sym same) c.2 in
+    let two : 1 + (1 + s.len) ≡ suc (suc s.len) = omega arith in
+    (omega arith, omega arith, rw two (and_from (test x y) _ h t), rw two c.3))
+    (λ e. (lit< tt, omega arith, and_from (test x y) true h refl, c))
+
+drop_pair : (test : ℕ → ℕ → Bool) (x y : ℕ) (xs : List ℕ) (segs : List Segment) → Positive segs → CoversBy test (x ∷ y ∷ xs) (with_front Kanji (with_front Kanji segs)) → (test x y ≡ true) × CoversBy test xs segs
+unfolding CoversBy
+drop_pair test x y xs [] p c = ((and_parts (test x y) true c.2).0, c.3)
+drop_pair test x y xs (s ∷ ss) p c =
+    cond_both (3 == rank s.mode) _ _ (λ (r : List Segment). CoversBy test (x ∷ y ∷ xs) (with_front Kanji r) → (test x y ≡ true) × CoversBy test xs (s ∷ ss))
+    (λ e c.
+    let same = same_rank Kanji s.mode (eqb-true _ _ e) in
+    let two : 1 + (1 + s.len) ≡ suc (suc s.len) = omega arith in
+    let t : (test x y && in_twos test (take s.len xs)) ≡ true = rw two at c.2 in
+    let d : CoversBy test (drop s.len xs) ss = rw two at c.3 in
+    let parts = and_parts (test x y) _ t in
+    (parts.0, (p.0, omega arith, subst (λ (m : Mode). suits_by test m (take s.len xs) ≡ true) same parts.1, d)))
+    (λ e c. ((and_parts (test x y) true c.2).0, c.3))
+    c
+
+-- a kanji letter alone is none
+half_before : (test : ℕ → ℕ → Bool) (m : Mode) (n x : ℕ) (xs : List ℕ) (ss : List Segment) → rank m < 3 → CoversBy test (x ∷ xs) (with_front Kanji (record { mode = m; len = n } ∷ ss)) → ⊥
+unfolding CoversBy
+half_before test Numeric n x xs ss k c = false≢true c.2
+half_before test Alphanumeric n x xs ss k c = false≢true c.2
+half_before test Byte n x xs ss k c = false≢true c.2
+half_before test Kanji n x xs ss k c = absurd (omega arith)
+
+half : (test : ℕ → ℕ → Bool) (m : Mode) (x : ℕ) (xs : List ℕ) (segs : List Segment) → rank m < 3 → CoversBy test (x ∷ xs) (with_front Kanji (with_front m segs)) → ⊥
+unfolding CoversBy
+half test m x xs [] k c = half_before test m 1 x xs [] k c
+half test m x xs (s ∷ ss) k c =
+    cond_both (rank m == rank s.mode) _ _ (λ (r : List Segment). CoversBy test (x ∷ xs) (with_front Kanji r) → ⊥)
+    (λ e c. half_before test m (1 + s.len) x xs ss k c)
+    (λ e c. half_before test m 1 x xs (s ∷ ss) k c)
+    c
+
+alone : (test : ℕ → ℕ → Bool) (x : ℕ) (segs : List Segment) → Positive segs → CoversBy test (x ∷ []) (with_front Kanji segs) → ⊥
+unfolding CoversBy
+alone test x [] p c = false≢true c.2
+alone test x (s ∷ ss) p c =
+    cond_both (3 == rank s.mode) _ _ (λ (r : List Segment). CoversBy test (x ∷ []) r → ⊥)
+    (λ e c. absurd (omega (arith, c.1, p.0)))
+    (λ e c. false≢true c.2)
+    c
+
+-- ---- both ways
+
+pub may_end-after : (p : Place) (m : Mode) → rank m < 3 → may_end (place_after p m) ≡ true
+unfolding may_end place_after
+may_end-after Digit1 Numeric k = refl
+may_end-after Digit2 Numeric k = refl
+may_end-after _ Numeric k = refl
+may_end-after Character1 Alphanumeric k = refl
+may_end-after _ Alphanumeric k = refl
+may_end-after _ Byte k = refl
+may_end-after p Kanji k = absurd (omega arith)
+
+-- what can be taken may be used, and suits its byte
+pub take_one : (test : ℕ → ℕ → Bool) (r : Rule) (m : Mode) (x : ℕ) (pair : Bool) → rank m < 3 → may_begin r x pair m ≡ true → (may_use r m ≡ true) × (suits_by test m (x ∷ []) ≡ true)
+unfolding may_begin
+take_one test r Numeric x pair k h = let p = and_parts (may_use r Numeric) _ h in (p.0, and_from (is_digit x) true p.1 refl)
+take_one test r Alphanumeric x pair k h = let p = and_parts (may_use r Alphanumeric) _ h in (p.0, and_from (is_alphanumeric x) true p.1 refl)
+take_one test r Byte x pair k h = (h, refl)
+take_one test r Kanji x pair k h = absurd (omega arith)
+
+-- a letter that may be used and suits can be taken
+pub one_taken : (test : ℕ → ℕ → Bool) (r : Rule) (m : Mode) (x : ℕ) (pair : Bool) → rank m < 3 → may_use r m ≡ true → suits_by test m (x ∷ []) ≡ true → may_begin r x pair m ≡ true
+unfolding may_begin
+one_taken test r Numeric x pair k u h = and_from (may_use r Numeric) _ u (and_parts (is_digit x) true h).0
+one_taken test r Alphanumeric x pair k u h = and_from (may_use r Alphanumeric) _ u (and_parts (is_alphanumeric x) true h).0
+one_taken test r Byte x pair k u h = u
+one_taken test r Kanji x pair k u h = absurd (omega arith)
+
+-- what is a lettering can be taken, from any place where no half is open
+abbrev CanTake : (ℕ → ℕ → Bool) → Rule → List ℕ → List Mode → Type 0
+CanTake test r xs ms = (p : Place) → may_end p ≡ true → allowed r test p xs ms ≡ true
+
+one_can : (test : ℕ → ℕ → Bool) (r : Rule) (m : Mode) (x : ℕ) (xs : List ℕ) (ms : List Mode) → rank m < 3 → (IsLetteringBy test r xs ms → CanTake test r xs ms) → IsLetteringBy test r (x ∷ xs) (m ∷ ms) → CanTake test r (x ∷ xs) (m ∷ ms)
+unfolding allowed runs_of
+one_can test r m x xs ms k rest h p e =
+    let uses = and_parts (may_use r m) (list_all (may_use r) ms) h.0 in
+    let parts = drop_one test m x xs (runs_of ms) k (Positive-runs_of ms) h.1 in
+    and_from _ _ (take_begin r p x (begins r test (x ∷ xs)) m e ∙ one_taken test r m x (begins r test (x ∷ xs)) k uses.0 parts.0) (rest (uses.1, parts.1) (place_after p m) (may_end-after p m k))
+
+pub can_take : (test : ℕ → ℕ → Bool) (r : Rule) (xs : List ℕ) (ms : List Mode) → IsLetteringBy test r xs ms → CanTake test r xs ms
+unfolding CoversBy runs_of allowed may_take may_begin begins place_after may_end
+can_take test r [] [] h p e = e
+can_take test r [] (m ∷ ms) h p e = absurd (none_left test m (runs_of ms) h.1)
+can_take test r (x ∷ xs) [] h p e = cc (h.1)
+can_take test r (x ∷ xs) (Numeric ∷ ms) h p e = one_can test r Numeric x xs ms (lit< tt) (can_take test r xs ms) h p e
+can_take test r (x ∷ xs) (Alphanumeric ∷ ms) h p e = one_can test r Alphanumeric x xs ms (lit< tt) (can_take test r xs ms) h p e
+can_take test r (x ∷ xs) (Byte ∷ ms) h p e = one_can test r Byte x xs ms (lit< tt) (can_take test r xs ms) h p e
+can_take test r (x ∷ []) (Kanji ∷ ms) h p e = absurd (alone test x (runs_of ms) (Positive-runs_of ms) h.1)
+can_take test r (x ∷ y ∷ xs) (Kanji ∷ []) h p e = absurd (false≢true h.1.2)
+can_take test r (x ∷ y ∷ xs) (Kanji ∷ Numeric ∷ ms) h p e = absurd (half test Numeric x (y ∷ xs) (runs_of ms) (lit< tt) h.1)
+can_take test r (x ∷ y ∷ xs) (Kanji ∷ Alphanumeric ∷ ms) h p e = absurd (half test Alphanumeric x (y ∷ xs) (runs_of ms) (lit< tt) h.1)
+can_take test r (x ∷ y ∷ xs) (Kanji ∷ Byte ∷ ms) h p e = absurd (half test Byte x (y ∷ xs) (runs_of ms) (lit< tt) h.1)
+can_take test r (x ∷ y ∷ xs) (Kanji ∷ Kanji ∷ ms) h p e =
+    let uses = and_parts (may_use r Kanji) _ h.0 in
+    let more = and_parts (may_use r Kanji) (list_all (may_use r) ms) uses.1 in
+    let parts = drop_pair test x y xs (runs_of ms) (Positive-runs_of ms) h.1 in
+    let rest = can_take test r xs ms (more.1, parts.1) WholePair refl in
+    and_from _ _ (take_begin r p x (may_use r Kanji && test x y) Kanji e ∙ and_from _ _ uses.0 parts.0) (rw (place_after-whole p e) rest)
+
+one_is : (test : ℕ → ℕ → Bool) (r : Rule) (m : Mode) (x : ℕ) (xs : List ℕ) (ms : List Mode) (p : Place) → rank m < 3 → may_end p ≡ true
+    → (allowed r test (place_after p m) xs ms ≡ true → IsLetteringBy test r xs ms) → allowed r test p (x ∷ xs) (m ∷ ms) ≡ true → IsLetteringBy test r (x ∷ xs) (m ∷ ms)
+unfolding allowed runs_of
+one_is test r m x xs ms p k e rest h =
+    let parts = and_parts _ _ h in
+    let taken = take_one test r m x (begins r test (x ∷ xs)) k (sym (take_begin r p x (begins r test (x ∷ xs)) m e) ∙ parts.0) in
+    let rest = rest parts.1 in
+    (and_from _ _ taken.0 rest.0, add_one test m x xs (runs_of ms) k taken.1 rest.1)
+
+-- What can be taken is a lettering.
+pub is_lettering : (test : ℕ → ℕ → Bool) (r : Rule) (xs : List ℕ) (ms : List Mode) (p : Place) → may_end p ≡ true → allowed r test p xs ms ≡ true → IsLetteringBy test r xs ms
+unfolding CoversBy runs_of allowed may_take may_begin begins place_after may_end
+is_lettering test r [] [] p e h = (refl, refl)
+is_lettering test r [] (m ∷ ms) p e h = absurd (false≢true h)
+is_lettering test r (x ∷ xs) [] p e h = absurd (false≢true h)
+is_lettering test r (x ∷ xs) (Numeric ∷ ms) p e h = one_is test r Numeric x xs ms p (lit< tt) e (is_lettering test r xs ms (place_after p Numeric) (may_end-after p Numeric (lit< tt))) h
+is_lettering test r (x ∷ xs) (Alphanumeric ∷ ms) p e h = one_is test r Alphanumeric x xs ms p (lit< tt) e (is_lettering test r xs ms (place_after p Alphanumeric) (may_end-after p Alphanumeric (lit< tt))) h
+is_lettering test r (x ∷ xs) (Byte ∷ ms) p e h = one_is test r Byte x xs ms p (lit< tt) e (is_lettering test r xs ms (place_after p Byte) (may_end-after p Byte (lit< tt))) h
+is_lettering test r (x ∷ []) (Kanji ∷ ms) p e h =
+    absurd (false≢true (sym (take_begin r p x false Kanji e) ∙ (and_parts (may_take r p x false Kanji) _ h).0))
+is_lettering test r (x ∷ y ∷ xs) (Kanji ∷ []) p e h = absurd (false≢true (and_parts (may_take r p x (may_use r Kanji && test x y) Kanji) false h).1)
+is_lettering test r (x ∷ y ∷ xs) (Kanji ∷ Kanji ∷ ms) p e h =
+    let parts = and_parts (may_take r p x (may_use r Kanji && test x y) Kanji) _ h in
+    let first = and_parts (may_use r Kanji) (test x y) (sym (take_begin r p x (may_use r Kanji && test x y) Kanji e) ∙ parts.0) in
+    let second : allowed r test HalfPair (y ∷ xs) (Kanji ∷ ms) ≡ true = rw (place_after-whole p e) at parts.1 in
+    let rest = is_lettering test r xs ms WholePair refl second in
+    (and_from _ _ first.0 (and_from _ _ first.0 rest.0), add_pair test x y xs (runs_of ms) first.1 rest.1)
+is_lettering test r (x ∷ y ∷ xs) (Kanji ∷ m ∷ ms) p e h =
+    let parts = and_parts (may_take r p x (may_use r Kanji && test x y) Kanji) _ h in
+    let second : allowed r test HalfPair (y ∷ xs) (m ∷ ms) ≡ true = rw (place_after-whole p e) at parts.1 in
+    absurd (false≢true second)

@@ -1,0 +1,183 @@
+-- A text read backwards: its letterings are those of the text, backwards, with the same bits. Its pairs are turned.
+use Rattle.std.proofs.Common.{◌≡◌, ℕ, ◌+◌, ◌-◌, ◌≤◌, ◌<◌, Bool, true, false, ◌==◌, ◌&&◌, List, [], ◌∷◌, ◌++◌, reverse, length, take, drop, get_or, refl, sym, ◌∙◌, ap, arith, subst}
+use Rattle.std.specs.List.{list_all}
+use Rattle.std.proofs.lemmas.Bool.{cond_both, and_parts, and_from, false≢true, eqb-true, eq-eqb, ne_eqb}
+use Rattle.std.proofs.lemmas.List.{reverse-append, reverse-reverse, take_more, take_all, drop_all, take-append-le, drop-append-le, take-append-drop, length-append, length-take-le, length-reverse, get_or-reverse}
+use Rattle.std.proofs.lemmas.List.Folds.{list_all-append}
+use Rattle.qr_bits.specs.declared.modes.Mode.{Mode}
+use Rattle.qr_bits.specs.declared.modes.Mode.TheVariants.{Numeric, Alphanumeric, Byte, Kanji}
+use Rattle.qr_bits.specs.declared.modes.Rule.{Rule}
+use Rattle.qr_bits.specs.declared.segmentation.Segment.{Segment}
+use Rattle.qr_bits.specs.declared.place.Place.{Place}
+use Rattle.qr_bits.specs.declared.place.Place.TheVariants.{Start}
+use Rattle.qr_bits.specs.Segmentation.{rank, bits, with_front, runs_of, Covers, HasFit}
+use Rattle.qr_bits.specs.Modes.{in_twos, is_kanji_pair, is_digit, is_alphanumeric, may_use}
+use Rattle.qr_bits.specs.Steps.Segmentation.{with_back}
+use Rattle.qr_bits.specs.Steps.Place.{turned, begins, may_end, IsChoice}
+use Rattle.qr_bits.proofs.BestLemmas.{BestBelow, same_rank}
+use Rattle.qr_bits.proofs.BackLemmas.{runs_of-push}
+use Rattle.qr_bits.proofs.LetterLemmas.{bits-runs_of}
+use Rattle.qr_bits.proofs.LetteringLemmas.{suits_by, CoversBy, IsLetteringBy, covers_by, by_covers, can_take, is_lettering}
+use Rattle.qr_bits.proofs.TableLemmas.{bytes_rest, best_more}
+use Rattle.qr_bits.specs.declared.place.ByPlace.{ByPlace}
+use Rattle.qr_bits.specs.Steps.Table.{at_place, follow}
+
+-- what all elements pass they pass read backwards
+list_all-reverse : {X : Type 0} (p : X → Bool) (xs : List X) → list_all p xs ≡ true → list_all p (reverse xs) ≡ true
+list_all-reverse p [] h = refl
+list_all-reverse p (x ∷ xs) h =
+    let parts = and_parts (p x) (list_all p xs) h in
+    rw (reverse-append (x ∷ []) xs, list_all-append p (reverse xs) (x ∷ [])) (and_from _ _ (list_all-reverse p xs parts.1) (and_from (p x) true parts.0 refl))
+
+-- two more at the end
+in_twos-push : (test : ℕ → ℕ → Bool) (xs : List ℕ) (x y : ℕ) → in_twos test xs ≡ true → test x y ≡ true → in_twos test (xs ++ x ∷ y ∷ []) ≡ true
+in_twos-push test [] x y h t = and_from (test x y) true t refl
+in_twos-push test (a ∷ []) x y h t = absurd (false≢true h)
+in_twos-push test (a ∷ b ∷ xs) x y h t = let parts = and_parts (test a b) _ h in and_from (test a b) _ parts.0 (in_twos-push test xs x y parts.1 t)
+
+-- twos read backwards are twos turned
+in_twos-reverse : (test : ℕ → ℕ → Bool) (xs : List ℕ) → in_twos test xs ≡ true → in_twos (turned test) (reverse xs) ≡ true
+in_twos-reverse test [] h = refl
+in_twos-reverse test (x ∷ []) h = absurd (false≢true h)
+in_twos-reverse test (x ∷ y ∷ xs) h =
+    let parts = and_parts (test x y) _ h in
+    rw (reverse-append (x ∷ y ∷ []) xs) (in_twos-push (turned test) (reverse xs) y x (in_twos-reverse test xs parts.1) parts.0)
+
+-- a mode suits read backwards too
+suits-reverse : (test : ℕ → ℕ → Bool) (m : Mode) (xs : List ℕ) → suits_by test m xs ≡ true → suits_by (turned test) m (reverse xs) ≡ true
+suits-reverse test Numeric xs h = list_all-reverse is_digit xs h
+suits-reverse test Alphanumeric xs h = list_all-reverse is_alphanumeric xs h
+suits-reverse test Byte xs h = refl
+suits-reverse test Kanji xs h = in_twos-reverse test xs h
+
+-- one more segment at the end
+covers-push : (test : ℕ → ℕ → Bool) (xs ys : List ℕ) (ss : List Segment) (s : Segment) → 0 < s.len → length ys ≡ s.len → suits_by test s.mode ys ≡ true → CoversBy test xs ss → CoversBy test (xs ++ ys) (ss ++ s ∷ [])
+unfolding CoversBy
+covers-push test xs ys [] s a n h c = rw c (a, omega arith, rw (take_all s.len ys (omega arith)) h, drop_all s.len ys (omega arith))
+covers-push test xs ys (t ∷ ss) s a n h c =
+    (c.0, omega (arith, length-append xs ys, c.1), rw (take-append-le t.len xs ys c.1) c.2, rw (drop-append-le t.len xs ys c.1) (covers-push test (drop t.len xs) ys ss s a n h c.3))
+
+-- segments read backwards cover the bytes read backwards, with the twos turned
+covers-reverse : (test : ℕ → ℕ → Bool) (xs : List ℕ) (ss : List Segment) → CoversBy test xs ss → CoversBy (turned test) (reverse xs) (reverse ss)
+unfolding CoversBy
+covers-reverse test xs [] c = ap reverse c
+covers-reverse test xs (s ∷ ss) c =
+    let whole : reverse xs ≡ reverse (drop s.len xs) ++ reverse (take s.len xs) = ap reverse (sym (take-append-drop s.len xs)) ∙ reverse-append (take s.len xs) (drop s.len xs) in
+    let n : length (reverse (take s.len xs)) ≡ s.len = length-reverse (take s.len xs) ∙ length-take-le s.len xs c.1 in
+    let all = covers-push (turned test) (reverse (drop s.len xs)) (reverse (take s.len xs)) (reverse ss) s c.0 n (suits-reverse test s.mode (take s.len xs) c.2) (covers-reverse test (drop s.len xs) ss c.3) in
+    rw (reverse-append (s ∷ []) ss) (subst (λ (ys : List ℕ). CoversBy (turned test) ys (reverse ss ++ s ∷ [])) (sym whole) all)
+
+-- a letter after the last of some segments
+with_back-last : (ss : List Segment) (s : Segment) (m : Mode) → with_back (ss ++ s ∷ []) m ≡ ss ++ with_back (s ∷ []) m
+unfolding with_back
+with_back-last [] s m = refl
+with_back-last (t ∷ []) s m = refl
+with_back-last (t ∷ u ∷ ss) s m = ap (λ (r : List Segment). t ∷ r) (with_back-last (u ∷ ss) s m)
+
+-- a letter before segments is one after them, read backwards
+with_front-reverse : (m : Mode) (ss : List Segment) → with_back (reverse ss) m ≡ reverse (with_front m ss)
+unfolding with_back
+with_front-reverse m [] = refl
+with_front-reverse m (s ∷ ss) =
+    rw (reverse-append (s ∷ []) ss, with_back-last (reverse ss) s m)
+    (cond_both (rank m == rank s.mode) _ _ (λ (r : List Segment). reverse ss ++ with_back (s ∷ []) m ≡ reverse r)
+    (λ e.
+    let same = same_rank m s.mode (eqb-true _ _ e) in
+    let t : (rank s.mode == rank m) ≡ true = eq-eqb _ _ (sym (eqb-true _ _ e)) in
+    let n : s.len + 1 ≡ 1 + s.len = omega arith in
+    rw (t, n, ← same) (sym (reverse-append (record { mode = m; len = 1 + s.len } ∷ []) ss)))
+    (λ e.
+    let t : (rank s.mode == rank m) ≡ false = ne_eqb _ _ (λ q. false≢true (sym e ∙ eq-eqb _ _ (sym q))) in
+    rw t (sym (reverse-append (record { mode = m; len = 1 } ∷ s ∷ []) ss))))
+
+-- the runs of letters read backwards are their runs, backwards
+runs_of-reverse : (ms : List Mode) → runs_of (reverse ms) ≡ reverse (runs_of ms)
+unfolding runs_of
+runs_of-reverse [] = refl
+runs_of-reverse (m ∷ ms) =
+    rw (reverse-append (m ∷ []) ms) (runs_of-push (reverse ms) m ∙ ap (λ (r : List Segment). with_back r m) (runs_of-reverse ms) ∙ with_front-reverse m (runs_of ms))
+
+-- the bits of segments after others
+bits-append : (v : ℕ) (ss ts : List Segment) → bits v (ss ++ ts) ≡ bits v ss + bits v ts
+bits-append v [] ts = omega arith
+bits-append v (s ∷ ss) ts = omega (arith, bits-append v ss ts)
+
+-- segments read backwards have the same bits
+bits-reverse : (v : ℕ) (ss : List Segment) → bits v (reverse ss) ≡ bits v ss
+bits-reverse v [] = refl
+bits-reverse v (s ∷ ss) = rw (reverse-append (s ∷ []) ss) (omega (arith, bits-append v (reverse ss) (s ∷ []), bits-reverse v ss))
+
+-- Of a text read backwards, the letters read backwards are a lettering with the same bits.
+mirror : (v : ℕ) (test : ℕ → ℕ → Bool) (r : Rule) (xs : List ℕ) (ms : List Mode) → IsLetteringBy test r xs ms
+    → IsLetteringBy (turned test) r (reverse xs) (reverse ms) × (bits v (runs_of (reverse ms)) ≡ bits v (runs_of ms))
+mirror v test r xs ms h = (
+  (list_all-reverse (may_use r) ms h.0, rw (runs_of-reverse ms) (covers-reverse test xs (runs_of ms) h.1)),
+  ap (bits v) (runs_of-reverse ms) ∙ bits-reverse v (runs_of ms),
+)
+
+-- the bits of the best rest of a prefix read backwards are the least bits of the prefix
+pub front_fits : (v : ℕ) (r : Rule) (xs : List ℕ) (f : Place → List Mode) (cost : Place → ℕ) (n : ℕ) → BestBelow v r (turned is_kanji_pair) (reverse xs) f cost → cost Start ≤ n → HasFit v r xs n
+unfolding may_end
+front_fits v r xs f cost n below small =
+    let best = below Start _ (bytes_rest r (turned is_kanji_pair) Start (reverse xs) refl) in
+    let back = mirror v (turned is_kanji_pair) r (reverse xs) (f Start) (is_lettering (turned is_kanji_pair) r (reverse xs) (f Start) Start refl best.is_allowed) in
+    let again : CoversBy is_kanji_pair (reverse (reverse xs)) (runs_of (reverse (f Start))) = back.0.1 in
+    (reverse (f Start), (back.0.0, by_covers xs _ (rw (reverse-reverse xs) at again)), omega (arith, back.1, small, bits-runs_of v (f Start), best.has_bits))
+
+-- a prefix that fits has at least the bits of the best rest of the prefix read backwards
+pub front_least : (v : ℕ) (r : Rule) (xs : List ℕ) (f : Place → List Mode) (cost : Place → ℕ) (n : ℕ) → BestBelow v r (turned is_kanji_pair) (reverse xs) f cost → HasFit v r xs n → cost Start ≤ n
+unfolding may_end
+front_least v r xs f cost n below fit =
+    let ms = fit.0 in
+    let back = mirror v is_kanji_pair r xs ms (fit.1.0, covers_by xs _ fit.1.1) in
+    let taken = can_take (turned is_kanji_pair) r (reverse xs) (reverse ms) back.0 Start refl in
+    let best = below Start (reverse ms) taken in
+    omega (arith, best.least (reverse ms) taken, bits-runs_of v (reverse ms), back.1, fit.2)
+
+-- no letter at all fits
+pub empty_fits : (v : ℕ) (r : Rule) (n : ℕ) → HasFit v r [] n
+unfolding Covers runs_of
+empty_fits v r n = ([], (refl, refl), omega arith)
+
+-- the first two bytes
+begins_at : (r : Rule) (test : ℕ → ℕ → Bool) (xs : List ℕ) → 2 ≤ length xs → begins r test xs ≡ (may_use r Kanji && test (get_or xs 0 0) (get_or xs 1 0))
+unfolding begins
+begins_at r test [] h = absurd (omega arith)
+begins_at r test (x ∷ []) h = absurd (omega arith)
+begins_at r test (x ∷ y ∷ xs) h = refl
+
+-- the last two bytes are the first two read backwards
+pub ends_at : (r : Rule) (xs : List ℕ) → 2 ≤ length xs → begins r (turned is_kanji_pair) (reverse xs) ≡ (may_use r Kanji && is_kanji_pair (get_or xs (length xs - 2) 0) (get_or xs (length xs - 1) 0))
+ends_at r xs h =
+    let two = begins_at r (turned is_kanji_pair) (reverse xs) (omega (arith, length-reverse xs)) in
+    let last : get_or (reverse xs) 0 0 ≡ get_or xs (length xs - 1) 0 = get_or-reverse xs 0 0 (omega arith) ∙ ap (λ (i : ℕ). get_or xs i 0) (omega arith) in
+    let before : get_or (reverse xs) 1 0 ≡ get_or xs (length xs - 2) 0 = get_or-reverse xs 1 0 (omega arith) ∙ ap (λ (i : ℕ). get_or xs i 0) (omega arith) in
+    two ∙ ap (λ (y : ℕ). may_use r Kanji && is_kanji_pair (get_or (reverse xs) 1 0) y) last ∙ ap (λ (x : ℕ). may_use r Kanji && is_kanji_pair x (get_or xs (length xs - 1) 0)) before
+
+-- fewer than two bytes do not begin with two
+begins_short : (r : Rule) (test : ℕ → ℕ → Bool) (xs : List ℕ) → length xs < 2 → begins r test xs ≡ false
+unfolding begins
+begins_short r test [] h = refl
+begins_short r test (x ∷ []) h = refl
+begins_short r test (x ∷ y ∷ xs) h = absurd (omega arith)
+
+-- fewer than two bytes do not end in two
+pub ends_short : (r : Rule) (xs : List ℕ) → length xs < 2 → begins r (turned is_kanji_pair) (reverse xs) ≡ false
+ends_short r xs h = begins_short r (turned is_kanji_pair) (reverse xs) (omega (arith, length-reverse xs))
+
+-- a prefix with one more byte, read backwards
+pub front_next : (xs : List ℕ) (i : ℕ) → i < length xs → reverse (take (i + 1) xs) ≡ get_or xs i 0 ∷ reverse (take i xs)
+front_next xs i h = ap reverse (take_more xs i 0 h) ∙ reverse-append (take i xs) (get_or xs i 0 ∷ [])
+
+-- the letters of one more byte of a prefix read backwards
+pub front_more : (v : ℕ) (r : Rule) (xs : List ℕ) (i : ℕ) (pair : Bool) (rows : List (ByPlace Mode)) (modes : ByPlace Mode) (rest bits : ByPlace ℕ) → i < length xs
+    → pair ≡ begins r (turned is_kanji_pair) (reverse (take (i + 1) xs))
+    → BestBelow v r (turned is_kanji_pair) (reverse (take i xs)) (λ p. follow p rows) (at_place rest)
+    → ((p : Place) → IsChoice v r p (get_or xs i 0) pair (at_place rest) (at_place modes p) (at_place bits p))
+    → BestBelow v r (turned is_kanji_pair) (reverse (take (i + 1) xs)) (λ p. follow p (modes ∷ rows)) (at_place bits)
+front_more v r xs i pair rows modes rest bits h e below choice =
+    let x = get_or xs i 0 in
+    let front = front_next xs i h in
+    let flag : pair ≡ begins r (turned is_kanji_pair) (x ∷ reverse (take i xs)) = e ∙ ap (begins r (turned is_kanji_pair)) front in
+    rw front (best_more v r (turned is_kanji_pair) x (reverse (take i xs)) rows modes rest bits below
+    (λ p. subst (λ (b : Bool). IsChoice v r p x b (at_place rest) (at_place modes p) (at_place bits p)) flag (choice p)))

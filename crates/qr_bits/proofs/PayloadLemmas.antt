@@ -1,0 +1,149 @@
+-- What the payloads say, group by group.
+use Rattle.std.proofs.Common.{◌≡◌, ℕ, zero, suc, ◌+◌, ◌-◌, ◌/◌, ◌%◌, ◌^◌, ◌<◌, ◌≤◌, Bool, List, [], ◌∷◌, ◌++◌, length, take, drop, Result, Ok, Err, refl, sym, ◌∙◌, ap, arith, lit<}
+use Rattle.std.proofs.lemmas.Bool.{lt-ltb, le-ltb}
+use Rattle.std.proofs.lemmas.List.{length-take, append_assoc}
+use Rattle.std.proofs.Math.Nat.{pow-le-pow_right}
+use Rattle.qr_bits.specs.declared.modes.Mode.TheVariants.{Numeric, Alphanumeric}
+use Rattle.qr_bits.specs.declared.fault.ParseFault.{ParseFault}
+use Rattle.qr_bits.specs.declared.fault.ParseFault.TheVariants.{BadValue}
+use Rattle.qr_bits.specs.Bits.{value}
+use Rattle.qr_bits.specs.Modes.{payload_bits}
+use Rattle.qr_bits.specs.Parsing.{◌>>=◌, digit, digits_of, character, characters_of, bytes_of}
+use Rattle.qr_bits.proofs.BitLemmas.{value_below}
+use Rattle.qr_bits.proofs.WritingLemmas.{three_more, two_more}
+
+-- bits make a number below the power of their width
+pub value_take_below : (w : ℕ) (bs : List Bool) → value (take w bs) < 2 ^ w
+value_take_below w bs =
+    let short : length (take w bs) ≤ w = omega (arith, length-take w bs) in
+    omega (arith, value_below (take w bs), pow-le-pow_right {n = 2} (lit< tt) short)
+
+-- what is read, after what was read before
+abbrev pub with_front : List ℕ → Result (List ℕ) ParseFault → Result (List ℕ) ParseFault
+with_front front read = read >>= λ xs. Ok (front ++ xs)
+
+-- where all that is read after a prefix succeeds, the rest does
+pub with_front-ok : (front : List ℕ) (read : Result (List ℕ) ParseFault) (ys : List ℕ) → with_front front read ≡ Ok ys → (xs : List ℕ) × (read ≡ Ok xs) × (ys ≡ front ++ xs)
+with_front-ok front (Ok xs) ys h = (xs, refl, cc)
+with_front-ok front (Err e) ys h = cc
+
+-- where all that is read after a prefix fails, the rest does
+pub with_front-err : (front : List ℕ) (read : Result (List ℕ) ParseFault) (e : ParseFault) → with_front front read ≡ Err e → read ≡ Err e
+with_front-err front (Ok xs) e h = cc
+with_front-err front (Err d) e h = cc
+
+-- two prefixes are one
+pub with_front-twice : (front middle : List ℕ) (read : Result (List ℕ) ParseFault) → with_front front (read >>= λ xs. Ok (middle ++ xs)) ≡ with_front (front ++ middle) read
+with_front-twice front middle (Ok xs) = ap Ok (sym (append_assoc front middle xs))
+with_front-twice front middle (Err e) = refl
+
+-- ---- digits
+
+-- three digits less have ten bits less
+pub payload_less : (n : ℕ) → 3 ≤ n → payload_bits Numeric n ≡ 10 + payload_bits Numeric (n - 3)
+payload_less n h = let e : n ≡ 3 + (n - 3) = omega arith in ap (payload_bits Numeric) e ∙ three_more (n - 3)
+
+-- a group of three digits, and the digits after it
+pub digits_more : (front : List ℕ) (n : ℕ) (bits : List Bool) → 3 ≤ n → value (take 10 bits) < 1000
+    → with_front front (digits_of n bits) ≡ with_front (front ++ digit (value (take 10 bits) / 100) ∷ digit (value (take 10 bits) / 10) ∷ digit (value (take 10 bits)) ∷ []) (digits_of (n - 3) (drop 10 bits))
+unfolding digits_of
+digits_more front zero bits h low = absurd (omega arith)
+digits_more front (suc zero) bits h low = absurd (omega arith)
+digits_more front (suc (suc zero)) bits h low = absurd (omega arith)
+digits_more front (suc (suc (suc n))) bits h low =
+    let e : suc (suc (suc n)) - 3 ≡ n = omega arith in
+    rw (e, lt-ltb _ _ low) (with_front-twice front (digit (value (take 10 bits) / 100) ∷ digit (value (take 10 bits) / 10) ∷ digit (value (take 10 bits)) ∷ []) (digits_of n (drop 10 bits)))
+
+-- a group of three digits that is too large
+pub digits_bad : (n : ℕ) (bits : List Bool) → 3 ≤ n → 1000 ≤ value (take 10 bits) → digits_of n bits ≡ Err BadValue
+unfolding digits_of
+digits_bad zero bits h high = absurd (omega arith)
+digits_bad (suc zero) bits h high = absurd (omega arith)
+digits_bad (suc (suc zero)) bits h high = absurd (omega arith)
+digits_bad (suc (suc (suc n))) bits h high = rw (le-ltb _ _ high) refl
+
+-- the last two digits
+pub digits_two : (bits : List Bool) → value (take 7 bits) < 100 → digits_of 2 bits ≡ Ok (digit (value (take 7 bits) / 10) ∷ digit (value (take 7 bits)) ∷ [])
+unfolding digits_of
+digits_two bits low = rw (lt-ltb _ _ low) refl
+
+-- two digits that are too large
+pub digits_two_bad : (bits : List Bool) → 100 ≤ value (take 7 bits) → digits_of 2 bits ≡ Err BadValue
+unfolding digits_of
+digits_two_bad bits high = rw (le-ltb _ _ high) refl
+
+-- the last digit
+pub digits_one : (bits : List Bool) → value (take 4 bits) < 10 → digits_of 1 bits ≡ Ok (digit (value (take 4 bits)) ∷ [])
+unfolding digits_of
+digits_one bits low = rw (lt-ltb _ _ low) refl
+
+-- a digit that is too large
+pub digits_one_bad : (bits : List Bool) → 10 ≤ value (take 4 bits) → digits_of 1 bits ≡ Err BadValue
+unfolding digits_of
+digits_one_bad bits high = rw (le-ltb _ _ high) refl
+
+-- no digit
+pub digits_none : (bits : List Bool) → digits_of 0 bits ≡ Ok []
+unfolding digits_of
+digits_none bits = refl
+
+-- ---- characters
+
+-- two characters less have eleven bits less
+pub payload_two_less : (n : ℕ) → 2 ≤ n → payload_bits Alphanumeric n ≡ 11 + payload_bits Alphanumeric (n - 2)
+payload_two_less n h = let e : n ≡ 2 + (n - 2) = omega arith in ap (payload_bits Alphanumeric) e ∙ two_more (n - 2)
+
+-- a pair of characters, and the characters after it
+pub characters_more : (front : List ℕ) (n : ℕ) (bits : List Bool) → 2 ≤ n → value (take 11 bits) < 2025
+    → with_front front (characters_of n bits) ≡ with_front (front ++ character (value (take 11 bits) / 45) ∷ character (value (take 11 bits) % 45) ∷ []) (characters_of (n - 2) (drop 11 bits))
+unfolding characters_of
+characters_more front zero bits h low = absurd (omega arith)
+characters_more front (suc zero) bits h low = absurd (omega arith)
+characters_more front (suc (suc n)) bits h low =
+    let e : suc (suc n) - 2 ≡ n = omega arith in
+    rw (e, lt-ltb _ _ low) (with_front-twice front (character (value (take 11 bits) / 45) ∷ character (value (take 11 bits) % 45) ∷ []) (characters_of n (drop 11 bits)))
+
+-- a pair of characters that is too large
+pub characters_bad : (n : ℕ) (bits : List Bool) → 2 ≤ n → 2025 ≤ value (take 11 bits) → characters_of n bits ≡ Err BadValue
+unfolding characters_of
+characters_bad zero bits h high = absurd (omega arith)
+characters_bad (suc zero) bits h high = absurd (omega arith)
+characters_bad (suc (suc n)) bits h high = rw (le-ltb _ _ high) refl
+
+-- the last character
+pub characters_one : (bits : List Bool) → value (take 6 bits) < 45 → characters_of 1 bits ≡ Ok (character (value (take 6 bits)) ∷ [])
+unfolding characters_of
+characters_one bits low = rw (lt-ltb _ _ low) refl
+
+-- a single character that is too large
+pub characters_one_bad : (bits : List Bool) → 45 ≤ value (take 6 bits) → characters_of 1 bits ≡ Err BadValue
+unfolding characters_of
+characters_one_bad bits high = rw (le-ltb _ _ high) refl
+
+-- no character
+pub characters_none : (bits : List Bool) → characters_of 0 bits ≡ Ok []
+unfolding characters_of
+characters_none bits = refl
+
+-- ---- bytes
+
+-- a byte, and the bytes after it
+pub bytes_more : (front : List ℕ) (n : ℕ) (bits : List Bool) → 0 < n → front ++ bytes_of n bits ≡ (front ++ value (take 8 bits) ∷ []) ++ bytes_of (n - 1) (drop 8 bits)
+unfolding bytes_of
+bytes_more front zero bits h = absurd (omega arith)
+bytes_more front (suc n) bits h =
+    let e : suc n - 1 ≡ n = omega arith in
+    rw e (sym (append_assoc front (value (take 8 bits) ∷ []) (bytes_of n (drop 8 bits))))
+
+-- no byte
+pub bytes_none : (bits : List Bool) → bytes_of 0 bits ≡ []
+unfolding bytes_of
+bytes_none bits = refl
+
+-- where the rest is read, the whole is read
+pub finish : (front out zs : List ℕ) (read whole : Result (List ℕ) ParseFault) → with_front front read ≡ with_front out whole → read ≡ Ok zs → (xs : List ℕ) × (whole ≡ Ok xs) × (front ++ zs ≡ out ++ xs)
+finish front out zs read whole h e = with_front-ok out whole (front ++ zs) (sym h ∙ ap (with_front front) e)
+
+-- where the rest fails, the whole fails
+pub fails : (front out : List ℕ) (read whole : Result (List ℕ) ParseFault) (f : ParseFault) → with_front front read ≡ with_front out whole → read ≡ Err f → whole ≡ Err f
+fails front out read whole f h e = with_front-err out whole f (sym h ∙ ap (with_front front) e)

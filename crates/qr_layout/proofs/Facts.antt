@@ -1,0 +1,10 @@
+-- The lemmas that other crates cite.
+pub use Rattle.qr_layout.proofs.AlignmentLemmas.{IsInside, centre-inside, list_any-map, region_in}
+pub use Rattle.qr_layout.proofs.BlockLemmas.{blocks-sound, every, every-at, laws-of}
+pub use Rattle.qr_layout.proofs.ListLemmas.{All-of-Mem, Mem, Mem-at, Rises, Rises-of-pairs, one_rising}
+pub use Rattle.qr_layout.proofs.OrderLemmas.{number-at, only_order, order-has, order-length, order-mem, order-small}
+pub use Rattle.qr_layout.proofs.RegionLemmas.{col-in, row-in}
+pub use Rattle.qr_layout.proofs.RolePlaceLemmas.{format-first, format-only, format-second, off-role, region-role, role-region, version-only}
+pub use Rattle.qr_layout.proofs.StripLemmas.{Inside}
+pub use Rattle.qr_layout.proofs.TableLemmas.{below, below-at, eqb-same}
+pub use Rattle.qr_layout.proofs.WalkLemmas.{to_come-start}

@@ -1,0 +1,84 @@
+-- Worked and printed values with which the public laws compare the definitions.
+use Rattle.std.specs.Prelude.{ℕ, ◌+◌, ◌-◌, ◌*◌, ◌^◌, ◌/◌, ◌==◌, Bool, true, false, nat_lt, if◌then◌else◌, List, [], ◌∷◌, length, map}
+use Rattle.std.specs.List.{range_with_len}
+use Rattle.qr_layout.specs.declared.level.Level.{Level}
+use Rattle.qr_layout.specs.declared.level.Level.TheVariants.{L, M, Q, H}
+use Rattle.qr_layout.specs.declared.role.Role.{Role}
+use Rattle.qr_layout.specs.declared.role.Role.TheVariants.{Fixed, FormatBit, Region}
+use Rattle.qr_layout.specs.Version.{side_of}
+use Rattle.qr_layout.specs.Alignment.{centres_of}
+
+-- the versions 1 to 40 [own]
+abbrev pub all_versions : List ℕ
+all_versions = range_with_len 1 40
+
+-- the data codewords of the versions 1 to 40, in turn, as they are printed (ISO/IEC 18004:2015, 7.4.10, Table 7)
+abbrev pub printed_data : Level → List ℕ
+printed_data L =
+    19 ∷ 34 ∷ 55 ∷ 80 ∷ 108 ∷ 136 ∷ 156 ∷ 194 ∷ 232 ∷ 274 ∷ 324 ∷ 370 ∷ 428 ∷ 461 ∷ 523 ∷ 589 ∷ 647 ∷ 721 ∷ 795 ∷
+    861 ∷ 932 ∷ 1006 ∷ 1094 ∷ 1174 ∷ 1276 ∷ 1370 ∷ 1468 ∷ 1531 ∷ 1631 ∷ 1735 ∷ 1843 ∷ 1955 ∷ 2071 ∷ 2191 ∷ 2306 ∷
+    2434 ∷ 2566 ∷ 2702 ∷ 2812 ∷ 2956 ∷ []
+printed_data M =
+    16 ∷ 28 ∷ 44 ∷ 64 ∷ 86 ∷ 108 ∷ 124 ∷ 154 ∷ 182 ∷ 216 ∷ 254 ∷ 290 ∷ 334 ∷ 365 ∷ 415 ∷ 453 ∷ 507 ∷ 563 ∷ 627 ∷
+    669 ∷ 714 ∷ 782 ∷ 860 ∷ 914 ∷ 1000 ∷ 1062 ∷ 1128 ∷ 1193 ∷ 1267 ∷ 1373 ∷ 1455 ∷ 1541 ∷ 1631 ∷ 1725 ∷ 1812 ∷ 1914 ∷
+    1992 ∷ 2102 ∷ 2216 ∷ 2334 ∷ []
+printed_data Q =
+    13 ∷ 22 ∷ 34 ∷ 48 ∷ 62 ∷ 76 ∷ 88 ∷ 110 ∷ 132 ∷ 154 ∷ 180 ∷ 206 ∷ 244 ∷ 261 ∷ 295 ∷ 325 ∷ 367 ∷ 397 ∷ 445 ∷ 485 ∷
+    512 ∷ 568 ∷ 614 ∷ 664 ∷ 718 ∷ 754 ∷ 808 ∷ 871 ∷ 911 ∷ 985 ∷ 1033 ∷ 1115 ∷ 1171 ∷ 1231 ∷ 1286 ∷ 1354 ∷ 1426 ∷
+    1502 ∷ 1582 ∷ 1666 ∷ []
+printed_data H =
+    9 ∷ 16 ∷ 26 ∷ 36 ∷ 46 ∷ 60 ∷ 66 ∷ 86 ∷ 100 ∷ 122 ∷ 140 ∷ 158 ∷ 180 ∷ 197 ∷ 223 ∷ 253 ∷ 283 ∷ 313 ∷ 341 ∷ 385 ∷
+    406 ∷ 442 ∷ 464 ∷ 514 ∷ 538 ∷ 596 ∷ 628 ∷ 661 ∷ 701 ∷ 745 ∷ 793 ∷ 845 ∷ 901 ∷ 961 ∷ 986 ∷ 1054 ∷ 1096 ∷ 1142 ∷
+    1222 ∷ 1276 ∷ []
+
+-- the gap between the alignment patterns' centres, except for the first one, with k centres: the least even number that
+-- is enough, and 26 in version 32 (ISO/IEC 18004:2015, Annex E)
+abbrev pub gap_between : ℕ → ℕ → ℕ
+gap_between v k = if v == 32 then 26 else 2 * ((side_of v - 13 + 2 * (k - 1) - 1) / (2 * (k - 1)))
+
+-- the centres of version v, from version 2 on: the first is 6, the last s - 7, and gaps of one size lead up to it
+-- (ISO/IEC 18004:2015, Annex E)
+abbrev pub spaced_centres : ℕ → List ℕ
+spaced_centres v = 6 ∷ map (λ i. side_of v - 7 - gap_between v (v / 7 + 2) * (v / 7 - i)) (range_with_len 0 (v / 7 + 1))
+
+-- the modules that the alignment patterns take beside the timing patterns, with k rows of centres: 25 for each pattern,
+-- less 5 for each of those that stand on a timing pattern (ISO/IEC 18004:2015, 6.3.5, 6.3.6)
+abbrev pub alignment_size : ℕ → ℕ
+alignment_size k = if nat_lt k 2 then 0 else 25 * (k ^ 2 - 3) - 10 * (k - 2)
+
+-- the modules that the version information takes (ISO/IEC 18004:2015, 7.10)
+abbrev pub version_size : ℕ → ℕ
+version_size v = if nat_lt v 7 then 0 else 36
+
+-- the modules of the square less those that are taken: the corners, the timing patterns between them, the alignment
+-- patterns and the version information (ISO/IEC 18004:2015, 6.3.7, 7.7.3)
+abbrev pub region_size : ℕ → ℕ
+region_size v =
+    side_of v ^ 2 - 225 - 2 * (side_of v - 17) - alignment_size (length (centres_of v)) - version_size v
+
+-- a module that is always dark, and one that is always light [own]
+abbrev dark : Role
+dark = Fixed true
+
+abbrev light : Role
+light = Fixed false
+
+-- what row 8 of version 1 holds, from left to right (ISO/IEC 18004:2015, 7.9.1)
+abbrev pub row_8 : List Role
+row_8 =
+    FormatBit 14 ∷ FormatBit 13 ∷ FormatBit 12 ∷ FormatBit 11 ∷ FormatBit 10 ∷ FormatBit 9 ∷ dark ∷ FormatBit 8 ∷
+    FormatBit 7 ∷ Region ∷ Region ∷ Region ∷ Region ∷ FormatBit 7 ∷ FormatBit 6 ∷ FormatBit 5 ∷ FormatBit 4 ∷
+    FormatBit 3 ∷ FormatBit 2 ∷ FormatBit 1 ∷ FormatBit 0 ∷ []
+
+-- what column 8 of version 1 holds, from top to bottom (ISO/IEC 18004:2015, 7.9.1)
+abbrev pub column_8 : List Role
+column_8 =
+    FormatBit 0 ∷ FormatBit 1 ∷ FormatBit 2 ∷ FormatBit 3 ∷ FormatBit 4 ∷ FormatBit 5 ∷ dark ∷ FormatBit 6 ∷
+    FormatBit 7 ∷ Region ∷ Region ∷ Region ∷ Region ∷ dark ∷ FormatBit 8 ∷ FormatBit 9 ∷ FormatBit 10 ∷ FormatBit 11 ∷
+    FormatBit 12 ∷ FormatBit 13 ∷ FormatBit 14 ∷ []
+
+-- what row 6 of version 1 holds, from left to right (ISO/IEC 18004:2015, 6.3.3 to 6.3.5)
+abbrev pub row_6 : List Role
+row_6 =
+    dark ∷ dark ∷ dark ∷ dark ∷ dark ∷ dark ∷ dark ∷ light ∷ dark ∷ light ∷ dark ∷ light ∷ dark ∷ light ∷ dark ∷
+    dark ∷ dark ∷ dark ∷ dark ∷ dark ∷ dark ∷ []

@@ -1,0 +1,2 @@
+-- Definitions of single steps. Only private clauses cite them, so that a reader need not believe them.
+pub mod Order

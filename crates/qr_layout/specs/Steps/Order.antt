@@ -1,0 +1,64 @@
+-- Only for the proof of the walk: its position, and the modules that are still to come. No public clause rests on how
+-- this is written.
+use Rattle.std.specs.Prelude.{◌≡◌, ℕ, ◌+◌, ◌-◌, ◌*◌, ◌/◌, ◌%◌, ◌<◌, ◌≤◌, Bool, true, false, nat_lt, ◌==◌, if◌then◌else◌, List, [], ◌∷◌}
+use Prim.Native.Nat.{zero, suc}
+use Rattle.qr_layout.specs.declared.region.Module.{Module}
+use Rattle.qr_layout.specs.declared.order.Cursor.{Cursor}
+use Rattle.qr_layout.specs.Region.{is_in_region}
+use Rattle.qr_layout.specs.Version.{side_of}
+
+-- 0 at the right module of a row, 1 at the left
+abbrev pub half_of : Bool → ℕ
+half_of second = if second then 1 else 0
+
+-- the column of a half of a strip, past column 6 where the strip is
+abbrev pub column_of : ℕ → ℕ → ℕ
+column_of strips half = let c = 2 * strips - 1 - half in if nat_lt c 6 then c else c + 1
+
+-- the module at a position
+abbrev pub place_of : Cursor → Module
+place_of a = record { row = a.row; col = column_of a.strips (half_of a.second) }
+
+-- the row, counted from where the strip begins
+abbrev pub rank_of : ℕ → Cursor → ℕ
+rank_of s a = if a.upward then s - 1 - a.row else a.row
+
+-- how many places are left, this one included
+unfoldable pub left_of : ℕ → Cursor → ℕ
+left_of s a = a.strips * (2 * s) - (2 * rank_of s a + half_of a.second)
+
+-- the next position: the other half, else the next row, else the next strip, which goes the other way
+unfoldable pub next_of : ℕ → Cursor → Cursor
+next_of s a =
+    if a.second then
+    (if a.upward then
+    (if a.row == 0 then record { strips = a.strips - 1; row = 0; second = false; upward = false } else record { strips = a.strips; row = a.row - 1; second = false; upward = true })
+    else
+    (if a.row + 1 == s then record { strips = a.strips - 1; row = a.row; second = false; upward = true } else record { strips = a.strips; row = a.row + 1; second = false; upward = false }))
+    else record { strips = a.strips; row = a.row; second = true; upward = a.upward }
+
+-- a position of version v, or the end
+pub record IsCursor (v : ℕ) (a : Cursor) : Type 0 where
+  pub strips_in : a.strips ≤ 8 + 2 * v
+  pub row_in : a.row < side_of v
+  pub turned : a.upward ≡ (a.strips % 2 == 0)
+
+-- the modules of the region at the next n positions
+unfoldable pub places_within : ℕ → ℕ → Cursor → List Module
+places_within v zero a = []
+places_within v (suc n) a =
+    if is_in_region v a.row (place_of a).col then place_of a ∷ places_within v n (next_of (side_of v) a) else places_within v n (next_of (side_of v) a)
+
+-- the modules of the region from a position on
+unfoldable pub to_come : ℕ → Cursor → List Module
+to_come v a = places_within v (left_of (side_of v) a) a
+
+-- where a walk begins
+abbrev pub start_of : ℕ → Cursor
+start_of v = record { strips = 8 + 2 * v; row = 16 + 4 * v; second = false; upward = true }
+
+-- the position of a place
+unfoldable pub cursor_at : Module → Cursor
+cursor_at m =
+    let c = (if nat_lt m.col 6 then m.col else m.col - 1) in
+    record { strips = c / 2 + 1; row = m.row; second = c % 2 == 0; upward = (c / 2 + 1) % 2 == 0 }

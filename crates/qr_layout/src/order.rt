@@ -1,0 +1,269 @@
+//! The walk over the encoding region: strips of two columns from the right, upward and downward in turn, in each row
+//! the right module first, with column 6 in no strip (ISO/IEC 18004:2015, 7.7.3).
+
+ghost use Rattle.std.specs.Prelude.{◌≡◌, ◌<◌, ◌≤◌, ◌↔◌, IfSome, IsSome, List, length};
+ghost use Rattle.std.specs.Iterator.{YieldsFirst, item_count};
+ghost use Rattle.qr_layout.specs.Region.{InRegion};
+ghost use Rattle.qr_layout.specs.Order.{IsOrder, IsOrderAfter};
+ghost use Rattle.qr_layout.specs.Version.{module_count_of};
+ghost use Rattle.qr_layout.specs.declared.region.Module.{Module};
+ghost use Rattle.qr_layout.specs.Steps.Order.{place_of, next_of, cursor_at};
+
+use crate::region::{Module, is_in_region};
+use crate::version::Version;
+use std::marker::Model;
+
+// Where a walk stands: in which strip, counted from the left and from 1, in which row, whether at the left module, and
+// which way it goes. At strip 0 the walk is over.
+#[derive(Clone, Copy)]
+struct Cursor {
+    strips: u8,
+    row: u8,
+    second: bool,
+    upward: bool,
+}
+
+impl Cursor {
+    fn place(self) -> Module
+        requires strips_left { 0 < self.strips }
+        requires strips_in { self.strips ≤ 88 }
+        ensures { result ≡ place_of self }
+    {
+        let past = 2 * self.strips - 1 - if self.second { 1 } else { 0 };
+        let col = if past < 6 { past } else { past + 1 };
+        Module { row: self.row, col }
+    }
+
+    #[tactic(auto, unfolding(crate::specs::Steps::Order::next_of))]
+    fn next(self, side: u8) -> Cursor
+        requires strips_left { 0 < self.strips }
+        requires row_in { self.row < side }
+        ensures { result ≡ next_of side self }
+    {
+        if !self.second {
+            Cursor {
+                second: true,
+                ..self
+            }
+        } else if self.upward {
+            if self.row == 0 {
+                Cursor {
+                    strips: self.strips - 1,
+                    row: 0,
+                    second: false,
+                    upward: false,
+                }
+            } else {
+                Cursor {
+                    row: self.row - 1,
+                    second: false,
+                    ..self
+                }
+            }
+        } else if self.row + 1 == side {
+            Cursor {
+                strips: self.strips - 1,
+                second: false,
+                upward: true,
+                ..self
+            }
+        } else {
+            Cursor {
+                row: self.row + 1,
+                second: false,
+                ..self
+            }
+        }
+    }
+
+    #[tactic(auto, unfolding(crate::specs::Steps::Order::cursor_at))]
+    fn at(m: Module) -> Cursor
+        ensures { result ≡ cursor_at m }
+    {
+        let past = if m.col < 6 { m.col } else { m.col - 1 };
+        let strips = past / 2 + 1;
+        Cursor {
+            strips,
+            row: m.row,
+            second: past % 2 == 0,
+            upward: strips % 2 == 0,
+        }
+    }
+}
+
+/// A walk over the encoding region, seen as the modules that are still to come. It keeps a position and a direction.
+#[derive(Drop)]
+pub struct Steps {
+    version: Version,
+    cursor: Cursor,
+}
+
+impl Model for Steps {
+    ghost use Rattle.std.specs.Prelude.{◌≤◌, List};
+    ghost use Rattle.qr_layout.specs.declared.region.Module.{Module};
+    ghost use Rattle.qr_layout.specs.Steps.Order.{to_come, IsCursor};
+
+    ghost Value = { List Module };
+
+    ghost view = { λ s. to_come s.version s.cursor };
+
+    ghost invariant = { λ s. (1 ≤ s.version) × (s.version ≤ 40) × IsCursor s.version s.cursor };
+}
+
+impl Iterator for Steps {
+    type Item = Module;
+
+    ghost next_gives = { YieldsFirst (λ s. s) };
+
+    ghost remaining = { item_count (λ s. s) };
+
+    fn next(&mut self) -> Option<Module> {
+        let side = self.version.side();
+        while self.cursor.strips > 0 {
+            let here = self.cursor.place();
+            self.cursor = self.cursor.next(side);
+            if is_in_region(self.version, here.row, here.col) {
+                return Some(here);
+            }
+        }
+        None
+    }
+}
+
+/// The modules of the encoding region, in the order in which the bits of the message fill them.
+pub fn walk(v: Version) -> Steps
+    ensures order { IsOrder v result }
+    ensures count { length result ≡ module_count_of v }
+{
+    Steps {
+        version: v,
+        cursor: Cursor {
+            strips: 8 + 2 * v.number(),
+            row: v.side() - 1,
+            second: false,
+            upward: true,
+        },
+    }
+}
+
+/// The modules that come after `m` in the walk. There is none where `m` is not in the encoding region, inside the
+/// symbol or not.
+pub fn walk_after(v: Version, m: Module) -> Option<Steps>
+    ensures given { IsSome result ↔ InRegion v m }
+    ensures rest { IfSome result (IsOrderAfter v m) }
+{
+    if !is_in_region(v, m.row, m.col) {
+        return None;
+    }
+    let here = Cursor::at(m);
+    let next = here.next(v.side());
+    Some(Steps {
+        version: v,
+        cursor: next,
+    })
+}
+
+/// How many modules the encoding region has, from 208 to 29,648.
+pub fn region_len(v: Version) -> u32
+    ensures count { result ≡ module_count_of v }
+    ensures length { (ms : List Module) → IsOrder v ms → length ms ≡ result }
+{
+    8 * u32::from(v.total_codewords()) + u32::from(v.remainder_bits())
+}
+
+#[cfg(test)]
+mod tests {
+    use super::*;
+    use std::test::Fail;
+
+    fn place((row, col): (u8, u8)) -> Module {
+        Module { row, col }
+    }
+
+    #[test]
+    fn walk_of_version_1(rt: HostRuntime) -> Result<(), Fail> {
+        let mut steps = walk(Version::new(1).ok_or("no version 1")?);
+        for begin in [(20, 20), (20, 19), (19, 20)] {
+            assert_eq!(rt; steps.next(), Some(place(begin)));
+        }
+        assert_eq!(rt; steps.last(), Some(place((12, 0))));
+        Ok(())
+    }
+
+    #[test]
+    fn walks_resumed(rt: HostRuntime) -> Result<(), Fail> {
+        for (number, after, then, name) in [
+            (
+                1,
+                (9, 19),
+                [(9, 18), (9, 17)],
+                "downward beside the format information",
+            ),
+            (1, (9, 7), [(9, 5), (9, 4)], "over the timing column"),
+            (
+                2,
+                (21, 19),
+                [(15, 20), (15, 19)],
+                "upward over an alignment pattern",
+            ),
+            (
+                2,
+                (21, 15),
+                [(20, 15), (19, 15)],
+                "half a strip beside an alignment pattern",
+            ),
+            (
+                7,
+                (7, 35),
+                [(0, 33), (1, 33)],
+                "half a strip beside the version information",
+            ),
+        ] {
+            let version = Version::new(number).ok_or("no such version")?;
+            let mut steps = walk_after(version, place(after)).ok_or("not in the region")?;
+            for next in then {
+                assert_eq!(rt; steps.next(), Some(place(next)), "{name}");
+            }
+        }
+        Ok(())
+    }
+
+    #[test]
+    fn walks_that_end_or_do_not_begin(rt: HostRuntime) -> Result<(), Fail> {
+        let version = Version::new(1).ok_or("no version 1")?;
+        let mut end = walk_after(version, place((12, 0))).ok_or("not in the region")?;
+        assert_eq!(rt; end.next(), None, "after the last module");
+        assert!(rt;
+            walk_after(version, place((6, 6))).is_none(),
+            "a function module"
+        );
+        assert!(rt;
+            walk_after(version, place((21, 0))).is_none(),
+            "outside the symbol"
+        );
+        Ok(())
+    }
+
+    #[test]
+    fn lengths_of_the_region(rt: HostRuntime) -> Result<(), Fail> {
+        for (number, want) in [
+            (1, 208),
+            (2, 359),
+            (6, 1383),
+            (7, 1568),
+            (14, 4651),
+            (21, 9252),
+            (28, 15371),
+            (40, 29648),
+        ] {
+            let version = Version::new(number).ok_or("no such version")?;
+            assert_eq!(rt; region_len(version), want, "version {number}");
+            let mut steps = 0u32;
+            for _ in walk(version) {
+                steps = steps.saturating_add(1);
+            }
+            assert_eq!(rt; steps, want, "walk of version {number}");
+        }
+        Ok(())
+    }
+}

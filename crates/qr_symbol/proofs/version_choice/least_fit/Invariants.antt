@@ -1,0 +1,12 @@
+use Rattle.std.proofs.Common.{◌≤◌, ◌<◌, ◌-◌, ℕ}
+use Rattle.qr_symbol.specs.Encoding.{FitsVersion}
+use Rattle.qr_symbol.proofs.version_choice.least_fit.Given as goal
+
+abbrev pub invariant-loop-segments : goal.invariant-loop-segments
+invariant-loop-segments l = record {
+  from : l.fn.smallest ≤ l.first;
+  none : (v : ℕ) → l.fn.smallest ≤ v → v < l.first → FitsVersion l.input l.level l.rule v → ⊥;
+}
+
+abbrev pub decreases-loop-segments : goal.decreases-loop-segments
+decreases-loop-segments l = 41 - l.first

@@ -1,0 +1,53 @@
+-- The symbol that an input is encoded as. Public clauses cite this file.
+use Rattle.std.specs.Prelude.{◌≡◌, ℕ, ◌<◌, ◌≤◌, List, Option, None}
+use Rattle.qr_layout.specs.declared.level.Level.{Level}
+use Rattle.qr_bits.specs.declared.modes.Rule.{Rule}
+use Rattle.qr_bits.specs.declared.segmentation.Segment.{Segment}
+use Rattle.qr_bits.specs.declared.header.Header.{Header}
+use Rattle.qr_bits.specs.Segmentation.{HasFit, IsLeastSegmentation}
+use Rattle.qr_bits.specs.Padding.{capacity_of, IsData}
+use Rattle.qr_matrix.specs.Grid.{Grid}
+use Rattle.qr_symbol.specs.Symbol.{grid_of}
+use Rattle.qr_symbol.specs.Interleaving.{IsInterleaved}
+use Rattle.qr_symbol.specs.Choice.{IsMask}
+
+-- the bytes fit a symbol of version v and level l: some way to cut them into segments has no more bits than its data
+-- codewords hold (ISO/IEC 18004:2015, 7.4.10, Table 7)
+abbrev pub FitsVersion : List ℕ → Level → Rule → ℕ → Type 0
+FitsVersion x l rule v = HasFit v rule x (capacity_of v l)
+
+-- v is the least version from `smallest` to 40 that the bytes fit [own]
+pub record IsVersion (x : List ℕ) (l : Level) (smallest : ℕ) (rule : Rule) (v : ℕ) : Type 0 where
+  pub least : smallest ≤ v
+  pub most : v ≤ 40
+  pub fits : FitsVersion x l rule v
+  pub first : (u : ℕ) → smallest ≤ u → u < v → FitsVersion x l rule u → ⊥
+
+-- the bytes fit no version from `smallest` to 40 [own]
+abbrev pub HasNoVersion : List ℕ → Level → ℕ → Rule → Type 0
+HasNoVersion x l smallest rule = (v : ℕ) → smallest ≤ v → v ≤ 40 → FitsVersion x l rule v → ⊥
+
+-- g is the symbol, of version v and level l and with this mask, of the bytes after a header or none: the bytes are cut
+-- into the segments of least bits, written as data codewords, interleaved with their error correction codewords, placed,
+-- and masked (ISO/IEC 18004:2015, 7.1, 8.1)
+pub record IsSymbolAt (v : ℕ) (l : Level) (rule : Rule) (x : List ℕ) (h : Option Header) (mask : ℕ) (g : Grid) : Type 0 where
+  pub segments : List Segment
+  pub chosen : IsLeastSegmentation v rule x segments
+  pub message : List ℕ
+  pub written : IsData v l x segments h message
+  pub codewords : List ℕ
+  pub sent : IsInterleaved v l message codewords
+  pub best : IsMask v l codewords mask
+  pub drawn : g ≡ grid_of v l mask codewords
+
+-- g is the symbol of the bytes at level l, with this mask, of the least version v from `smallest` on that they fit
+-- (ISO/IEC 18004:2015, 7.1)
+pub record IsSymbol (x : List ℕ) (l : Level) (smallest : ℕ) (rule : Rule) (v mask : ℕ) (g : Grid) : Type 0 where
+  pub version : IsVersion x l smallest rule v
+  pub made : IsSymbolAt v l rule x None mask g
+
+-- An input has only one symbol: the version, the mask and the modules are those of any other [own].
+abbrev pub SymbolsAreOne : Type 0
+SymbolsAreOne = (x : List ℕ) (l : Level) (smallest : ℕ) (rule : Rule) (v w m n : ℕ) (g h : Grid)
+    → IsSymbol x l smallest rule v m g → IsSymbol x l smallest rule w n h
+    → (v ≡ w) × (m ≡ n) × (g ≡ h)

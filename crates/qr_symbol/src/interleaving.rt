@@ -1,0 +1,228 @@
+//! The final sequence of codewords: data and error correction codewords, interleaved (ISO/IEC 18004:2015, 7.5.2 and 7.6),
+//! and back.
+
+ghost use Rattle.std.specs.Prelude.{◌≡◌, ◌≢◌, ◌↔◌, ℕ, ◌+◌, ◌≤◌, ◌⊎◌, List, length, Err, IfOk, IfErr};
+ghost use Rattle.qr_layout.specs.Blocks.{data_codewords_of};
+ghost use Rattle.qr_layout.specs.Version.{total_codewords_of};
+ghost use Rattle.qr_symbol.specs.declared.fault.ReadFault.{ReadFault};
+ghost use Rattle.qr_symbol.specs.Interleaving.{count_of, len_of, start_of, cut_len, data_cut, correction_cut, IsFinalMessage, IsInterleaved};
+ghost use Rattle.qr_symbol.specs.Steps.Interleaving.{IsSent, IsChecks, IsGathered};
+
+use crate::fault::ReadFault;
+use qr_field::Divisor;
+use qr_layout::{Blocks, Level, Version};
+use std::alloc::{AllocError, Global};
+
+// Codewords block after block: `short` blocks of `short_len` codewords, and then `long` blocks of one more.
+#[derive(Clone, Copy)]
+struct Cut {
+    short: u16,
+    short_len: u8,
+    long: u8,
+}
+
+impl Cut {
+    fn of_data(blocks: Blocks) -> Cut
+        ensures { result ≡ data_cut blocks }
+    {
+        Cut {
+            short: u16::from(blocks.short),
+            short_len: blocks.short_len,
+            long: blocks.long,
+        }
+    }
+
+    fn of_corrections(blocks: Blocks) -> Cut
+        ensures { result ≡ correction_cut blocks }
+    {
+        Cut {
+            short: u16::from(blocks.short) + u16::from(blocks.long),
+            short_len: blocks.ec_len,
+            long: 0,
+        }
+    }
+
+    fn count(self) -> usize
+        ensures { result ≡ count_of self }
+    {
+        usize::from(self.short) + usize::from(self.long)
+    }
+
+    fn len(self, block: usize) -> usize
+        ensures value { result ≡ len_of self block }
+        ensures most { result ≤ self.short_len + 1 }
+    {
+        if block < usize::from(self.short) {
+            usize::from(self.short_len)
+        } else {
+            usize::from(self.short_len) + 1
+        }
+    }
+
+    fn start(self, block: usize) -> usize
+        requires { block ≤ count_of self }
+        ensures { result ≡ start_of self block }
+    {
+        usize::from(self.short_len) * block + block.saturating_sub(usize::from(self.short))
+    }
+}
+
+// Sends the codewords of blocks by rising tags: the first of each block, then the second of each, and so on.
+fn send(sent: &mut Vec<u8>, cut: Cut, codewords: &[u8]) -> Result<(), AllocError>
+    requires { length codewords.now ≡ cut_len cut }
+    ensures { IfOk result (λ _. IsSent cut codewords.now sent.old.items sent.new.items) }
+{
+    let blocks = cut.count();
+    for place in 0..usize::from(cut.short_len) + 1 {
+        for block in 0..blocks {
+            if place < cut.len(block) {
+                sent.push(codewords[cut.start(block) + place])?;
+            }
+        }
+    }
+    Ok(())
+}
+
+// The error correction codewords of all blocks, block after block.
+fn checks(alloc: Global, blocks: Blocks, message: &[u8]) -> Result<Vec<u8>, AllocError>
+    requires whole { length message.now ≡ cut_len (data_cut blocks) }
+    requires least { 1 ≤ blocks.ec_len }
+    requires most { blocks.ec_len ≤ 30 }
+    ensures { IfOk result (λ e. IsChecks blocks message.now (count_of (data_cut blocks)) e.items) }
+{
+    let cut = Cut::of_data(blocks);
+    let ec_len = usize::from(blocks.ec_len);
+    let divisor = Divisor::new(ec_len);
+    let mut checks = Vec::with_capacity(alloc, cut.count() * ec_len)?;
+    for block in 0..cut.count() {
+        let start = cut.start(block);
+        let check = divisor.correction(&message[start..start + cut.len(block)]);
+        checks.extend_from_slice(check.as_slice())?;
+    }
+    Ok(checks)
+}
+
+fn interleave_blocks(alloc: Global, blocks: Blocks, message: &[u8]) -> Result<Vec<u8>, AllocError>
+    requires whole { length message.now ≡ cut_len (data_cut blocks) }
+    requires least { 1 ≤ blocks.ec_len }
+    requires most { blocks.ec_len ≤ 30 }
+    ensures { IfOk result (λ cw. IsFinalMessage blocks message.now cw.items) }
+{
+    let checks = checks(alloc, blocks, message)?;
+    let mut sent = Vec::with_capacity(alloc, message.len() + checks.len())?;
+    send(&mut sent, Cut::of_data(blocks), message)?;
+    send(&mut sent, Cut::of_corrections(blocks), &checks)?;
+    Ok(sent)
+}
+
+/// The final sequence of codewords for the data codewords of a message (ISO/IEC 18004:2015, 7.5.2 and 7.6).
+pub fn interleave(
+    alloc: Global,
+    version: Version,
+    level: Level,
+    message: &[u8],
+) -> Result<Vec<u8>, AllocError>
+    requires whole { length message.now ≡ data_codewords_of version level }
+    ensures sent { IfOk result (λ cw. IsInterleaved version level message.now cw.items) }
+    ensures many { IfOk result (λ cw. length cw.items ≡ total_codewords_of version) }
+{
+    interleave_blocks(alloc, version.blocks(level), message)
+}
+
+// Puts codewords that were sent by rising tags back into their blocks.
+fn gather(message: &mut Vec<u8>, cut: Cut, codewords: &[u8])
+    requires room { length message.old.items ≡ cut_len cut }
+    requires sent { cut_len cut ≤ length codewords.now }
+    ensures { IsGathered cut codewords.now message.new.items }
+{
+    let blocks = cut.count();
+    let mut next = 0;
+    for place in 0..usize::from(cut.short_len) + 1 {
+        for block in 0..blocks {
+            if place < cut.len(block) {
+                message[cut.start(block) + place] = codewords[next];
+                next += 1;
+            }
+        }
+    }
+}
+
+// The data codewords of a final sequence, if it is one.
+fn deinterleave_blocks(
+    alloc: Global,
+    blocks: Blocks,
+    codewords: &[u8],
+) -> Result<Vec<u8>, ReadFault>
+    requires whole { length codewords.now
+        ≡ cut_len (data_cut blocks) + cut_len (correction_cut blocks) }
+    requires least { 1 ≤ blocks.ec_len }
+    requires most { blocks.ec_len ≤ 30 }
+    ensures len { IfOk result (λ d. length d.items ≡ cut_len (data_cut blocks)) }
+    ensures read { IfOk result (λ d. IsFinalMessage blocks d.items codewords.now) }
+    ensures check { result ≡ Err ReadFault.Check → (d : List ℕ)
+        → length d ≡ cut_len (data_cut blocks) → IsFinalMessage blocks d codewords.now → ⊥ }
+    ensures fault { IfErr result (λ e. (e ≡ ReadFault.Memory) ⊎ (e ≡ ReadFault.Check)) }
+{
+    let cut = Cut::of_data(blocks);
+    let mut message = vec![in alloc; 0u8; cut.start(cut.count())]?;
+    gather(&mut message, cut, codewords);
+    let again = interleave_blocks(alloc, blocks, &message)?;
+    if again.as_slice() == codewords {
+        Ok(message)
+    } else {
+        Err(ReadFault::Check)
+    }
+}
+
+/// The data codewords of a final sequence of codewords (ISO/IEC 18004:2015, 7.6 and 12). `Check` where it is that of no
+/// data codewords, since a block's error correction codewords are not those of its data codewords.
+pub fn deinterleave(
+    alloc: Global,
+    version: Version,
+    level: Level,
+    codewords: &[u8],
+) -> Result<Vec<u8>, ReadFault>
+    requires whole { length codewords.now ≡ total_codewords_of version }
+    ensures many { IfOk result (λ d. length d.items ≡ data_codewords_of version level) }
+    ensures read { IfOk result (λ d. IsInterleaved version level d.items codewords.now) }
+    ensures check { (result ≡ Err ReadFault.Check) ↔ ((result ≢ Err ReadFault.Memory) × ((d : List ℕ)
+        → (length d ≡ data_codewords_of version level) × IsInterleaved version level d codewords.now
+        → ⊥)) }
+    ensures fault { IfErr result (λ e. (e ≡ ReadFault.Memory) ⊎ (e ≡ ReadFault.Check)) }
+{
+    deinterleave_blocks(alloc, version.blocks(level), codewords)
+}
+
+#[cfg(test)]
+mod tests {
+    use super::*;
+    use std::test::Fail;
+
+    #[test]
+    fn four_blocks_of_two_lengths(rt: HostRuntime) -> Result<(), Fail> {
+        let version = Version::new(5).ok_or("version 5")?;
+        let mut message = Vec::new(rt.alloc());
+        for byte in 0..62u8 {
+            message.push(byte)?;
+        }
+        let wanted = version.data_codewords(Level::Q);
+        assert!(rt; message.len() == usize::from(wanted));
+        let sent = interleave(rt.alloc(), version, Level::Q, &message)?;
+        assert!(rt; sent.len() == 134, "five and Q hold 134 codewords");
+        let first = [0u8, 15, 30, 46, 1, 16, 31, 47];
+        assert_eq!(rt;
+            &sent[..8],
+            &first[..],
+            "the first codewords of the four blocks"
+        );
+        let last = [45u8, 61];
+        assert_eq!(rt;
+            &sent[60..62],
+            &last[..],
+            "the sixteenth of the two long blocks"
+        );
+        let again = deinterleave(rt.alloc(), version, Level::Q, &sent)?;
+        assert_eq!(rt; &again[..], &message[..], "put back");
+        Ok(())
+    }
+}

@@ -1,0 +1,107 @@
+//! The least version that an input fits, and the segments of the input in it (ISO/IEC 18004:2015, 7.1 and 7.4.1).
+//!
+//! The bits of segments depend on the version by the widths of the character count indicators alone, and these change
+//! only after the versions 9 and 26. So an input is cut into segments once for each of the three ranges of versions.
+
+ghost use Rattle.std.specs.Prelude.{◌≡◌, ◌≤◌, ◌<◌, ℕ, List, length, IfOk, MatchOption};
+ghost use Rattle.qr_bits.specs.declared.modes.Rule.{Rule};
+ghost use Rattle.qr_bits.specs.declared.fault.BitFault.{BitFault};
+ghost use Rattle.qr_bits.specs.declared.modes.Mode.{Mode};
+ghost use Rattle.qr_bits.specs.Modes.{count_width};
+ghost use Rattle.qr_bits.specs.Segmentation.{IsLeastSegmentation};
+ghost use Rattle.qr_bits.specs.Padding.{capacity_of};
+ghost use Rattle.qr_layout.specs.declared.level.Level.{Level};
+ghost use Rattle.qr_symbol.specs.Encoding.{FitsVersion, IsVersion, HasNoVersion};
+
+use qr_bits::{BitFault, INPUT_MAX, Rule, Segment, bit_len, segments};
+use qr_layout::{Level, Version};
+use std::alloc::Global;
+
+// No symbol up to version 9 holds more bytes than this: three digits in ten bits (7.4.3).
+const SMALL_BYTES: usize = 556;
+
+// No symbol up to version 26 holds more bytes than this.
+const MEDIUM_BYTES: usize = 3288;
+
+// A version that an input fits, and the segments of the input in it.
+#[derive(Drop)]
+pub(crate) struct Fit {
+    pub version: Version,
+    pub segments: Vec<Segment>,
+}
+
+// The last version whose character count indicators are as wide as this one's (7.4.1, Table 3).
+fn last_of_width(version: Version) -> u8
+    ensures least { version ≤ result }
+    ensures most { result ≤ 40 }
+    ensures same { (v : ℕ) → version ≤ v → v ≤ result
+        → (m : Mode) → count_width v m ≡ count_width version m }
+{
+    match version.number() {
+        1..=9 => 9,
+        10..=26 => 26,
+        _ => 40,
+    }
+}
+
+// The first version that may hold `len` bytes: the ranges whose symbols all hold fewer are passed over.
+fn first_for(len: usize) -> u8
+    ensures first { 1 ≤ result }
+    ensures last { result ≤ 40 }
+    ensures none { (v : ℕ) (l : Level) (r : Rule) (xs : List ℕ) → length xs ≡ len
+        → 1 ≤ v → v < result → FitsVersion xs l r v → ⊥ }
+{
+    if len > MEDIUM_BYTES {
+        return 27;
+    }
+    if len > SMALL_BYTES {
+        return 10;
+    }
+    1
+}
+
+// The least version from `first` to `last` whose data codewords hold at least `bits` bits.
+fn first_with_room(level: Level, first: Version, last: u8, bits: u64) -> Option<Version>
+    requires { last ≤ 40 }
+    ensures { MatchOption result
+        ((v : ℕ) → first ≤ v → v ≤ last → capacity_of v level < bits)
+        (λ v. (first ≤ v) × (v ≤ last) × (bits ≤ capacity_of v level)
+        × ((u : ℕ) → first ≤ u → u < v → capacity_of u level < bits)) }
+{
+    for number in first.number()..=last {
+        let version = Version::new(number).unwrap();
+        if bits <= 8 * u64::from(version.data_codewords(level)) {
+            return Some(version);
+        }
+    }
+    None
+}
+
+// The least version from `smallest` on that the input fits, and the segments of least bits in it.
+pub(crate) fn least_fit(
+    alloc: Global,
+    input: &[u8],
+    level: Level,
+    smallest: Version,
+    rule: Rule,
+) -> Result<Fit, BitFault>
+    requires { length input.now ≤ INPUT_MAX }
+    ensures version { IfOk result (λ f. IsVersion input.now level smallest rule f.version) }
+    ensures segments { IfOk result (λ f.
+        IsLeastSegmentation f.version rule input.now f.segments.items) }
+    ensures too_long { result ≡ Err BitFault.TooLong
+        → HasNoVersion input.now level smallest rule }
+{
+    let mut first = Version::new(smallest.number().max(first_for(input.len()))).unwrap();
+    loop {
+        let last = last_of_width(first);
+        let segments = segments(alloc, input, first, rule)?;
+        if let Some(version) = first_with_room(level, first, last, bit_len(&segments, first)) {
+            return Ok(Fit { version, segments });
+        }
+        match Version::new(last + 1) {
+            Some(next) => first = next,
+            None => return Err(BitFault::TooLong),
+        }
+    }
+}

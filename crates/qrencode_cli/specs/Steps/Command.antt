@@ -1,0 +1,59 @@
+-- What the parts of a run come to. Only private clauses cite this file.
+use Rattle.std.specs.Prelude.{◌≡◌, ◌<◌, ◌≤◌, ℕ, List, [], length, IfErr, Result, MatchResult}
+use Rattle.clap.specs.Walk.{Text}
+use Rattle.qrencode_cli.specs.Command.{Asks, IsFault, ReadsFor, Shows}
+use Rattle.qrencode_cli.specs.Device.{Reader, Writer}
+use Rattle.qr_bits.specs.declared.modes.TheConstants.{INPUT_MAX}
+use Rattle.qr_symbol.specs.declared.symbol.Symbol.{Symbol}
+use Rattle.qr_symbol.specs.Joining.{IsJoined}
+use Rattle.qr_symbol.specs.Series.{squares_of}
+use Rattle.qrencode_cli.specs.Drawing.{HaveOneSide, drawn}
+use Rattle.qrencode_cli.specs.Input.{IsInputOf}
+use Rattle.qrencode_cli.specs.Settings.{SettingsView, settings_for}
+use Rattle.qrencode_cli.specs.Picture.{AreSymbols, IsTooLong, IsTooMany}
+use Rattle.qrencode_cli.specs.declared.fault.Fault.{Fault}
+use Rattle.qrencode_cli.specs.declared.fault.Fault.TheVariants.{Refused, Memory, Write}
+use Rattle.qrencode_cli.specs.declared.fault.Refusal.TheVariants.{Empty, TooLong, TooMany}
+use Rattle.qrencode_cli.specs.declared.picture.Picture.{Picture}
+
+-- the drawing of a picture
+abbrev pub drawing_of : Picture → List ℕ
+drawing_of p = drawn p.kind p.margin (squares_of p.symbols.items)
+
+-- the symbols are those that the settings ask for of an input, and can be drawn
+pub record AreDrawnFor (s : SettingsView) (input : List ℕ) (symbols : List Symbol) : Type 0 where
+  pub asked : AreSymbols s input (squares_of symbols)
+  pub joined : IsJoined (squares_of symbols) input
+  pub nonempty : 0 < length input
+  pub short : length input < INPUT_MAX
+  pub some : 0 < length symbols
+  pub few : length symbols ≤ 16
+  pub one_side : HaveOneSide (squares_of symbols)
+
+-- why an input has no drawing
+abbrev pub IsInputFault : SettingsView → List ℕ → Fault → Type 0
+IsInputFault s input (Refused Empty) = input ≡ []
+IsInputFault s input (Refused TooLong) = IsTooLong s input
+IsInputFault s input (Refused TooMany) = IsTooMany s input
+IsInputFault s input Memory = Unit {0}
+IsInputFault s input _ = ⊥
+
+-- the fault comes before any byte is written
+abbrev pub IsEarly : Fault → Type 0
+IsEarly Write = ⊥
+IsEarly _ = Unit {0}
+
+-- the picture that the words and the input ask for, or why there is none
+pub record Prepares (words : List Text) (old new : Reader) (result : Result Picture Fault) : Type 0 where
+  pub given : List ℕ
+  pub is_input : IsInputOf old.remaining given
+  pub reads : ReadsFor (settings_for words) old new given result
+  pub answer : MatchResult result (λ p. Asks words given (drawing_of p)) (λ f. IsFault words given f × IsEarly f)
+
+-- what a run came to before standard error was told of it
+pub record Attempts (words : List Text) (in0 in1 : Reader) (out0 out1 : Writer) (result : Result (Unit {0}) Fault) : Type 0 where
+  pub given : List ℕ
+  pub is_input : IsInputOf in0.remaining given
+  pub is_fault : IfErr result (IsFault words given)
+  pub shows : Shows words given out0 out1 result
+  pub reads : ReadsFor (settings_for words) in0 in1 given result
