@@ -1,6 +1,7 @@
 -- What each module of a symbol holds. Public clauses cite this file.
 use Rattle.std.specs.Prelude.{ℕ, ◌+◌, ◌-◌, ◌/◌, ◌%◌, min, max, Bool, true, false, not, ◌&&◌, ◌||◌, nat_lt, ◌==◌, if◌then◌else◌, Option, None, Some}
 use Prim.Native.Nat.{zero, suc}
+use Rattle.std.specs.Int.{abs_diff}
 use Rattle.std.specs.List.{list_any}
 use Rattle.std.specs.Option.{option_map_or}
 use Rattle.qr_layout.specs.declared.region.Module.{Module}
@@ -10,13 +11,9 @@ use Rattle.qr_layout.specs.Version.{side_of}
 use Rattle.qr_layout.specs.Alignment.{centres_of, alignment_places}
 use Rattle.qr_layout.specs.Region.{is_alignment}
 
--- how far apart two rows or two columns are [own]
-abbrev pub gap_of : ℕ → ℕ → ℕ
-gap_of a b = (a - b) + (b - a)
-
 -- the square ring round (a, b) on which the place (r, c) lies; ring 0 is (a, b) itself [own]
 abbrev pub ring_of : ℕ → ℕ → ℕ → ℕ → ℕ
-ring_of a b r c = max (gap_of a r) (gap_of b c)
+ring_of a b r c = max (abs_diff a r) (abs_diff b c)
 
 -- the ring round the nearest finder pattern's centre: rings 0, 1 and 3 are dark, ring 2 is light, and ring 4 is the
 -- separator (ISO/IEC 18004:2015, 6.3.3)

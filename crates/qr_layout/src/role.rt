@@ -5,10 +5,10 @@ ghost use Rattle.std.specs.Prelude.{◌≡◌, ◌≢◌, ◌<◌, ◌≤◌, �
 ghost use Rattle.std.specs.List.{list_any};
 ghost use Rattle.qr_layout.specs.Version.{side_of};
 ghost use Rattle.qr_layout.specs.Alignment.{is_corner_pair};
-ghost use Rattle.qr_layout.specs.Role.{gap_of, ring_of, finder_ring, is_alignment_light, pattern_colour, format_bit_at, version_bit_at, role_of};
+ghost use Rattle.qr_layout.specs.Role.{ring_of, finder_ring, is_alignment_light, pattern_colour, first_place, second_place, format_bit_at, version_bit_at, role_of};
 
 use crate::alignment::{centre_list, is_corner_pair, is_in_alignment};
-use crate::region::is_in_version_block;
+use crate::region::{Module, is_in_version_block};
 use crate::version::Version;
 
 /// What a module holds.
@@ -24,16 +24,10 @@ pub enum Role {
     Region,
 }
 
-fn gap(a: u8, b: u8) -> u8
-    ensures { result ≡ gap_of a b }
-{
-    if a < b { b - a } else { a - b }
-}
-
 fn ring(a: u8, b: u8, row: u8, col: u8) -> u8
     ensures { result ≡ ring_of a b row col }
 {
-    gap(a, row).max(gap(b, col))
+    a.abs_diff(row).max(b.abs_diff(col))
 }
 
 fn finder_ring(side: u8, row: u8, col: u8) -> u8
@@ -100,6 +94,45 @@ fn pattern_colour(v: Version, row: u8, col: u8) -> Option<bool>
         return Some(!is_alignment_light(v, row, col));
     }
     None
+}
+
+/// Where a bit of the format information, from 0 to 14, stands beside the top left finder pattern
+/// (ISO/IEC 18004:2015, 7.9.1).
+pub fn format_place(bit: u8) -> Module
+    requires { bit < 15 }
+    ensures place { result ≡ first_place bit }
+    ensures row_in { result.row < 21 }
+    ensures col_in { result.col < 21 }
+{
+    let row = if bit < 6 {
+        bit
+    } else if bit == 6 {
+        7
+    } else {
+        8
+    };
+    let col = if bit < 8 {
+        8
+    } else if bit == 8 {
+        7
+    } else {
+        14 - bit
+    };
+    Module { row, col }
+}
+
+/// Where a bit of the format information, from 0 to 14, stands beside the other two finder patterns
+/// (ISO/IEC 18004:2015, 7.9.1).
+pub fn second_format_place(v: Version, bit: u8) -> Module
+    requires { bit < 15 }
+    ensures place { result ≡ second_place (side_of v) bit }
+    ensures row_in { result.row < side_of v }
+    ensures col_in { result.col < side_of v }
+{
+    let side = v.side();
+    let row = if bit < 8 { 8 } else { side - 15 + bit };
+    let col = if bit < 8 { side - 1 - bit } else { 8 };
+    Module { row, col }
 }
 
 // The bit of the format information in column 8.

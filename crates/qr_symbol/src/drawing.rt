@@ -6,7 +6,7 @@ ghost use Rattle.std.specs.List.{list_any};
 ghost use Rattle.qr_layout.specs.Version.{side_of};
 ghost use Rattle.qr_layout.specs.Alignment.{alignment_places, centres_of};
 ghost use Rattle.qr_layout.specs.Region.{corner_rectangles, is_alignment, is_in_rectangle, timing_lines, version_rectangles};
-ghost use Rattle.qr_layout.specs.Role.{first_place, is_alignment_light, ring_of, role_of, second_place};
+ghost use Rattle.qr_layout.specs.Role.{is_alignment_light, ring_of, role_of};
 ghost use Rattle.qr_layout.specs.Strips.{both_of, rows_from};
 ghost use Rattle.qr_layout.specs.Format.{format_word_of, version_word_of};
 ghost use Rattle.qr_bits.specs.Bits.{codeword_bit};
@@ -17,7 +17,8 @@ ghost use Rattle.qr_symbol.specs.Steps.Drawing.{fixed_colour, paint_of, placed_c
 
 use crate::mask::pattern;
 use qr_layout::{
-    Level, Module, Role, Strip, Version, alignment_centres, all_strips, cell, format_word,
+    Level, Module, Role, Strip, Version, alignment_centres, all_strips, cell, format_place, format_word,
+    second_format_place,
 };
 use qr_matrix::Matrix;
 
@@ -330,80 +331,19 @@ pub(crate) fn draw_codewords(matrix: &mut Matrix, v: Version, region: &Matrix, c
     }
 }
 
-// Where a bit of the format information stands beside the top left finder pattern.
-fn first_place(bit: u8) -> Module
-    requires { bit < 15 }
-    ensures place { result ≡ first_place bit }
-    ensures row { result.row < 21 }
-    ensures col { result.col < 21 }
-{
-    let row = if bit < 6 {
-        bit
-    } else if bit == 6 {
-        7
-    } else {
-        8
-    };
-    let col = if bit < 8 {
-        8
-    } else if bit == 8 {
-        7
-    } else {
-        14 - bit
-    };
-    Module { row, col }
-}
-
-// Where it stands beside the other two finder patterns.
-fn second_place(side: u8, bit: u8) -> Module
-    requires least { 21 ≤ side }
-    requires most { side ≤ 177 }
-    requires bit_in { bit < 15 }
-    ensures place { result ≡ second_place side bit }
-    ensures row { result.row < side }
-    ensures col { result.col < side }
-{
-    let row = if bit < 8 { 8 } else { side - 15 + bit };
-    let col = if bit < 8 { side - 1 - bit } else { 8 };
-    Module { row, col }
-}
-
 // How many bits the format information has.
-const FORMAT_BITS: u8 = 15;
+pub(crate) const FORMAT_BITS: u8 = 15;
 
 // Draws the format information over a symbol.
-fn draw_format(matrix: &mut Matrix, v: Version, format: u32)
+pub(crate) fn draw_format(matrix: &mut Matrix, v: Version, format: u32)
     requires { IsSquare (side_of v) matrix.old }
     ensures { matrix.new ≡ square (side_of v) (λ r c. format_or format (role_of v r c) (colour matrix.old r c)) }
 {
-    let side = v.side();
     for bit in 0..FORMAT_BITS {
         let dark = is_bit_set(format, bit);
-        let first = first_place(bit);
+        let first = format_place(bit);
         matrix.set(first.row, first.col, dark);
-        let second = second_place(side, bit);
+        let second = second_format_place(v, bit);
         matrix.set(second.row, second.col, dark);
     }
-}
-
-// Draws the symbol anew with a mask and its format information, from the symbol without them.
-pub(crate) fn draw_masked(
-    matrix: &mut Matrix,
-    v: Version,
-    level: Level,
-    mask: u8,
-    region: &Matrix,
-    plain: &Matrix,
-)
-    requires mask_in { mask < 8 }
-    requires square { IsSquare (side_of v) matrix.old }
-    requires region { region.now.side ≡ side_of v }
-    requires plain { plain.now.side ≡ side_of v }
-    ensures { matrix.new ≡ masked_grid v level mask region.now plain.now }
-{
-    let side = v.side();
-    for row in 0..side {
-        matrix.set_row_masked(row, plain, region, pattern(mask, row));
-    }
-    draw_format(matrix, v, u32::from(format_word(level, mask)));
 }

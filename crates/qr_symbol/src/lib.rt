@@ -2,6 +2,7 @@
 //! symbols are read as.
 #![tactic(auto)]
 
+mod canvas;
 mod choice;
 mod drawing;
 mod encoding;

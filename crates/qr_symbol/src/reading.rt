@@ -5,21 +5,17 @@ ghost use Rattle.std.specs.Prelude.{◌≡◌, ℕ, ◌<◌, ◌≤◌, Err, len
 ghost use Rattle.std.specs.Bool.{Decides};
 ghost use Rattle.qr_symbol.specs.declared.fault.ReadFault.{ReadFault};
 ghost use Rattle.qr_layout.specs.declared.level.Level.{Level};
-ghost use Rattle.qr_layout.specs.Role.{first_place};
 ghost use Rattle.qr_layout.specs.Version.{side_of, total_codewords_of};
 ghost use Rattle.qr_symbol.specs.Reading.{IsFormat, IsRead, IsReading, IsUnread};
 
-use crate::drawing::is_bit_set;
+use crate::drawing::{FORMAT_BITS, is_bit_set};
 use crate::fault::ReadFault;
 use crate::mask::inverts;
 use crate::interleaving::deinterleave;
 use qr_bits::{Parsed, parse};
-use qr_layout::{Level, Module, Version, format_word, walk};
+use qr_layout::{Level, Version, format_place, format_word, walk};
 use qr_matrix::Matrix;
 use std::alloc::{AllocError, Global};
-
-// How many bits format information has.
-const FORMAT_BITS: u8 = 15;
 
 // The version whose symbols have this side.
 fn version_of_side(side: u8) -> Option<Version>
@@ -31,29 +27,6 @@ fn version_of_side(side: u8) -> Option<Version>
         return None;
     }
     Version::new((side - 17) / 4)
-}
-
-// Where a bit of the format information stands beside the top left finder pattern (7.9.1).
-fn format_place(i: u8) -> Module
-    requires { i < 15 }
-    ensures { result ≡ first_place i }
-{
-    Module {
-        row: if i < 6 {
-            i
-        } else if i == 6 {
-            7
-        } else {
-            8
-        },
-        col: if i < 8 {
-            8
-        } else if i == 8 {
-            7
-        } else {
-            14 - i
-        },
-    }
 }
 
 // Whether the format information beside the top left finder pattern is that of the level and the mask.

@@ -8,6 +8,7 @@ pub mod Raster
 pub mod Laws
 pub mod Settings
 pub mod Svg
+pub mod Text
 pub mod Picture
 pub mod Trial
 pub mod Steps

@@ -5,7 +5,7 @@ ghost use Rattle.std.specs.Prelude.{◌≡◌, ◌≢◌, ℕ, true, ◌≤◌, 
 ghost use Rattle.std.specs.List.{flat_map};
 ghost use Rattle.arrayvec.specs.ArrayVec.{array_vec_len};
 ghost use Rattle.qr_symbol.specs.Series.{squares_of};
-ghost use Rattle.qrencode_cli.specs.Drawing.{AreDark, ascii_module, cell_of, cells_from, four_halves, four_modules, half_blocks, line_count, line_of, text_drawing};
+ghost use Rattle.qrencode_cli.specs.Text.{AreDark, ascii_module, cell_of, cells_from, four_halves, four_modules, half_blocks, line_count, line_of, text_drawing};
 ghost use Rattle.qrencode_cli.specs.Steps.Pen.{Puts};
 ghost use Rattle.qrencode_cli.specs.declared.text.Cells.TheVariants.{HalfBlocks};
 ghost use Rattle.qrencode_cli.specs.Raster.{raster_width};

@@ -1,5 +1,5 @@
 use Rattle.std.proofs.Common.{◌≡◌, ◌+◌, ◌-◌, ◌∙◌, arith}
-use Rattle.qrencode_cli.specs.Drawing.{cells_from}
+use Rattle.qrencode_cli.specs.Text.{cells_from}
 use Rattle.qrencode_cli.proofs.text.four_at.Goals as goal
 
 pub returns-then-col-eq0 : goal.returns-then-col-eq0

@@ -1,5 +1,5 @@
 use Rattle.std.proofs.Common.{◌≡◌, ◌≤◌, ◌<◌, ◌-◌, ◌++◌}
-use Rattle.qrencode_cli.specs.Drawing.{cell_of}
+use Rattle.qrencode_cli.specs.Text.{cell_of}
 use Rattle.qrencode_cli.specs.Raster.{texts_below, raster_width}
 use Rattle.qrencode_cli.specs.Steps.Writing.{Writes}
 use Rattle.qrencode_cli.proofs.text.put_cells.Given as goal

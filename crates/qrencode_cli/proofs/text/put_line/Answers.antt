@@ -1,6 +1,6 @@
 use Rattle.std.proofs.Common.{◌∷◌, []}
 use Rattle.std.proofs.lemmas.Result.{err_from_is_err_and}
-use Rattle.qrencode_cli.specs.Drawing.{line_of}
+use Rattle.qrencode_cli.specs.Text.{line_of}
 use Rattle.qrencode_cli.proofs.LineLemmas.{put_then, stops_first}
 use Rattle.qrencode_cli.proofs.text.put_line.Goals as goal
 

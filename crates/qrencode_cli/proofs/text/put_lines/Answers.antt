@@ -1,6 +1,6 @@
 use Rattle.std.proofs.Common.{◌++◌, ◌∷◌, []}
 use Rattle.std.proofs.lemmas.Result.{err_from_is_err_and}
-use Rattle.qrencode_cli.specs.Drawing.{line_of}
+use Rattle.qrencode_cli.specs.Text.{line_of}
 use Rattle.qrencode_cli.proofs.LineLemmas.{put_next, put_none, put_stops}
 use Rattle.qrencode_cli.proofs.text.put_lines.Goals as goal
 

@@ -1,5 +1,5 @@
 use Rattle.std.proofs.Common.{◌++◌, ◌∷◌, []}
-use Rattle.qrencode_cli.specs.Drawing.{line_of}
+use Rattle.qrencode_cli.specs.Text.{line_of}
 use Rattle.qrencode_cli.specs.Raster.{texts_below}
 use Rattle.qrencode_cli.specs.Steps.Writing.{Writes}
 use Rattle.qrencode_cli.proofs.text.put_lines.Given as goal

@@ -1,7 +1,7 @@
 use Rattle.std.proofs.Common.{◌≡◌, take}
 use Rattle.std.proofs.lemmas.List.{take_all}
 use Rattle.std.proofs.lemmas.Result.{err_from_is_err_and}
-use Rattle.qrencode_cli.specs.Drawing.{text_drawing}
+use Rattle.qrencode_cli.specs.Text.{text_drawing}
 use Rattle.qrencode_cli.proofs.LineLemmas.{flat_map-map, items_next, items_none, items_stop}
 use Rattle.qrencode_cli.proofs.text.put_texts.Goals as goal
 

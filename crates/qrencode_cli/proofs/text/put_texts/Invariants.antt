@@ -1,6 +1,6 @@
 use Rattle.std.proofs.Common.{◌++◌, take}
 use Rattle.std.specs.List.{flat_map}
-use Rattle.qrencode_cli.specs.Drawing.{text_drawing}
+use Rattle.qrencode_cli.specs.Text.{text_drawing}
 use Rattle.qrencode_cli.specs.Steps.Writing.{Writes}
 use Rattle.qrencode_cli.proofs.text.put_texts.Given as goal
 

@@ -3,11 +3,11 @@ use Rattle.qr_layout.specs.Version.{side_of}
 use Rattle.qr_matrix.specs.Grid.{IsSquare}
 use Rattle.qr_symbol.specs.Choice.{IsFirstLeast}
 use Rattle.qr_symbol.specs.Steps.Drawing.{masked_penalty}
-use Rattle.qr_symbol.proofs.choice.best_mask.Given as goal
+use Rattle.qr_symbol.proofs.canvas.Canvas.best_mask.Given as goal
 
 abbrev pub invariant-loop-mask : goal.invariant-loop-mask
 invariant-loop-mask l = record {
-  square : IsSquare (side_of l.v) l.matrix;
-  best : IsFirstLeast l.mask (masked_penalty l.v l.level l.region l.plain) l.best;
-  least : l.least ≡ masked_penalty l.v l.level l.region l.plain l.best;
+  square : IsSquare (side_of l.self.version) l.matrix;
+  best : IsFirstLeast l.mask (masked_penalty l.self.version l.self.level l.self.region l.self.plain) l.best;
+  least : l.least ≡ masked_penalty l.self.version l.self.level l.self.region l.self.plain l.best;
 }

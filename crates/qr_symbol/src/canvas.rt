@@ -1,0 +1,96 @@
+//! What all masks of a symbol have in common, drawn once, and the symbol under each of them (ISO/IEC 18004:2015, 7.7 and
+//! 7.8).
+
+ghost use Rattle.std.specs.Prelude.{◌≡◌, ◌<◌, IfOk};
+ghost use Rattle.qr_layout.specs.Version.{side_of};
+ghost use Rattle.qr_matrix.specs.Grid.{IsSquare};
+ghost use Rattle.qr_symbol.specs.Choice.{IsFirstLeast};
+ghost use Rattle.qr_symbol.specs.Steps.Drawing.{masked_grid, masked_penalty, plain_grid, region_grid};
+
+use crate::drawing::{draw_codewords, draw_fixed, draw_format, draw_region};
+use crate::mask::{MASK_COUNT, pattern};
+use qr_layout::{Level, Version, format_word};
+use qr_matrix::{Matrix, penalty};
+use std::alloc::{AllocError, Global};
+
+/// A symbol without mask and format information, and its encoding region, dark.
+#[derive(Drop)]
+pub(crate) struct Canvas {
+    version: Version,
+    level: Level,
+    region: Matrix,
+    plain: Matrix,
+    ghost region_side: { region.side ≡ side_of version },
+    ghost plain_side: { plain.side ≡ side_of version },
+}
+
+impl Canvas {
+    // Draws the codewords. Memory is taken twice.
+    pub(crate) fn new(
+        alloc: Global,
+        version: Version,
+        level: Level,
+        codewords: &[u8],
+    ) -> Result<Canvas, AllocError>
+        ensures version { IfOk result (λ c. c.version ≡ version) }
+        ensures level { IfOk result (λ c. c.level ≡ level) }
+        ensures region { IfOk result (λ c. c.region ≡ region_grid version) }
+        ensures plain { IfOk result (λ c. c.plain ≡ plain_grid version codewords.now) }
+    {
+        let mut region = Matrix::new(alloc, version.side())?;
+        draw_region(&mut region, version);
+        let mut plain = Matrix::new(alloc, version.side())?;
+        draw_fixed(&mut plain, version, 0);
+        draw_codewords(&mut plain, version, &region, codewords);
+        Ok(Canvas {
+            version,
+            level,
+            region,
+            plain,
+        })
+    }
+
+    // Draws the symbol anew with a mask and its format information.
+    pub(crate) fn draw_masked(&self, matrix: &mut Matrix, mask: u8)
+        requires mask_in { mask < 8 }
+        requires square { IsSquare (side_of self.now.version) matrix.old }
+        ensures { matrix.new ≡ masked_grid self.now.version self.now.level mask self.now.region self.now.plain }
+    {
+        let side = self.version.side();
+        for row in 0..side {
+            matrix.set_row_masked(row, &self.plain, &self.region, pattern(mask, row));
+        }
+        draw_format(matrix, self.version, u32::from(format_word(self.level, mask)));
+    }
+
+    // The penalty of the symbol under a mask; the symbol is drawn.
+    fn mask_penalty(&self, matrix: &mut Matrix, mask: u8) -> u32
+        requires mask_in { mask < 8 }
+        requires square { IsSquare (side_of self.now.version) matrix.old }
+        ensures square { IsSquare (side_of self.now.version) matrix.new }
+        ensures value { result
+            ≡ masked_penalty self.now.version self.now.level self.now.region self.now.plain mask }
+    {
+        self.draw_masked(matrix, mask);
+        penalty(matrix)
+    }
+
+    // The mask of the least penalty, the smallest number among equals (7.8.3); some mask is drawn.
+    pub(crate) fn best_mask(&self, matrix: &mut Matrix) -> u8
+        requires square { IsSquare (side_of self.now.version) matrix.old }
+        ensures square { IsSquare (side_of self.now.version) matrix.new }
+        ensures best { IsFirstLeast 8
+            (masked_penalty self.now.version self.now.level self.now.region self.now.plain) result }
+    {
+        let mut best = 0;
+        let mut least = self.mask_penalty(matrix, best);
+        for mask in 1..MASK_COUNT {
+            let cost = self.mask_penalty(matrix, mask);
+            if cost < least {
+                best = mask;
+                least = cost;
+            }
+        }
+        best
+    }
+}
