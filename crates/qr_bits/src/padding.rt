@@ -95,7 +95,7 @@ mod tests {
         requires short { length input.now ≤ INPUT_MAX }
         requires in_range { ForSome header (λ h. (h.position < 16) × (h.last < 16)) }
     {
-        let version = Version::new(1).ok_or("version")?;
+        let version = Version::FIRST;
         let segs = [segment];
         if !covers(input, &segs) {
             return Err("the segment is not the input".into());
@@ -200,7 +200,7 @@ mod tests {
             len: 41,
         };
         let data = encode(&rt, &[b'7'; 41], most, None, Level::L)?;
-        let version = Version::new(1).ok_or("version")?;
+        let version = Version::FIRST;
         assert!(rt; data.len() <= 3706);
         let parsed = parse(rt.alloc(), &data, version)?;
         assert_eq!(rt; parsed.bytes.len(), 41, "one bit of terminator");

@@ -302,7 +302,7 @@ mod tests {
     ) -> Result<bool, Fail>
         requires { length codewords.now ≤ 3706 }
     {
-        let version = Version::new(1).ok_or("version")?;
+        let version = Version::FIRST;
         let parsed = parse(rt.alloc(), codewords, version)?;
         Ok(
             parsed.header == header
@@ -315,7 +315,7 @@ mod tests {
     fn fault(rt: &HostRuntime, codewords: &[u8]) -> Result<Option<ParseFault>, Fail>
         requires { length codewords.now ≤ 3706 }
     {
-        let version = Version::new(1).ok_or("version")?;
+        let version = Version::FIRST;
         Ok(parse(rt.alloc(), codewords, version).err())
     }
 

@@ -17,9 +17,9 @@ ghost use Rattle.qr_layout.specs.Laws.{all_versions, printed_data, spaced_centre
 
 use crate::blocks::Blocks;
 use crate::level::Level;
+use crate::order::walk;
 use crate::region::Module;
 use crate::role::Role;
-use crate::order::walk;
 use crate::version::Version;
 use std::alloc::AllocError;
 
@@ -253,10 +253,7 @@ mod tests {
     // Equal where each field is, and unequal where one is not.
     #[test]
     fn equal_and_unequal_values(rt: HostRuntime) -> Result<(), Fail> {
-        let (first, second) = (
-            Version::new(1).ok_or("no version 1")?,
-            Version::new(2).ok_or("no version 2")?,
-        );
+        let (first, second) = (Version::FIRST, Version::new(2).ok_or("no version 2")?);
         assert!(rt; versions_are_equal(first, first) && !versions_are_equal(first, second));
         assert!(rt; levels_are_equal(Level::Q, Level::Q) && !levels_are_equal(Level::Q, Level::H));
         assert!(rt;
@@ -293,7 +290,7 @@ mod tests {
 
     #[test]
     fn places_by_their_numbers(rt: HostRuntime) -> Result<(), Fail> {
-        let version = Version::new(1).ok_or("no version 1")?;
+        let version = Version::FIRST;
         for (number, want) in [
             (0, Some(Module { row: 20, col: 20 })),
             (2, Some(Module { row: 19, col: 20 })),

@@ -182,7 +182,7 @@ mod tests {
 
     #[test]
     fn walk_of_version_1(rt: HostRuntime) -> Result<(), Fail> {
-        let mut steps = walk(Version::new(1).ok_or("no version 1")?);
+        let mut steps = walk(Version::FIRST);
         for begin in [(20, 20), (20, 19), (19, 20)] {
             assert_eq!(rt; steps.next(), Some(place(begin)));
         }
@@ -230,7 +230,7 @@ mod tests {
 
     #[test]
     fn walks_that_end_or_do_not_begin(rt: HostRuntime) -> Result<(), Fail> {
-        let version = Version::new(1).ok_or("no version 1")?;
+        let version = Version::FIRST;
         let mut end = walk_after(version, place((12, 0))).ok_or("not in the region")?;
         assert_eq!(rt; end.next(), None, "after the last module");
         assert!(rt;

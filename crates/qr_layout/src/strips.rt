@@ -77,7 +77,7 @@ mod tests {
 
     #[test]
     fn strips_of_version_1(rt: HostRuntime) -> Result<(), Fail> {
-        let version = Version::new(1).ok_or("no version 1")?;
+        let version = Version::FIRST;
         let rows = [
             (0usize, 20u8, true, "the first strip goes up"),
             (1, 18, false, "the second goes down"),

@@ -39,11 +39,14 @@ impl Model for Version {
 }
 
 impl Version {
+    /// The smallest version.
+    pub const FIRST: Version = Version { number: 1 };
+
     /// The version of that number. There is none outside 1 to 40.
     pub fn new(n: u8) -> Option<Version>
         ensures { SomeIff result ((1 ≤ n) × (n ≤ 40)) n }
     {
-        if n >= 1 && n <= 40 {
+        if (1..=40).contains(&n) {
             Some(Version { number: n })
         } else {
             None

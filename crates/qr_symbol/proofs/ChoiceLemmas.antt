@@ -1,12 +1,14 @@
 -- The least of measures, and the mask of the least penalty.
-use Rattle.std.proofs.Common.{◌≡◌, ℕ, ◌+◌, ◌<◌, ◌≤◌, inl, inr, List, ap, arith}
+use Rattle.std.proofs.Common.{◌≡◌, ℕ, ◌+◌, ◌<◌, ◌≤◌, ◌∙◌, inl, inr, List, ap, subst, arith}
 use Rattle.std.proofs.lemmas.Bool.{cases_lt}
 use Rattle.qr_layout.specs.declared.level.Level.{Level}
 use Rattle.qr_layout.specs.Version.{side_of}
 use Rattle.qr_matrix.specs.Grid.{Grid, colour}
 use Rattle.qr_symbol.specs.Choice.{IsFirstLeast, IsMask, mask_penalty}
 use Rattle.qr_matrix.specs.Penalty.{penalty_of}
-use Rattle.qr_symbol.specs.Steps.Drawing.{masked_penalty, region_grid, plain_grid}
+use Rattle.qr_symbol.specs.declared.canvas.Canvas.{Canvas}
+use Rattle.qr_symbol.specs.Symbol.{grid_of}
+use Rattle.qr_symbol.specs.Steps.Drawing.{masked_grid, masked_penalty, region_grid, plain_grid}
 use Rattle.qr_symbol.proofs.DrawingLemmas.{masked-all}
 
 -- of one number
@@ -47,3 +49,19 @@ least-same n f g m e h = record {
 pub mask-is : (v : ℕ) (l : Level) (cw : List ℕ) (region plain : Grid) (mask : ℕ) → 1 ≤ v → region ≡ region_grid v → plain ≡ plain_grid v cw → IsFirstLeast 8 (masked_penalty v l region plain) mask → IsMask v l cw mask
 mask-is v l cw region plain mask k e f h =
     least-same 8 (masked_penalty v l region plain) (mask_penalty v l cw) mask (λ m. ap (λ (g : Grid). penalty_of (side_of v) (colour g)) (masked-all v l m cw region plain k e f)) h
+
+-- the mask that a canvas finds best is that of its codewords
+pub canvas-mask : (v : ℕ) (l : Level) (cw : List ℕ) (k : Canvas) (mask : ℕ) → 1 ≤ v → k.version ≡ v → k.level ≡ l
+    → k.region ≡ region_grid v → k.plain ≡ plain_grid v cw
+    → IsFirstLeast 8 (masked_penalty k.version k.level k.region k.plain) mask → IsMask v l cw mask
+canvas-mask v l cw k mask least a b e f h =
+    let g = subst (λ (w : ℕ). IsFirstLeast 8 (masked_penalty w k.level k.region k.plain) mask) a h in
+    mask-is v l cw k.region k.plain mask least e f (subst (λ (w : Level). IsFirstLeast 8 (masked_penalty v w k.region k.plain) mask) b g)
+
+-- what a canvas draws with a mask is the symbol of its codewords
+pub canvas-drawn : (v : ℕ) (l : Level) (cw : List ℕ) (k : Canvas) (mask : ℕ) → 1 ≤ v → k.version ≡ v → k.level ≡ l
+    → k.region ≡ region_grid v → k.plain ≡ plain_grid v cw
+    → masked_grid k.version k.level mask k.region k.plain ≡ grid_of v l mask cw
+canvas-drawn v l cw k mask least a b e f =
+    ap (λ (w : ℕ). masked_grid w k.level mask k.region k.plain) a
+    ∙ (ap (λ (w : Level). masked_grid v w mask k.region k.plain) b ∙ masked-all v l mask cw k.region k.plain least e f)

@@ -29,37 +29,37 @@ exactly r e memory P other f g = (λ h. (λ m. other (err-same r e memory h m), 
 
 -- more than any version holds: exactly where no version has room, unless memory was refused
 pub too-long-exactly : (x : List ℕ) (l : Level) (smallest : ℕ) (b : Rule) (r : Result Symbol EncodeFault) → smallest ≤ 40
-    → (r ≡ Err fault.TooLong → HasNoVersion x l smallest b) → IfOk r (λ s. IsSymbol x l smallest b s.version s.mask s.matrix)
+    → (r ≡ Err fault.TooLong → HasNoVersion smallest l b x) → IfOk r (λ s. IsSymbol smallest l b x s.version s.mask s.matrix)
     → (r ≡ Err fault.Empty → x ≡ []) → IfErr r (λ e. (e ≡ fault.Empty) ⊎ (e ≡ fault.TooLong) ⊎ (e ≡ fault.Memory))
-    → Refused r fault.TooLong fault.Memory (HasNoVersion x l smallest b)
-too-long-exactly x l smallest b r most long made empty told = exactly r fault.TooLong fault.Memory (HasNoVersion x l smallest b) (λ e. cc) long (back r made empty told)
+    → Refused r fault.TooLong fault.Memory (HasNoVersion smallest l b x)
+too-long-exactly x l smallest b r most long made empty told = exactly r fault.TooLong fault.Memory (HasNoVersion smallest l b x) (λ e. cc) long (back r made empty told)
   where
-    back : (r : Result Symbol EncodeFault) → IfOk r (λ s. IsSymbol x l smallest b s.version s.mask s.matrix) → (r ≡ Err fault.Empty → x ≡ [])
-        → IfErr r (λ e. (e ≡ fault.Empty) ⊎ (e ≡ fault.TooLong) ⊎ (e ≡ fault.Memory)) → HasNoVersion x l smallest b
+    back : (r : Result Symbol EncodeFault) → IfOk r (λ s. IsSymbol smallest l b x s.version s.mask s.matrix) → (r ≡ Err fault.Empty → x ≡ [])
+        → IfErr r (λ e. (e ≡ fault.Empty) ⊎ (e ≡ fault.TooLong) ⊎ (e ≡ fault.Memory)) → HasNoVersion smallest l b x
         → (r ≡ Err fault.TooLong) ⊎ (r ≡ Err fault.Memory)
     back (Ok s) made empty told none = absurd (none s.version made.version.least made.version.most made.version.fits)
     back (Err e) made empty (inl h) none =
-        absurd (none smallest (omega arith) most (subst (λ (y : List ℕ). FitsVersion y l b smallest) (sym (empty (ap (λ f. Err f) h))) (empty_fits smallest b (capacity_of smallest l))))
+        absurd (none smallest (omega arith) most (subst (λ (y : List ℕ). FitsVersion smallest l b y) (sym (empty (ap (λ f. Err f) h))) (empty_fits smallest b (capacity_of smallest l))))
     back (Err e) made empty (inr (inl h)) none = inl (ap (λ f. Err f) h)
     back (Err e) made empty (inr (inr h)) none = inr (ap (λ f. Err f) h)
 
 -- more symbols than a series may have: exactly where there is no series, unless memory was refused
 pub too-many-exactly : (x : List ℕ) (l : Level) (b : Rule) (v : ℕ) (r : Result (Vec Symbol Global) EncodeFault)
-    → (r ≡ Err fault.TooMany → HasNoSeries x l b v) → IfOk r (λ ss. IsSeries x l b v ss.items)
+    → (r ≡ Err fault.TooMany → HasNoSeries v l b x) → IfOk r (λ ss. IsSeries v l b x ss.items)
     → (r ≡ Err fault.Empty → x ≡ []) → IfErr r (λ e. (e ≡ fault.Empty) ⊎ (e ≡ fault.TooMany) ⊎ (e ≡ fault.Memory))
-    → Refused r fault.TooMany fault.Memory (HasNoSeries x l b v)
-too-many-exactly x l b v r many made empty told = exactly r fault.TooMany fault.Memory (HasNoSeries x l b v) (λ e. cc) many (back r made empty told)
+    → Refused r fault.TooMany fault.Memory (HasNoSeries v l b x)
+too-many-exactly x l b v r many made empty told = exactly r fault.TooMany fault.Memory (HasNoSeries v l b x) (λ e. cc) many (back r made empty told)
   where
-    no-series : (ss : List Symbol) → IsSeries x l b v ss → HasNoSeries x l b v → ⊥
+    no-series : (ss : List Symbol) → IsSeries v l b x ss → HasNoSeries v l b x → ⊥
     no-series ss (inl a) none = none.too_long a.fits
     no-series ss (inr a) none = let few = a.many in let more = none.too_many a.parts a.split in absurd (omega arith)
 
-    back : (r : Result (Vec Symbol Global) EncodeFault) → IfOk r (λ ss. IsSeries x l b v ss.items) → (r ≡ Err fault.Empty → x ≡ [])
-        → IfErr r (λ e. (e ≡ fault.Empty) ⊎ (e ≡ fault.TooMany) ⊎ (e ≡ fault.Memory)) → HasNoSeries x l b v
+    back : (r : Result (Vec Symbol Global) EncodeFault) → IfOk r (λ ss. IsSeries v l b x ss.items) → (r ≡ Err fault.Empty → x ≡ [])
+        → IfErr r (λ e. (e ≡ fault.Empty) ⊎ (e ≡ fault.TooMany) ⊎ (e ≡ fault.Memory)) → HasNoSeries v l b x
         → (r ≡ Err fault.TooMany) ⊎ (r ≡ Err fault.Memory)
     back (Ok ss) made empty told none = absurd (no-series ss.items made none)
     back (Err e) made empty (inl h) none =
-        absurd (none.too_long (subst (λ (y : List ℕ). FitsVersion y l b v) (sym (empty (ap (λ f. Err f) h))) (empty_fits v b (capacity_of v l))))
+        absurd (none.too_long (subst (λ (y : List ℕ). FitsVersion v l b y) (sym (empty (ap (λ f. Err f) h))) (empty_fits v b (capacity_of v l))))
     back (Err e) made empty (inr (inl h)) none = inl (ap (λ f. Err f) h)
     back (Err e) made empty (inr (inr h)) none = inr (ap (λ f. Err f) h)
 

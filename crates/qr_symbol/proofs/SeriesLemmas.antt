@@ -21,12 +21,12 @@ use Rattle.qr_symbol.proofs.PartLemmas.{parts-are, length-parts, parts-one, part
 -- ---- what makes a series
 
 -- a plain symbol is a series
-pub lone-series : (x : List ℕ) (l : Level) (b : Rule) (v : ℕ) (s : Symbol) (ss : List Symbol) → IsSymbolOf v l b x None s → ss ≡ s ∷ [] → IsSeries x l b v ss
+pub lone-series : (x : List ℕ) (l : Level) (b : Rule) (v : ℕ) (s : Symbol) (ss : List Symbol) → IsSymbolOf v l b x None s → ss ≡ s ∷ [] → IsSeries v l b x ss
 lone-series x l b v s ss made alone = inl (record { fits = symbol-fits v l b x s.mask s.matrix made.made; symbol = s; made = made; alone = alone })
 
 -- the symbols of parts are a series
-pub split-series : (x : List ℕ) (l : Level) (b : Rule) (v : ℕ) (ns : List ℕ) (ss : List Symbol) → (FitsVersion x l b v → ⊥) → AreLengths v l b x ns → length ns ≤ 16
-    → AreSymbolsFrom v l b (length ns - 1) (parity_of x) 0 (parts_of x ns) ss → IsSeries x l b v ss
+pub split-series : (x : List ℕ) (l : Level) (b : Rule) (v : ℕ) (ns : List ℕ) (ss : List Symbol) → (FitsVersion v l b x → ⊥) → AreLengths v l b x ns → length ns ≤ 16
+    → AreSymbolsFrom v l b (length ns - 1) (parity_of x) 0 (parts_of x ns) ss → IsSeries v l b x ss
 split-series x l b v ns ss long cut few made =
     let many = length-parts x ns in
     inr (record {
@@ -63,7 +63,7 @@ symbols-one v l b last parity k (p ∷ ps) (s ∷ ss) (t ∷ ts) h g =
     λ i. here i ∷ rest i
 
 -- bytes have one series
-pub series-one : (x : List ℕ) (l : Level) (b : Rule) (v : ℕ) (ss ts : List Symbol) → IsSeries x l b v ss → IsSeries x l b v ts → ss ≡ ts
+pub series-one : (x : List ℕ) (l : Level) (b : Rule) (v : ℕ) (ss ts : List Symbol) → IsSeries v l b x ss → IsSeries v l b x ts → ss ≡ ts
 series-one x l b v ss ts (inl h) (inl k) =
     h.alone ∙ (ap (λ (s : Symbol). s ∷ []) (symbol-of-one v l b x None h.symbol k.symbol h.made k.made) ∙ sym k.alone)
 series-one x l b v ss ts (inl h) (inr k) = absurd (k.too_long h.fits)
@@ -103,7 +103,7 @@ symbols-read v l b last parity k x (p ∷ ps) (s ∷ ss) i j cut h =
     }
 
 -- a plain symbol is joined to its bytes
-lone-joined : (x : List ℕ) (l : Level) (b : Rule) (v : ℕ) (ss : List Symbol) → 1 ≤ v → v ≤ 40 → IsLone x l b v ss → IsJoined (squares_of ss) x
+lone-joined : (x : List ℕ) (l : Level) (b : Rule) (v : ℕ) (ss : List Symbol) → 1 ≤ v → v ≤ 40 → IsLone v l b x ss → IsJoined (squares_of ss) x
 unfolding AreReadings
 lone-joined x l b v ss i j h =
     let s = h.symbol in
@@ -117,7 +117,7 @@ lone-joined x l b v ss i j h =
     })
 
 -- the symbols of parts are joined to the bytes
-split-joined : (x : List ℕ) (l : Level) (b : Rule) (v : ℕ) (ss : List Symbol) → 1 ≤ v → v ≤ 40 → IsSplit x l b v ss → IsJoined (squares_of ss) x
+split-joined : (x : List ℕ) (l : Level) (b : Rule) (v : ℕ) (ss : List Symbol) → 1 ≤ v → v ≤ 40 → IsSplit v l b x ss → IsJoined (squares_of ss) x
 split-joined x l b v ss i j h =
     let r = symbols-read v l b (length h.parts - 1) (parity_of x) 0 x h.parts ss i j h.split h.made in
     let last : length h.parts - 1 ≡ length r.contents - 1 = ap (λ (n : ℕ). n - 1) (sym r.many) in
@@ -131,22 +131,22 @@ split-joined x l b v ss i j h =
     }
   where
     -- what does not fit is not empty
-    not-empty : (x : List ℕ) (l : Level) (b : Rule) (v : ℕ) → (FitsVersion x l b v → ⊥) → 0 < length x
+    not-empty : (x : List ℕ) (l : Level) (b : Rule) (v : ℕ) → (FitsVersion v l b x → ⊥) → 0 < length x
     not-empty [] l b v none = absurd (none (empty_fits v b _))
     not-empty (y ∷ x) l b v none = omega arith
 
 -- a series is joined to its bytes
-pub series-joined : (x : List ℕ) (l : Level) (b : Rule) (v : ℕ) (ss : List Symbol) → 1 ≤ v → v ≤ 40 → IsSeries x l b v ss → IsJoined (squares_of ss) x
+pub series-joined : (x : List ℕ) (l : Level) (b : Rule) (v : ℕ) (ss : List Symbol) → 1 ≤ v → v ≤ 40 → IsSeries v l b x ss → IsJoined (squares_of ss) x
 series-joined x l b v ss i j (inl h) = lone-joined x l b v ss i j h
 series-joined x l b v ss i j (inr h) = split-joined x l b v ss i j h
 
 -- ---- long inputs
 
 -- more than 7,089 bytes fit no version
-pub long-fits-none : (x : List ℕ) (l : Level) (smallest : ℕ) (b : Rule) → 1 ≤ smallest → 7089 < length x → HasNoVersion x l smallest b
+pub long-fits-none : (x : List ℕ) (l : Level) (smallest : ℕ) (b : Rule) → 1 ≤ smallest → 7089 < length x → HasNoVersion smallest l b x
 long-fits-none x l smallest b i long v p q fits = let short = fitting_short v l b x (omega arith) q fits in omega arith
 
 -- more than 16 times as many have no series
-pub long-has-no-series : (x : List ℕ) (l : Level) (b : Rule) (v : ℕ) (ss : List Symbol) → 1 ≤ v → v ≤ 40 → 7089 * 16 < length x → IsSeries x l b v ss → ⊥
+pub long-has-no-series : (x : List ℕ) (l : Level) (b : Rule) (v : ℕ) (ss : List Symbol) → 1 ≤ v → v ≤ 40 → 7089 * 16 < length x → IsSeries v l b x ss → ⊥
 long-has-no-series x l b v ss i j long (inl h) = let short = fitting_short v l b x i j h.fits in omega arith
 long-has-no-series x l b v ss i j long (inr h) = let all = parts-long v l b x h.parts i j h.split in let many = h.many in omega arith

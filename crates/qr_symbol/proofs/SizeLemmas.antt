@@ -38,13 +38,13 @@ symbols-side v l b last parity k (p ∷ ps) (s ∷ ss) h =
     All-cons (λ g. g.side ≡ side_of v) s.matrix (squares_of ss) (ap (λ (g : Grid). g.side) h.0.made.drawn) (symbols-side v l b last parity (k + 1) ps ss h.1)
 
 -- bytes that do not fit have a part
-parts-some : (x : List ℕ) (l : Level) (b : Rule) (v : ℕ) (ps : List (List ℕ)) → (FitsVersion x l b v → ⊥) → AreParts v l b x ps → 0 < length ps
+parts-some : (x : List ℕ) (l : Level) (b : Rule) (v : ℕ) (ps : List (List ℕ)) → (FitsVersion v l b x → ⊥) → AreParts v l b x ps → 0 < length ps
 unfolding AreParts
-parts-some x l b v [] long none = absurd (long (subst (λ (y : List ℕ). FitsVersion y l b v) (sym none) (empty-fits v b (capacity_of v l))))
+parts-some x l b v [] long none = absurd (long (subst (λ (y : List ℕ). FitsVersion v l b y) (sym none) (empty-fits v b (capacity_of v l))))
 parts-some x l b v (p ∷ ps) long h = omega arith
 
 -- a series has a symbol
-pub series-some : (x : List ℕ) (l : Level) (b : Rule) (v : ℕ) (ss : List Symbol) → IsSeries x l b v ss → 0 < length ss
+pub series-some : (x : List ℕ) (l : Level) (b : Rule) (v : ℕ) (ss : List Symbol) → IsSeries v l b x ss → 0 < length ss
 series-some x l b v ss (inl h) = subst (λ (ts : List Symbol). 0 < length ts) (sym h.alone) (omega arith)
 series-some x l b v ss (inr h) =
     let some = parts-some x l b v h.parts h.too_long h.split in
@@ -52,18 +52,18 @@ series-some x l b v ss (inr h) =
     omega arith
 
 -- a series has at most 16 symbols
-pub series-few : (x : List ℕ) (l : Level) (b : Rule) (v : ℕ) (ss : List Symbol) → IsSeries x l b v ss → length ss ≤ 16
+pub series-few : (x : List ℕ) (l : Level) (b : Rule) (v : ℕ) (ss : List Symbol) → IsSeries v l b x ss → length ss ≤ 16
 series-few x l b v ss (inl h) = subst (λ (ts : List Symbol). length ts ≤ 16) (sym h.alone) (omega arith)
 series-few x l b v ss (inr h) = let m = h.many in let e = symbols-many v l b _ _ 0 h.parts ss h.made in omega arith
 
 -- bytes need as many parts as their series has symbols
-pub series-shortest : (x : List ℕ) (l : Level) (b : Rule) (v : ℕ) (ss : List Symbol) → may_use b Kanji ≡ false → 0 < length x → IsSeries x l b v ss → NeedsParts v l b x (length ss)
+pub series-shortest : (x : List ℕ) (l : Level) (b : Rule) (v : ℕ) (ss : List Symbol) → may_use b Kanji ≡ false → 0 < length x → IsSeries v l b x ss → NeedsParts v l b x (length ss)
 series-shortest x l b v ss plain some (inl h) = subst (λ (ts : List Symbol). NeedsParts v l b x (length ts)) (sym h.alone) (needs-some v l b x some)
 series-shortest x l b v ss plain some (inr h) =
     subst (NeedsParts v l b x) (sym (symbols-many v l b _ _ 0 h.parts ss h.made)) (needs-parts v l b x h.parts plain h.split)
 
 -- the symbols of a series have the version's side
-pub series-side : (x : List ℕ) (l : Level) (b : Rule) (v : ℕ) (ss : List Symbol) → IsSeries x l b v ss → All (λ g. g.side ≡ side_of v) (squares_of ss)
+pub series-side : (x : List ℕ) (l : Level) (b : Rule) (v : ℕ) (ss : List Symbol) → IsSeries v l b x ss → All (λ g. g.side ≡ side_of v) (squares_of ss)
 series-side x l b v ss (inl h) =
     subst (λ (ts : List Symbol). All (λ g. g.side ≡ side_of v) (squares_of ts)) (sym h.alone)
     (All-cons (λ g. g.side ≡ side_of v) h.symbol.matrix [] (ap (λ (g : Grid). g.side) h.made.made.drawn) (All-nil (λ g. g.side ≡ side_of v)))

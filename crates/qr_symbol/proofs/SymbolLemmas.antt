@@ -24,7 +24,7 @@ least-one n f m k a b =
     ]
 
 -- The least version is one.
-version-one : (xs : List ℕ) (l : Level) (least : ℕ) (rule : Rule) (v w : ℕ) → IsVersion xs l least rule v → IsVersion xs l least rule w → v ≡ w
+version-one : (xs : List ℕ) (l : Level) (least : ℕ) (rule : Rule) (v w : ℕ) → IsVersion least l rule xs v → IsVersion least l rule xs w → v ≡ w
 version-one xs l least rule v w a b =
     elim (cases_lt v w) [
       | inl i ↦ absurd (b.first v a.least i a.fits)

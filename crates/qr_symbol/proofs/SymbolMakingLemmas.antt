@@ -43,20 +43,20 @@ symbol-built v l b x h segs message passed codewords given (Err f) chosen writte
 
 -- the symbol of bytes, of the least version that they fit, is the symbol of the input
 pub symbol-found : (v : ℕ) (l : Level) (smallest : ℕ) (b : Rule) (x : List ℕ) (r : Result Symbol EncodeFault)
-    → IsVersion x l smallest b v → IfOk r (λ s. IsSymbolOf v l b x None s) → IfOk r (λ s. IsSymbol x l smallest b s.version s.mask s.matrix)
+    → IsVersion smallest l b x v → IfOk r (λ s. IsSymbolOf v l b x None s) → IfOk r (λ s. IsSymbol smallest l b x s.version s.mask s.matrix)
 symbol-found v l smallest b x (Ok s) fits made =
-    subst (λ (w : ℕ). IsSymbol x l smallest b w s.mask s.matrix) (sym made.version) (record { version = fits; made = made.made })
+    subst (λ (w : ℕ). IsSymbol smallest l b x w s.mask s.matrix) (sym made.version) (record { version = fits; made = made.made })
 symbol-found v l smallest b x (Err f) fits made = tt
 
 -- and it is read as the input
 pub symbol-back : (v : ℕ) (l : Level) (b : Rule) (x : List ℕ) (r : Result Symbol EncodeFault)
-    → 1 ≤ v → v ≤ 40 → IfOk r (λ s. IsSymbolOf v l b x None s) → IfOk r (λ s. IsReadBack x s.version b s.matrix)
+    → 1 ≤ v → v ≤ 40 → IfOk r (λ s. IsSymbolOf v l b x None s) → IfOk r (λ s. IsReadBack s.version b x s.matrix)
 symbol-back v l b x (Ok s) p q made =
-    subst (λ (w : ℕ). IsReadBack x w b s.matrix) (sym made.version) (made.made.segments, made.made.chosen, symbol-read v l b x None s.mask s.matrix p q made.made)
+    subst (λ (w : ℕ). IsReadBack w b x s.matrix) (sym made.version) (made.made.segments, made.made.chosen, symbol-read v l b x None s.mask s.matrix p q made.made)
 symbol-back v l b x (Err f) p q made = tt
 
 -- bytes that have a symbol without a header fit it
-pub symbol-fits : (v : ℕ) (l : Level) (b : Rule) (x : List ℕ) (mask : ℕ) (g : Grid) → IsSymbolAt v l b x None mask g → FitsVersion x l b v
+pub symbol-fits : (v : ℕ) (l : Level) (b : Rule) (x : List ℕ) (mask : ℕ) (g : Grid) → IsSymbolAt v l b x None mask g → FitsVersion v l b x
 symbol-fits v l b x mask g s =
     let fit = (least_fits v b x s.segments s.chosen).1 (capacity_of v l) in
     let few = s.written.fits in

@@ -13,19 +13,19 @@ use Rattle.qr_symbol.specs.Choice.{IsMask}
 
 -- the bytes fit a symbol of version v and level l: some way to cut them into segments has no more bits than its data
 -- codewords hold (ISO/IEC 18004:2015, 7.4.10, Table 7)
-abbrev pub FitsVersion : List ℕ → Level → Rule → ℕ → Type 0
-FitsVersion x l rule v = HasFit v rule x (capacity_of v l)
+abbrev pub FitsVersion : ℕ → Level → Rule → List ℕ → Type 0
+FitsVersion v l rule x = HasFit v rule x (capacity_of v l)
 
 -- v is the least version from `smallest` to 40 that the bytes fit [own]
-pub record IsVersion (x : List ℕ) (l : Level) (smallest : ℕ) (rule : Rule) (v : ℕ) : Type 0 where
+pub record IsVersion (smallest : ℕ) (l : Level) (rule : Rule) (x : List ℕ) (v : ℕ) : Type 0 where
   pub least : smallest ≤ v
   pub most : v ≤ 40
-  pub fits : FitsVersion x l rule v
-  pub first : (u : ℕ) → smallest ≤ u → u < v → FitsVersion x l rule u → ⊥
+  pub fits : FitsVersion v l rule x
+  pub first : (u : ℕ) → smallest ≤ u → u < v → FitsVersion u l rule x → ⊥
 
 -- the bytes fit no version from `smallest` to 40 [own]
-abbrev pub HasNoVersion : List ℕ → Level → ℕ → Rule → Type 0
-HasNoVersion x l smallest rule = (v : ℕ) → smallest ≤ v → v ≤ 40 → FitsVersion x l rule v → ⊥
+abbrev pub HasNoVersion : ℕ → Level → Rule → List ℕ → Type 0
+HasNoVersion smallest l rule x = (v : ℕ) → smallest ≤ v → v ≤ 40 → FitsVersion v l rule x → ⊥
 
 -- g is the symbol, of version v and level l and with this mask, of the bytes after a header or none: the bytes are cut
 -- into the segments of least bits, written as data codewords, interleaved with their error correction codewords, placed,
@@ -42,12 +42,12 @@ pub record IsSymbolAt (v : ℕ) (l : Level) (rule : Rule) (x : List ℕ) (h : Op
 
 -- g is the symbol of the bytes at level l, with this mask, of the least version v from `smallest` on that they fit
 -- (ISO/IEC 18004:2015, 7.1)
-pub record IsSymbol (x : List ℕ) (l : Level) (smallest : ℕ) (rule : Rule) (v mask : ℕ) (g : Grid) : Type 0 where
-  pub version : IsVersion x l smallest rule v
+pub record IsSymbol (smallest : ℕ) (l : Level) (rule : Rule) (x : List ℕ) (v mask : ℕ) (g : Grid) : Type 0 where
+  pub version : IsVersion smallest l rule x v
   pub made : IsSymbolAt v l rule x None mask g
 
 -- An input has only one symbol: the version, the mask and the modules are those of any other [own].
 abbrev pub SymbolsAreOne : Type 0
 SymbolsAreOne = (x : List ℕ) (l : Level) (smallest : ℕ) (rule : Rule) (v w m n : ℕ) (g h : Grid)
-    → IsSymbol x l smallest rule v m g → IsSymbol x l smallest rule w n h
+    → IsSymbol smallest l rule x v m g → IsSymbol smallest l rule x w n h
     → (v ≡ w) × (m ≡ n) × (g ≡ h)

@@ -68,8 +68,8 @@ pub record IsReading (g : Grid) (content : Content) : Type 0 where
 
 -- the square is read as the input, in segments of least bits for the version and without a header
 -- (ISO/IEC 18004:2015, 12)
-abbrev pub IsReadBack : List ℕ → ℕ → Rule → Grid → Type 0
-IsReadBack x v rule g = (segments : List Segment) × IsLeastSegmentation v rule x segments
+abbrev pub IsReadBack : ℕ → Rule → List ℕ → Grid → Type 0
+IsReadBack v rule x g = (segments : List Segment) × IsLeastSegmentation v rule x segments
     × IsReading g (record { header = None; segments = segments; bytes = x })
 
 -- the side of the square is that of the version (ISO/IEC 18004:2015, 6.3.2, 12)

@@ -50,28 +50,28 @@ AreSymbolsFrom v l rule last parity k (p ∷ ps) (s ∷ ss) =
 
 -- the symbols are the series of the bytes' parts, of which there are at most 16; the bytes do not fit one symbol without
 -- a header [own]
-pub record IsSplit (x : List ℕ) (l : Level) (rule : Rule) (v : ℕ) (symbols : List Symbol) : Type 0 where
-  pub too_long : FitsVersion x l rule v → ⊥
+pub record IsSplit (v : ℕ) (l : Level) (rule : Rule) (x : List ℕ) (symbols : List Symbol) : Type 0 where
+  pub too_long : FitsVersion v l rule x → ⊥
   pub parts : List (List ℕ)
   pub split : AreParts v l rule x parts
   pub many : length parts ≤ 16
   pub made : AreSymbolsFrom v l rule (length parts - 1) (parity_of x) 0 parts symbols
 
 -- the symbol is the plain one of the bytes, which fit it without a header [own]
-pub record IsLone (x : List ℕ) (l : Level) (rule : Rule) (v : ℕ) (symbols : List Symbol) : Type 0 where
-  pub fits : FitsVersion x l rule v
+pub record IsLone (v : ℕ) (l : Level) (rule : Rule) (x : List ℕ) (symbols : List Symbol) : Type 0 where
+  pub fits : FitsVersion v l rule x
   pub symbol : Symbol
   pub made : IsSymbolOf v l rule x None symbol
   pub alone : symbols ≡ symbol ∷ []
 
 -- the symbols are the series of the bytes at level l, all of version v: a plain symbol where the bytes fit one, else the
 -- symbols of their parts [own]
-abbrev pub IsSeries : List ℕ → Level → Rule → ℕ → List Symbol → Type 0
-IsSeries x l rule v symbols = IsLone x l rule v symbols ⊎ IsSplit x l rule v symbols
+abbrev pub IsSeries : ℕ → Level → Rule → List ℕ → List Symbol → Type 0
+IsSeries v l rule x symbols = IsLone v l rule x symbols ⊎ IsSplit v l rule x symbols
 
 -- the bytes have no series: they do not fit one symbol, and their parts are more than 16; without kanji mode every other
 -- cut of them into parts that fit has more too [own]
-pub record HasNoSeries (x : List ℕ) (l : Level) (rule : Rule) (v : ℕ) : Type 0 where
-  pub too_long : FitsVersion x l rule v → ⊥
+pub record HasNoSeries (v : ℕ) (l : Level) (rule : Rule) (x : List ℕ) : Type 0 where
+  pub too_long : FitsVersion v l rule x → ⊥
   pub too_many : (parts : List (List ℕ)) → AreParts v l rule x parts → 16 < length parts
   pub no_shorter : may_use rule Kanji ≡ false → NeedsParts v l rule x 17

@@ -8,16 +8,15 @@ ghost use Rattle.qr_layout.specs.Alignment.{alignment_places, centres_of};
 ghost use Rattle.qr_layout.specs.Region.{corner_rectangles, is_alignment, is_in_rectangle, timing_lines, version_rectangles};
 ghost use Rattle.qr_layout.specs.Role.{is_alignment_light, ring_of, role_of};
 ghost use Rattle.qr_layout.specs.Strips.{both_of, rows_from};
-ghost use Rattle.qr_layout.specs.Format.{format_word_of, version_word_of};
+ghost use Rattle.qr_layout.specs.Format.{version_word_of};
 ghost use Rattle.qr_bits.specs.Bits.{codeword_bit};
 ghost use Rattle.qr_matrix.specs.Grid.{square, colour, light, IsSquare};
 ghost use Rattle.qr_matrix.specs.Lines.{has_bit};
 ghost use Rattle.qr_symbol.specs.Symbol.{word_bit};
-ghost use Rattle.qr_symbol.specs.Steps.Drawing.{fixed_colour, paint_of, placed_colour, placed_if, number_after, number_along, placed_along, IsWindow, format_or, masked_grid, region_grid};
+ghost use Rattle.qr_symbol.specs.Steps.Drawing.{fixed_colour, paint_of, placed_colour, placed_if, number_after, number_along, placed_along, IsWindow, format_or, region_grid};
 
-use crate::mask::pattern;
 use qr_layout::{
-    Level, Module, Role, Strip, Version, alignment_centres, all_strips, cell, format_place, format_word,
+    Module, Role, Strip, Version, alignment_centres, all_strips, cell, format_place,
     second_format_place,
 };
 use qr_matrix::Matrix;

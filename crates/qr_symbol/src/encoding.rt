@@ -13,9 +13,9 @@ ghost use Rattle.qr_symbol.specs.Series.{IsSymbolOf};
 
 use crate::choice::build;
 use crate::fault::EncodeFault;
-use crate::version_choice::least_fit;
 use crate::interleaving::interleave;
 use crate::symbol::Symbol;
+use crate::version_choice::least_fit;
 use qr_bits::{Header, INPUT_MAX, Rule, Segment, codewords};
 use qr_layout::{Level, Version};
 use std::alloc::Global;
@@ -36,13 +36,13 @@ pub fn encode(
     rule: Rule,
 ) -> Result<Symbol, EncodeFault>
     requires { length input.now ≤ INPUT_MAX }
-    ensures symbol { IfOk result (λ s. IsSymbol input.now level smallest rule
+    ensures symbol { IfOk result (λ s. IsSymbol smallest level rule input.now
         s.version s.mask s.matrix) }
     ensures level { IfOk result (λ s. s.level ≡ level) }
-    ensures read { IfOk result (λ s. IsReadBack input.now s.version rule s.matrix) }
+    ensures read { IfOk result (λ s. IsReadBack s.version rule input.now s.matrix) }
     ensures empty { (result ≡ Err EncodeFault.Empty) ↔ (input.now ≡ []) }
     ensures too_long { (result ≡ Err EncodeFault.TooLong)
-        ↔ ((result ≢ Err EncodeFault.Memory) × HasNoVersion input.now level smallest rule) }
+        ↔ ((result ≢ Err EncodeFault.Memory) × HasNoVersion smallest level rule input.now) }
     ensures long { 7089 < length input.now → result ≡ Err EncodeFault.TooLong }
     ensures fault { IfErr result (λ e. (e ≡ EncodeFault.Empty) ⊎ (e ≡ EncodeFault.TooLong)
         ⊎ (e ≡ EncodeFault.Memory)) }
@@ -94,7 +94,7 @@ mod tests {
             ("a tie of masks 3 and 7 at 1-L", &b"BR"[..], Level::L, 3),
             ("a tie of masks 6 and 7 at 1-L", &b"CE"[..], Level::L, 6),
         ];
-        let first = Version::new(1).ok_or("version 1")?;
+        let first = Version::FIRST;
         for (name, input, level, mask) in rows {
             assert!(rt; input.len() <= INPUT_MAX);
             let symbol = encode(rt.alloc(), input, level, first, Rule::Auto)?;
@@ -124,7 +124,7 @@ mod tests {
 
     #[test]
     fn refusals(rt: HostRuntime) -> Result<(), Fail> {
-        let first = Version::new(1).ok_or("version")?;
+        let first = Version::FIRST;
         let fault = encode(rt.alloc(), b"", Level::L, first, Rule::Auto);
         assert!(rt; matches!(fault, Err(EncodeFault::Empty)), "no byte");
         let fault = encode(rt.alloc(), &[b'7'; 7090], Level::L, first, Rule::Auto);

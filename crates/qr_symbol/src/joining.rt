@@ -129,7 +129,7 @@ mod tests {
         requires most { side < 178 }
     {
         Ok(Symbol {
-            version: Version::new(1).ok_or("version 1")?,
+            version: Version::FIRST,
             level: Level::L,
             mask: 0,
             matrix: Matrix::new(rt.alloc(), side)?,

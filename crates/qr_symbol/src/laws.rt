@@ -124,14 +124,14 @@ pub fn symbols_are_one()
 /// The symbol of an input is read as the input, in the segments of least bits and without a header.
 pub fn symbols_are_read(smallest: Version)
     ensures { (x : List ℕ) (l : Level) (rule : Rule) (v mask : ℕ) (g : Grid)
-        → (s : IsSymbol x l smallest rule v mask g)
+        → (s : IsSymbol smallest l rule x v mask g)
         → IsReading g (record { header = None; segments = s.made.segments; bytes = x }) }
 {}
 
 /// An input has only one series of a version and a level.
 pub fn series_are_one()
     ensures { (x : List ℕ) (l : Level) (rule : Rule) (v : ℕ) (ss ts : List Symbol)
-        → IsSeries x l rule v ss → IsSeries x l rule v ts → ss ≡ ts }
+        → IsSeries v l rule x ss → IsSeries v l rule x ts → ss ≡ ts }
 {}
 
 /// The parts of an input fit after headers, and no fewer parts do; so its series is the shortest.
@@ -142,7 +142,7 @@ pub fn series_are_shortest()
         → may_use rule Mode.Kanji ≡ false → AreParts v l rule x parts → NeedsParts v l rule x (length parts) }
     ensures series { (x : List ℕ) (l : Level) (rule : Rule) (v : ℕ) (ss : List Symbol)
         → may_use rule Mode.Kanji ≡ false → 0 < length x
-        → IsSeries x l rule v ss → NeedsParts v l rule x (length ss) }
+        → IsSeries v l rule x ss → NeedsParts v l rule x (length ss) }
 {}
 
 /// The first part of what is left of an input has at least five bytes, or it is all that is left.
@@ -154,15 +154,15 @@ pub fn parts_are_long(version: Version, level: Level)
 /// The symbols of a series are joined to the input.
 pub fn series_are_joined(version: Version)
     ensures { (x : List ℕ) (l : Level) (rule : Rule) (ss : List Symbol)
-        → IsSeries x l rule version ss → IsJoined (squares_of ss) x }
+        → IsSeries version l rule x ss → IsJoined (squares_of ss) x }
 {}
 
 /// An input of `INPUT_MAX` bytes or more has no symbol, from any version on, and no series of a version.
 pub fn long_inputs_have_none(version: Version)
     ensures symbol { (x : List ℕ) (l : Level) (rule : Rule) → INPUT_MAX ≤ length x
-        → HasNoVersion x l version rule }
+        → HasNoVersion version l rule x }
     ensures series { (x : List ℕ) (l : Level) (rule : Rule) (ss : List Symbol)
-        → INPUT_MAX ≤ length x → IsSeries x l rule version ss → ⊥ }
+        → INPUT_MAX ≤ length x → IsSeries version l rule x ss → ⊥ }
 {}
 
 /// Two faults of encoding compare as equal exactly where they are the same.

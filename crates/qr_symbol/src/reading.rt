@@ -10,8 +10,8 @@ ghost use Rattle.qr_symbol.specs.Reading.{IsFormat, IsRead, IsReading, IsUnread}
 
 use crate::drawing::{FORMAT_BITS, is_bit_set};
 use crate::fault::ReadFault;
-use crate::mask::inverts;
 use crate::interleaving::deinterleave;
+use crate::mask::inverts;
 use qr_bits::{Parsed, parse};
 use qr_layout::{Level, Version, format_place, format_word, walk};
 use qr_matrix::Matrix;
@@ -167,7 +167,7 @@ mod tests {
                 Some(ReadFault::Check),
             ),
         ];
-        let version = Version::new(1).ok_or("version 1")?;
+        let version = Version::FIRST;
         assert!(rt; version.total_codewords() == 26);
         for (name, (row, col), fault) in rows {
             let mut symbol = build_masked(rt.alloc(), version, Level::M, &EIGHT_DIGITS, 0)?;
@@ -194,7 +194,7 @@ mod tests {
     // not looked at.
     #[test]
     fn each_module_inverted(rt: HostRuntime) -> Result<(), Fail> {
-        let version = Version::new(1).ok_or("version 1")?;
+        let version = Version::FIRST;
         assert!(rt; version.total_codewords() == 26);
         let mut symbol = build_masked(rt.alloc(), version, Level::M, &EIGHT_DIGITS, 0)?;
         let (mut format, mut check, mut read) = (0u32, 0u32, 0u32);

@@ -26,7 +26,7 @@ pub(crate) fn byte_codewords(
     requires short { length bytes.now ≤ INPUT_MAX }
     requires in_range { ForSome header (λ h. (h.position < 16) × (h.last < 16)) }
 {
-    let version = Version::new(1).ok_or("version 1")?;
+    let version = Version::FIRST;
     let segment = Segment {
         mode: Mode::Byte,
         len: bytes.len(),
@@ -47,7 +47,7 @@ pub(crate) fn byte_symbol(
     requires short { length bytes.now ≤ INPUT_MAX }
     requires in_range { ForSome header (λ h. (h.position < 16) × (h.last < 16)) }
 {
-    let version = Version::new(1).ok_or("version 1")?;
+    let version = Version::FIRST;
     let message = byte_codewords(rt, bytes, header, level)?;
     if message.len() != usize::from(version.data_codewords(level)) {
         return Err("the codewords are not those of the version".into());

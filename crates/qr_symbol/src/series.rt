@@ -36,13 +36,13 @@ pub fn encode_series(
     rule: Rule,
 ) -> Result<Vec<Symbol>, EncodeFault>
     requires { length input.now ≤ INPUT_MAX }
-    ensures series { IfOk result (λ ss. IsSeries input.now level rule version ss.items) }
+    ensures series { IfOk result (λ ss. IsSeries version level rule input.now ss.items) }
     ensures joined { IfOk result (λ ss. IsJoined (squares_of ss.items) input.now) }
     ensures shortest { IfOk result (λ ss. may_use rule Mode.Kanji ≡ false
         → NeedsParts version level rule input.now (length ss.items)) }
     ensures empty { (result ≡ Err EncodeFault.Empty) ↔ (input.now ≡ []) }
     ensures too_many { (result ≡ Err EncodeFault.TooMany)
-        ↔ ((result ≢ Err EncodeFault.Memory) × HasNoSeries input.now level rule version) }
+        ↔ ((result ≢ Err EncodeFault.Memory) × HasNoSeries version level rule input.now) }
     ensures fault { IfErr result (λ e. (e ≡ EncodeFault.Empty) ⊎ (e ≡ EncodeFault.TooMany)
         ⊎ (e ≡ EncodeFault.Memory)) }
 {
@@ -68,7 +68,7 @@ fn lone_symbol(
 ) -> Result<Option<Symbol>, EncodeFault>
     requires { length input.now ≤ INPUT_MAX }
     ensures symbol { IfOk result (λ found. MatchOption found
-        (FitsVersion input.now level rule version → ⊥)
+        (FitsVersion version level rule input.now → ⊥)
         (λ s. IsSymbolOf version level rule input.now None s)) }
     ensures fault { IfErr result (λ e. e ≡ EncodeFault.Memory) }
 {
@@ -208,7 +208,7 @@ mod tests {
 
     #[test]
     fn eight_letters_at_1_h(rt: HostRuntime) -> Result<(), Fail> {
-        let version = Version::new(1).ok_or("version 1")?;
+        let version = Version::FIRST;
         let symbols = encode_series(rt.alloc(), b"ABCDEFGH", version, Level::H, Rule::BytesOnly)?;
         assert_eq!(rt; symbols.len(), 2);
         let parts = [(0, &b"ABCDE"[..]), (1, &b"FGH"[..])];
@@ -230,7 +230,7 @@ mod tests {
 
     #[test]
     fn a_plain_symbol_where_it_fits(rt: HostRuntime) -> Result<(), Fail> {
-        let version = Version::new(1).ok_or("version 1")?;
+        let version = Version::FIRST;
         let symbols = encode_series(rt.alloc(), b"ABCDEFG", version, Level::H, Rule::BytesOnly)?;
         assert_eq!(rt; symbols.len(), 1);
         assert!(rt; says(&rt, &symbols[0], None, b"ABCDEFG")?);
@@ -266,7 +266,7 @@ mod tests {
             ),
             ("no byte", &[], Rule::Auto, Err(EncodeFault::Empty)),
         ];
-        let version = Version::new(1).ok_or("version 1")?;
+        let version = Version::FIRST;
         for (name, input, rule, count) in rows {
             assert!(rt; input.len() <= INPUT_MAX);
             let symbols = encode_series(rt.alloc(), input, version, Level::H, rule);

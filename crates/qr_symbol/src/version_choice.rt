@@ -49,7 +49,7 @@ fn first_for(len: usize) -> u8
     ensures first { 1 ≤ result }
     ensures last { result ≤ 40 }
     ensures none { (v : ℕ) (l : Level) (r : Rule) (xs : List ℕ) → length xs ≡ len
-        → 1 ≤ v → v < result → FitsVersion xs l r v → ⊥ }
+        → 1 ≤ v → v < result → FitsVersion v l r xs → ⊥ }
 {
     if len > MEDIUM_BYTES {
         return 27;
@@ -86,11 +86,11 @@ pub(crate) fn least_fit(
     rule: Rule,
 ) -> Result<Fit, BitFault>
     requires { length input.now ≤ INPUT_MAX }
-    ensures version { IfOk result (λ f. IsVersion input.now level smallest rule f.version) }
+    ensures version { IfOk result (λ f. IsVersion smallest level rule input.now f.version) }
     ensures segments { IfOk result (λ f.
         IsLeastSegmentation f.version rule input.now f.segments.items) }
     ensures too_long { result ≡ Err BitFault.TooLong
-        → HasNoVersion input.now level smallest rule }
+        → HasNoVersion smallest level rule input.now }
 {
     let mut first = Version::new(smallest.number().max(first_for(input.len()))).unwrap();
     loop {

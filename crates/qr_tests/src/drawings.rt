@@ -19,7 +19,7 @@ static CODEWORDS: [u8; 26] = [
 fn symbol(alloc: Global) -> Result<Symbol, Fail>
     ensures { IfOk result (λ s. s.matrix.side ≡ 21) }
 {
-    let version = Version::new(1).ok_or("version 1")?;
+    let version = Version::FIRST;
     if version.total_codewords() != 26 {
         return Err("26 codewords".into());
     }

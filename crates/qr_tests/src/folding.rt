@@ -49,7 +49,7 @@ fn kanji_by_an_option(rt: HostRuntime) -> Result<(), Fail> {
 
 #[test]
 fn kanji_are_read(rt: HostRuntime) -> Result<(), Fail> {
-    let first = Version::new(1).ok_or("version 1")?;
+    let first = Version::FIRST;
     let pairs = b"\x93\x5F\xE4\xAA";
     let symbol = encode(rt.alloc(), pairs, Level::L, first, Rule::WithKanji)?;
     let parsed = read_symbol(rt.alloc(), &symbol.matrix)?;

@@ -14,7 +14,7 @@ use std::test::Fail;
 // Column 6 is in no strip: from column 7 the walk goes on in column 5, in the row where the strip before it ended.
 #[test]
 fn walk_over_column_6(rt: HostRuntime) -> Result<(), Fail> {
-    let version = Version::new(1).ok_or("version 1")?;
+    let version = Version::FIRST;
     let mut steps = walk_after(version, Module { row: 9, col: 7 }).ok_or("not in the region")?;
     for (row, col) in [(9, 5), (9, 4), (10, 5)] {
         assert_eq!(rt; steps.next(), Some(Module { row, col }));

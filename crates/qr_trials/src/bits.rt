@@ -1,7 +1,5 @@
 //! The calls on segments and bits, with `HELLO WORLD` in version 1-M: one segment, and its data codewords.
 
-ghost use Rattle.std.specs.Prelude.{◌≡◌};
-
 use crate::answer::Answer;
 use qr_bits::{
     BitFault, Mode, ParseFault, Rule, Segment, codewords, covers, fold, longest_fit, parse,
@@ -27,19 +25,9 @@ static PAIR_AND_LETTER: [u8; 3] = [0x93, 0x61, 0x61];
 
 const BITS_OUT: Answer = Answer::Memory("BitFault::Memory, arguments unchanged");
 
-/// Version 1.
-pub fn version_1() -> Version
-    ensures { result ≡ 1 }
-{
-    let Some(version) = Version::new(1) else {
-        unreachable!()
-    };
-    version
-}
-
 pub fn segmented(alloc: Global) -> Result<Answer, AllocError> {
     let input = Vec::from_slice(alloc, &HELLO_WORLD)?;
-    let answer = match segments(alloc, &input, version_1(), Rule::Auto) {
+    let answer = match segments(alloc, &input, Version::FIRST, Rule::Auto) {
         Ok(segs) => Answer::of(segs.as_slice() == [SEGMENT].as_slice()),
         Err(BitFault::Memory) => BITS_OUT,
         Err(BitFault::TooLong) => Answer::Other,
@@ -49,7 +37,7 @@ pub fn segmented(alloc: Global) -> Result<Answer, AllocError> {
 
 pub fn longest(alloc: Global) -> Result<Answer, AllocError> {
     let input = Vec::from_slice(alloc, &HELLO_WORLD)?;
-    let answer = match longest_fit(alloc, &input, version_1(), Level::M, Rule::Auto) {
+    let answer = match longest_fit(alloc, &input, Version::FIRST, Level::M, Rule::Auto) {
         Ok(len) => Answer::of(len == 11),
         Err(BitFault::Memory) => BITS_OUT,
         Err(BitFault::TooLong) => Answer::Other,
@@ -72,7 +60,7 @@ pub fn encoded(alloc: Global) -> Result<Answer, AllocError> {
     if !covers(&input, &segs) {
         return Ok(Answer::Other);
     }
-    let answer = match codewords(alloc, &input, &segs, None, version_1(), Level::M) {
+    let answer = match codewords(alloc, &input, &segs, None, Version::FIRST, Level::M) {
         Ok(data) => Answer::of(data.as_slice() == DATA.as_slice()),
         Err(BitFault::Memory) => BITS_OUT,
         Err(BitFault::TooLong) => Answer::Other,
@@ -83,7 +71,7 @@ pub fn encoded(alloc: Global) -> Result<Answer, AllocError> {
 
 pub fn parsed(alloc: Global) -> Result<Answer, AllocError> {
     let data = Vec::from_slice(alloc, &DATA)?;
-    let answer = match parse(alloc, &data, version_1()) {
+    let answer = match parse(alloc, &data, Version::FIRST) {
         Ok(parsed) => Answer::of(parsed.bytes.as_slice() == HELLO_WORLD.as_slice()),
         Err(ParseFault::Memory) => Answer::Memory("ParseFault::Memory, arguments unchanged"),
         Err(_) => Answer::Other,

@@ -1,9 +1,9 @@
 //! The calls on symbols: those of `HELLO WORLD` in version 1-M, and the series of `ABCDEFGH` in byte mode in 1-H.
 
 use crate::answer::Answer;
-use crate::bits::{DATA, HELLO_WORLD, version_1};
+use crate::bits::{DATA, HELLO_WORLD};
 use qr_bits::Rule;
-use qr_layout::Level;
+use qr_layout::{Level, Version};
 use qr_symbol::{
     EncodeFault, Matrix, ReadFault, Symbol, build, build_masked, deinterleave, encode,
     encode_series, interleave, read_series, read_symbol,
@@ -50,7 +50,7 @@ fn are_equal_series(a: &[Symbol], b: &[Symbol]) -> bool {
 
 // The symbol of `HELLO WORLD` in version 1-M, or none where no memory was left.
 fn hello(alloc: Global) -> Result<Symbol, AllocError> {
-    encode(alloc, &HELLO_WORLD, Level::M, version_1(), Rule::Auto).map_err(|_| AllocError)
+    encode(alloc, &HELLO_WORLD, Level::M, Version::FIRST, Rule::Auto).map_err(|_| AllocError)
 }
 
 pub fn matrix(alloc: Global) -> Answer {
@@ -62,7 +62,7 @@ pub fn matrix(alloc: Global) -> Answer {
 
 pub fn interleaved(alloc: Global) -> Result<Answer, AllocError> {
     let message = Vec::from_slice(alloc, &DATA)?;
-    let version = version_1();
+    let version = Version::FIRST;
     if message.len() != usize::from(version.data_codewords(Level::M)) {
         return Ok(Answer::Other);
     }
@@ -75,7 +75,7 @@ pub fn interleaved(alloc: Global) -> Result<Answer, AllocError> {
 
 pub fn deinterleaved(alloc: Global) -> Result<Answer, AllocError> {
     let sent = Vec::from_slice(alloc, &SENT)?;
-    let version = version_1();
+    let version = Version::FIRST;
     if sent.len() != usize::from(version.total_codewords()) {
         return Ok(Answer::Other);
     }
@@ -89,7 +89,7 @@ pub fn deinterleaved(alloc: Global) -> Result<Answer, AllocError> {
 
 pub fn built_masked(alloc: Global) -> Result<Answer, AllocError> {
     let sent = Vec::from_slice(alloc, &SENT)?;
-    let version = version_1();
+    let version = Version::FIRST;
     if sent.len() != usize::from(version.total_codewords()) {
         return Ok(Answer::Other);
     }
@@ -103,7 +103,7 @@ pub fn built_masked(alloc: Global) -> Result<Answer, AllocError> {
 
 pub fn built(alloc: Global) -> Result<Answer, AllocError> {
     let sent = Vec::from_slice(alloc, &SENT)?;
-    let version = version_1();
+    let version = Version::FIRST;
     if sent.len() != usize::from(version.total_codewords()) {
         return Ok(Answer::Other);
     }
@@ -117,7 +117,7 @@ pub fn built(alloc: Global) -> Result<Answer, AllocError> {
 
 pub fn encoded(alloc: Global) -> Result<Answer, AllocError> {
     let input = Vec::from_slice(alloc, &HELLO_WORLD)?;
-    let answer = match encode(alloc, &input, Level::M, version_1(), Rule::Auto) {
+    let answer = match encode(alloc, &input, Level::M, Version::FIRST, Rule::Auto) {
         Ok(symbol) => Answer::of(symbol.version.number() == 1),
         Err(EncodeFault::Memory) => ENCODE_OUT,
         Err(_) => Answer::Other,
@@ -127,7 +127,7 @@ pub fn encoded(alloc: Global) -> Result<Answer, AllocError> {
 
 pub fn encoded_series(alloc: Global) -> Result<Answer, AllocError> {
     let input = Vec::from_slice(alloc, &LETTERS)?;
-    let answer = match encode_series(alloc, &input, version_1(), Level::H, Rule::BytesOnly) {
+    let answer = match encode_series(alloc, &input, Version::FIRST, Level::H, Rule::BytesOnly) {
         Ok(symbols) => Answer::of(symbols.len() == 2),
         Err(EncodeFault::Memory) => ENCODE_OUT,
         Err(_) => Answer::Other,
@@ -147,7 +147,9 @@ pub fn read(alloc: Global) -> Result<Answer, AllocError> {
 
 // The series of the eight letters in byte mode in version 1-H: five and three.
 fn series(alloc: Global) -> Result<Vec<Symbol>, AllocError> {
-    encode_series(alloc, &LETTERS, version_1(), Level::H, Rule::BytesOnly).map_err(|_| AllocError)
+    encode_series(alloc, &LETTERS, Version::FIRST, Level::H, Rule::BytesOnly).map_err(
+        |_| AllocError,
+    )
 }
 
 pub fn read_whole_series(alloc: Global) -> Result<Answer, AllocError> {

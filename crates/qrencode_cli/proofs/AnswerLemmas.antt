@@ -54,7 +54,7 @@ not-too-many s input squares h many =
     let series = subst (λ (b : Bool). AreSquares b s input squares) many.0 h in
     no-series input (smallest_of s) series.symbols series.series many.1
   where
-    no-series : (x : List ℕ) (v : ℕ) (ss : _) → IsSeries x s.level (rule_for s) v ss → HasNoSeries x s.level (rule_for s) v → ⊥
+    no-series : (x : List ℕ) (v : ℕ) (ss : _) → IsSeries v s.level (rule_for s) x ss → HasNoSeries v s.level (rule_for s) x → ⊥
     no-series x v ss (inl a) b = b.too_long a.fits
     no-series x v ss (inr a) b = let m = a.many in let n = b.too_many a.parts a.split in absurd (omega arith)
 
@@ -118,12 +118,12 @@ smallest-most words s e =
 -- an empty input fits each version
 empty-not-long : (words : List Text) (s : SettingsView) (input : List ℕ) → settings_for words ≡ Ok s → input ≡ [] → IsTooLong s input → ⊥
 empty-not-long words s input taken none long =
-    long.1 (smallest_of s) (omega arith) (smallest-most words s taken) (subst (λ (x : List ℕ). FitsVersion x s.level (rule_for s) (smallest_of s)) (sym none) (empty_fits (smallest_of s) (rule_for s) _))
+    long.1 (smallest_of s) (omega arith) (smallest-most words s taken) (subst (λ (x : List ℕ). FitsVersion (smallest_of s) s.level (rule_for s) x) (sym none) (empty_fits (smallest_of s) (rule_for s) _))
 
 -- and so is no series
 empty-not-many : (s : SettingsView) (input : List ℕ) → input ≡ [] → IsTooMany s input → ⊥
 empty-not-many s input none many =
-    many.1.too_long (subst (λ (x : List ℕ). FitsVersion x s.level (rule_for s) (smallest_of s)) (sym none) (empty_fits (smallest_of s) (rule_for s) _))
+    many.1.too_long (subst (λ (x : List ℕ). FitsVersion (smallest_of s) s.level (rule_for s) x) (sym none) (empty_fits (smallest_of s) (rule_for s) _))
 
 -- one symbol and a series are not asked for together
 long-not-many : (s : SettingsView) (x y : List ℕ) → IsTooLong s x → IsTooMany s y → ⊥

@@ -61,7 +61,7 @@ pub held-plain : (s : SettingsView) (input : List ℕ) → s.fold ≡ false → 
 held-plain s input fold = rw fold refl
 
 -- a symbol that is read as the input is joined to it
-joined-one : (input : List ℕ) (v : ℕ) (b : Rule) (g : Grid) → IsReadBack input v b g → IsJoined (g ∷ []) input
+joined-one : (input : List ℕ) (v : ℕ) (b : Rule) (g : Grid) → IsReadBack v b input g → IsJoined (g ∷ []) input
 unfolding AreReadings
 joined-one input v b g h = record {
   contents = record { header = None; segments = h.0; bytes = input } ∷ [];
@@ -79,8 +79,8 @@ one-side (g ∷ gs) side h =
 
 -- the one symbol of an input is what the settings ask for
 pub drawn-for-one : (s : SettingsView) (rule : Rule) (input : List ℕ) (version : ℕ) (symbol : Symbol) (symbols : List Symbol) → s.structured ≡ false → 1 ≤ version
-    → version ≡ smallest_of s → rule ≡ rule_for s → (input ≡ [] → ⊥) → IsSymbol input s.level version rule symbol.version symbol.mask symbol.matrix
-    → IsReadBack input symbol.version rule symbol.matrix → symbols ≡ symbol ∷ [] → AreDrawnFor s input symbols
+    → version ≡ smallest_of s → rule ≡ rule_for s → (input ≡ [] → ⊥) → IsSymbol version s.level rule input symbol.version symbol.mask symbol.matrix
+    → IsReadBack symbol.version rule input symbol.matrix → symbols ≡ symbol ∷ [] → AreDrawnFor s input symbols
 drawn-for-one s rule input version symbol symbols one least e same some made read alone =
     let from = made.version.least in
     let few : length input ≤ 7089 = fitting_short symbol.version s.level rule input (omega arith) made.version.most made.version.fits in
@@ -97,7 +97,7 @@ drawn-for-one s rule input version symbol symbols one least e same some made rea
 
 -- why there is no one symbol is why the input has no drawing
 pub told-one : (s : SettingsView) (input : List ℕ) (e : EncodeFault) → s.structured ≡ false → (e ≡ encode.Empty → input ≡ [])
-    → (e ≡ encode.TooLong → HasNoVersion input s.level (smallest_of s) (rule_for s))
+    → (e ≡ encode.TooLong → HasNoVersion (smallest_of s) s.level (rule_for s) input)
     → (e ≡ encode.Empty) ⊎ ((e ≡ encode.TooLong) ⊎ (e ≡ encode.Memory)) → IsInputFault s input (fault_of_input e)
 told-one s input encode.Empty one empty long only = empty refl
 told-one s input encode.TooLong one empty long only = (one, long refl)
@@ -106,7 +106,7 @@ told-one s input encode.Memory one empty long only = tt
 
 -- the series of an input is what the settings ask for
 pub drawn-for-series : (s : SettingsView) (rule : Rule) (input : List ℕ) (version : ℕ) (symbols : List Symbol) → s.structured ≡ true → 1 ≤ version → version ≤ 40
-    → version ≡ smallest_of s → rule ≡ rule_for s → (input ≡ [] → ⊥) → IsSeries input s.level rule version symbols
+    → version ≡ smallest_of s → rule ≡ rule_for s → (input ≡ [] → ⊥) → IsSeries version s.level rule input symbols
     → IsJoined (squares_of symbols) input → AreDrawnFor s input symbols
 drawn-for-series s rule input version symbols many least most e same some series joined = record {
   asked = subst (λ (b : Bool). AreSquares b s input (squares_of symbols)) (sym many) (record { symbols = symbols; series = rw (← e, ← same) series; theirs = refl });

@@ -14,12 +14,12 @@ smallest_of s = unwrap_or s.smallest 1
 pub record IsSquareOf (s : SettingsView) (input : List ℕ) (square : Grid) : Type 0 where
   pub version : ℕ
   pub mask : ℕ
-  pub symbol : IsSymbol input s.level (smallest_of s) (rule_for s) version mask square
+  pub symbol : IsSymbol (smallest_of s) s.level (rule_for s) input version mask square
 
 -- the squares are those of the input's series [own]
 pub record AreSquaresOf (s : SettingsView) (input : List ℕ) (squares : List Grid) : Type 0 where
   pub symbols : List Symbol
-  pub series : IsSeries input s.level (rule_for s) (smallest_of s) symbols
+  pub series : IsSeries (smallest_of s) s.level (rule_for s) input symbols
   pub theirs : squares ≡ squares_of symbols
 
 -- the squares are those of the input's series, where a series is asked for, or else that of its symbol [own]
@@ -33,8 +33,8 @@ AreSymbols s input squares = AreSquares s.structured s input squares
 
 -- one symbol is asked for, and the input fits none of the settings' level, from their smallest version on [own]
 abbrev pub IsTooLong : SettingsView → List ℕ → Type 0
-IsTooLong s input = (s.structured ≡ false) × HasNoVersion input s.level (smallest_of s) (rule_for s)
+IsTooLong s input = (s.structured ≡ false) × HasNoVersion (smallest_of s) s.level (rule_for s) input
 
 -- a series is asked for, and the input has none of the settings' level and version [own]
 abbrev pub IsTooMany : SettingsView → List ℕ → Type 0
-IsTooMany s input = (s.structured ≡ true) × HasNoSeries input s.level (rule_for s) (smallest_of s)
+IsTooMany s input = (s.structured ≡ true) × HasNoSeries (smallest_of s) s.level (rule_for s) input

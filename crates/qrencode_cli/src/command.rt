@@ -28,10 +28,7 @@ fn symbols_for(alloc: Global, input: &[u8], settings: &Settings) -> Result<Vec<S
     ensures { MatchResult result (λ symbols. AreDrawnFor settings.now input.now symbols.items)
         (IsInputFault settings.now input.now) }
 {
-    let Some(first) = Version::new(1) else {
-        unreachable!()
-    };
-    let version = settings.smallest.unwrap_or(first);
+    let version = settings.smallest.unwrap_or(Version::FIRST);
     let rule = settings.rule();
     if settings.structured {
         let symbols = encode_series(alloc, input, version, settings.level, rule)?;

@@ -11,8 +11,7 @@ use Rattle.qrencode_cli.proofs.command.symbols_for.Goals as goal
 
 pub returns-then-settings : goal.returns-then-settings
 returns-then-settings c =
-    let smallest : c.unwrap_or-version.result ≡ unwrap_or c.settings.inside.smallest 1 =
-    c.unwrap_or-version.ensures ∙ ap (unwrap_or c.settings.inside.smallest) c.in-Some.ensures.1 in
+    let smallest : c.unwrap_or-version.result ≡ unwrap_or c.settings.inside.smallest 1 = c.unwrap_or-version.ensures in
     let same = c.rule-rule.ensures ∙ ap rule_for (sym c.settings.view_is) in
     subst (λ (s : SettingsView). AreDrawnFor s c.args.input.now c.in_ok-symbols.symbols.items) c.settings.view_is
     (drawn-for-series _ _ _ _ _ c.if-settings.true (omega arith) (omega arith) smallest same
@@ -21,21 +20,19 @@ returns-then-settings c =
 
 pub returns-in_err-symbol : goal.returns-in_err-symbol
 returns-in_err-symbol c =
-    let smallest : c.unwrap_or-version.result ≡ unwrap_or c.settings.inside.smallest 1 =
-    c.unwrap_or-version.ensures ∙ ap (unwrap_or c.settings.inside.smallest) c.in-Some.ensures.1 in
+    let smallest : c.unwrap_or-version.result ≡ unwrap_or c.settings.inside.smallest 1 = c.unwrap_or-version.ensures in
     let same = c.rule-rule.ensures ∙ ap rule_for (sym c.settings.view_is) in
     let p = err_from_is_err_and c.from_residual-in_err-symbol.result c.from_residual-in_err-symbol.ensures.1 in
     let one = sym (ap (λ (s : SettingsView). s.structured) c.settings.view_is) ∙ c.if-settings.false in
     rw (p.1, p.2) (told-one c.args.settings.now c.args.input.now c.in_err-symbol.field-0.0 one
     (λ e. c.in_err-symbol.ensures.empty.0 (ap (λ (f : EncodeFault). Err f) e))
-    (λ e. subst (λ (s : SettingsView). HasNoVersion c.args.input.now s.level (smallest_of s) (rule_for s)) c.settings.view_is
+    (λ e. subst (λ (s : SettingsView). HasNoVersion (smallest_of s) s.level (rule_for s) c.args.input.now) c.settings.view_is
     (rw (← smallest, ← same) (c.in_err-symbol.ensures.too_long.0 (ap (λ (f : EncodeFault). Err f) e)).1))
     c.in_err-symbol.ensures.fault)
 
 pub returns : goal.returns
 returns c =
-    let smallest : c.unwrap_or-version.result ≡ unwrap_or c.settings.inside.smallest 1 =
-    c.unwrap_or-version.ensures ∙ ap (unwrap_or c.settings.inside.smallest) c.in-Some.ensures.1 in
+    let smallest : c.unwrap_or-version.result ≡ unwrap_or c.settings.inside.smallest 1 = c.unwrap_or-version.ensures in
     let same = c.rule-rule.ensures ∙ ap rule_for (sym c.settings.view_is) in
     subst (λ (s : SettingsView). AreDrawnFor s c.args.input.now c.in_ok-symbols-2.symbols.items) c.settings.view_is
     (drawn-for-one _ _ _ _ c.in_ok-symbol.symbol _ c.if-settings.false (omega arith) smallest same
