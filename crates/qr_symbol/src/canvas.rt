@@ -60,11 +60,8 @@ impl Canvas {
         for row in 0..side {
             matrix.set_row_masked(row, &self.plain, &self.region, pattern(mask, row));
         }
-        draw_format(
-            matrix,
-            self.version,
-            u32::from(format_word(self.level, mask)),
-        );
+        let format = u32::from(format_word(self.level, mask));
+        draw_format(matrix, self.version, format);
     }
 
     // The penalty of the symbol under a mask; the symbol is drawn.

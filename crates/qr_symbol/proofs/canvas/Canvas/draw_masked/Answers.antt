@@ -40,6 +40,6 @@ returns c =
     let s = side_of c.args.self.now.version in
     let e : c.loop-row.row ≡ s = omega (arith, c.loop-row.invariant.side) in
     let drawn : c.loop-row.matrix ≡ square s f = c.loop-row.invariant.so_far ∙ (ap (λ (k : ℕ). filled s f h k 0) e ∙ fill-all s f h) in
-    let w : c.from.result ≡ format_word_of c.args.self.now.level c.args.mask = c.from.ensures ∙ c.format_word.ensures in
-    c.draw_format.ensures ∙ square-same s (λ r k. format_or c.from.result (role_of c.args.self.now.version r k) (colour c.loop-row.matrix r k)) (masked_colour c.args.self.now.version (format_word_of c.args.self.now.level c.args.mask) c.args.mask c.args.self.now.region c.args.self.now.plain) (λ r k l m.
+    let w : c.from-format.result ≡ format_word_of c.args.self.now.level c.args.mask = c.from-format.ensures ∙ c.format_word.ensures in
+    c.draw_format.ensures ∙ square-same s (λ r k. format_or c.from-format.result (role_of c.args.self.now.version r k) (colour c.loop-row.matrix r k)) (masked_colour c.args.self.now.version (format_word_of c.args.self.now.level c.args.mask) c.args.mask c.args.self.now.region c.args.self.now.plain) (λ r k l m.
     ap (λ (z : ℕ). format_or z (role_of c.args.self.now.version r k) (colour c.loop-row.matrix r k)) w ∙ ap (format_or (format_word_of c.args.self.now.level c.args.mask) (role_of c.args.self.now.version r k)) (ap (λ (g : Grid). colour g r k) drawn ∙ colour-square s f r k l m))
