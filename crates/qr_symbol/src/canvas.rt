@@ -4,22 +4,21 @@
 ghost use Rattle.std.specs.Prelude.{◌≡◌, ◌<◌, IfOk};
 ghost use Rattle.qr_layout.specs.Version.{side_of};
 ghost use Rattle.qr_matrix.specs.Grid.{IsSquare};
-ghost use Rattle.qr_symbol.specs.Choice.{IsFirstLeast};
-ghost use Rattle.qr_symbol.specs.Steps.Drawing.{masked_grid, masked_penalty, plain_grid, region_grid};
+ghost use Rattle.qr_symbol.specs.Steps.Drawing.{masked_grid, plain_grid, region_grid};
 
 use crate::drawing::{draw_codewords, draw_fixed, draw_format, draw_region};
-use crate::mask::{MASK_COUNT, pattern};
+use crate::mask::pattern;
 use qr_layout::{Level, Version, format_word};
-use qr_matrix::{Matrix, penalty};
+use qr_matrix::Matrix;
 use std::alloc::{AllocError, Global};
 
 /// A symbol without mask and format information, and its encoding region, dark.
 #[derive(Drop)]
 pub(crate) struct Canvas {
-    version: Version,
-    level: Level,
-    region: Matrix,
-    plain: Matrix,
+    pub version: Version,
+    pub level: Level,
+    pub region: Matrix,
+    pub plain: Matrix,
     ghost region_side: { region.side ≡ side_of version },
     ghost plain_side: { plain.side ≡ side_of version },
 }
@@ -62,36 +61,5 @@ impl Canvas {
         }
         let format = u32::from(format_word(self.level, mask));
         draw_format(matrix, self.version, format);
-    }
-
-    // The penalty of the symbol under a mask; the symbol is drawn.
-    fn mask_penalty(&self, matrix: &mut Matrix, mask: u8) -> u32
-        requires mask_in { mask < 8 }
-        requires square { IsSquare (side_of self.now.version) matrix.old }
-        ensures square { IsSquare (side_of self.now.version) matrix.new }
-        ensures value { result
-            ≡ masked_penalty self.now.version self.now.level self.now.region self.now.plain mask }
-    {
-        self.draw_masked(matrix, mask);
-        penalty(matrix)
-    }
-
-    // The mask of the least penalty, the smallest number among equals (7.8.3); some mask is drawn.
-    pub(crate) fn best_mask(&self, matrix: &mut Matrix) -> u8
-        requires square { IsSquare (side_of self.now.version) matrix.old }
-        ensures square { IsSquare (side_of self.now.version) matrix.new }
-        ensures best { IsFirstLeast 8
-            (masked_penalty self.now.version self.now.level self.now.region self.now.plain) result }
-    {
-        let mut best = 0;
-        let mut least = self.mask_penalty(matrix, best);
-        for mask in 1..MASK_COUNT {
-            let cost = self.mask_penalty(matrix, mask);
-            if cost < least {
-                best = mask;
-                least = cost;
-            }
-        }
-        best
     }
 }

@@ -2,19 +2,19 @@ use Rattle.std.proofs.Common.{◌≡◌, ◌≤◌, ◌<◌, ℕ, ◌+◌, sym, 
 use Rattle.qr_symbol.specs.Choice.{IsFirstLeast}
 use Rattle.qr_symbol.specs.Steps.Drawing.{masked_penalty}
 use Rattle.qr_symbol.proofs.ChoiceLemmas.{least-start, least-better, least-kept}
-use Rattle.qr_symbol.proofs.canvas.Canvas.best_mask.Goals as goal
-use Rattle.qr_symbol.proofs.canvas.Canvas.best_mask.Goals.{then-cost-least, else-cost-least}
+use Rattle.qr_symbol.proofs.choice.best_mask.Goals as goal
+use Rattle.qr_symbol.proofs.choice.best_mask.Goals.{then-cost-least, else-cost-least}
 
 pub loop-mask-init : goal.loop-mask-init
 loop-mask-init c = record {
   square = c.mask_penalty-least.ensures.square;
-  best = least-start (masked_penalty c.args.self.now.version c.args.self.now.level c.args.self.now.region c.args.self.now.plain);
+  best = least-start (masked_penalty c.args.canvas.now.version c.args.canvas.now.level c.args.canvas.now.region c.args.canvas.now.plain);
   least = c.mask_penalty-least.ensures.value;
 }
 
 pub loop-mask-preserved : goal.loop-mask-preserved
 loop-mask-preserved c =
-    let f = masked_penalty c.args.self.now.version c.args.self.now.level c.args.self.now.region c.args.self.now.plain in
+    let f = masked_penalty c.args.canvas.now.version c.args.canvas.now.level c.args.canvas.now.region c.args.canvas.now.plain in
     let i = c.loop-mask.invariant in
     let cost : c.mask_penalty-cost.result ≡ f c.loop-mask.mask = c.mask_penalty-cost.ensures.value in
     let old : c.loop-mask.least ≡ f c.loop-mask.best = i.least in
@@ -35,5 +35,5 @@ returns c =
     let e : c.loop-mask.mask ≡ 8 = omega arith in
     record {
       square = c.loop-mask.invariant.square;
-      best = subst (λ (n : ℕ). IsFirstLeast n (masked_penalty c.args.self.now.version c.args.self.now.level c.args.self.now.region c.args.self.now.plain) c.loop-mask.best) e c.loop-mask.invariant.best;
+      best = subst (λ (n : ℕ). IsFirstLeast n (masked_penalty c.args.canvas.now.version c.args.canvas.now.level c.args.canvas.now.region c.args.canvas.now.plain) c.loop-mask.best) e c.loop-mask.invariant.best;
     }

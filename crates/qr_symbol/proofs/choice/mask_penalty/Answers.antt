@@ -5,10 +5,10 @@ use Rattle.qr_matrix.specs.Grid.{Grid, colour}
 use Rattle.qr_matrix.specs.Penalty.{penalty_of}
 use Rattle.qr_symbol.specs.Steps.Drawing.{masked_colour}
 use Rattle.qr_symbol.proofs.DrawingLemmas.{square-is}
-use Rattle.qr_symbol.proofs.canvas.Canvas.mask_penalty.Goals as goal
+use Rattle.qr_symbol.proofs.choice.mask_penalty.Goals as goal
 
 pub returns : goal.returns
 returns c = record {
-  square = square-is (side_of c.args.self.now.version) (masked_colour c.args.self.now.version (format_word_of c.args.self.now.level c.args.mask) c.args.mask c.args.self.now.region c.args.self.now.plain) c.draw_masked.new.matrix c.draw_masked.ensures;
+  square = square-is (side_of c.args.canvas.now.version) (masked_colour c.args.canvas.now.version (format_word_of c.args.canvas.now.level c.args.mask) c.args.mask c.args.canvas.now.region c.args.canvas.now.plain) c.draw_masked.new.matrix c.draw_masked.ensures;
   value = c.penalty.ensures ∙ ap (λ (g : Grid). penalty_of g.side (colour g)) c.draw_masked.ensures;
 }
