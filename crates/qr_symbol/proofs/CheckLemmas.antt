@@ -22,12 +22,12 @@ checks-push b d xs ys es k l h c e =
     let one = check-len b k l in
     let n = c.count in
     let many = h.count in
-    let all = h.checks ++ es ∷ [] in
-    let here : get_or all k [] ≡ es = get_or-append_right h.checks (es ∷ []) k k [] many (omega arith) ∙ ap (λ (z : ℕ). get_or (es ∷ []) z []) (none k) in
-    let there = λ (i : ℕ) (s : i < k). get_or_append_left h.checks (es ∷ []) [] i (omega arith) in
+    let all = h.corrections ++ es ∷ [] in
+    let here : get_or all k [] ≡ es = get_or-append_right h.corrections (es ∷ []) k k [] many (omega arith) ∙ ap (λ (z : ℕ). get_or (es ∷ []) z []) (none k) in
+    let there = λ (i : ℕ) (s : i < k). get_or_append_left h.corrections (es ∷ []) [] i (omega arith) in
     record {
-      checks = all;
-      count = let a = length-append h.checks (es ∷ []) in omega arith;
+      corrections = all;
+      count = let a = length-append h.corrections (es ∷ []) in omega arith;
       each = λ i m. elim (cases_lt i k) [
         | inl s ↦ subst (λ (zs : List ℕ). IsCorrection (block_of b d i) b.ec_len zs) (sym (there i s)) (h.each i s)
         | inr s ↦
@@ -65,12 +65,12 @@ both-sent : (b : Blocks) (d es first second : List ℕ) → IsChecks b d (count_
 both-sent b d es first second h s t = record {
   data_tags = s.tags;
   data_order = s.order;
-  checks = h.checks;
+  corrections = h.corrections;
   count = h.count;
   each = h.each;
   check_tags = t.tags;
   check_order = t.order;
-  whole = t.sent ∙ (ap (λ (xs : List ℕ). xs ++ map (codeword_at (correction_cut b) es) t.tags) s.sent ∙ ap (λ (xs : List ℕ). map (codeword_at (data_cut b) d) s.tags ++ xs) (map-each (IsTag (correction_cut b)) (codeword_at (correction_cut b) es) (check_at h.checks) t.tags t.order.in_blocks (λ u i. h.same u (let l = i.0 in omega arith) i)));
+  whole = t.sent ∙ (ap (λ (xs : List ℕ). xs ++ map (codeword_at (correction_cut b) es) t.tags) s.sent ∙ ap (λ (xs : List ℕ). map (codeword_at (data_cut b) d) s.tags ++ xs) (map-each (IsTag (correction_cut b)) (codeword_at (correction_cut b) es) (check_at h.corrections) t.tags t.order.in_blocks (λ u i. h.same u (let l = i.0 in omega arith) i)));
 }
 
 -- the data codewords and then the error correction codewords, each sent by rising tags, are the final message

@@ -93,7 +93,7 @@ messages-apart v l h k mask mask' g g' d d' m m' o =
     (b.ec_len + 1 ≤ differences (held_block v l mask g d m i) (held_block v l mask' g' d' m' i)) ⊎ (block_of b d i ≡ block_of b d' i) =
     λ i n. elim (cases_lt b.ec_len (differences (held_block v l mask g d m i) (held_block v l mask' g' d' m' i))) [
       | inl z ↦ inl (omega arith)
-      | inr z ↦ inr (near-same b.ec_len (block_of b d i) (get_or m.sent.checks i []) (block_of b d' i) (get_or m'.sent.checks i []) (m.sent.each i n) (m'.sent.each i n) (part-length (data_cut b) d d' i (m.many ∙ sym m'.many)) (part-short v l d i h k) z)
+      | inr z ↦ inr (near-same b.ec_len (block_of b d i) (get_or m.sent.corrections i []) (block_of b d' i) (get_or m'.sent.corrections i []) (m.sent.each i n) (m'.sent.each i n) (part-length (data_cut b) d d' i (m.many ∙ sym m'.many)) (part-short v l d i h k) z)
     ] in
     elim (search-below (λ i. b.ec_len + 1 ≤ differences (held_block v l mask g d m i) (held_block v l mask' g' d' m' i)) (λ i. block_of b d i ≡ block_of b d' i) (blocks_in v l) far) [
       | inl w ↦ w
@@ -105,4 +105,4 @@ pub damaged-one : (v : ℕ) (l : Level) → 1 ≤ v → v ≤ 40 → DamagedMess
 damaged-one v l h k mask mask' g g' d d' m m' read t few near near' =
     let b = blocks_of v l in
     blocks-same v l mask mask' g g' d d' h k m m' (λ i n.
-    unambiguous-known b.ec_len (t i) (block_of b d i) (get_or m.sent.checks i []) (block_of b d' i) (get_or m'.sent.checks i []) (read i) (m.sent.each i n) (m'.sent.each i n) (part-length (data_cut b) d d' i (m.many ∙ sym m'.many)) (part-short v l d i h k) (few i n) (near i n) (near' i n))
+    unambiguous-known b.ec_len (t i) (block_of b d i) (get_or m.sent.corrections i []) (block_of b d' i) (get_or m'.sent.corrections i []) (read i) (m.sent.each i n) (m'.sent.each i n) (part-length (data_cut b) d d' i (m.many ∙ sym m'.many)) (part-short v l d i h k) (few i n) (near i n) (near' i n))

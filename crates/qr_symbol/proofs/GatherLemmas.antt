@@ -89,8 +89,8 @@ gathered-one b sent xs d g n h =
     let c = data_cut b in
     let one = tags-one c h.data_tags g.tags h.data_order g.order in
     let first : take (cut_len c) sent ≡ map (codeword_at c d) g.tags =
-    ap (take (cut_len c)) (h.whole ∙ ap (λ (ts : List Tag). map (codeword_at c d) ts ++ map (check_at h.checks) h.check_tags) one)
-    ∙ take-front (cut_len c) (map (codeword_at c d) g.tags) (map (check_at h.checks) h.check_tags) (length-map g.tags (codeword_at c d) ∙ g.many) in
+    ap (take (cut_len c)) (h.whole ∙ ap (λ (ts : List Tag). map (codeword_at c d) ts ++ map (check_at h.corrections) h.check_tags) one)
+    ∙ take-front (cut_len c) (map (codeword_at c d) g.tags) (map (check_at h.corrections) h.check_tags) (length-map g.tags (codeword_at c d) ∙ g.many) in
     ext_get_or 0 xs d (g.long ∙ sym n) (λ j l.
     let w = tag-of c (count_of c) j (omega arith) (let z = g.long in omega arith) in
     let q = map-at (codeword_at c xs) (codeword_at c d) g.tags w.0 (g.same ∙ first) (Mem-of-Contains g.tags w.0 (g.order.complete w.0 w.1)) in

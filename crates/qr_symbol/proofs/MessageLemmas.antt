@@ -27,10 +27,10 @@ pub final-one : (b : Blocks) (d xs ys : List ℕ) → IsFinalMessage b d xs → 
 final-one b d xs ys h k =
     let t = tags-one (data_cut b) h.data_tags k.data_tags h.data_order k.data_order in
     let u = tags-one (correction_cut b) h.check_tags k.check_tags h.check_order k.check_order in
-    let e = checks-one b d (count_of (data_cut b)) h.checks k.checks h.count k.count h.each k.each in
+    let e = checks-one b d (count_of (data_cut b)) h.corrections k.corrections h.count k.count h.each k.each in
     h.whole
-    ∙ (ap (λ (ts : List Tag). map (codeword_at (data_cut b) d) ts ++ map (check_at h.checks) h.check_tags) t
-    ∙ (ap (λ (ts : List Tag). map (codeword_at (data_cut b) d) k.data_tags ++ map (check_at h.checks) ts) u
+    ∙ (ap (λ (ts : List Tag). map (codeword_at (data_cut b) d) ts ++ map (check_at h.corrections) h.check_tags) t
+    ∙ (ap (λ (ts : List Tag). map (codeword_at (data_cut b) d) k.data_tags ++ map (check_at h.corrections) ts) u
     ∙ (ap (λ (cs : List (List ℕ)). map (codeword_at (data_cut b) d) k.data_tags ++ map (check_at cs) k.check_tags) e ∙ sym k.whole)))
 
 -- joined lists with prefixes of one length are equal part by part
@@ -49,9 +49,9 @@ pub data-one : (b : Blocks) (d e cw : List ℕ) → length d ≡ cut_len (data_c
 data-one b d e cw n m h k =
     let c = data_cut b in
     let one = tags-one c k.data_tags h.data_tags k.data_order h.data_order in
-    let both : map (codeword_at c d) h.data_tags ++ map (check_at h.checks) h.check_tags ≡ map (codeword_at c e) h.data_tags ++ map (check_at k.checks) k.check_tags =
-    sym h.whole ∙ (k.whole ∙ ap (λ (ts : List Tag). map (codeword_at c e) ts ++ map (check_at k.checks) k.check_tags) one) in
-    let w = append-front (map (codeword_at c d) h.data_tags) (map (codeword_at c e) h.data_tags) (map (check_at h.checks) h.check_tags) (map (check_at k.checks) k.check_tags) (length-map h.data_tags (codeword_at c d) ∙ sym (length-map h.data_tags (codeword_at c e))) both in
+    let both : map (codeword_at c d) h.data_tags ++ map (check_at h.corrections) h.check_tags ≡ map (codeword_at c e) h.data_tags ++ map (check_at k.corrections) k.check_tags =
+    sym h.whole ∙ (k.whole ∙ ap (λ (ts : List Tag). map (codeword_at c e) ts ++ map (check_at k.corrections) k.check_tags) one) in
+    let w = append-front (map (codeword_at c d) h.data_tags) (map (codeword_at c e) h.data_tags) (map (check_at h.corrections) h.check_tags) (map (check_at k.corrections) k.check_tags) (length-map h.data_tags (codeword_at c d) ∙ sym (length-map h.data_tags (codeword_at c e))) both in
     ext_get_or 0 d e (n ∙ sym m) (λ j l.
     let t = tag-of c (count_of c) j (omega arith) (omega arith) in
     let q = map-at (codeword_at c d) (codeword_at c e) h.data_tags t.0 w.0 (Mem-of-Contains h.data_tags t.0 (h.data_order.complete t.0 t.1)) in
@@ -66,9 +66,9 @@ data-one b d e cw n m h k =
 final-many : (b : Blocks) (d cw : List ℕ) → IsFinalMessage b d cw → length cw ≡ cut_len (data_cut b) + cut_len (correction_cut b)
 final-many b d cw h =
     let e = ap (length {A = ℕ}) h.whole in
-    let a = length-append (map (codeword_at (data_cut b) d) h.data_tags) (map (check_at h.checks) h.check_tags) in
+    let a = length-append (map (codeword_at (data_cut b) d) h.data_tags) (map (check_at h.corrections) h.check_tags) in
     let m = length-map h.data_tags (codeword_at (data_cut b) d) in
-    let n = length-map h.check_tags (check_at h.checks) in
+    let n = length-map h.check_tags (check_at h.corrections) in
     let p = tags-many (data_cut b) h.data_tags h.data_order in
     let q = tags-many (correction_cut b) h.check_tags h.check_order in
     omega arith

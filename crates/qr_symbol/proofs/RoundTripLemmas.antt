@@ -29,12 +29,12 @@ byte-at xs k a = elim (cases_lt k (length xs)) [ inl l ↦ a k 0 l | inr l ↦ (
 final-bytes : (b : Blocks) (d cw : List ℕ) → All (λ x. x < 256) d → IsFinalMessage b d cw → All (λ x. x < 256) cw
 final-bytes b d cw a h =
     subst (All (λ x. x < 256)) (sym h.whole)
-    (All-append (λ x. x < 256) (map (codeword_at (data_cut b) d) h.data_tags) (map (check_at h.checks) h.check_tags)
+    (All-append (λ x. x < 256) (map (codeword_at (data_cut b) d) h.data_tags) (map (check_at h.corrections) h.check_tags)
     (All-map (λ x. x < 256) (codeword_at (data_cut b) d) h.data_tags (λ k t l. let u = get_or h.data_tags k t in byte-at d (start_of (data_cut b) u.block + u.place) a))
-    (All-map (λ x. x < 256) (check_at h.checks) h.check_tags (λ k t l.
+    (All-map (λ x. x < 256) (check_at h.corrections) h.check_tags (λ k t l.
     let u = get_or h.check_tags k t in
     let i = (h.check_order.in_blocks k t l).0 in
-    byte-at (get_or h.checks u.block []) u.place (h.each u.block (omega arith)).bytes)))
+    byte-at (get_or h.corrections u.block []) u.place (h.each u.block (omega arith)).bytes)))
 
 -- a symbol is read as the bytes of which it is the symbol, in their segments and after their header
 pub symbol-read : (v : ℕ) (l : Level) (b : Rule) (x : List ℕ) (h : Option Header) (mask : ℕ) (g : Grid) → 1 ≤ v → v ≤ 40 → (s : IsSymbolAt v l b x h mask g) → IsReading g (record { header = h; segments = s.segments; bytes = x })

@@ -10,7 +10,7 @@ use Rattle.qr_bits.proofs.Facts.{fitting_short, empty_fits}
 use Rattle.qr_symbol.specs.declared.symbol.Symbol.{Symbol}
 use Rattle.qr_matrix.specs.Grid.{Grid}
 use Rattle.qr_symbol.specs.Encoding.{FitsVersion, HasNoVersion}
-use Rattle.qr_symbol.specs.Series.{squares_of, AreParts, IsSymbolOf, AreSymbolsFrom, IsSplit, IsLone, IsSeries}
+use Rattle.qr_symbol.specs.Series.{squares_of, AreParts, IsSymbolOf, AreSymbolsFrom, IsSplit, IsPlainSymbol, IsSeries}
 use Rattle.qr_symbol.specs.Steps.Series.{AreLengths, parts_of}
 use Rattle.qr_symbol.specs.Joining.{AreReadings, bytes_of_all, HaveHeaders, IsJoined}
 use Rattle.qr_symbol.proofs.SymbolLemmas.{symbol-at-one}
@@ -103,7 +103,7 @@ symbols-read v l b last parity k x (p ∷ ps) (s ∷ ss) i j cut h =
     }
 
 -- a plain symbol is joined to its bytes
-lone-joined : (x : List ℕ) (l : Level) (b : Rule) (v : ℕ) (ss : List Symbol) → 1 ≤ v → v ≤ 40 → IsLone v l b x ss → IsJoined (squares_of ss) x
+lone-joined : (x : List ℕ) (l : Level) (b : Rule) (v : ℕ) (ss : List Symbol) → 1 ≤ v → v ≤ 40 → IsPlainSymbol v l b x ss → IsJoined (squares_of ss) x
 unfolding AreReadings
 lone-joined x l b v ss i j h =
     let s = h.symbol in

@@ -14,7 +14,7 @@ blocks_in v l = count_of (data_cut (blocks_of v l))
 -- block i of the message that a square holds: its data codewords, and then its error correction codewords
 -- (ISO/IEC 18004:2015, 7.5.1)
 abbrev pub held_block : (v : ℕ) (l : Level) (mask : ℕ) (g : Grid) (d : List ℕ) → IsMessage v l mask g d → ℕ → List ℕ
-held_block v l mask g d m i = block_of (blocks_of v l) d i ++ slice_index_or m.sent.checks i []
+held_block v l mask g d m i = block_of (blocks_of v l) d i ++ slice_index_or m.sent.corrections i []
 
 -- Two squares of a version and a level that hold different messages differ in some block by more codewords than it has
 -- error correction codewords [own].

@@ -63,7 +63,7 @@ block_of b d i = take (len_of (data_cut b) i) (drop (start_of (data_cut b) i) d)
 
 -- the codeword of a tag, of codewords that are listed for each block [own]
 abbrev pub check_at : List (List ℕ) → Tag → ℕ
-check_at checks t = slice_index_or (slice_index_or checks t.block []) t.place 0
+check_at corrections t = slice_index_or (slice_index_or corrections t.block []) t.place 0
 
 -- cw is the final sequence of codewords for the data codewords d in these blocks: the data codewords by rising tags,
 -- and then by rising tags the error correction codewords, which are listed for each block
@@ -71,12 +71,12 @@ check_at checks t = slice_index_or (slice_index_or checks t.block []) t.place 0
 pub record IsFinalMessage (b : Blocks) (d cw : List ℕ) : Type 0 where
   pub data_tags : List Tag
   pub data_order : IsTagOrder (data_cut b) data_tags
-  pub checks : List (List ℕ)
-  pub count : length checks ≡ count_of (data_cut b)
-  pub each : (i : ℕ) → i < count_of (data_cut b) → IsCorrection (block_of b d i) b.ec_len (slice_index_or checks i [])
+  pub corrections : List (List ℕ)
+  pub count : length corrections ≡ count_of (data_cut b)
+  pub each : (i : ℕ) → i < count_of (data_cut b) → IsCorrection (block_of b d i) b.ec_len (slice_index_or corrections i [])
   pub check_tags : List Tag
   pub check_order : IsTagOrder (correction_cut b) check_tags
-  pub whole : cw ≡ map (codeword_at (data_cut b) d) data_tags ++ map (check_at checks) check_tags
+  pub whole : cw ≡ map (codeword_at (data_cut b) d) data_tags ++ map (check_at corrections) check_tags
 
 -- cw is the final sequence of codewords for the data codewords d of version v and level l
 -- (ISO/IEC 18004:2015, 7.5.2, 7.6)

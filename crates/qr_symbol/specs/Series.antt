@@ -58,7 +58,7 @@ pub record IsSplit (v : ℕ) (l : Level) (rule : Rule) (x : List ℕ) (symbols :
   pub made : AreSymbolsFrom v l rule (length parts - 1) (parity_of x) 0 parts symbols
 
 -- the symbol is the plain one of the bytes, which fit it without a header [own]
-pub record IsLone (v : ℕ) (l : Level) (rule : Rule) (x : List ℕ) (symbols : List Symbol) : Type 0 where
+pub record IsPlainSymbol (v : ℕ) (l : Level) (rule : Rule) (x : List ℕ) (symbols : List Symbol) : Type 0 where
   pub fits : FitsVersion v l rule x
   pub symbol : Symbol
   pub made : IsSymbolOf v l rule x None symbol
@@ -67,7 +67,7 @@ pub record IsLone (v : ℕ) (l : Level) (rule : Rule) (x : List ℕ) (symbols : 
 -- the symbols are the series of the bytes at level l, all of version v: a plain symbol where the bytes fit one, else the
 -- symbols of their parts [own]
 abbrev pub IsSeries : ℕ → Level → Rule → List ℕ → List Symbol → Type 0
-IsSeries v l rule x symbols = IsLone v l rule x symbols ⊎ IsSplit v l rule x symbols
+IsSeries v l rule x symbols = IsPlainSymbol v l rule x symbols ⊎ IsSplit v l rule x symbols
 
 -- the bytes have no series: they do not fit one symbol, and their parts are more than 16; without kanji mode every other
 -- cut of them into parts that fit has more too [own]

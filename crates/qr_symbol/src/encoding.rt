@@ -21,7 +21,7 @@ use qr_layout::{Level, Version};
 use std::alloc::Global;
 
 // The most bytes that a symbol holds: digits, in version 40 and level L (7.4.10, Table 7).
-pub(crate) const LONGEST: usize = 7089;
+pub(crate) const SYMBOL_BYTES_MAX: usize = 7089;
 
 /// The symbol of an input (ISO/IEC 18004:2015, 7.1), of the least version from `smallest` on that it fits. With
 /// `rule` tells which modes its segments may have.
@@ -50,7 +50,7 @@ pub fn encode(
     if input.is_empty() {
         return Err(EncodeFault::Empty);
     }
-    if input.len() > LONGEST {
+    if input.len() > SYMBOL_BYTES_MAX {
         return Err(EncodeFault::TooLong);
     }
     let fit = least_fit(alloc, input, level, smallest, rule)?;

@@ -68,7 +68,7 @@ impl Cut {
 }
 
 // Sends the codewords of blocks by rising tags: the first of each block, then the second of each, and so on.
-fn send(sent: &mut Vec<u8>, cut: Cut, codewords: &[u8]) -> Result<(), AllocError>
+fn interleave_into(sent: &mut Vec<u8>, cut: Cut, codewords: &[u8]) -> Result<(), AllocError>
     requires { length codewords.now ≡ cut_len cut }
     ensures { IfOk result (λ _. IsSent cut codewords.now sent.old.items sent.new.items) }
 {
@@ -84,7 +84,7 @@ fn send(sent: &mut Vec<u8>, cut: Cut, codewords: &[u8]) -> Result<(), AllocError
 }
 
 // The error correction codewords of all blocks, block after block.
-fn checks(alloc: Global, blocks: Blocks, message: &[u8]) -> Result<Vec<u8>, AllocError>
+fn corrections(alloc: Global, blocks: Blocks, message: &[u8]) -> Result<Vec<u8>, AllocError>
     requires whole { length message.now ≡ cut_len (data_cut blocks) }
     requires least { 1 ≤ blocks.ec_len }
     requires most { blocks.ec_len ≤ 30 }
@@ -93,13 +93,13 @@ fn checks(alloc: Global, blocks: Blocks, message: &[u8]) -> Result<Vec<u8>, Allo
     let cut = Cut::of_data(blocks);
     let ec_len = usize::from(blocks.ec_len);
     let divisor = Divisor::new(ec_len);
-    let mut checks = Vec::with_capacity(alloc, cut.count() * ec_len)?;
+    let mut corrections = Vec::with_capacity(alloc, cut.count() * ec_len)?;
     for block in 0..cut.count() {
         let start = cut.start(block);
         let check = divisor.correction(&message[start..start + cut.len(block)]);
-        checks.extend_from_slice(check.as_slice())?;
+        corrections.extend_from_slice(check.as_slice())?;
     }
-    Ok(checks)
+    Ok(corrections)
 }
 
 fn interleave_blocks(alloc: Global, blocks: Blocks, message: &[u8]) -> Result<Vec<u8>, AllocError>
@@ -108,10 +108,10 @@ fn interleave_blocks(alloc: Global, blocks: Blocks, message: &[u8]) -> Result<Ve
     requires most { blocks.ec_len ≤ 30 }
     ensures { IfOk result (λ cw. IsFinalMessage blocks message.now cw.items) }
 {
-    let checks = checks(alloc, blocks, message)?;
-    let mut sent = Vec::with_capacity(alloc, message.len() + checks.len())?;
-    send(&mut sent, Cut::of_data(blocks), message)?;
-    send(&mut sent, Cut::of_corrections(blocks), &checks)?;
+    let corrections = corrections(alloc, blocks, message)?;
+    let mut sent = Vec::with_capacity(alloc, message.len() + corrections.len())?;
+    interleave_into(&mut sent, Cut::of_data(blocks), message)?;
+    interleave_into(&mut sent, Cut::of_corrections(blocks), &corrections)?;
     Ok(sent)
 }
 
@@ -130,7 +130,7 @@ pub fn interleave(
 }
 
 // Puts codewords that were sent by rising tags back into their blocks.
-fn gather(message: &mut Vec<u8>, cut: Cut, codewords: &[u8])
+fn deinterleave_into(message: &mut Vec<u8>, cut: Cut, codewords: &[u8])
     requires room { length message.old.items ≡ cut_len cut }
     requires sent { cut_len cut ≤ length codewords.now }
     ensures { IsGathered cut codewords.now message.new.items }
@@ -165,7 +165,7 @@ fn deinterleave_blocks(
 {
     let cut = Cut::of_data(blocks);
     let mut message = vec![in alloc; 0u8; cut.start(cut.count())]?;
-    gather(&mut message, cut, codewords);
+    deinterleave_into(&mut message, cut, codewords);
     let again = interleave_blocks(alloc, blocks, &message)?;
     if again.as_slice() == codewords {
         Ok(message)

@@ -13,7 +13,7 @@ ghost use Rattle.qr_symbol.specs.Series.{squares_of, AreParts, NeedsParts, IsSym
 ghost use Rattle.qr_symbol.specs.Joining.{IsJoined};
 ghost use Rattle.qr_symbol.specs.Steps.Series.{AreLengths, parts_of};
 
-use crate::encoding::{LONGEST, symbol_at};
+use crate::encoding::{SYMBOL_BYTES_MAX, symbol_at};
 use crate::fault::EncodeFault;
 use crate::symbol::Symbol;
 use arrayvec::ArrayVec;
@@ -49,7 +49,7 @@ pub fn encode_series(
     if input.is_empty() {
         return Err(EncodeFault::Empty);
     }
-    if let Some(symbol) = lone_symbol(alloc, input, version, level, rule)? {
+    if let Some(symbol) = plain_symbol(alloc, input, version, level, rule)? {
         let mut symbols = Vec::new(alloc);
         symbols.push(symbol)?;
         return Ok(symbols);
@@ -59,7 +59,7 @@ pub fn encode_series(
 }
 
 // The plain symbol of an input, where it fits one.
-fn lone_symbol(
+fn plain_symbol(
     alloc: Global,
     input: &[u8],
     version: Version,
@@ -72,7 +72,7 @@ fn lone_symbol(
         (λ s. IsSymbolOf version level rule input.now None s)) }
     ensures fault { IfErr result (λ e. e ≡ EncodeFault.Memory) }
 {
-    if input.len() > LONGEST {
+    if input.len() > SYMBOL_BYTES_MAX {
         return Ok(None);
     }
     let segments = segments(alloc, input, version, rule)?;
@@ -128,7 +128,7 @@ fn front_len(
         IsLongestFit version rule rest.now (room_of version level) n) }
     ensures fault { IfErr result (λ e. e ≡ EncodeFault.Memory) }
 {
-    let front = &rest[..rest.len().min(LONGEST)];
+    let front = &rest[..rest.len().min(SYMBOL_BYTES_MAX)];
     Ok(longest_fit(alloc, front, version, level, rule)?)
 }
 

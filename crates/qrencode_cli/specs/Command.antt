@@ -8,7 +8,7 @@ use Rattle.qr_bits.specs.declared.modes.TheConstants.{INPUT_MAX}
 use Rattle.qr_bits.specs.Folding.{folded}
 use Rattle.qr_matrix.specs.Grid.{Grid}
 use Rattle.qr_symbol.specs.Joining.{IsJoined}
-use Rattle.qrencode_cli.specs.declared.pen.TheConstants.{PIECE}
+use Rattle.qrencode_cli.specs.declared.pen.TheConstants.{WRITE_MAX}
 use Rattle.qrencode_cli.specs.Device.{AppendsBeginning, IsReadWithin, IsWrittenWithin, Reader, Writer, counted, is_read_fault, is_write_fault, no_reads, no_writes}
 use Rattle.qrencode_cli.specs.Drawing.{drawn}
 use Rattle.qrencode_cli.specs.Fault.{fault_line, is_read, is_write}
@@ -158,7 +158,7 @@ pub record Runs (words : List Text) (in0 in1 : Reader) (out0 out1 err0 err1 : Wr
   pub input_within : in0.counts ≡ no_reads → IsReadWithin in1.counts
   pub out_within : out0.counts ≡ no_writes → IsWrittenWithin out1.counts
   pub err_within : err0.counts ≡ no_writes → IsWrittenWithin err1.counts
-  pub offered : out1.counts.offered ≤ max out0.counts.offered PIECE
+  pub offered : out1.counts.offered ≤ max out0.counts.offered WRITE_MAX
 
 -- a run of the command answers this status and does this to its devices, by some outcome [own]
 abbrev pub RunsTo : List Text → Reader → Reader → Writer → Writer → Writer → Writer → ℕ → Type 0

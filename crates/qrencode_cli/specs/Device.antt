@@ -2,7 +2,7 @@
 use Rattle.std.specs.Prelude.{◌≡◌, ◌+◌, ◌-◌, ◌^◌, ◌≤◌, ◌++◌, ◌==◌, ◌||◌, ◌&&◌, ℕ, Bool, true, false, nat_lt, nat_le, min, max, List, Option, Result, Ok, Err, if◌then◌else◌}
 use Rattle.std.specs.Io.KnownBytes.{Appends}
 use Rattle.qr_bits.specs.declared.modes.TheConstants.{INPUT_MAX}
-use Rattle.qrencode_cli.specs.declared.input.TheConstants.{INTERRUPTIONS_MAX}
+use Rattle.qrencode_cli.specs.declared.device.TheConstants.{INTERRUPTIONS_MAX}
 use Rattle.qrencode_cli.specs.declared.device.Trouble.{Trouble}
 use Rattle.qrencode_cli.specs.declared.device.Trouble.TheVariants.{Interrupted, Failed}
 use Rattle.qrencode_cli.specs.declared.device.ReadCounts.{ReadCounts}

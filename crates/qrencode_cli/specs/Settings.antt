@@ -79,7 +79,8 @@ version_at o = version_numbered (number_at 0 o)
 abbrev pub flag_at : Option Text → Bool
 flag_at o = option_map_or (λ t. bytes_eq t (codes "true")) o false
 
--- the settings, once level and type are known [own]
+-- the settings, once level and type are known; where no margin is asked for it is the quiet zone of 4 modules
+-- (ISO/IEC 18004:2015, 6.3.8)
 abbrev pub settings_with : List Row → Level → Drawing → SettingsView
 settings_with rows level kind = record {
   level = level;

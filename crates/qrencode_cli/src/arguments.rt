@@ -70,7 +70,7 @@ fn word<'a>(alloc: Global, id: &'a str, value: &'a str, help: &'a str) -> Arg<'a
 }
 
 // The command without its arguments.
-fn bare<'a>(alloc: Global) -> Command<'a>
+fn empty_command<'a>(alloc: Global) -> Command<'a>
     ensures { app_of result ≡ new_app (codes "qrencode") }
 {
     Command::new(alloc, "qrencode").about("Draws its input as QR Code symbols on standard output")
@@ -133,10 +133,10 @@ const STRUCTURED: Name<'static> = Name {
 };
 
 // The command with its arguments.
-fn described<'a>(alloc: Global) -> Result<Command<'a>, AllocError>
+fn command_line<'a>(alloc: Global) -> Result<Command<'a>, AllocError>
     ensures { IfOk result (λ c. app_of c ≡ command) }
 {
-    let with_level = bare(alloc).arg(text(alloc, LEVEL))?;
+    let with_level = empty_command(alloc).arg(text(alloc, LEVEL))?;
     let with_version = with_level.arg(number(alloc, VERSION, 40))?;
     let with_type = with_version.arg(required(alloc, TYPE))?;
     let with_margin = with_type.arg(number(alloc, MARGIN, 100))?;
@@ -159,7 +159,7 @@ pub(crate) fn matches<'a>(alloc: Global, words: &'a [String]) -> Result<ArgMatch
     ensures rows { IfOk result (λ m. rows_of (found_of m) ≡ rows_for (map string_bytes words.entry.now)) }
     ensures fault { IfErr result (IsUsageFault (settings_for (map string_bytes words.entry.now))) }
 {
-    let command = described(alloc)?;
+    let command = command_line(alloc)?;
     match command.try_get_matches_from(words) {
         Ok(matches) => Ok(matches),
         Err(error) => match error.kind() {

@@ -14,7 +14,7 @@ use crate::device::{Sink, Source};
 use crate::drawing::draw;
 use crate::fault::Fault;
 use crate::input::read_input;
-use crate::pen::{PIECE, write_text};
+use crate::pen::{WRITE_MAX, write_text};
 use crate::picture::Picture;
 use crate::settings::{Settings, options};
 use qr_bits::{INPUT_MAX, fold};
@@ -86,7 +86,7 @@ fn picture_for<R: Source>(alloc: Global, words: &[String], input: &mut R) -> Res
 }
 
 // Writes the drawing of a picture, and flushes the writer after its last byte.
-fn show<W: Sink>(picture: &Picture, out: &mut W) -> Result<(), Fault>
+fn write_picture<W: Sink>(picture: &Picture, out: &mut W) -> Result<(), Fault>
     ensures ok { OnOk result (Draws (W.device out.old) (W.device out.new)
         (drawing_of picture.now)) }
     ensures err { IfErr result (λ f. (f ≡ Fault.Write)
@@ -94,14 +94,14 @@ fn show<W: Sink>(picture: &Picture, out: &mut W) -> Result<(), Fault>
         (drawing_of picture.now)) }
     ensures fault { (W.device out.old).counts ≡ no_writes → is_write_fault (W.device out.new).counts ≡ is_write result }
     ensures within { (W.device out.old).counts ≡ no_writes → IsWrittenWithin (W.device out.new).counts }
-    ensures offered { (W.device out.new).counts.offered ≤ max (W.device out.old).counts.offered PIECE }
+    ensures offered { (W.device out.new).counts.offered ≤ max (W.device out.old).counts.offered WRITE_MAX }
 {
     draw(&picture.symbols, picture.kind, picture.margin, out)?;
     out.flush().map_err(|_| Fault::Write)
 }
 
 // Runs the command without reporting a fault.
-fn attempt<R: Source, W: Sink>(
+fn run_to_result<R: Source, W: Sink>(
     alloc: Global,
     words: &[String],
     input: &mut R,
@@ -114,10 +114,10 @@ fn attempt<R: Source, W: Sink>(
     ensures read_fault { (R.device input.old).counts ≡ no_reads → is_read_fault (R.device input.new).counts ≡ is_read result }
     ensures write_fault { (W.device out.old).counts ≡ no_writes → is_write_fault (W.device out.new).counts ≡ is_write result }
     ensures within { (W.device out.old).counts ≡ no_writes → IsWrittenWithin (W.device out.new).counts }
-    ensures offered { (W.device out.new).counts.offered ≤ max (W.device out.old).counts.offered PIECE }
+    ensures offered { (W.device out.new).counts.offered ≤ max (W.device out.old).counts.offered WRITE_MAX }
 {
     let picture = picture_for(alloc, words, input)?;
-    show(&picture, out)
+    write_picture(&picture, out)
 }
 
 /// Runs the command: reads its words and its input, writes the drawing to `out`, and the line of a
@@ -137,7 +137,7 @@ pub fn run<R: Source, W: Sink, E: Sink>(
         (W.device out.old) (W.device out.new)
         (E.device err.old) (E.device err.new) result }
 {
-    match attempt(alloc, words, input, out) {
+    match run_to_result(alloc, words, input, out) {
         Ok(()) => 0,
         Err(fault) => {
             let _ = write_text(fault.line(), err);

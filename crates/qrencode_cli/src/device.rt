@@ -9,10 +9,13 @@ ghost use Rattle.qrencode_cli.specs.Device.{flush_counted, no_reads, no_writes, 
 ghost use Rattle.qrencode_cli.specs.declared.device.ReadCounts.{ReadCounts};
 ghost use Rattle.qrencode_cli.specs.declared.device.WriteCounts.{WriteCounts};
 
+/// How many interruptions (EINTR) of one device are tried again.
+pub(crate) const INTERRUPTIONS_MAX: u16 = 999;
+
 /// Why a call of a device gave or took nothing.
 #[derive(Clone, Copy, Debug, PartialEq, Eq)]
 pub enum Trouble {
-    /// The call may be tried again.
+    /// The call was interrupted (EINTR), and may be tried again.
     Interrupted,
     /// It may not.
     Failed,

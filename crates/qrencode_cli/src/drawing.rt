@@ -10,7 +10,7 @@ ghost use Rattle.qrencode_cli.specs.Steps.Pen.{Puts};
 ghost use Rattle.qrencode_cli.specs.Raster.{is_dark_at, raster_width};
 
 use crate::device::Sink;
-use crate::pen::{DrawFault, PIECE, Pen};
+use crate::pen::{DrawFault, WRITE_MAX, Pen};
 use crate::svg::put_document;
 use crate::text::{Cells, put_texts};
 use qr_symbol::{Matrix, Symbol};
@@ -96,7 +96,7 @@ pub fn draw<W: Sink>(
     ensures taken { (W.device out.old).counts ≡ no_writes
         → OnOk result ((W.device out.new).counts.taken ≡ counted (length (drawn kind margin (squares_of symbols.now)))) }
     ensures within { (W.device out.old).counts ≡ no_writes → IsWrittenWithin (W.device out.new).counts }
-    ensures offered { (W.device out.new).counts.offered ≤ max (W.device out.old).counts.offered PIECE }
+    ensures offered { (W.device out.new).counts.offered ≤ max (W.device out.old).counts.offered WRITE_MAX }
     ensures flushes { (W.device out.new).counts.flushes ≡ (W.device out.old).counts.flushes }
 {
     let mut pen = Pen::new();

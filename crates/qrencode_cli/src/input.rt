@@ -6,13 +6,10 @@ ghost use Rattle.qrencode_cli.specs.Device.{IsReadWithin, is_read_fault, no_read
 ghost use Rattle.qrencode_cli.specs.Input.{IsInputOf};
 ghost use Rattle.qrencode_cli.specs.declared.fault.Fault.{Fault};
 
-use crate::device::{Source, Trouble};
+use crate::device::{INTERRUPTIONS_MAX, Source, Trouble};
 use crate::fault::Fault;
 use qr_bits::INPUT_MAX;
 use std::alloc::Global;
-
-/// How many interruptions of one device are tried again.
-pub(crate) const INTERRUPTIONS_MAX: u16 = 999;
 
 const CHUNK: usize = 4096;
 

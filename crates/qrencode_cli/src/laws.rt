@@ -3,8 +3,8 @@
 
 ghost use Rattle.std.specs.Prelude.{◌≡◌, ◌-◌, ◌^◌, ◌↔◌, false, IsTrue, IfOk};
 ghost use Rattle.qr_bits.specs.declared.modes.TheConstants.{INPUT_MAX};
-ghost use Rattle.qrencode_cli.specs.declared.input.TheConstants.{INTERRUPTIONS_MAX};
-ghost use Rattle.qrencode_cli.specs.declared.pen.TheConstants.{PIECE};
+ghost use Rattle.qrencode_cli.specs.declared.device.TheConstants.{INTERRUPTIONS_MAX};
+ghost use Rattle.qrencode_cli.specs.declared.pen.TheConstants.{WRITE_MAX};
 ghost use Rattle.qrencode_cli.specs.Command.{AnswersAreOne, RefusalsAreOne, RefusalsExcludeDrawings};
 ghost use Rattle.qrencode_cli.specs.Laws.{RowsOfWords};
 
@@ -34,7 +34,7 @@ pub fn rows_of_words()
 /// many interruptions of one device are tried again.
 pub fn limits()
     ensures input { INPUT_MAX ≡ 113425 }
-    ensures piece { PIECE ≡ 1200 }
+    ensures piece { WRITE_MAX ≡ 1200 }
     ensures interruptions { INTERRUPTIONS_MAX ≡ 999 }
 {}
 

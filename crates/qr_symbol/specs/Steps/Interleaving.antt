@@ -13,11 +13,11 @@ pub record IsSent (c : Cut) (d before after : List ℕ) : Type 0 where
 
 -- the error correction codewords of the first blocks, block after block
 pub record IsChecks (b : Blocks) (d : List ℕ) (blocks : ℕ) (xs : List ℕ) : Type 0 where
-  pub checks : List (List ℕ)
-  pub count : length checks ≡ blocks
-  pub each : (i : ℕ) → i < blocks → IsCorrection (block_of b d i) b.ec_len (slice_index_or checks i [])
+  pub corrections : List (List ℕ)
+  pub count : length corrections ≡ blocks
+  pub each : (i : ℕ) → i < blocks → IsCorrection (block_of b d i) b.ec_len (slice_index_or corrections i [])
   pub long : length xs ≡ start_of (correction_cut b) blocks
-  pub same : (t : Tag) → t.block < blocks → IsTag (correction_cut b) t → codeword_at (correction_cut b) xs t ≡ check_at checks t
+  pub same : (t : Tag) → t.block < blocks → IsTag (correction_cut b) t → codeword_at (correction_cut b) xs t ≡ check_at corrections t
 
 -- the codewords of blocks are the first of those that were sent by rising tags
 pub record IsGathered (c : Cut) (sent xs : List ℕ) : Type 0 where

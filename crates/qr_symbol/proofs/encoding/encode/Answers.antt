@@ -39,8 +39,8 @@ returns-then-is_empty-clause-too_long c =
     too-long-exactly c.args.input.now c.args.level c.args.smallest c.args.rule _ (omega arith) (λ e. cc) tt
     (λ _. nil_from_length c.args.input.now (eqb-true (length c.args.input.now) 0 (sym c.is_empty.ensures ∙ c.if-is_empty.true))) (inl refl)
 
-pub returns-then-input-gt-LONGEST-clause-too_long : goal.returns-then-input-gt-LONGEST-clause-too_long
-returns-then-input-gt-LONGEST-clause-too_long c =
+pub returns-then-input-gt-SYMBOL_BYTES_MAX-clause-too_long : goal.returns-then-input-gt-SYMBOL_BYTES_MAX-clause-too_long
+returns-then-input-gt-SYMBOL_BYTES_MAX-clause-too_long c =
     too-long-exactly c.args.input.now c.args.level c.args.smallest c.args.rule _ (omega arith)
     (λ _ v a b fits. let short = fitting_short v c.args.level c.args.rule c.args.input.now (omega arith) b fits in omega arith) tt (λ e. cc) (inr (inl refl))
 

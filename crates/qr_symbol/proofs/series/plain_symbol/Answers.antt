@@ -1,9 +1,9 @@
 use Rattle.std.proofs.Common.{arith}
 use Rattle.qr_bits.proofs.Facts.{fitting_short, least_fits, covers_all}
-use Rattle.qr_symbol.proofs.series.lone_symbol.Goals as goal
+use Rattle.qr_symbol.proofs.series.plain_symbol.Goals as goal
 
-pub returns-then-input-gt-LONGEST-clause-symbol : goal.returns-then-input-gt-LONGEST-clause-symbol
-returns-then-input-gt-LONGEST-clause-symbol c =
+pub returns-then-input-gt-SYMBOL_BYTES_MAX-clause-symbol : goal.returns-then-input-gt-SYMBOL_BYTES_MAX-clause-symbol
+returns-then-input-gt-SYMBOL_BYTES_MAX-clause-symbol c =
     λ fits.
     let short = fitting_short c.args.version c.args.level c.args.rule c.args.input.now (omega arith) (omega arith) fits in omega arith
 

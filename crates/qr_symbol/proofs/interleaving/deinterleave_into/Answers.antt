@@ -3,8 +3,8 @@ use Rattle.qr_symbol.specs.Interleaving.{IsTag}
 use Rattle.qr_symbol.proofs.TagLemmas.{tag}
 use Rattle.qr_symbol.proofs.RankLemmas.{rank-in}
 use Rattle.qr_symbol.proofs.GatherLemmas.{GatheredBefore, gather-push, gather-pass, gather-row, gather-end}
-use Rattle.qr_symbol.proofs.interleaving.gather.Goals as goal
-use Rattle.qr_symbol.proofs.interleaving.gather.Goals.{then-place-len, else-place-len}
+use Rattle.qr_symbol.proofs.interleaving.deinterleave_into.Goals as goal
+use Rattle.qr_symbol.proofs.interleaving.deinterleave_into.Goals.{then-place-len, else-place-len}
 
 pub bounds-codewords-next : goal.bounds-codewords-next
 bounds-codewords-next c =

@@ -1,8 +1,8 @@
 use Rattle.std.proofs.Common.{ℕ, ◌+◌, [], ◌∷◌, ◌++◌, get_or, Vec, Global, refl, sym, ◌∙◌, ap, subst, arith}
 use Rattle.qr_symbol.specs.Interleaving.{IsTag, codeword_at}
 use Rattle.qr_symbol.proofs.TagLemmas.{SentBefore, tag, tag-in, sent-push, sent-pass, sent-row, sent-end}
-use Rattle.qr_symbol.proofs.interleaving.send.Goals as goal
-use Rattle.qr_symbol.proofs.interleaving.send.Goals.{then-place-len+in_ok-push, else-place-len}
+use Rattle.qr_symbol.proofs.interleaving.interleave_into.Goals as goal
+use Rattle.qr_symbol.proofs.interleaving.interleave_into.Goals.{then-place-len+in_ok-push, else-place-len}
 
 pub bounds-codewords-start : goal.bounds-codewords-start
 bounds-codewords-start c =

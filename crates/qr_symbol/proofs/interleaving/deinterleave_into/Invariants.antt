@@ -1,7 +1,7 @@
 use Rattle.std.proofs.Common.{◌≡◌}
 use Rattle.qr_symbol.specs.Interleaving.{count_of}
 use Rattle.qr_symbol.proofs.GatherLemmas.{GatheredBefore}
-use Rattle.qr_symbol.proofs.interleaving.gather.Given as goal
+use Rattle.qr_symbol.proofs.interleaving.deinterleave_into.Given as goal
 
 abbrev pub invariant-loop-block : goal.invariant-loop-block
 invariant-loop-block l = record { blocks : l.blocks ≡ count_of l.cut; so_far : GatheredBefore l.cut l.codewords l.place l.block l.message.items l.next }

@@ -1,7 +1,7 @@
 use Rattle.std.proofs.Common.{◌≡◌}
 use Rattle.qr_symbol.specs.Interleaving.{count_of}
 use Rattle.qr_symbol.proofs.TagLemmas.{SentBefore}
-use Rattle.qr_symbol.proofs.interleaving.send.Given as goal
+use Rattle.qr_symbol.proofs.interleaving.interleave_into.Given as goal
 
 abbrev pub invariant-loop-block : goal.invariant-loop-block
 invariant-loop-block l = record { blocks : l.blocks ≡ count_of l.cut; so_far : SentBefore l.cut l.codewords l.place l.block l.fn.sent.items l.sent.items }

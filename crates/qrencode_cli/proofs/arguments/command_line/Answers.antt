@@ -2,12 +2,12 @@ use Rattle.std.proofs.Common.{ap₂, ◌∙◌}
 use Rattle.std.proofs.lemmas.Result.{IfOk-weaker}
 use Rattle.clap.specs.Simple.{with_rule}
 use Rattle.qrencode_cli.specs.Arguments.{command}
-use Rattle.qrencode_cli.proofs.arguments.described.Goals as goal
+use Rattle.qrencode_cli.proofs.arguments.command_line.Goals as goal
 
 pub returns : goal.returns
 unfolding command
 returns c =
-    let a1 = c.in_ok-with_level.ensures.shape c.text.ensures.local ∙ ap₂ with_rule c.bare.ensures c.text.ensures.rule in
+    let a1 = c.in_ok-with_level.ensures.shape c.text.ensures.local ∙ ap₂ with_rule c.empty_command.ensures c.text.ensures.rule in
     let a2 = c.in_ok-with_version.ensures.shape c.number.ensures.local ∙ ap₂ with_rule a1 c.number.ensures.rule in
     let a3 = c.in_ok-with_type.ensures.shape c.required.ensures.local ∙ ap₂ with_rule a2 c.required.ensures.rule in
     let a4 = c.in_ok-with_margin.ensures.shape c.number-2.ensures.local ∙ ap₂ with_rule a3 c.number-2.ensures.rule in

@@ -1,7 +1,0 @@
-use Rattle.std.proofs.Common.{◌≡◌}
-use Rattle.qr_symbol.specs.Interleaving.{data_cut}
-use Rattle.qr_symbol.specs.Steps.Interleaving.{IsChecks}
-use Rattle.qr_symbol.proofs.interleaving.checks.Given as goal
-
-abbrev pub invariant-loop-block : goal.invariant-loop-block
-invariant-loop-block l = record { so_far : IsChecks l.fn.blocks l.message l.block l.checks.items; cut : l.cut ≡ data_cut l.fn.blocks; ec_len : l.ec_len ≡ l.fn.blocks.ec_len }
