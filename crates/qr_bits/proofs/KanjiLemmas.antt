@@ -1,17 +1,14 @@
 -- Kanji pairs: their values, written and read again.
-use Rattle.std.proofs.Common.{◌≡◌, ℕ, zero, suc, ◌+◌, ◌-◌, ◌*◌, ◌/◌, ◌%◌, ◌^◌, ◌<◌, ◌≤◌, ◌⊎◌, Bool, true, false, ◌&&◌, ◌||◌, nat_le, All, List, [], ◌∷◌, ◌++◌, length, take, drop, Result, Ok, Err, refl, sym, ◌∙◌, ap, subst, inl, inr, ⊎_elim, arith, append_assoc, length-append}
+use Rattle.std.proofs.Common.{◌≡◌, ℕ, zero, suc, ◌+◌, ◌-◌, ◌*◌, ◌/◌, ◌%◌, ◌<◌, ◌≤◌, ◌⊎◌, Bool, true, false, ◌&&◌, ◌||◌, nat_le, All, List, [], ◌∷◌, ◌++◌, length, take, drop, Ok, Err, refl, sym, ◌∙◌, ap, subst, inl, inr, ⊎_elim, arith, append_assoc}
 use borrow.Author.Tests.{leb-true}
 use Rattle.std.proofs.lemmas.Bool.{lt-leb, le-leb, and_parts, and_from, or_cases, or_left, or_right, cases_lt, false≢true}
 use Rattle.std.proofs.lemmas.List.{length-drop, drop-drop, take-append-drop}
 use Rattle.std.proofs.lemmas.List.Elements.{All-nil, All-cons}
-use Rattle.qr_bits.specs.declared.modes.Mode.TheVariants.{Kanji}
-use Rattle.qr_bits.specs.declared.fault.ParseFault.{ParseFault}
 use Rattle.qr_bits.specs.declared.fault.ParseFault.TheVariants.{BadValue}
 use Rattle.qr_bits.specs.Bits.{field, value}
-use Rattle.qr_bits.specs.Modes.{in_twos, is_kanji_pair, payload_bits, kanji_value}
+use Rattle.qr_bits.specs.Modes.{in_twos, is_kanji_pair, kanji_value}
 use Rattle.qr_bits.specs.Stream.{kanji_bits}
 use Rattle.qr_bits.specs.Parsing.{◌>>=◌, kanji_pair, pairs_of}
-use Rattle.qr_bits.proofs.BitLemmas.{length-field}
 use Rattle.qr_bits.proofs.ParsingLemmas.{bind_ok, same_ok}
 use Rattle.qr_bits.proofs.PayloadLemmas.{value_take_below, with_front, with_front-twice}
 use Rattle.qr_bits.proofs.StreamLemmas.{drop-field, read_field, field_read, chosen_ok}

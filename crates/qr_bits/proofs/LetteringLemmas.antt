@@ -7,9 +7,9 @@ use Rattle.qr_bits.specs.declared.modes.Mode.TheVariants.{Numeric, Alphanumeric,
 use Rattle.qr_bits.specs.declared.modes.Rule.{Rule}
 use Rattle.qr_bits.specs.declared.segmentation.Segment.{Segment}
 use Rattle.qr_bits.specs.declared.place.Place.{Place}
-use Rattle.qr_bits.specs.declared.place.Place.TheVariants.{Start, Digit1, Digit2, Character1, HalfPair, WholePair}
+use Rattle.qr_bits.specs.declared.place.Place.TheVariants.{Digit1, Digit2, Character1, HalfPair, WholePair}
 use Rattle.qr_bits.specs.Modes.{is_digit, is_alphanumeric, in_twos, is_kanji_pair, may_use, suits}
-use Rattle.qr_bits.specs.Segmentation.{Covers, rank, with_front, runs_of, IsLettering}
+use Rattle.qr_bits.specs.Segmentation.{Covers, rank, with_front, runs_of}
 use Rattle.qr_bits.specs.Steps.Place.{place_after, begins, may_begin, may_take, may_end, allowed}
 use Rattle.qr_bits.proofs.BestLemmas.{same_rank}
 use Rattle.qr_bits.proofs.ChoiceLemmas.{take_begin, place_after-whole}

@@ -1,6 +1,6 @@
 -- A table of best letters, filled from the back.
 use Rattle.std.proofs.Common.{◌≡◌, ℕ, ◌+◌, ◌*◌, ◌≤◌, Bool, true, List, [], ◌∷◌, length, replicate, IsTrue, refl, sym, ◌∙◌, arith, lit<}
-use Rattle.std.proofs.lemmas.Bool.{false≢true, and_from, and_parts}
+use Rattle.std.proofs.lemmas.Bool.{false≢true, and_from}
 use Rattle.qr_bits.specs.declared.modes.Mode.{Mode}
 use Rattle.qr_bits.specs.declared.modes.Mode.TheVariants.{Numeric, Alphanumeric, Byte, Kanji}
 use Rattle.qr_bits.specs.declared.modes.Rule.{Rule}
@@ -8,7 +8,7 @@ use Rattle.qr_bits.specs.declared.place.Place.{Place}
 use Rattle.qr_bits.specs.declared.place.Place.TheVariants.{Start, Digit1, Digit2, Digit3, Character1, Character2, InBytes, HalfPair, WholePair}
 use Rattle.qr_bits.specs.declared.place.ByPlace.{ByPlace}
 use Rattle.qr_bits.specs.Segmentation.{IsLetters, bits}
-use Rattle.qr_bits.specs.Modes.{may_use, is_kanji_pair}
+use Rattle.qr_bits.specs.Modes.{is_kanji_pair}
 use Rattle.qr_bits.specs.Steps.Place.{place_after, begins, may_begin, may_take, may_end, allowed, walk, IsBestRest, IsChoice}
 use Rattle.qr_bits.specs.Steps.Table.{at_place, follow, IsBestTable}
 use Rattle.qr_bits.proofs.BestLemmas.{BestBelow, best_step}

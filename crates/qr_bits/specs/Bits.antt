@@ -22,6 +22,7 @@ unfoldable pub bits_of : List ℕ → List Bool
 bits_of [] = []
 bits_of (b ∷ bs) = field 8 b ++ bits_of bs
 
--- bit k of codewords, the highest bit of a codeword first; false past their end (ISO/IEC 18004:2015, 7.7.3)
+-- bit k of codewords, the highest bit of a codeword first; past their end the remainder bits, which are 0
+-- (ISO/IEC 18004:2015, 7.7.3)
 abbrev pub codeword_bit : List ℕ → ℕ → Bool
 codeword_bit cw k = slice_index_or cw (k / 8) 0 / 2 ^ (7 - k % 8) % 2 == 1

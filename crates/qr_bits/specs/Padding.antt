@@ -15,7 +15,7 @@ capacity_of v l = 8 * data_codewords_of v l
 abbrev pub room_of : ℕ → Level → ℕ
 room_of v l = capacity_of v l - 20
 
--- four zero bits, or as many as the capacity has room for (ISO/IEC 18004:2015, 7.4.9)
+-- a stream and its terminator: four zero bits, or as many as the capacity has room for (ISO/IEC 18004:2015, 7.4.9)
 abbrev pub terminated : ℕ → List Bool → List Bool
 terminated capacity stream = stream ++ replicate (min 4 (capacity - length stream)) false
 

@@ -1,6 +1,6 @@
 //! Folding: small letters of an input become capitals, which alphanumeric mode can write.
 
-ghost use Rattle.std.specs.Prelude.{◌≡◌, ◌++◌, length, map, vec_len, IfOk, OnOk};
+ghost use Rattle.std.specs.Prelude.{◌≡◌, length, map, vec_len, IfOk};
 ghost use Rattle.qr_bits.specs.Folding.{capital, folded, folded_around_pairs};
 
 use crate::modes::Rule;

@@ -113,7 +113,7 @@ pub(crate) fn len_of(mode: Mode, count: usize) -> usize
     }
 }
 
-// The bits of the data of a segment (7.4.3 to 7.4.5).
+// The bits of the data of a segment (7.4.3 to 7.4.6).
 pub(crate) fn payload_bits(mode: Mode, len: usize) -> usize
     requires { len < 2 ^ 20 }
     ensures { result ≡ payload_bits mode len }

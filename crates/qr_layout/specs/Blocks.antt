@@ -32,7 +32,8 @@ block_count_of v l = slice_index_or (block_table l) (v - 1) 0
 unfoldable pub data_codewords_of : ℕ → Level → ℕ
 data_codewords_of v l = total_codewords_of v - block_count_of v l * correction_len_of v l
 
--- the blocks: the data codewords are divided evenly, or, if they do not divide evenly, the last blocks have one more
+-- the short and long blocks: the data codewords are divided evenly; if they do not divide evenly, the last blocks have
+-- one more
 -- (ISO/IEC 18004:2015, 7.5.1, Table 9)
 abbrev pub blocks_of : ℕ → Level → Blocks
 blocks_of v l = record {

@@ -75,7 +75,8 @@ version_bit_at v r c =
     if nat_lt v 7 then None else
     one_below 18 (λ i. is_at (version_place (side_of v) i) r c || is_at (transposed (version_place (side_of v) i)) r c)
 
--- the module beside the bottom left finder pattern that is always dark (ISO/IEC 18004:2015, 7.9.1)
+-- the dark module: it stands beside the bottom left finder pattern, and is dark in every symbol
+-- (ISO/IEC 18004:2015, 7.9.1)
 abbrev pub is_dark_module : ℕ → ℕ → ℕ → Bool
 is_dark_module s r c = r == s - 8 && c == 8
 

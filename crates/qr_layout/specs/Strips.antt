@@ -20,11 +20,11 @@ abbrev pub places_of : ℕ → List Strip → List Module
 places_of s [] = []
 places_of s (x ∷ xs) = both_of (rows_from s x 0 s) ++ places_of s xs
 
--- strip p, counted from the left and from 1
+-- strip p, counted from the left and from 1; no strip has column 6 (ISO/IEC 18004:2015, 7.7.3)
 abbrev pub strip_at : ℕ → Strip
 strip_at p = record { right = (let c = 2 * p - 1 in if nat_lt c 6 then c else c + 1); upward = p % 2 == 0 }
 
--- strip p and those to the left of it
+-- strip p and those to the left of it (ISO/IEC 18004:2015, 7.7.3)
 abbrev pub strips_to_come : ℕ → List Strip
 strips_to_come zero = []
 strips_to_come (suc p) = strip_at (suc p) ∷ strips_to_come p

@@ -1,7 +1,7 @@
 //! The strips of two columns in which a symbol is filled, from the right, of whose places the walk over the encoding region
 //! leaves out those that hold patterns or information (ISO/IEC 18004:2015, 7.7.3).
 
-ghost use Rattle.std.specs.Prelude.{◌≡◌, ◌<◌, ◌≤◌, List};
+ghost use Rattle.std.specs.Prelude.{◌<◌, ◌≤◌, List};
 ghost use Rattle.std.specs.Iterator.{YieldsFirst, item_count};
 ghost use Rattle.std.specs.List.{All};
 ghost use Rattle.qr_layout.specs.Order.{IsOrder, in_region_of};

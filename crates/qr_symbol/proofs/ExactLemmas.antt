@@ -10,7 +10,8 @@ use Rattle.qr_symbol.specs.declared.fault.EncodeFault.TheVariants as fault
 use Rattle.qr_symbol.specs.declared.fault.ReadFault.{ReadFault}
 use Rattle.qr_symbol.specs.declared.fault.ReadFault.TheVariants as unread
 use Rattle.qr_symbol.specs.declared.symbol.Symbol.{Symbol}
-use Rattle.qr_symbol.specs.Encoding.{FitsVersion, IsSymbol, HasNoVersion}
+use Rattle.qr_symbol.specs.Encoding.{IsSymbol}
+use Rattle.qr_symbol.specs.VersionChoice.{FitsVersion, HasNoVersion}
 use Rattle.qr_symbol.specs.Series.{IsSeries, HasNoSeries}
 use Rattle.qr_bits.proofs.Facts.{empty_fits}
 

@@ -1,5 +1,5 @@
 -- The least version that an input fits: it is looked for with the segments of the first version of each width.
-use Rattle.std.proofs.Common.{◌≡◌, ℕ, ◌<◌, ◌≤◌, inl, inr, Bool, List, [], ◌∷◌, refl, sym, arith}
+use Rattle.std.proofs.Common.{◌≡◌, ℕ, ◌<◌, ◌≤◌, inl, inr, List, [], ◌∷◌, refl, sym, arith}
 use Rattle.std.proofs.lemmas.Bool.{cases_lt}
 use Rattle.qr_layout.specs.declared.level.Level.{Level}
 use Rattle.qr_bits.specs.declared.modes.Rule.{Rule}
@@ -9,7 +9,7 @@ use Rattle.qr_bits.specs.Modes.{count_width}
 use Rattle.qr_bits.specs.Segmentation.{bits, runs_of, IsLetters, IsLeastSegmentation}
 use Rattle.qr_bits.specs.Padding.{capacity_of}
 use Rattle.qr_bits.proofs.Facts.{least_fits}
-use Rattle.qr_symbol.specs.Encoding.{FitsVersion, IsVersion}
+use Rattle.qr_symbol.specs.VersionChoice.{FitsVersion, IsVersion}
 
 -- Segments have as many bits in versions of the same widths.
 bits-same : (u v : ℕ) → ((m : Mode) → count_width u m ≡ count_width v m) → (segs : List Segment) → bits u segs ≡ bits v segs

@@ -1,5 +1,5 @@
 -- An input has one series, which is read as the input; long inputs have none.
-use Rattle.std.proofs.Common.{◌≡◌, ℕ, suc, ◌+◌, ◌-◌, ◌*◌, ◌<◌, ◌≤◌, Bool, List, [], ◌∷◌, ◌++◌, drop, length, None, Some, Option, refl, sym, ◌∙◌, ap, subst, arith, inl, inr}
+use Rattle.std.proofs.Common.{◌≡◌, ℕ, suc, ◌+◌, ◌-◌, ◌*◌, ◌<◌, ◌≤◌, List, [], ◌∷◌, ◌++◌, drop, length, None, Some, Option, refl, sym, ◌∙◌, ap, subst, arith, inl, inr}
 use Rattle.std.proofs.lemmas.List.{append-nil, take-append-drop}
 use Rattle.qr_layout.specs.declared.level.Level.{Level}
 use Rattle.qr_bits.specs.declared.modes.Rule.{Rule}
@@ -9,7 +9,7 @@ use Rattle.qr_bits.specs.Header.{parity_of}
 use Rattle.qr_bits.proofs.Facts.{fitting_short, empty_fits}
 use Rattle.qr_symbol.specs.declared.symbol.Symbol.{Symbol}
 use Rattle.qr_matrix.specs.Grid.{Grid}
-use Rattle.qr_symbol.specs.Encoding.{FitsVersion, HasNoVersion}
+use Rattle.qr_symbol.specs.VersionChoice.{FitsVersion, HasNoVersion}
 use Rattle.qr_symbol.specs.Series.{squares_of, AreParts, IsSymbolOf, AreSymbolsFrom, IsSplit, IsPlainSymbol, IsSeries}
 use Rattle.qr_symbol.specs.Steps.Series.{AreLengths, parts_of}
 use Rattle.qr_symbol.specs.Joining.{AreReadings, bytes_of_all, HaveHeaders, IsJoined}

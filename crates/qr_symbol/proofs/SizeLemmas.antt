@@ -11,7 +11,7 @@ use Rattle.qr_bits.specs.Modes.{may_use}
 use Rattle.qr_bits.specs.Padding.{capacity_of}
 use Rattle.qr_symbol.specs.declared.symbol.Symbol.{Symbol}
 use Rattle.qr_matrix.specs.Grid.{Grid}
-use Rattle.qr_symbol.specs.Encoding.{FitsVersion}
+use Rattle.qr_symbol.specs.VersionChoice.{FitsVersion}
 use Rattle.qr_symbol.specs.Series.{squares_of, AreParts, NeedsParts, AreSymbolsFrom, IsSeries}
 use Rattle.qr_symbol.proofs.PartLemmas.{needs-some, needs-parts}
 

@@ -1,5 +1,5 @@
 -- What is made of the codewords of bytes is their symbol, and fits where they do.
-use Rattle.std.proofs.Common.{◌≡◌, ℕ, ◌+◌, ◌<◌, ◌≤◌, ◌⊎◌, inl, inr, Bool, List, Option, None, Some, Result, Ok, Err, subst, sym, ◌∙◌, ap, arith}
+use Rattle.std.proofs.Common.{◌≡◌, ℕ, ◌+◌, ◌<◌, ◌≤◌, ◌⊎◌, inl, inr, List, Option, None, Some, Result, Ok, Err, subst, sym, ◌∙◌, ap, arith}
 use Rattle.std.specs.Prelude.{IfOk, IfErr}
 use Rattle.qr_layout.specs.declared.level.Level.{Level}
 use Rattle.qr_bits.specs.declared.modes.Rule.{Rule}
@@ -17,7 +17,8 @@ use Rattle.qr_symbol.specs.Symbol.{grid_of}
 use Rattle.qr_symbol.specs.Choice.{IsMask}
 use Rattle.qr_symbol.specs.Interleaving.{IsInterleaved}
 use Rattle.qr_symbol.specs.Reading.{IsReadBack}
-use Rattle.qr_symbol.specs.Encoding.{FitsVersion, IsVersion, IsSymbolAt, IsSymbol}
+use Rattle.qr_symbol.specs.Encoding.{IsSymbolAt, IsSymbol}
+use Rattle.qr_symbol.specs.VersionChoice.{FitsVersion, IsVersion}
 use Rattle.qr_symbol.specs.Series.{IsSymbolOf}
 use Rattle.qr_symbol.proofs.RoundTripLemmas.{symbol-read}
 

@@ -12,7 +12,7 @@ use Rattle.qr_symbol.specs.declared.interleaving.Cut.{Cut}
 abbrev pub count_of : Cut → ℕ
 count_of c = c.short + c.long
 
--- how many codewords block i has: the short blocks come first, and then those of one codeword more
+-- how many codewords block i has: the short blocks come first, and then the long blocks, of one codeword more
 -- (ISO/IEC 18004:2015, 7.5.1, Table 9)
 abbrev pub len_of : Cut → ℕ → ℕ
 len_of c i = if nat_lt i c.short then c.short_len else c.short_len + 1

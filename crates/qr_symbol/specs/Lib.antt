@@ -2,6 +2,7 @@ pub mod Mask
 pub mod Laws
 pub mod Symbol
 pub mod Choice
+pub mod VersionChoice
 pub mod Encoding
 pub mod Series
 pub mod Reading

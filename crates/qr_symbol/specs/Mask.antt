@@ -1,7 +1,7 @@
 -- The eight mask patterns. Public clauses cite this file.
 use Rattle.std.specs.Prelude.{ℕ, ◌+◌, ◌*◌, ◌/◌, ◌%◌, ◌==◌, Bool, if◌then◌else◌, not}
 
--- the mask, a number from 0 to 7, inverts the module in row r and column c of the encoding region
+-- the mask conditions: a mask, from 0 to 7, inverts the module in row r and column c of the encoding region
 -- (ISO/IEC 18004:2015, 7.8.2, Table 10)
 unfoldable pub inverts : ℕ → ℕ → ℕ → Bool
 inverts mask r c =

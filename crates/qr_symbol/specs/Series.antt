@@ -11,7 +11,8 @@ use Rattle.qr_bits.specs.Padding.{room_of}
 use Rattle.qr_bits.specs.Header.{parity_of}
 use Rattle.qr_symbol.specs.declared.symbol.Symbol.{Symbol}
 use Rattle.qr_matrix.specs.Grid.{Grid}
-use Rattle.qr_symbol.specs.Encoding.{FitsVersion, IsSymbolAt}
+use Rattle.qr_symbol.specs.Encoding.{IsSymbolAt}
+use Rattle.qr_symbol.specs.VersionChoice.{FitsVersion}
 
 -- the squares of symbols [own]
 abbrev pub squares_of : List Symbol → List Grid

@@ -1,5 +1,5 @@
 //! How the modules of a symbol get their colours: the function patterns with the format and version information, and
-//! the codewords' bits along the walk over the encoding region (ISO/IEC 18004:2015, 7.7.2 and 7.7.3).
+//! the codewords' bits, strip by strip in the order of the walk (ISO/IEC 18004:2015, 7.7.2 and 7.7.3).
 
 ghost use Rattle.std.specs.Prelude.{◌≡◌, ℕ, List, ◌+◌, ◌-◌, ◌<◌, ◌≤◌, ◌==◌, ◌&&◌, if◌then◌else◌, nat_le, nat_lt, false, slice_index};
 ghost use Rattle.std.specs.List.{list_any};

@@ -1,6 +1,6 @@
 //! The encoding of an input as one symbol (ISO/IEC 18004:2015, 7.1).
 
-ghost use Rattle.std.specs.Prelude.{◌≡◌, ◌≢◌, ◌+◌, ◌<◌, ◌≤◌, ◌↔◌, ◌⊎◌, Bool, [], length, Err, IfOk, IfErr};
+ghost use Rattle.std.specs.Prelude.{◌≡◌, ◌≢◌, ◌+◌, ◌<◌, ◌≤◌, ◌↔◌, ◌⊎◌, [], length, Err, IfOk, IfErr};
 ghost use Rattle.std.specs.Option.{ForSome};
 ghost use Rattle.qr_bits.specs.declared.modes.Rule.{Rule};
 ghost use Rattle.qr_bits.specs.Segmentation.{bits, Covers, IsLeastSegmentation};
@@ -8,7 +8,8 @@ ghost use Rattle.qr_bits.specs.Padding.{capacity_of};
 ghost use Rattle.qr_bits.specs.Header.{header_bits};
 ghost use Rattle.qr_symbol.specs.declared.fault.EncodeFault.{EncodeFault};
 ghost use Rattle.qr_symbol.specs.Reading.{IsReadBack};
-ghost use Rattle.qr_symbol.specs.Encoding.{HasNoVersion, IsSymbol};
+ghost use Rattle.qr_symbol.specs.Encoding.{IsSymbol};
+ghost use Rattle.qr_symbol.specs.VersionChoice.{HasNoVersion};
 ghost use Rattle.qr_symbol.specs.Series.{IsSymbolOf};
 
 use crate::choice::build;
@@ -23,8 +24,8 @@ use std::alloc::Global;
 // The most bytes that a symbol holds: digits, in version 40 and level L (7.4.10, Table 7).
 pub(crate) const SYMBOL_BYTES_MAX: usize = 7089;
 
-/// The symbol of an input (ISO/IEC 18004:2015, 7.1), of the least version from `smallest` on that it fits. With
-/// `rule` tells which modes its segments may have.
+/// The symbol of an input (ISO/IEC 18004:2015, 7.1), of the least version from `smallest` on that it fits. The rule tells
+/// which modes its segments may have.
 ///
 /// `Empty` where the input has no byte, and `TooLong` where it fits no version from `smallest` on. An input of more than
 /// 7,089 bytes fits none, and is refused before any memory is taken.

@@ -1,6 +1,6 @@
 //! The encoding of an input as a series of symbols, by structured append (ISO/IEC 18004:2015, 8).
 
-ghost use Rattle.std.specs.Prelude.{◌≡◌, ◌≢◌, ◌-◌, ◌<◌, ◌≤◌, ◌↔◌, ◌⊎◌, ℕ, false, List, [], ◌∷◌, ◌++◌, length, None, Some, Err, OnOk, IfOk, IfErr, MatchOption};
+ghost use Rattle.std.specs.Prelude.{◌≡◌, ◌≢◌, ◌-◌, ◌<◌, ◌≤◌, ◌↔◌, ◌⊎◌, ℕ, false, List, [], length, None, Some, Err, IfOk, IfErr, MatchOption};
 ghost use Rattle.qr_bits.specs.declared.modes.Rule.{Rule};
 ghost use Rattle.qr_bits.specs.declared.modes.Mode.{Mode};
 ghost use Rattle.qr_bits.specs.Segmentation.{HasFit, IsLongestFit};
@@ -8,7 +8,7 @@ ghost use Rattle.qr_bits.specs.Modes.{may_use};
 ghost use Rattle.qr_bits.specs.Padding.{room_of};
 ghost use Rattle.qr_bits.specs.Header.{parity_of};
 ghost use Rattle.qr_symbol.specs.declared.fault.EncodeFault.{EncodeFault};
-ghost use Rattle.qr_symbol.specs.Encoding.{FitsVersion};
+ghost use Rattle.qr_symbol.specs.VersionChoice.{FitsVersion};
 ghost use Rattle.qr_symbol.specs.Series.{squares_of, AreParts, NeedsParts, IsSymbolOf, AreSymbolsFrom, IsSeries, HasNoSeries};
 ghost use Rattle.qr_symbol.specs.Joining.{IsJoined};
 ghost use Rattle.qr_symbol.specs.Steps.Series.{AreLengths, parts_of};

@@ -11,7 +11,7 @@ ghost use Rattle.qr_bits.specs.Modes.{count_width};
 ghost use Rattle.qr_bits.specs.Segmentation.{IsLeastSegmentation};
 ghost use Rattle.qr_bits.specs.Padding.{capacity_of};
 ghost use Rattle.qr_layout.specs.declared.level.Level.{Level};
-ghost use Rattle.qr_symbol.specs.Encoding.{FitsVersion, IsVersion, HasNoVersion};
+ghost use Rattle.qr_symbol.specs.VersionChoice.{FitsVersion, IsVersion, HasNoVersion};
 
 use qr_bits::{BitFault, INPUT_MAX, Rule, Segment, bit_len, segments};
 use qr_layout::{Level, Version};

@@ -8,7 +8,7 @@ use Rattle.qr_layout.specs.declared.level.Level.{Level}
 use Rattle.qr_bits.proofs.Facts.{empty_fits}
 use Rattle.qr_matrix.specs.Grid.{Grid}
 use Rattle.qr_symbol.specs.Series.{HasNoSeries, IsSeries, squares_of}
-use Rattle.qr_symbol.specs.Encoding.{FitsVersion}
+use Rattle.qr_symbol.specs.VersionChoice.{FitsVersion}
 use Rattle.qr_symbol.proofs.Facts.{series-one, symbol-one}
 use Rattle.qrencode_cli.specs.Command.{AnswersAreOne, IsDrawing, IsRefusal, Refuses, RefusalsAreOne, RefusalsExcludeDrawings, held, input_for}
 use Rattle.qrencode_cli.specs.Arguments.{faults_for, rows_for}

@@ -24,7 +24,8 @@ use Rattle.qrencode_cli.specs.Fault.{fault_of_input, fault_of_words}
 use Rattle.qrencode_cli.specs.Input.{IsInputOf}
 use Rattle.qrencode_cli.specs.Settings.{IsUsageFault, Reason, SettingsView, rule_for, settings_for}
 use Rattle.qrencode_cli.specs.Steps.Command.{AreDrawnFor, IsEarly, IsInputFault, Prepares, drawing_of}
-use Rattle.qr_symbol.specs.Encoding.{HasNoVersion, IsSymbol}
+use Rattle.qr_symbol.specs.Encoding.{IsSymbol}
+use Rattle.qr_symbol.specs.VersionChoice.{HasNoVersion}
 use Rattle.qr_bits.proofs.Facts.{fitting_short}
 use Rattle.std.proofs.lemmas.Grind.{common_steps}
 use Rattle.qrencode_cli.specs.Picture.{AreSquares, IsSquareOf, smallest_of}

@@ -80,11 +80,11 @@ IsBeginning front whole = (rest : List ℕ) × (front ++ rest ≡ whole)
 abbrev pub AppendsBeginning : Option (List ℕ) → Option (List ℕ) → List ℕ → Type 0
 AppendsBeginning old new whole = (front : List ℕ) × IsBeginning front whole × Appends old new front
 
--- a read failed, or was interrupted for the 1,000th time [own]
+-- a read failed, or was interrupted (EINTR) for the 1,000th time [own]
 abbrev pub is_read_fault : ReadCounts → Bool
 is_read_fault c = nat_lt 0 c.failed || nat_le 1000 c.interrupted
 
--- a write or a flush failed, a write took none of some bytes, or writes were interrupted for the 1,000th time [own]
+-- a write or a flush failed, a write took none of some bytes, or writes were interrupted (EINTR) for the 1,000th time [own]
 abbrev pub is_write_fault : WriteCounts → Bool
 is_write_fault c = nat_lt 0 c.failed || (nat_lt 0 c.zeros || nat_le 1000 c.interrupted)
 

@@ -2,7 +2,8 @@
 use Rattle.std.specs.Prelude.{◌≡◌, ℕ, Bool, true, false, List, [], ◌∷◌, unwrap_or}
 use Rattle.qr_symbol.specs.declared.symbol.Symbol.{Symbol}
 use Rattle.qr_matrix.specs.Grid.{Grid}
-use Rattle.qr_symbol.specs.Encoding.{HasNoVersion, IsSymbol}
+use Rattle.qr_symbol.specs.Encoding.{IsSymbol}
+use Rattle.qr_symbol.specs.VersionChoice.{HasNoVersion}
 use Rattle.qr_symbol.specs.Series.{HasNoSeries, IsSeries, squares_of}
 use Rattle.qrencode_cli.specs.Settings.{SettingsView, rule_for}
 

@@ -1,8 +1,7 @@
 //! The whole command: words, input, symbol, drawing, and the line of a fault.
 
-ghost use Rattle.std.specs.Prelude.{◌≡◌, ◌≤◌, ◌<◌, ◌+◌, ◌⊎◌, Err, OnOk, OnErr, IfErr, max, length, map, true};
+ghost use Rattle.std.specs.Prelude.{◌≡◌, ◌≤◌, ◌<◌, Err, OnOk, IfErr, max, length, map};
 ghost use Rattle.std.specs.Prelude.{MatchResult, Result};
-ghost use Rattle.std.specs.Io.KnownBytes.{Appends};
 ghost use Rattle.std.specs.String.{string_bytes};
 ghost use Rattle.qrencode_cli.specs.Command.{Breaks, Draws, IsDrawing, RunsTo, held};
 ghost use Rattle.qrencode_cli.specs.Device.{IsReadWithin, IsWrittenWithin, is_read_fault, is_write_fault, no_reads, no_writes};

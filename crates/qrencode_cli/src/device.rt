@@ -3,9 +3,9 @@
 //! A device tells its bytes to contracts where it knows them. Its counts are always known, so a
 //! contract can say exactly when a fault was the device's.
 
-ghost use Rattle.std.specs.Prelude.{◌≡◌, ◌≤◌, ℕ, List, Option, IfOk, length};
+ghost use Rattle.std.specs.Prelude.{◌≡◌, ◌≤◌, IfOk, length};
 ghost use Rattle.std.specs.Io.KnownBytes.{Keeps, ReadConsumes, WriteAppends};
-ghost use Rattle.qrencode_cli.specs.Device.{flush_counted, no_reads, no_writes, read_counted, write_counted};
+ghost use Rattle.qrencode_cli.specs.Device.{flush_counted, read_counted, write_counted};
 ghost use Rattle.qrencode_cli.specs.declared.device.ReadCounts.{ReadCounts};
 ghost use Rattle.qrencode_cli.specs.declared.device.WriteCounts.{WriteCounts};
 

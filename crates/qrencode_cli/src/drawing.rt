@@ -1,9 +1,9 @@
 //! The types of drawings, and drawing symbols. The raster of a symbol is its square with a light
 //! margin on all sides (ISO/IEC 18004:2015, 6.3.8).
 
-ghost use Rattle.std.specs.Prelude.{◌≡◌, ◌≤◌, ◌<◌, ◌+◌, ◌++◌, ◌∷◌, [], max, is_err, length, OnOk, OnErr};
+ghost use Rattle.std.specs.Prelude.{◌≡◌, ◌≤◌, ◌<◌, ◌+◌, max, is_err, length, OnOk, OnErr};
 ghost use Rattle.std.specs.Io.KnownBytes.{Appends};
-ghost use Rattle.qrencode_cli.specs.Device.{AppendsBeginning, IsWrittenWithin, counted, is_write_fault, no_writes, writer};
+ghost use Rattle.qrencode_cli.specs.Device.{AppendsBeginning, IsWrittenWithin, counted, is_write_fault, no_writes};
 ghost use Rattle.qr_symbol.specs.Series.{squares_of};
 ghost use Rattle.qrencode_cli.specs.Drawing.{HaveOneSide, drawn};
 ghost use Rattle.qrencode_cli.specs.Steps.Pen.{Puts};

@@ -1,6 +1,6 @@
 //! Reading the input: every byte up to its end, or as many as no symbol and no series can hold.
 
-ghost use Rattle.std.specs.Prelude.{◌≡◌, ◌+◌, ◌≤◌, ◌↔◌, ◌⊎◌, IfErr, IfOk, IsTrue, IsErrOf, length, true};
+ghost use Rattle.std.specs.Prelude.{◌≡◌, ◌+◌, ◌≤◌, ◌↔◌, ◌⊎◌, IfErr, IfOk, IsTrue, IsErrOf, length};
 ghost use Rattle.std.specs.Io.KnownBytes.{Consumes};
 ghost use Rattle.qrencode_cli.specs.Device.{IsReadWithin, is_read_fault, no_reads};
 ghost use Rattle.qrencode_cli.specs.Input.{IsInputOf};

@@ -1,6 +1,6 @@
 //! A device over bytes in memory, for tests: it can be slow, interrupted, failing or full.
 
-ghost use Rattle.std.specs.Prelude.{◌≡◌, ◌+◌, ◌≤◌, ◌<◌, ◌++◌, [], take, length, drop, Some, IfOk};
+ghost use Rattle.std.specs.Prelude.{◌≡◌, ◌+◌, ◌≤◌, ◌<◌, ◌++◌, [], take, length, Some, IfOk};
 ghost use Rattle.std.specs.Vec.{vec_len, vec_capacity};
 
 use crate::device::{ReadCounts, Sink, Source, Trouble, WriteCounts};

@@ -1,4 +1,4 @@
-use Rattle.std.proofs.Common.{◌+◌, ◌*◌, ◌≤◌, arith}
+use Rattle.std.proofs.Common.{arith}
 use Rattle.qr_bits.proofs.KanjiLemmas.{least_first, least_second}
 use Rattle.qr_bits.proofs.modes.kanji_value.Goals as goal
 

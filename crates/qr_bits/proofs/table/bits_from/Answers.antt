@@ -1,4 +1,4 @@
-use Rattle.std.proofs.Common.{◌+◌, ◌<◌, arith}
+use Rattle.std.proofs.Common.{arith}
 use Rattle.qr_bits.proofs.ChoiceLemmas.{step_bits_bound}
 use Rattle.qr_bits.proofs.table.bits_from.Goals as goal
 

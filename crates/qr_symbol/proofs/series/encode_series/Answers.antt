@@ -6,7 +6,7 @@ use Rattle.std.proofs.lemmas.Option.{MatchOption-at_some}
 use Rattle.std.proofs.lemmas.Result.{IfOk-weaker, IfErr-weaker}
 use Rattle.qr_symbol.specs.declared.fault.EncodeFault.TheVariants.{Empty, TooMany}
 use Rattle.qr_symbol.specs.declared.symbol.Symbol.{Symbol}
-use Rattle.qr_symbol.specs.Encoding.{FitsVersion}
+use Rattle.qr_symbol.specs.VersionChoice.{FitsVersion}
 use Rattle.qr_symbol.proofs.ExactLemmas.{too-many-exactly, memory-alone}
 use Rattle.qr_symbol.proofs.PartLemmas.{lengths-some}
 use Rattle.qr_symbol.proofs.SeriesLemmas.{lone-series, split-series, series-joined}

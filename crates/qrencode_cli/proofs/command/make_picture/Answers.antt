@@ -1,5 +1,5 @@
-use Rattle.std.proofs.Common.{◌≡◌, ◌∙◌, ap, List, ℕ, MatchResult, subst, sym}
-use Rattle.qrencode_cli.specs.Command.{IsDrawing, held}
+use Rattle.std.proofs.Common.{◌∙◌, ap, List, ℕ, MatchResult, subst, sym}
+use Rattle.qrencode_cli.specs.Command.{IsDrawing}
 use Rattle.qrencode_cli.specs.Settings.{SettingsView}
 use Rattle.qrencode_cli.specs.Steps.Command.{IsInputFault, drawing_of}
 use Rattle.qrencode_cli.proofs.AskingLemmas.{held-folded, held-plain}

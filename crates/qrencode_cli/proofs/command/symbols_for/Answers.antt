@@ -2,7 +2,7 @@ use Rattle.std.proofs.Common.{◌≡◌, ◌∙◌, ap, subst, sym, unwrap_or, a
 use Rattle.std.proofs.lemmas.Result.{err_from_is_err_and}
 use Rattle.qr_symbol.specs.declared.fault.EncodeFault.{EncodeFault}
 use Rattle.qr_symbol.specs.declared.fault.EncodeFault.TheVariants.{Empty}
-use Rattle.qr_symbol.specs.Encoding.{HasNoVersion}
+use Rattle.qr_symbol.specs.VersionChoice.{HasNoVersion}
 use Rattle.qrencode_cli.specs.Settings.{SettingsView, rule_for}
 use Rattle.qrencode_cli.specs.Picture.{smallest_of}
 use Rattle.qrencode_cli.specs.Steps.Command.{AreDrawnFor}

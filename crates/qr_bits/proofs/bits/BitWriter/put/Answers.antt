@@ -1,4 +1,4 @@
-use Rattle.std.proofs.Common.{◌≡◌, ◌-◌, ◌/◌, ◌%◌, ◌++◌, List, Bool, sym, ◌∙◌, ap, arith, append_assoc}
+use Rattle.std.proofs.Common.{◌-◌, ◌/◌, ◌%◌, ◌++◌, List, Bool, sym, ◌∙◌, ap, arith, append_assoc}
 use Rattle.qr_bits.specs.Bits.{field}
 use Rattle.qr_bits.proofs.BitLemmas.{field-high}
 use Rattle.qr_bits.proofs.bits.BitWriter.put.Goals as goal
