@@ -130,11 +130,17 @@ fitting_few : (v : ℕ) (l : Level) (r : Rule) (xs : List ℕ) → 1 ≤ v → v
 fitting_few v l r xs a b fit =
     omega (arith, data_most v l a b, bits_least v xs (runs_of fit.0) (covers_suits xs (runs_of fit.0) fit.1.1), fit.2)
 
--- What fits a version up to 9 has at most 556 bytes.
-pub fitting_small : (v : ℕ) (l : Level) (r : Rule) (xs : List ℕ) → 1 ≤ v → v ≤ 9 → HasFit v r xs (capacity_of v l) → length xs ≤ 556
-fitting_small v l r xs a b fit =
+-- a symbol of a version up to 9 holds at most 1,856 bits
+pub capacity_small : (v : ℕ) (l : Level) → 1 ≤ v → v ≤ 9 → capacity_of v l ≤ 1856
+capacity_small v l a b =
     let most : most_data v ≤ 232 = groups v (λ s m. v ≤ 9 → cond s 232 (cond m 1370 2956) ≤ 232) (λ _ _. lit≤ tt) (λ k _ n. absurd (omega arith)) (λ k n. absurd (omega arith)) b in
-    omega (arith, most, fitting_few v l r xs a (omega arith) fit)
+    omega (arith, most, data_most v l a (omega arith))
+
+-- a symbol of a version up to 26 holds at most 10,960 bits
+pub capacity_medium : (v : ℕ) (l : Level) → 1 ≤ v → v ≤ 26 → capacity_of v l ≤ 10960
+capacity_medium v l a b =
+    let most : most_data v ≤ 1370 = groups v (λ s m. v ≤ 26 → cond s 232 (cond m 1370 2956) ≤ 1370) (λ _ _. lit≤ tt) (λ _ _ _. lit≤ tt) (λ k n. absurd (omega arith)) b in
+    omega (arith, most, data_most v l a (omega arith))
 
 -- What fits a version up to 26 has at most 3,288 bytes.
 pub fitting_medium : (v : ℕ) (l : Level) (r : Rule) (xs : List ℕ) → 1 ≤ v → v ≤ 26 → HasFit v r xs (capacity_of v l) → length xs ≤ 3288

@@ -1,7 +1,7 @@
 -- The lemmas that other crates cite.
 pub use Rattle.qr_bits.proofs.BitLemmas.{bits_at, bits_of-more, bool_byte-bit, field-more, length-bits_of, length-field}
 pub use Rattle.qr_bits.proofs.ChoiceLemmas.{byte_used}
-pub use Rattle.qr_bits.proofs.CountLemmas.{capacity_least, fitting_medium, fitting_short, fitting_small}
+pub use Rattle.qr_bits.proofs.CountLemmas.{capacity_least, capacity_medium, capacity_small, fitting_medium, fitting_short}
 pub use Rattle.qr_bits.proofs.DataLemmas.{data_again, data_one, length-data, length-stream}
 pub use Rattle.qr_bits.proofs.MirrorLemmas.{empty_fits}
 pub use Rattle.qr_bits.proofs.PieceLemmas.{piece_fits}

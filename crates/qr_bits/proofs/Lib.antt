@@ -22,3 +22,4 @@ pub mod PieceLemmas
 pub mod BytesOnlyLemmas
 pub mod FoldingLemmas
 pub mod Facts
+pub mod LeastLemmas

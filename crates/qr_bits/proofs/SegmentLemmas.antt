@@ -85,7 +85,7 @@ unfolding Covers
 covers_end xs segs i h = let none = drop_all i segs h in rw none ((λ c. c), (λ c. c))
 
 -- each byte has at least ten bits in three
-payload_least : (m : Mode) (n : ℕ) → 10 * n ≤ 3 * payload_bits m n
+pub payload_least : (m : Mode) (n : ℕ) → 10 * n ≤ 3 * payload_bits m n
 payload_least Numeric n = digits_least n
 payload_least Alphanumeric n = omega arith
 payload_least Byte n = omega arith

@@ -1,11 +1,11 @@
 -- Segments, what they cost, and the choice of segments: a mode for each byte. Public clauses cite these.
-use Rattle.std.specs.Prelude.{◌≡◌, ℕ, ◌+◌, ◌<◌, ◌≤◌, ◌⊎◌, if◌then◌else◌, ◌==◌, List, [], ◌∷◌, length, take, drop, IsTrue}
-use Rattle.std.specs.List.{list_all}
+use Rattle.std.specs.Prelude.{◌≡◌, ℕ, ◌+◌, ◌/◌, ◌<◌, ◌≤◌, ◌⊎◌, if◌then◌else◌, ◌==◌, nat_le, List, [], ◌∷◌, length, take, drop, IsTrue}
+use Rattle.std.specs.List.{list_all, sum_by}
 use Rattle.qr_bits.specs.declared.modes.Mode.{Mode}
 use Rattle.qr_bits.specs.declared.modes.Mode.TheVariants.{Numeric, Alphanumeric, Byte, Kanji}
 use Rattle.qr_bits.specs.declared.modes.Rule.{Rule}
 use Rattle.qr_bits.specs.declared.segmentation.Segment.{Segment}
-use Rattle.qr_bits.specs.Modes.{count_width, suits, payload_bits, may_use}
+use Rattle.qr_bits.specs.Modes.{count_width, is_digit, suits, payload_bits, may_use}
 
 -- the bits of a segment: mode indicator, character count indicator and data (ISO/IEC 18004:2015, 7.4.1)
 abbrev pub segment_bits : ℕ → Segment → ℕ
@@ -61,6 +61,15 @@ IsLeastSegmentation v r xs segs = (ms : List Mode) × IsLetters v r xs ms × (se
 -- some lettering of the bytes has at most n bits [own]
 abbrev pub HasFit : ℕ → Rule → List ℕ → ℕ → Type 0
 HasFit v r xs n = (ms : List Mode) × IsLettering r xs ms × (bits v (runs_of ms) ≤ n)
+
+-- the bits that a byte takes at least, in sixths of a bit: three digits take 10 bits, two characters 11 and a kanji pair
+-- 13, and no character comes after `Z` (ISO/IEC 18004:2015, 7.4.3 to 7.4.6)
+abbrev pub sixths_of : ℕ → ℕ
+sixths_of b = if is_digit b then 20 else (if nat_le b 90 then 33 else 39)
+
+-- the bits that bytes take at least, in any segments (ISO/IEC 18004:2015, 7.4.3 to 7.4.6)
+unfoldable pub least_bits : List ℕ → ℕ
+least_bits xs = sum_by sixths_of xs / 6
 
 -- The prefix of n bytes fits: some lettering of it has at most `room` bits. It is the longest of all prefixes that fit
 -- [own].

@@ -20,4 +20,4 @@ pub use header::{Header, parity};
 pub use modes::{INPUT_MAX, Mode, Rule};
 pub use padding::codewords;
 pub use parsing::{Parsed, parse};
-pub use segmentation::{Segment, bit_len, covers, longest_fit, segments};
+pub use segmentation::{Segment, bit_len, covers, least_bits, longest_fit, segments};

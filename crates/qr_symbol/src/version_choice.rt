@@ -13,14 +13,17 @@ ghost use Rattle.qr_bits.specs.Padding.{capacity_of};
 ghost use Rattle.qr_layout.specs.declared.level.Level.{Level};
 ghost use Rattle.qr_symbol.specs.VersionChoice.{FitsVersion, IsVersion, HasNoVersion};
 
-use qr_bits::{BitFault, INPUT_MAX, Rule, Segment, bit_len, segments};
+use qr_bits::{BitFault, INPUT_MAX, Rule, Segment, bit_len, least_bits, segments};
 use qr_layout::{Level, Version};
 use std::alloc::Global;
 
-// No symbol up to version 9 holds more bytes than this: three digits in ten bits (7.4.3).
-const SMALL_BYTES: usize = 556;
+// No symbol up to version 9 holds more bits than this (7.4.10, Table 7).
+const SMALL_BITS: u32 = 1856;
 
-// No symbol up to version 26 holds more bytes than this.
+// No symbol up to version 26 holds more bits than this.
+const MEDIUM_BITS: u32 = 10960;
+
+// Nor more bytes than this: three digits take ten bits (7.4.3).
 const MEDIUM_BYTES: usize = 3288;
 
 // A version that an input fits, and the segments of the input in it.
@@ -44,20 +47,25 @@ fn last_of_width(version: Version) -> u8
     }
 }
 
-// The first version that may hold `len` bytes: the ranges whose symbols all hold fewer are passed over.
-fn first_for(len: usize) -> u8
+// The first version that may hold the input: the ranges whose symbols all hold fewer bits are passed over.
+fn first_for(input: &[u8]) -> u8
+    requires { length input.now ≤ INPUT_MAX }
     ensures first { 1 ≤ result }
     ensures last { result ≤ 40 }
-    ensures none { (v : ℕ) (l : Level) (r : Rule) (xs : List ℕ) → length xs ≡ len
-        → 1 ≤ v → v < result → FitsVersion v l r xs → ⊥ }
+    ensures none { (v : ℕ) (l : Level) (r : Rule) → 1 ≤ v → v < result
+        → FitsVersion v l r input.now → ⊥ }
 {
-    if len > MEDIUM_BYTES {
+    if input.len() > MEDIUM_BYTES {
         return 27;
     }
-    if len > SMALL_BYTES {
-        return 10;
+    let bits = least_bits(input);
+    if bits > MEDIUM_BITS {
+        27
+    } else if bits > SMALL_BITS {
+        10
+    } else {
+        1
     }
-    1
 }
 
 // The least version from `first` to `last` whose data codewords hold at least `bits` bits.
@@ -92,7 +100,7 @@ pub(crate) fn least_fit(
     ensures too_long { result ≡ Err BitFault.TooLong
         → HasNoVersion smallest level rule input.now }
 {
-    let mut first = Version::new(smallest.number().max(first_for(input.len()))).unwrap();
+    let mut first = Version::new(smallest.number().max(first_for(input))).unwrap();
     loop {
         let last = last_of_width(first);
         let segments = segments(alloc, input, first, rule)?;

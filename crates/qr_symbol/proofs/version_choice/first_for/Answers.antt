@@ -1,9 +1,15 @@
 use Rattle.std.proofs.Common.{arith}
-use Rattle.qr_bits.proofs.Facts.{fitting_small, fitting_medium}
+use Rattle.qr_bits.specs.Padding.{capacity_of}
+use Rattle.qr_bits.proofs.Facts.{capacity_medium, capacity_small, fitting_medium}
 use Rattle.qr_symbol.proofs.version_choice.first_for.Goals as goal
 
-pub returns-then-len-gt-MEDIUM_BYTES-clause-none : goal.returns-then-len-gt-MEDIUM_BYTES-clause-none
-returns-then-len-gt-MEDIUM_BYTES-clause-none c = λ v l r xs e a b fit. let few = fitting_medium v l r xs a (omega arith) fit in omega arith
+pub returns-then-input-gt-MEDIUM_BYTES-clause-none : goal.returns-then-input-gt-MEDIUM_BYTES-clause-none
+returns-then-input-gt-MEDIUM_BYTES-clause-none c v l r a b fit = omega (arith, fitting_medium v l r c.args.input.now a (omega arith) fit)
 
-pub returns-then-len-gt-SMALL_BYTES-clause-none : goal.returns-then-len-gt-SMALL_BYTES-clause-none
-returns-then-len-gt-SMALL_BYTES-clause-none c = λ v l r xs e a b fit. let few = fitting_small v l r xs a (omega arith) fit in omega arith
+pub returns-then-bits-gt-MEDIUM_BITS-clause-none : goal.returns-then-bits-gt-MEDIUM_BITS-clause-none
+returns-then-bits-gt-MEDIUM_BITS-clause-none c v l r a b fit =
+    omega (arith, capacity_medium v l a (omega arith), c.least_bits-bits.ensures.least v (capacity_of v l) r fit)
+
+pub returns-then-bits-gt-SMALL_BITS-clause-none : goal.returns-then-bits-gt-SMALL_BITS-clause-none
+returns-then-bits-gt-SMALL_BITS-clause-none c v l r a b fit =
+    omega (arith, capacity_small v l a (omega arith), c.least_bits-bits.ensures.least v (capacity_of v l) r fit)
