@@ -25,6 +25,7 @@ pub(crate) struct Canvas {
 
 impl Canvas {
     // Draws the codewords. Memory is taken twice.
+    #[inline(never)]
     pub(crate) fn new(
         alloc: Global,
         version: Version,

@@ -47,16 +47,20 @@ fn last_of_width(version: Version) -> u8
     }
 }
 
-// The first version that may hold the input: the ranges whose symbols all hold fewer bits are passed over.
-fn first_for(input: &[u8]) -> u8
+// The first version that may hold the input: the ranges whose symbols all hold fewer bits are passed over. In byte mode
+// alone there is little to pass over.
+fn first_for(input: &[u8], rule: Rule) -> u8
     requires { length input.now ≤ INPUT_MAX }
     ensures first { 1 ≤ result }
     ensures last { result ≤ 40 }
-    ensures none { (v : ℕ) (l : Level) (r : Rule) → 1 ≤ v → v < result
-        → FitsVersion v l r input.now → ⊥ }
+    ensures none { (v : ℕ) (l : Level) → 1 ≤ v → v < result
+        → FitsVersion v l rule input.now → ⊥ }
 {
     if input.len() > MEDIUM_BYTES {
         return 27;
+    }
+    if matches!(rule, Rule::BytesOnly) {
+        return 1;
     }
     let bits = least_bits(input);
     if bits > MEDIUM_BITS {
@@ -100,7 +104,7 @@ pub(crate) fn least_fit(
     ensures too_long { result ≡ Err BitFault.TooLong
         → HasNoVersion smallest level rule input.now }
 {
-    let mut first = Version::new(smallest.number().max(first_for(input))).unwrap();
+    let mut first = Version::new(smallest.number().max(first_for(input, rule))).unwrap();
     loop {
         let last = last_of_width(first);
         let segments = segments(alloc, input, first, rule)?;

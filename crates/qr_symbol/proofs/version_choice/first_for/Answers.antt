@@ -4,12 +4,12 @@ use Rattle.qr_bits.proofs.Facts.{capacity_medium, capacity_small, fitting_medium
 use Rattle.qr_symbol.proofs.version_choice.first_for.Goals as goal
 
 pub returns-then-input-gt-MEDIUM_BYTES-clause-none : goal.returns-then-input-gt-MEDIUM_BYTES-clause-none
-returns-then-input-gt-MEDIUM_BYTES-clause-none c v l r a b fit = omega (arith, fitting_medium v l r c.args.input.now a (omega arith) fit)
+returns-then-input-gt-MEDIUM_BYTES-clause-none c v l a b fit = omega (arith, fitting_medium v l c.args.rule c.args.input.now a (omega arith) fit)
 
 pub returns-then-bits-gt-MEDIUM_BITS-clause-none : goal.returns-then-bits-gt-MEDIUM_BITS-clause-none
-returns-then-bits-gt-MEDIUM_BITS-clause-none c v l r a b fit =
-    omega (arith, capacity_medium v l a (omega arith), c.least_bits-bits.ensures.least v (capacity_of v l) r fit)
+returns-then-bits-gt-MEDIUM_BITS-clause-none c v l a b fit =
+    omega (arith, capacity_medium v l a (omega arith), c.least_bits-bits.ensures.least v (capacity_of v l) c.args.rule fit)
 
 pub returns-then-bits-gt-SMALL_BITS-clause-none : goal.returns-then-bits-gt-SMALL_BITS-clause-none
-returns-then-bits-gt-SMALL_BITS-clause-none c v l r a b fit =
-    omega (arith, capacity_small v l a (omega arith), c.least_bits-bits.ensures.least v (capacity_of v l) r fit)
+returns-then-bits-gt-SMALL_BITS-clause-none c v l a b fit =
+    omega (arith, capacity_small v l a (omega arith), c.least_bits-bits.ensures.least v (capacity_of v l) c.args.rule fit)

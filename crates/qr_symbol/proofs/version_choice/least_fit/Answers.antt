@@ -15,7 +15,7 @@ loop-segments-init c =
     let least = c.number.ensures.least in
     record {
       from = omega arith;
-      none = λ v a b fits. c.first_for.ensures.none v c.args.level c.args.rule (omega arith) (omega arith) fits;
+      none = λ v a b fits. c.first_for.ensures.none v c.args.level (omega arith) (omega arith) fits;
     }
 
 pub bit_len-requires-clause-nonempty : goal.bit_len-requires-clause-nonempty
