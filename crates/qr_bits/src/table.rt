@@ -124,6 +124,7 @@ fn apart(choices: ByPlace<Choice>) -> (ByPlace<Mode>, ByPlace<u32>)
 /// says that a pair may be taken. In the middle of a pair there is only its second letter, which
 /// adds no bits.
 #[tactic(auto, unfolding(crate::specs::Steps::Place::may_end))]
+#[inline(always)]
 pub(crate) fn row(
     version: Version,
     rule: Rule,
