@@ -14,7 +14,7 @@ ghost use Rattle.qr_bits.specs.Steps.Place.{begins, may_begin, place_after, step
 ghost use Rattle.qr_bits.specs.Steps.Table.{at_place, bits_of, modes_of, IsBestTable};
 
 use crate::modes::{INPUT_MAX, Mode, Rule, is_alphanumeric, is_digit, is_kanji_pair, may_use};
-use crate::place::{ByPlace, NO_BITS, Place, after, step_bits};
+use crate::place::{ByPlace, Heads, NO_BITS, Place, after, step_bits};
 use qr_layout::Version;
 use std::alloc::{AllocError, Global};
 
@@ -55,37 +55,31 @@ fn or_letter(choice: Choice, mode: Mode, may: bool, bits: u32) -> Choice
 
 // The bits of a rest that begins with this letter, where `rest` tells the bits after it.
 #[inline(always)]
-fn bits_from(version: Version, place: Place, mode: Mode, rest: &ByPlace<u32>) -> u32
+fn bits_from(heads: &Heads, place: Place, mode: Mode, rest: &ByPlace<u32>) -> u32
     requires { (p : Place) → at_place rest.now p < 10000000 }
-    ensures { result ≡ step_bits version place mode + at_place rest.now (place_after place mode) }
+    ensures { result ≡ step_bits heads.now.version place mode + at_place rest.now (place_after place mode) }
 {
-    step_bits(version, place, mode) + rest.at(after(place, mode))
+    step_bits(heads, place, mode) + rest.at(after(place, mode))
 }
 
 // The first of the letters of one byte that lead to the fewest bits, where `rest` tells the bits after each. The flags
 // say whether the byte may be a digit's or a character's.
 #[inline(always)]
-fn choose(
-    version: Version,
-    place: Place,
-    digit: bool,
-    character: bool,
-    rest: &ByPlace<u32>,
-) -> Choice
+fn choose(heads: &Heads, place: Place, digit: bool, character: bool, rest: &ByPlace<u32>) -> Choice
     requires { (p : Place) → at_place rest.now p < 10000000 }
     ensures { (r : Rule) (x : ℕ) (pair : Bool) → digit ≡ may_begin r x pair Mode.Numeric
         → character ≡ may_begin r x pair Mode.Alphanumeric
-        → IsChosenBelow version r place x pair (at_place rest.now) 3 result.mode result.bits }
+        → IsChosenBelow heads.now.version r place x pair (at_place rest.now) 3 result.mode result.bits }
 {
     let none = Choice {
         mode: Mode::Byte,
         bits: u32::MAX,
     };
-    let bits = bits_from(version, place, Mode::Numeric, rest);
+    let bits = bits_from(heads, place, Mode::Numeric, rest);
     let best = or_letter(none, Mode::Numeric, digit, bits);
-    let bits = bits_from(version, place, Mode::Alphanumeric, rest);
+    let bits = bits_from(heads, place, Mode::Alphanumeric, rest);
     let best = or_letter(best, Mode::Alphanumeric, character, bits);
-    let bits = bits_from(version, place, Mode::Byte, rest);
+    let bits = bits_from(heads, place, Mode::Byte, rest);
     or_letter(best, Mode::Byte, true, bits)
 }
 
@@ -126,27 +120,27 @@ fn apart(choices: ByPlace<Choice>) -> (ByPlace<Mode>, ByPlace<u32>)
 #[tactic(auto, unfolding(crate::specs::Steps::Place::may_end))]
 #[inline(always)]
 pub(crate) fn row(
-    version: Version,
+    heads: &Heads,
     rule: Rule,
     byte: u8,
     pair: bool,
     rest: &ByPlace<u32>,
 ) -> (ByPlace<Mode>, ByPlace<u32>)
     requires { (p : Place) → at_place rest.now p < 10000000 }
-    ensures { (p : Place) → IsChoice version rule p byte pair (at_place rest.now)
+    ensures { (p : Place) → IsChoice heads.now.version rule p byte pair (at_place rest.now)
         (at_place result.0 p) (at_place result.1 p) }
 {
     let digit = may_begin(rule, byte, Mode::Numeric);
     let character = may_begin(rule, byte, Mode::Alphanumeric);
-    let start = choose(version, Place::Start, digit, character, rest);
+    let start = choose(heads, Place::Start, digit, character, rest);
     let alone = ByPlace {
         start,
-        digit1: choose(version, Place::Digit1, digit, character, rest),
-        digit2: choose(version, Place::Digit2, digit, character, rest),
-        digit3: choose(version, Place::Digit3, digit, character, rest),
-        character1: choose(version, Place::Character1, digit, character, rest),
-        character2: choose(version, Place::Character2, digit, character, rest),
-        in_bytes: choose(version, Place::InBytes, digit, character, rest),
+        digit1: choose(heads, Place::Digit1, digit, character, rest),
+        digit2: choose(heads, Place::Digit2, digit, character, rest),
+        digit3: choose(heads, Place::Digit3, digit, character, rest),
+        character1: choose(heads, Place::Character1, digit, character, rest),
+        character2: choose(heads, Place::Character2, digit, character, rest),
+        in_bytes: choose(heads, Place::InBytes, digit, character, rest),
         half_pair: Choice {
             mode: Mode::Kanji,
             bits: rest.whole_pair,
@@ -156,8 +150,8 @@ pub(crate) fn row(
     if !pair {
         return apart(alone);
     }
-    let first = step_bits(version, Place::Start, Mode::Kanji) + rest.half_pair;
-    let further = step_bits(version, Place::WholePair, Mode::Kanji) + rest.half_pair;
+    let first = step_bits(heads, Place::Start, Mode::Kanji) + rest.half_pair;
+    let further = step_bits(heads, Place::WholePair, Mode::Kanji) + rest.half_pair;
     apart(ByPlace {
         start: or_letter(alone.start, Mode::Kanji, true, first),
         digit1: or_letter(alone.digit1, Mode::Kanji, true, first),
@@ -193,11 +187,12 @@ pub(crate) fn best_letters(
     ensures len { IfOk result (λ t. vec_len t ≡ length input.now) }
     ensures best { IfOk result (λ t. IsBestTable version rule is_kanji_pair input.now (reverse t.items)) }
 {
+    let heads = Heads::of(version);
     let mut table = Vec::with_capacity(alloc, input.len())?;
     let mut rest = NO_BITS;
     for i in (0..input.len()).rev() {
         let pair = begins_with_pair(rule, &input[i..]);
-        let (modes, bits) = row(version, rule, input[i], pair, &rest);
+        let (modes, bits) = row(&heads, rule, input[i], pair, &rest);
         table.push(modes)?;
         rest = bits;
     }

@@ -1,8 +1,9 @@
-use Rattle.std.proofs.Common.{◌≡◌, ◌+◌, ◌-◌, ◌≤◌, ◌<◌, ℕ, [], ◌∷◌, take, length, arith, subst, ⊎_elim}
+use Rattle.std.proofs.Common.{◌≡◌, ◌+◌, ◌-◌, ◌≤◌, ◌<◌, ℕ, [], ◌∷◌, take, length, get_or, arith, subst, ⊎_elim}
+use Rattle.qr_bits.specs.declared.place.Place.{Place}
 use Rattle.std.proofs.lemmas.Bool.{cases_lt}
 use Rattle.qr_bits.specs.Segmentation.{HasFit}
 use Rattle.qr_bits.specs.Modes.{is_kanji_pair}
-use Rattle.qr_bits.specs.Steps.Place.{turned}
+use Rattle.qr_bits.specs.Steps.Place.{turned, IsChoice}
 use Rattle.qr_bits.specs.Steps.Table.{at_place}
 use Rattle.qr_bits.proofs.TableLemmas.{best_none, small_more, zeros}
 use Rattle.qr_bits.proofs.MirrorLemmas.{empty_fits, front_more, front_fits, front_least}
@@ -29,7 +30,9 @@ loop-i-preserved c =
     let xs = c.args.input.now in
     let i = c.loop-i.i in
     let inv = c.loop-i.invariant in
-    let below = front_more v r xs i c.ends_with_pair-pair.result inv.best.0 c.row.result.0 c.loop-i.rest c.row.result.1 (omega arith) c.ends_with_pair-pair.ensures inv.best.1 c.row.ensures in
+    let chosen : (p : Place) → IsChoice v r p (get_or xs i 0) c.ends_with_pair-pair.result (at_place c.loop-i.rest) (at_place c.row.result.0 p) (at_place c.row.result.1 p) =
+    λ p. subst (λ (w : ℕ). IsChoice w r p (get_or xs i 0) c.ends_with_pair-pair.result (at_place c.loop-i.rest) (at_place c.row.result.0 p) (at_place c.row.result.1 p)) c.of-heads.ensures (c.row.ensures p) in
+    let below = front_more v r xs i c.ends_with_pair-pair.result inv.best.0 c.row.result.0 c.loop-i.rest c.row.result.1 (omega arith) c.ends_with_pair-pair.ensures inv.best.1 chosen in
     let room = c.args.room in
     elim c.if-from-room.branch [
       | then-from-room w ↦
@@ -38,7 +41,7 @@ loop-i-preserved c =
             inside = omega arith;
             fits = fit;
             longest = λ k h _. h;
-            small = small_more v r _ _ c.row.result.0 c.loop-i.rest c.row.result.1 i inv.small c.row.ensures;
+            small = small_more v r _ _ c.row.result.0 c.loop-i.rest c.row.result.1 i inv.small chosen;
             best = (c.row.result.0 ∷ inv.best.0, below);
           })
       | else-from-room w ↦
@@ -52,7 +55,7 @@ loop-i-preserved c =
                 absurd (omega (arith, front_least v r (take (i + 1) xs) _ (at_place c.row.result.1) room below q, w.if-from-room.false, c.from.ensures)))
                 (λ (l : k ≤ i). inv.longest k l fit)
                 (cases_lt i k);
-            small = small_more v r _ _ c.row.result.0 c.loop-i.rest c.row.result.1 i inv.small c.row.ensures;
+            small = small_more v r _ _ c.row.result.0 c.loop-i.rest c.row.result.1 i inv.small chosen;
             best = (c.row.result.0 ∷ inv.best.0, below);
           })
     ]

@@ -13,8 +13,8 @@ use Rattle.qr_bits.proofs.segmentation.longest_by_rows.Given as goal
 abbrev pub invariant-loop-i : goal.invariant-loop-i
 invariant-loop-i l = record {
   inside : l.longest ≤ l.i;
-  fits : HasFit l.version l.rule (take l.longest l.input) l.room;
-  longest : (k : ℕ) → k ≤ l.i → HasFit l.version l.rule (take k l.input) l.room → k ≤ l.longest;
+  fits : HasFit l.fn.version l.rule (take l.longest l.input) l.room;
+  longest : (k : ℕ) → k ≤ l.i → HasFit l.fn.version l.rule (take k l.input) l.room → k ≤ l.longest;
   small : (p : Place) → at_place l.rest p ≤ 33 * l.i;
-  best : (rows : List (ByPlace Mode)) × BestBelow l.version l.rule (turned is_kanji_pair) (reverse (take l.i l.input)) (λ p. follow p rows) (at_place l.rest);
+  best : (rows : List (ByPlace Mode)) × BestBelow l.fn.version l.rule (turned is_kanji_pair) (reverse (take l.i l.input)) (λ p. follow p rows) (at_place l.rest);
 }
