@@ -1,8 +1,12 @@
 -- Lines of 192 places as three words, the lowest bit of the first word being place 0, and rows of them. Public clauses
 -- cite dark_in.
-use Rattle.std.specs.Prelude.{ℕ, ◌+◌, ◌*◌, ◌^◌, Bool, ◌==◌, List, slice_index, slice_index_or, []}
+use Rattle.std.specs.Prelude.{◌≡◌, ℕ, ◌+◌, ◌*◌, ◌^◌, ◌<◌, Bool, ◌==◌, List, length, slice_index, slice_index_or, []}
 use Rattle.std.specs.Int.{bit_at}
 use Rattle.qr_matrix.specs.Penalty.{count_below}
+
+-- three words of 64 bits [own]
+abbrev pub AreWords : List ℕ → Type 0
+AreWords words = (length words ≡ 3) × (slice_index words 0 < 2 ^ 64) × (slice_index words 1 < 2 ^ 64) × (slice_index words 2 < 2 ^ 64)
 
 -- the three words as one number [own]
 unfoldable pub line_of : List ℕ → ℕ

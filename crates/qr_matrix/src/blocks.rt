@@ -1,37 +1,34 @@
-//! Blocks of two by two modules of one colour (ISO/IEC 18004:2015, 7.8.3.1, Table 11), counted on words.
+//! Blocks of two by two modules of one colour (ISO/IEC 18004:2015, 7.8.3.1, Table 11), counted on lines.
 
-ghost use Rattle.std.specs.Prelude.{◌≡◌, ℕ, ◌*◌, ◌<◌, ◌≤◌, length};
+ghost use Rattle.std.specs.Prelude.{◌≡◌, ℕ, ◌*◌, ◌≤◌};
+ghost use Rattle.qr_matrix.specs.Grid.{colour};
 ghost use Rattle.qr_matrix.specs.Penalty.{is_block, block_count};
-ghost use Rattle.qr_matrix.specs.Lines.{has, dark_in};
+ghost use Rattle.qr_matrix.specs.Lines.{has};
 
-use crate::line::{both, count};
-use crate::runs::{joined, joined_down};
+use crate::line::Line;
+use crate::matrix::Matrix;
+use crate::runs::{joined, joined_in_column};
 
 // The places of a row where a block begins.
-fn blocks_at(side: u8, rows: &[[u64; 3]], row: usize) -> [u64; 3]
-    requires few { side ≤ 177 }
-    requires long { length rows.now ≡ side }
-    requires bound { row < 1000 }
-    ensures { (c : ℕ) → has result c ≡ is_block side (dark_in rows.now) row c }
+fn blocks_at(matrix: &Matrix, row: u8) -> Line
+    ensures { (c : ℕ) → has result c ≡ is_block matrix.now.side (colour matrix.now) row c }
 {
-    if row + 1 < rows.len() {
-        let sides = both(joined(side, rows[row]), joined(side, rows[row + 1]));
-        both(sides, joined_down(side, rows, row))
+    if row < matrix.side() - 1 {
+        let sides = joined(matrix, row) & joined(matrix, row + 1);
+        sides & joined_in_column(matrix, row)
     } else {
-        [0; 3]
+        Line::EMPTY
     }
 }
 
 // How many blocks a square has, those that overlap counted each.
-pub(crate) fn block_count(side: u8, rows: &[[u64; 3]]) -> u32
-    requires few { side ≤ 177 }
-    requires long { length rows.now ≡ side }
-    ensures value { result ≡ block_count side (dark_in rows.now) }
-    ensures bound { result ≤ 192 * side }
+pub(crate) fn block_count(matrix: &Matrix) -> u32
+    ensures value { result ≡ block_count matrix.now.side (colour matrix.now) }
+    ensures bound { result ≤ 192 * matrix.now.side }
 {
     let mut total = 0;
-    for row in 0..rows.len() {
-        total += count(blocks_at(side, rows, row));
+    for row in 0..matrix.side() {
+        total += blocks_at(matrix, row).count();
     }
     total
 }

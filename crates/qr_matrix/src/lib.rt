@@ -1,4 +1,4 @@
-//! The square of modules that makes a symbol, in rows of words, and its penalty, counted on the words.
+//! The square of modules that makes a symbol, in rows of words, and its penalty, counted on these.
 #![tactic(auto)]
 
 mod blocks;

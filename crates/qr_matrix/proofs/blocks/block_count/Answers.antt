@@ -1,5 +1,5 @@
 use Rattle.std.proofs.Common.{arith, ap, ◌∙◌, refl}
-use Rattle.qr_matrix.specs.Lines.{dark_in}
+use Rattle.qr_matrix.specs.Grid.{colour}
 use Rattle.qr_matrix.specs.Penalty.{count_below, is_block, block_count}
 use Rattle.qr_matrix.specs.Sums.{sum_below}
 use Rattle.qr_matrix.proofs.SumLemmas.{sum_below-more}
@@ -8,8 +8,8 @@ use Rattle.qr_matrix.proofs.blocks.block_count.Goals as goal
 
 pub loop-row-preserved : goal.loop-row-preserved
 loop-row-preserved c =
-    let s = c.args.side in
-    let d = dark_in c.args.rows.now in
+    let s = c.args.matrix.now.side in
+    let d = colour c.args.matrix.now in
     let e = blocks-row s d c.loop-row.row c.blocks_at.result (omega arith) c.blocks_at.ensures in
     record {
       counted = sum_below-more c.loop-row.row _ _ _ (λ r. count_below s (is_block s d r)) c.loop-row.invariant.counted (c.count-total.ensures.value ∙ e) refl;
@@ -18,4 +18,4 @@ loop-row-preserved c =
 
 pub returns-clause-value : goal.returns-clause-value
 unfolding block_count
-returns-clause-value c = c.loop-row.invariant.counted ∙ ap (λ z. sum_below z (λ r. count_below c.args.side (is_block c.args.side (dark_in c.args.rows.now) r))) (omega arith)
+returns-clause-value c = c.loop-row.invariant.counted ∙ ap (λ z. sum_below z (λ r. count_below c.args.matrix.now.side (is_block c.args.matrix.now.side (colour c.args.matrix.now) r))) (omega arith)
