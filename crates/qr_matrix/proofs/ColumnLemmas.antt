@@ -3,10 +3,10 @@ use Rattle.std.proofs.Common.{◌≡◌, ℕ, ◌+◌, ◌-◌, ◌*◌, ◌<◌
 use Rattle.std.proofs.lemmas.Bool.{cases_lt}
 use Rattle.std.proofs.lemmas.Bool.Decides.{nat_tests}
 use Rattle.std.proofs.lemmas.Nat.Bits.{bit_at-zero}
-use Rattle.qr_matrix.specs.Lines.{has, has_bit, line_of, size_of}
-use Rattle.qr_matrix.specs.Penalty.{count_below, is_same}
-use Rattle.qr_matrix.specs.Sums.{sum_below}
-use Rattle.qr_matrix.specs.Places.{joins, begins_five, begins_run, place_cost, row_share}
+use Rattle.qr_matrix.specs.Line.{has, has_bit, line_of}
+use Rattle.qr_matrix.specs.Steps.{size_of, row_share}
+use Rattle.qr_matrix.specs.Penalty.{count_below, is_same, sum_below}
+use Rattle.qr_matrix.specs.Runs.{joins, begins_five, begins_long_run, place_cost}
 use Rattle.qr_matrix.proofs.SumLemmas.{count_below-same, count_below-cut, sum_below-swap, sum_below-add, sum_below-scale}
 use Rattle.qr_matrix.proofs.RowLemmas.{joins-past}
 use Rattle.qr_matrix.proofs.BoolLemmas.{and-false, not-not}
@@ -56,8 +56,8 @@ guarded-run true f j t = refl
 guarded-run false f j t = refl
 
 -- a run begins where five places do and the place above is not joined to the first
-run-down-bit : (s : ℕ) (line : ℕ → Bool) (c r : ℕ) (x f j : Bool) → x ≡ (f && not j) → f ≡ (ltb c s && begins_five s line r) → j ≡ (ltb 0 r && (ltb c s && joins s line (r - 1))) → x ≡ (ltb c s && begins_run s line r)
-unfolding begins_run
+run-down-bit : (s : ℕ) (line : ℕ → Bool) (c r : ℕ) (x f j : Bool) → x ≡ (f && not j) → f ≡ (ltb c s && begins_five s line r) → j ≡ (ltb 0 r && (ltb c s && joins s line (r - 1))) → x ≡ (ltb c s && begins_long_run s line r)
+unfolding begins_long_run
 run-down-bit s line c r x f j ex ef ej =
     let e = guarded-run (ltb c s) (begins_five s line r) (joins s line (r - 1)) (ltb 0 r) in
     cc
@@ -78,7 +78,7 @@ pub share-of : (s : ℕ) (dark : ℕ → ℕ → Bool) (r n : ℕ) (f a : List �
 unfolding row_share
 share-of s dark r n f a l hf ha e =
     let p = guarded-size s f (λ c. begins_five s (λ i. dark i c) r) l hf in
-    let q = guarded-count s (λ c. has f c && not (has a c)) (λ c. begins_run s (λ i. dark i c) r) l (λ c. run-down-bit s (λ i. dark i c) c r (has f c && not (has a c)) (has f c) (has a c) refl (hf c) (ha c)) in
+    let q = guarded-count s (λ c. has f c && not (has a c)) (λ c. begins_long_run s (λ i. dark i c) r) l (λ c. run-down-bit s (λ i. dark i c) c r (has f c && not (has a c)) (has f c) (has a c) refl (hf c) (ha c)) in
     omega arith
 
 -- two counts are summed row by row or column by column
@@ -95,4 +95,4 @@ shares-swap s f g =
 -- the shares of the rows are the costs of the columns
 pub shares-are-columns : (s : ℕ) (dark : ℕ → ℕ → Bool) → sum_below s (row_share s dark) ≡ sum_below s (λ c. place_cost s (λ r. dark r c))
 unfolding row_share place_cost
-shares-are-columns s dark = shares-swap s (λ r c. cond (begins_five s (λ i. dark i c) r) 1 0) (λ r c. cond (begins_run s (λ i. dark i c) r) 1 0)
+shares-are-columns s dark = shares-swap s (λ r c. cond (begins_five s (λ i. dark i c) r) 1 0) (λ r c. cond (begins_long_run s (λ i. dark i c) r) 1 0)

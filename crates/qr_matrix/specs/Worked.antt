@@ -1,5 +1,5 @@
 -- Worked squares with which a public law compares the definition of the penalty.
-use Rattle.std.specs.Prelude.{ℕ, ◌+◌, ◌-◌, ◌%◌, ◌&&◌, ◌||◌, ◌==◌, nat_le, Bool, true, false}
+use Rattle.std.specs.Prelude.{ℕ, ◌+◌, ◌%◌, ◌&&◌, ◌||◌, ◌==◌, nat_le, Bool, true, false}
 
 -- every module is dark [own]
 abbrev pub all_dark : ℕ → ℕ → Bool

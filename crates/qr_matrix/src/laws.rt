@@ -3,19 +3,19 @@
 //! the laws; the others count, and their contracts say what.
 
 ghost use Rattle.std.specs.Prelude.{◌≡◌, ℕ, Bool};
-ghost use Rattle.qr_matrix.specs.Penalty.{over_lines, run_cost, block_count, window_count, penalty_of};
-ghost use Rattle.qr_matrix.specs.Places.{place_cost};
+ghost use Rattle.qr_matrix.specs.Penalty.{over_lines, run_cost, square_count, window_count, penalty_of};
+ghost use Rattle.qr_matrix.specs.Runs.{place_cost};
 ghost use Rattle.qr_matrix.specs.Grid.{colour};
 ghost use Rattle.qr_matrix.specs.Worked.{all_dark, all_light, chequered, ratio_in_a_row, ratio_in_a_column};
 
-use crate::blocks::block_count;
 use crate::matrix::Matrix;
 use crate::runs::runs_cost;
+use crate::squares::square_count;
 use crate::windows::window_count;
 
 /// The definition of the penalty computes the points of these squares, which are counted by hand from Table 11; and it
 /// finds the ratio of a finder pattern after and before four light modules, at whatever place of a line.
-#[tactic(auto, unfolding(crate::specs::Penalty::penalty_of, crate::specs::Penalty::over_lines, crate::specs::Penalty::run_cost, crate::specs::Penalty::is_run, crate::specs::Penalty::window_count, crate::specs::Penalty::is_window, crate::specs::Penalty::block_count, crate::specs::Penalty::is_block, crate::specs::Penalty::dark_count, crate::specs::Penalty::dark_cost))]
+#[tactic(auto, unfolding(crate::specs::Penalty::penalty_of, crate::specs::Penalty::over_lines, crate::specs::Penalty::run_cost, crate::specs::Penalty::is_run, crate::specs::Penalty::window_count, crate::specs::Penalty::is_window, crate::specs::Penalty::square_count, crate::specs::Penalty::is_square_of_two, crate::specs::Penalty::dark_count, crate::specs::Penalty::dark_cost))]
 pub fn penalties_compute()
     ensures one { penalty_of 1 all_light ≡ 100 }
     ensures dark { penalty_of 5 all_dark ≡ 178 }
@@ -39,11 +39,11 @@ pub fn runs_on_words(m: &Matrix) -> u32
     runs_cost(m)
 }
 
-/// The blocks that are counted on words are those of the square.
-pub fn blocks_on_words(m: &Matrix) -> u32
-    ensures { result ≡ block_count m.now.side (colour m.now) }
+/// The squares of two by two modules of one colour that are counted on words are all there are.
+pub fn squares_on_words(m: &Matrix) -> u32
+    ensures { result ≡ square_count m.now.side (colour m.now) }
 {
-    block_count(m)
+    square_count(m)
 }
 
 /// The windows that are counted on words are those of all rows and columns.

@@ -2,7 +2,7 @@
 
 ghost use Rattle.std.specs.Prelude.{◌≡◌, ℕ, ◌+◌, ◌-◌, ◌%◌, ◌<◌, ◌≤◌, ◌&&◌, not, nat_le, nat_lt, if◌then◌else◌, false, length, IfOk};
 ghost use Rattle.qr_matrix.specs.Grid.{square, colour, painted, with_row, with_rectangle, light};
-ghost use Rattle.qr_matrix.specs.Lines.{dark_in, has, has_bit};
+ghost use Rattle.qr_matrix.specs.Line.{dark_in, has, has_bit};
 ghost use Rattle.qr_matrix.specs.Runs.{IsRunEnd};
 
 use crate::line::Line;
@@ -20,7 +20,7 @@ pub struct Matrix {
 impl Model for Matrix {
     ghost use Rattle.std.specs.Prelude.{◌≡◌, ℕ, ◌≤◌, false, length};
     ghost use Rattle.qr_matrix.specs.Grid.{Grid, square};
-    ghost use Rattle.qr_matrix.specs.Lines.{dark_in};
+    ghost use Rattle.qr_matrix.specs.Line.{dark_in};
 
     ghost Value = { Grid };
 
@@ -124,7 +124,8 @@ impl Matrix {
         requires left_in { 1 ≤ col }
         requires col_in { col < self.old.side }
         requires bits { bits < 4 }
-        ensures { self.new ≡ painted (painted self.old row col (has_bit bits 1)) row (col - 1) (has_bit bits 0) }
+        ensures { self.new ≡ painted (painted self.old row col (has_bit bits 1))
+            row (col - 1) (has_bit bits 0) }
     {
         self.rows[usize::from(row)].put_pair(col, bits);
     }
@@ -146,8 +147,8 @@ impl Matrix {
         requires within_side { within.now.side ≡ self.old.side }
         requires pattern_in { pattern < 64 }
         ensures { self.new ≡ with_row self.old row
-            (λ c. if colour within.now row c && has_bit pattern (c % 6) then not (colour plain.now row c)
-            else colour plain.now row c) }
+            (λ c. if colour within.now row c && has_bit pattern (c % 6)
+            then not (colour plain.now row c) else colour plain.now row c) }
     {
         let inverted = within.line(row) & Line::repeated(pattern);
         self.set_line(row, plain.line(row) ^ inverted);

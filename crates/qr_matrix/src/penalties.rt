@@ -4,14 +4,14 @@ ghost use Rattle.std.specs.Prelude.{◌≡◌, ℕ, ◌+◌, ◌-◌, ◌*◌, �
 ghost use Rattle.qr_matrix.specs.Grid.{colour};
 ghost use Rattle.qr_matrix.specs.Penalty.{dark_count, penalty_of};
 
-use crate::blocks::block_count;
 use crate::matrix::Matrix;
 use crate::runs::runs_cost;
+use crate::squares::square_count;
 use crate::windows::window_count;
 
-// The points of Table 11: for a block, for a window, and for each twentieth by which the dark modules are more or fewer
-// than half.
-const BLOCK_POINTS: u32 = 3;
+// The points of Table 11: for a square of two by two modules of one colour, for a window, and for each twentieth by
+// which the dark modules are more or fewer than half.
+const SQUARE_POINTS: u32 = 3;
 
 const WINDOW_POINTS: u32 = 40;
 
@@ -48,7 +48,7 @@ pub fn penalty(m: &Matrix) -> u32
 {
     let modules = u32::from(m.side()) * u32::from(m.side());
     runs_cost(m)
-        + BLOCK_POINTS * block_count(m)
+        + SQUARE_POINTS * square_count(m)
         + WINDOW_POINTS * window_count(m)
         + balance_cost(modules, dark_count(m))
 }

@@ -1,7 +1,6 @@
 use Rattle.std.proofs.Common.{arith, ap, sym, ◌∙◌, refl}
 use Rattle.qr_matrix.specs.Grid.{colour}
-use Rattle.qr_matrix.specs.Penalty.{count_below, dark_count}
-use Rattle.qr_matrix.specs.Sums.{sum_below}
+use Rattle.qr_matrix.specs.Penalty.{count_below, dark_count, sum_below}
 use Rattle.qr_matrix.proofs.SumLemmas.{sum_below-more}
 use Rattle.qr_matrix.proofs.RowLemmas.{size-is}
 use Rattle.qr_matrix.proofs.penalties.dark_count.Goals as goal

@@ -1,6 +1,6 @@
 use Rattle.std.proofs.Common.{not, ltb, ap, ◌∙◌, arith}
 use Rattle.qr_matrix.specs.Grid.{colour}
-use Rattle.qr_matrix.specs.Lines.{has}
+use Rattle.qr_matrix.specs.Line.{has}
 use Rattle.qr_matrix.specs.Penalty.{is_same}
 use Rattle.qr_matrix.proofs.ColumnLemmas.{has-nothing, joins-down-bit, joins-down-none}
 use Rattle.qr_matrix.proofs.runs.joined_in_column.Goals as goal

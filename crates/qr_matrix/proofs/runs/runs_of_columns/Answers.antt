@@ -1,9 +1,9 @@
 use Rattle.std.proofs.Common.{◌≡◌, ℕ, ◌+◌, ◌-◌, Bool, true, ◌&&◌, ltb, arith, ap, sym, ◌∙◌, refl}
 use Rattle.qr_matrix.specs.Grid.{colour}
-use Rattle.qr_matrix.specs.Lines.{has}
-use Rattle.qr_matrix.specs.Penalty.{run_cost}
-use Rattle.qr_matrix.specs.Sums.{sum_below}
-use Rattle.qr_matrix.specs.Places.{joins, row_share, place_cost}
+use Rattle.qr_matrix.specs.Line.{has}
+use Rattle.qr_matrix.specs.Penalty.{run_cost, sum_below}
+use Rattle.qr_matrix.specs.Runs.{joins, place_cost}
+use Rattle.qr_matrix.specs.Steps.{row_share}
 use Rattle.std.proofs.lemmas.Bool.Decides.{nat_tests}
 use Rattle.qr_matrix.proofs.SumLemmas.{sum_below-more, sum_below-same}
 use Rattle.qr_matrix.proofs.RunLemmas.{runs-by-places}

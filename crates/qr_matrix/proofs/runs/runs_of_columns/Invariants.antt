@@ -1,8 +1,9 @@
 use Rattle.std.proofs.Common.{◌≡◌, ℕ, ◌+◌, ◌-◌, ◌*◌, ◌≤◌, ◌&&◌, ltb}
 use Rattle.qr_matrix.specs.Grid.{colour}
-use Rattle.qr_matrix.specs.Lines.{has}
-use Rattle.qr_matrix.specs.Sums.{sum_below}
-use Rattle.qr_matrix.specs.Places.{joins, row_share}
+use Rattle.qr_matrix.specs.Line.{has}
+use Rattle.qr_matrix.specs.Penalty.{sum_below}
+use Rattle.qr_matrix.specs.Runs.{joins}
+use Rattle.qr_matrix.specs.Steps.{row_share}
 use Rattle.qr_matrix.proofs.runs.runs_of_columns.Given as goal
 
 abbrev pub invariant-loop-row : goal.invariant-loop-row

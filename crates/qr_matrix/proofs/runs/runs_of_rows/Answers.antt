@@ -1,8 +1,7 @@
 use Rattle.std.proofs.Common.{arith, ap, sym, ◌∙◌, refl}
 use Rattle.qr_matrix.specs.Grid.{colour}
-use Rattle.qr_matrix.specs.Places.{place_cost}
-use Rattle.qr_matrix.specs.Penalty.{run_cost}
-use Rattle.qr_matrix.specs.Sums.{sum_below}
+use Rattle.qr_matrix.specs.Runs.{place_cost}
+use Rattle.qr_matrix.specs.Penalty.{run_cost, sum_below}
 use Rattle.qr_matrix.proofs.SumLemmas.{sum_below-more, sum_below-same}
 use Rattle.qr_matrix.proofs.RowLemmas.{row_cost}
 use Rattle.qr_matrix.proofs.RunLemmas.{runs-by-places}

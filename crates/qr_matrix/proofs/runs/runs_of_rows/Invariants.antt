@@ -1,7 +1,7 @@
 use Rattle.std.proofs.Common.{◌≡◌, ◌*◌, ◌≤◌}
 use Rattle.qr_matrix.specs.Grid.{colour}
-use Rattle.qr_matrix.specs.Sums.{sum_below}
-use Rattle.qr_matrix.specs.Places.{place_cost}
+use Rattle.qr_matrix.specs.Penalty.{sum_below}
+use Rattle.qr_matrix.specs.Runs.{place_cost}
 use Rattle.qr_matrix.proofs.runs.runs_of_rows.Given as goal
 
 abbrev pub invariant-loop-row : goal.invariant-loop-row

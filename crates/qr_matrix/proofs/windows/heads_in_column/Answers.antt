@@ -1,7 +1,7 @@
 use Rattle.std.proofs.Common.{◌≡◌, ◌+◌, not, ◌&&◌, ltb, ap, ◌∙◌}
 use Rattle.qr_matrix.specs.Grid.{colour}
-use Rattle.qr_matrix.specs.Lines.{has}
-use Rattle.qr_matrix.proofs.WindowTests.{head-down}
+use Rattle.qr_matrix.specs.Line.{has}
+use Rattle.qr_matrix.proofs.ReadingLemmas.{head-down}
 use Rattle.qr_matrix.proofs.windows.heads_in_column.Goals as goal
 
 pub returns : goal.returns

@@ -1,8 +1,8 @@
 use Rattle.std.proofs.Common.{◌≡◌, ◌+◌, not, ◌&&◌, ltb, sym, ◌∙◌}
 use Rattle.qr_matrix.specs.Grid.{colour}
-use Rattle.qr_matrix.specs.Lines.{has}
+use Rattle.qr_matrix.specs.Line.{has}
 use Rattle.qr_matrix.proofs.ColumnLemmas.{guarded}
-use Rattle.qr_matrix.proofs.WindowTests.{tail-down}
+use Rattle.qr_matrix.proofs.ReadingLemmas.{tail-down}
 use Rattle.qr_matrix.proofs.windows.tails_in_column.Goals as goal
 
 pub returns : goal.returns

@@ -1,7 +1,6 @@
 use Rattle.std.proofs.Common.{arith, ◌≡◌, ap, ◌∙◌, refl}
 use Rattle.qr_matrix.specs.Grid.{colour}
-use Rattle.qr_matrix.specs.Penalty.{count_below, over_lines, is_window, window_count}
-use Rattle.qr_matrix.specs.Sums.{sum_below}
+use Rattle.qr_matrix.specs.Penalty.{count_below, over_lines, is_window, window_count, sum_below}
 use Rattle.qr_matrix.proofs.SumLemmas.{sum_below-more}
 use Rattle.qr_matrix.proofs.WindowLemmas.{windows-down-row, windows-are-columns}
 use Rattle.qr_matrix.proofs.windows.window_count.Goals as goal

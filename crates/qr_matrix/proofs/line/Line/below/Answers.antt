@@ -1,5 +1,5 @@
 use Rattle.std.proofs.Common.{◌≡◌, ◌-◌, ◌^◌, ap, ◌∙◌, arith}
-use Rattle.qr_matrix.specs.Lines.{has, has_bit, line_of}
+use Rattle.qr_matrix.specs.Line.{has, has_bit, line_of}
 use Rattle.qr_matrix.proofs.WordLemmas.{three-low, three-middle, three-high}
 use Rattle.qr_matrix.proofs.PlaceLemmas.{has_bit-ones}
 use Rattle.qr_matrix.proofs.line.Line.below.Goals as goal

@@ -1,5 +1,6 @@
 use Rattle.std.proofs.Common.{get_or, ◌∙◌, arith}
-use Rattle.qr_matrix.specs.Lines.{has, line_of, size_of}
+use Rattle.qr_matrix.specs.Line.{has, line_of}
+use Rattle.qr_matrix.specs.Steps.{size_of}
 use Rattle.qr_matrix.proofs.WordLemmas.{three-ones, three-below}
 use Rattle.qr_matrix.proofs.PlaceLemmas.{ones-count}
 use Rattle.std.proofs.lemmas.Nat.{ones-le}

@@ -1,5 +1,5 @@
 use Rattle.std.proofs.Common.{get_or, refl, arith}
-use Rattle.qr_matrix.specs.Lines.{has, line_of}
+use Rattle.qr_matrix.specs.Line.{has, line_of}
 use Rattle.qr_matrix.proofs.FirstLemmas.{first-low, first-middle, first-high, first-none}
 use Rattle.qr_matrix.proofs.line.Line.first.Goals as goal
 

@@ -1,5 +1,5 @@
 use Rattle.std.proofs.Common.{◌-◌, cond, eqb, ap, ◌∙◌, arith}
-use Rattle.qr_matrix.specs.Lines.{has, has_bit}
+use Rattle.qr_matrix.specs.Line.{has, has_bit}
 use Rattle.std.proofs.lemmas.Nat.{xor_lt}
 use Rattle.qr_matrix.proofs.PlaceLemmas.{words-small, set-words}
 use Rattle.qr_matrix.proofs.PairLemmas.{low-bit, high-bit, pair-step}

@@ -1,5 +1,5 @@
 use Rattle.std.proofs.Common.{ap, ◌∙◌}
-use Rattle.qr_matrix.specs.Lines.{has, has_bit, line_of}
+use Rattle.qr_matrix.specs.Line.{has, has_bit, line_of}
 use Rattle.qr_matrix.proofs.RepeatLemmas.{repeats, repeated-bit}
 use Rattle.qr_matrix.proofs.line.Line.repeated.Goals as goal
 

@@ -1,5 +1,5 @@
 use Rattle.std.proofs.Common.{get_or, ap, ◌∙◌, arith}
-use Rattle.qr_matrix.specs.Lines.{has, has_bit, line_of}
+use Rattle.qr_matrix.specs.Line.{has, has_bit, line_of}
 use Rattle.qr_matrix.proofs.WordLemmas.{three-and}
 use Rattle.qr_matrix.proofs.PlaceLemmas.{has_bit-and}
 use Rattle.qr_matrix.proofs.line.LineBitAnd.bitand.Goals as goal

@@ -1,6 +1,6 @@
 use Rattle.std.proofs.Common.{get_or, refl, ap, ◌∙◌, arith}
 use Rattle.std.proofs.lemmas.Nat.{xor_lt}
-use Rattle.qr_matrix.specs.Lines.{has, has_bit, line_of}
+use Rattle.qr_matrix.specs.Line.{has, has_bit, line_of}
 use Rattle.qr_matrix.proofs.WordLemmas.{three-xor}
 use Rattle.qr_matrix.proofs.PlaceLemmas.{has_bit-xor}
 use Rattle.qr_matrix.proofs.line.LineBitXor.bitxor.Goals as goal
