@@ -90,7 +90,7 @@ impl Matrix {
         ensures { IsRunEnd self.now row col result }
     {
         let side = self.side();
-        let line = self.line(row);
+        let line = self.line(usize::from(row));
         let others = if self.dark(row, col) {
             Line::below(side).and_not(line)
         } else {
@@ -100,13 +100,13 @@ impl Matrix {
     }
 
     // A row as a line, which has no place from the side on.
-    pub(crate) fn line(&self, row: u8) -> Line
+    pub(crate) fn line(&self, row: usize) -> Line
         requires { row < self.now.side }
         ensures colours { (c : ℕ) → has result c ≡ colour self.now row c }
         ensures past { (c : ℕ) → self.now.side ≤ c → has result c ≡ false }
         ensures few { self.now.side ≤ 177 }
     {
-        self.rows[usize::from(row)]
+        self.rows[row]
     }
 
     /// Gives one module its colour.
@@ -150,8 +150,9 @@ impl Matrix {
             (λ c. if colour within.now row c && has_bit pattern (c % 6)
             then not (colour plain.now row c) else colour plain.now row c) }
     {
-        let inverted = within.line(row) & Line::repeated(pattern);
-        self.set_line(row, plain.line(row) ^ inverted);
+        let index = usize::from(row);
+        let inverted = within.line(index) & Line::repeated(pattern);
+        self.set_line(row, plain.line(index) ^ inverted);
     }
 
     // Gives the modules of a row from `left` to before `right` one colour.
@@ -162,7 +163,7 @@ impl Matrix {
         ensures { self.new ≡ with_row self.old row
             (λ c. if nat_le left c && nat_lt c right then dark else colour self.old row c) }
     {
-        let line = self.line(row);
+        let line = self.line(usize::from(row));
         let columns = Line::below(right).and_not(Line::below(left));
         if dark {
             self.set_line(row, line | columns);

@@ -23,7 +23,7 @@ fn dark_count(matrix: &Matrix) -> u32
     ensures bound { result ≤ 192 * matrix.now.side }
 {
     let mut total = 0;
-    for row in 0..matrix.side() {
+    for row in 0..usize::from(matrix.side()) {
         total += matrix.line(row).count();
     }
     total

@@ -10,10 +10,10 @@ use crate::matrix::Matrix;
 use crate::runs::{joined, joined_in_column};
 
 // The places of a row where a square of two by two modules of one colour begins.
-fn squares_at(matrix: &Matrix, row: u8) -> Line
+fn squares_at(matrix: &Matrix, row: usize) -> Line
     ensures { (c : ℕ) → has result c ≡ is_square_of_two matrix.now.side (colour matrix.now) row c }
 {
-    if row < matrix.side() - 1 {
+    if row < usize::from(matrix.side() - 1) {
         let sides = joined(matrix, row) & joined(matrix, row + 1);
         sides & joined_in_column(matrix, row)
     } else {
@@ -27,7 +27,7 @@ pub(crate) fn square_count(matrix: &Matrix) -> u32
     ensures bound { result ≤ 192 * matrix.now.side }
 {
     let mut total = 0;
-    for row in 0..matrix.side() {
+    for row in 0..usize::from(matrix.side()) {
         total += squares_at(matrix, row).count();
     }
     total
