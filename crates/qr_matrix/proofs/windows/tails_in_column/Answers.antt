@@ -1,8 +1,8 @@
-use Rattle.std.proofs.Common.{◌≡◌, ◌+◌, not, ◌&&◌, ltb, sym, ◌∙◌}
+use Rattle.std.proofs.Common.{◌≡◌, ◌+◌, not, ◌&&◌, ◌||◌, ltb, sym, ap, ◌∙◌}
 use Rattle.qr_matrix.specs.Grid.{colour}
 use Rattle.qr_matrix.specs.Line.{has}
 use Rattle.qr_matrix.proofs.ColumnLemmas.{guarded}
-use Rattle.qr_matrix.proofs.ReadingLemmas.{tail-down}
+use Rattle.qr_matrix.proofs.ReadingLemmas.{four-light, tail-down}
 use Rattle.qr_matrix.proofs.windows.tails_in_column.Goals as goal
 
 pub returns : goal.returns
@@ -27,9 +27,11 @@ returns c = λ k.
     let h3 = c.bitand-middle.ensures k in
     let h4 = c.and_not.ensures k in
     let h5 = c.bitand-core.ensures k in
-    let h6 = c.and_not-2.ensures k in
-    let h7 = c.and_not-upper.ensures k in
-    let h8 = c.and_not-3.ensures k in
-    let h9 = c.and_not-4.ensures k in
-    let all : has c.and_not-4.result k ≡ (((((((((((ltb k m.side && colour m c.args.row k) && not (colour m (c.args.row + 1) k)) && colour m (c.args.row + 2) k) && colour m (c.args.row + 3) k) && colour m (c.args.row + 4) k) && not (colour m (c.args.row + 5) k)) && colour m (c.args.row + 6) k) && not (colour m (c.args.row + 7) k)) && not (colour m (c.args.row + 8) k)) && not (colour m (c.args.row + 9) k)) && not (colour m (c.args.row + 10) k)) = cc in
-    all ∙ tail-down (λ i. colour m i k) (ltb k m.side) c.args.row
+    let h6 = c.bitor-upper.ensures k in
+    let h7 = c.bitor.ensures k in
+    let h8 = c.bitor-dark.ensures k in
+    let core : has c.bitand-core.result k ≡ (((((((ltb k m.side && colour m c.args.row k) && not (colour m (c.args.row + 1) k)) && colour m (c.args.row + 2) k) && colour m (c.args.row + 3) k) && colour m (c.args.row + 4) k) && not (colour m (c.args.row + 5) k)) && colour m (c.args.row + 6) k) = cc in
+    let dark : has c.bitor-dark.result k ≡ (((colour m (c.args.row + 7) k || colour m (c.args.row + 8) k) || colour m (c.args.row + 9) k) || colour m (c.args.row + 10) k) = cc in
+    c.and_not-2.ensures k
+    ∙ (ap (λ z. z && not (has c.bitor-dark.result k)) core ∙ (ap (λ z. (((((((ltb k m.side && colour m c.args.row k) && not (colour m (c.args.row + 1) k)) && colour m (c.args.row + 2) k) && colour m (c.args.row + 3) k) && colour m (c.args.row + 4) k) && not (colour m (c.args.row + 5) k)) && colour m (c.args.row + 6) k) && not z) dark
+    ∙ (four-light (((((((ltb k m.side && colour m c.args.row k) && not (colour m (c.args.row + 1) k)) && colour m (c.args.row + 2) k) && colour m (c.args.row + 3) k) && colour m (c.args.row + 4) k) && not (colour m (c.args.row + 5) k)) && colour m (c.args.row + 6) k) (colour m (c.args.row + 7) k) (colour m (c.args.row + 8) k) (colour m (c.args.row + 9) k) (colour m (c.args.row + 10) k) ∙ tail-down (λ i. colour m i k) (ltb k m.side) c.args.row)))
