@@ -14,3 +14,8 @@ false-and a b e = subst (λ z. (z && b) ≡ false) (sym e) refl
 pub not-not : (b : Bool) → not (not b) ≡ b
 not-not true = refl
 not-not false = refl
+
+-- a conjunction with what is true is the other
+pub and-true : (a : Bool) → (a && true) ≡ a
+and-true true = refl
+and-true false = refl

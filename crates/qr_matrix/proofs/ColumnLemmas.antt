@@ -1,13 +1,14 @@
 -- Words of neighbouring rows against the tests of a column.
-use Rattle.std.proofs.Common.{◌≡◌, ℕ, ◌+◌, ◌-◌, ◌*◌, ◌<◌, ◌≤◌, List, [], ◌∷◌, eqb, ltb, Bool, true, false, not, ◌&&◌, cond, refl, sym, ap, ◌∙◌, arith}
+use Rattle.std.proofs.Common.{◌≡◌, ℕ, ◌+◌, ◌-◌, ◌*◌, ◌<◌, ◌≤◌, List, [], ◌∷◌, eqb, ltb, Bool, true, false, not, ◌&&◌, cond, refl, sym, ap, ◌∙◌, inl, inr, arith}
+use Rattle.std.proofs.lemmas.Bool.{cases_lt}
 use Rattle.std.proofs.lemmas.Bool.Decides.{nat_tests}
 use Rattle.std.proofs.lemmas.Nat.Bits.{bit_at-zero}
-use Rattle.qr_matrix.specs.Lines.{has, has_bit, line_of, size_of}
-use Rattle.qr_matrix.specs.Penalty.{count_below, is_same}
-use Rattle.qr_matrix.specs.Sums.{sum_below}
-use Rattle.qr_matrix.specs.Places.{joins, begins_five, begins_run, place_cost, row_share}
-use Rattle.qr_matrix.proofs.SumLemmas.{count_below-same, sum_below-swap, sum_below-add, sum_below-scale}
-use Rattle.qr_matrix.proofs.RowLemmas.{size-is, joins-past}
+use Rattle.qr_matrix.specs.Line.{has, has_bit, line_of}
+use Rattle.qr_matrix.specs.Steps.{size_of, row_share}
+use Rattle.qr_matrix.specs.Penalty.{count_below, is_same, sum_below}
+use Rattle.qr_matrix.specs.Runs.{joins, begins_five, begins_long_run, place_cost}
+use Rattle.qr_matrix.proofs.SumLemmas.{count_below-same, count_below-cut, sum_below-swap, sum_below-add, sum_below-scale}
+use Rattle.qr_matrix.proofs.RowLemmas.{joins-past}
 use Rattle.qr_matrix.proofs.BoolLemmas.{and-false, not-not}
 
 -- the line of no bits has no place
@@ -30,6 +31,13 @@ joins-down-none s line c r x h e = e ∙ sym (and-false (ltb c s) (joins s line 
 past : (s c : ℕ) (b : Bool) → s ≤ c → (ltb c s && b) ≡ false
 past s c b h = let e : ltb c s ≡ false = grind (arith, nat_tests) in ap (λ z. z && b) e
 
+-- what fails from s on is unchanged by the guard of what is below s
+pub guarded : (s c : ℕ) (b : Bool) → (s ≤ c → b ≡ false) → b ≡ (ltb c s && b)
+guarded s c b h = elim (cases_lt c s) [
+  | inl l ↦ let e : ltb c s ≡ true = grind (arith, nat_tests) in sym (ap (λ z. z && b) e)
+  | inr l ↦ h l ∙ sym (past s c b l)
+]
+
 -- a guard of four tests guards them together
 guarded-five : (u a b d e : Bool) → (((u && a) && (u && b)) && ((u && d) && (u && e))) ≡ (u && ((a && b) && (d && e)))
 guarded-five true a b d e = refl
@@ -48,24 +56,29 @@ guarded-run true f j t = refl
 guarded-run false f j t = refl
 
 -- a run begins where five places do and the place above is not joined to the first
-pub run-down-bit : (s : ℕ) (line : ℕ → Bool) (c r : ℕ) (x f j : Bool) → x ≡ (f && not j) → f ≡ (ltb c s && begins_five s line r) → j ≡ (ltb 0 r && (ltb c s && joins s line (r - 1))) → x ≡ (ltb c s && begins_run s line r)
-unfolding begins_run
+run-down-bit : (s : ℕ) (line : ℕ → Bool) (c r : ℕ) (x f j : Bool) → x ≡ (f && not j) → f ≡ (ltb c s && begins_five s line r) → j ≡ (ltb 0 r && (ltb c s && joins s line (r - 1))) → x ≡ (ltb c s && begins_long_run s line r)
+unfolding begins_long_run
 run-down-bit s line c r x f j ex ef ej =
     let e = guarded-run (ltb c s) (begins_five s line r) (joins s line (r - 1)) (ltb 0 r) in
     cc
 
--- a line whose places are those below s that pass a test has as many as pass it
-pub guarded-size : (s : ℕ) (words : List ℕ) (p : ℕ → Bool) → s ≤ 192 → ((c : ℕ) → has words c ≡ (ltb c s && p c)) → size_of words ≡ count_below s p
-guarded-size s words p l h =
-    size-is s words (λ c. ltb c s && p c) l (λ c k. h c) (λ c k. past s c (p c) k)
+-- a test that is passed just below s, where another one is, is passed as often
+guarded-count : (s : ℕ) (t p : ℕ → Bool) → s ≤ 192 → ((c : ℕ) → t c ≡ (ltb c s && p c)) → count_below 192 t ≡ count_below s p
+guarded-count s t p l h =
+    count_below-cut 192 s t (λ c. ltb c s && p c) l (λ c k. h c) (λ c k. past s c (p c) k)
     ∙ count_below-same s (λ c. ltb c s && p c) p (λ c k. let e : ltb c s ≡ true = grind (arith, nat_tests) in ap (λ z. z && p c) e)
 
--- what a row adds to the runs of the columns, counted on its words
-pub share-of : (s : ℕ) (dark : ℕ → ℕ → Bool) (r a b : ℕ) (f x : List ℕ) → s ≤ 192 → ((c : ℕ) → has f c ≡ (ltb c s && begins_five s (λ i. dark i c) r)) → ((c : ℕ) → has x c ≡ (ltb c s && begins_run s (λ i. dark i c) r)) → a ≡ size_of f → b ≡ size_of x → a + 2 * b ≡ row_share s dark r
+-- a line whose places are those below s that pass a test has as many as pass it
+pub guarded-size : (s : ℕ) (words : List ℕ) (p : ℕ → Bool) → s ≤ 192 → ((c : ℕ) → has words c ≡ (ltb c s && p c)) → size_of words ≡ count_below s p
+unfolding size_of
+guarded-size s words p l h = guarded-count s (has words) p l h
+
+-- what a row adds to the runs of the columns, counted on its places
+pub share-of : (s : ℕ) (dark : ℕ → ℕ → Bool) (r n : ℕ) (f a : List ℕ) → s ≤ 192 → ((c : ℕ) → has f c ≡ (ltb c s && begins_five s (λ i. dark i c) r)) → ((c : ℕ) → has a c ≡ (ltb 0 r && (ltb c s && joins s (λ i. dark i c) (r - 1)))) → n ≡ size_of f + 2 * count_below 192 (λ c. has f c && not (has a c)) → n ≡ row_share s dark r
 unfolding row_share
-share-of s dark r a b f x l hf hx ea eb =
+share-of s dark r n f a l hf ha e =
     let p = guarded-size s f (λ c. begins_five s (λ i. dark i c) r) l hf in
-    let q = guarded-size s x (λ c. begins_run s (λ i. dark i c) r) l hx in
+    let q = guarded-count s (λ c. has f c && not (has a c)) (λ c. begins_long_run s (λ i. dark i c) r) l (λ c. run-down-bit s (λ i. dark i c) c r (has f c && not (has a c)) (has f c) (has a c) refl (hf c) (ha c)) in
     omega arith
 
 -- two counts are summed row by row or column by column
@@ -82,4 +95,4 @@ shares-swap s f g =
 -- the shares of the rows are the costs of the columns
 pub shares-are-columns : (s : ℕ) (dark : ℕ → ℕ → Bool) → sum_below s (row_share s dark) ≡ sum_below s (λ c. place_cost s (λ r. dark r c))
 unfolding row_share place_cost
-shares-are-columns s dark = shares-swap s (λ r c. cond (begins_five s (λ i. dark i c) r) 1 0) (λ r c. cond (begins_run s (λ i. dark i c) r) 1 0)
+shares-are-columns s dark = shares-swap s (λ r c. cond (begins_five s (λ i. dark i c) r) 1 0) (λ r c. cond (begins_long_run s (λ i. dark i c) r) 1 0)

@@ -6,7 +6,7 @@ use Rattle.std.proofs.lemmas.Bool.Decides.{nat_tests}
 use Rattle.std.proofs.lemmas.List.{get_or_past, get_or_read, get_or-replicate, length-replicate, get_or-set_same, get_or-set_other}
 use Rattle.std.proofs.lemmas.Nat.Bits.{bit_at-zero}
 use Rattle.qr_matrix.specs.Grid.{Grid, square, colour, painted, with_row, with_rectangle}
-use Rattle.qr_matrix.specs.Lines.{has, has_bit, line_of, dark_in}
+use Rattle.qr_matrix.specs.Line.{has, has_bit, line_of, dark_in}
 use Rattle.qr_matrix.specs.Penalty.{is_same}
 use Rattle.qr_matrix.proofs.BoolLemmas.{and-false}
 use Rattle.qr_matrix.proofs.ColumnLemmas.{has-nothing}
@@ -38,13 +38,19 @@ colours-are s rows g v e h = sym (fun_ext (λ r. fun_ext (λ c. colour-is s rows
 
 -- ---- the steps of a matrix
 
--- a module that is read
-pub read-step : (s row col i : ℕ) (rows : List (List ℕ)) (words : List ℕ) (g : Grid) (x : Bool) → square s (dark_in rows) ≡ g → i ≡ row → row < g.side → col < g.side → length rows ≡ s → words ≡ get_or rows i words → x ≡ has words col → x ≡ colour g row col
+-- a row that is read is the line of its number
+read-line : (rows : List (List ℕ)) (row i : ℕ) (words : List ℕ) → i ≡ row → row < length rows → words ≡ get_or rows i words → words ≡ get_or rows row []
+read-line rows row i words e l w = get_or_read rows i words (omega arith) w [] ∙ ap (λ z. get_or rows z []) e
+
+-- its places are the colours of the row
+pub row-read : (s row i : ℕ) (rows : List (List ℕ)) (words : List ℕ) (g : Grid) → square s (dark_in rows) ≡ g → i ≡ row → row < length rows → length rows ≡ s → ((r c : ℕ) → s ≤ c → dark_in rows r c ≡ false) → words ≡ get_or rows i words → (c : ℕ) → has words c ≡ colour g row c
 unfolding dark_in
-read-step s row col i rows words g x v e l m o q h =
-    let t : s ≡ g.side = ap (λ (z : Grid). z.side) v in
-    let w : words ≡ get_or rows row [] = get_or_read rows i words (omega arith) q [] ∙ ap (λ z. get_or rows z []) e in
-    h ∙ (ap (λ z. has z col) w ∙ (sym (colour-square s (dark_in rows) row col (omega arith) (omega arith)) ∙ ap (λ (z : Grid). colour z row col) v))
+row-read s row i rows words g v e l q h w c = ap (λ z. has z c) (read-line rows row i words e l w) ∙ ap (λ (f : ℕ → ℕ → Bool). f row c) (colours-are s rows g v q h)
+
+-- it has none past the side
+pub row-past : (s row i : ℕ) (rows : List (List ℕ)) (words : List ℕ) → i ≡ row → row < length rows → ((r c : ℕ) → s ≤ c → dark_in rows r c ≡ false) → words ≡ get_or rows i words → (c : ℕ) → s ≤ c → has words c ≡ false
+unfolding dark_in
+row-past s row i rows words e l h w c k = ap (λ z. has z c) (read-line rows row i words e l w) ∙ h row c k
 
 -- the colours after a line is written
 dark-set : (rows : List (List ℕ)) (row col : ℕ) (words : List ℕ) (b : Bool) → row < length rows → ((i : ℕ) → has words i ≡ cond (eqb i col) b (has (get_or rows row []) i)) → (r c : ℕ) → dark_in (set rows row words) r c ≡ cond (eqb r row && eqb c col) b (dark_in rows r c)
@@ -105,12 +111,6 @@ line-write s row rows new g words f v h e =
     square-same s (dark_in new) (λ r c. cond (eqb r row) (f c) (colour (square s (dark_in rows)) r c)) (λ r c l m. h r c ∙ (ap (λ z. cond (eqb r row) z (dark_in rows r c)) (e c m) ∙ ap (λ z. cond (eqb r row) (f c) z) (sym (colour-square s (dark_in rows) r c l m))))
     ∙ ap (λ (z : Grid). with_row z row f) v
 
--- a line of a square that is read by its row
-pub line-read : (s row i : ℕ) (rows : List (List ℕ)) (words : List ℕ) (g : Grid) → square s (dark_in rows) ≡ g → i ≡ row → row < s → length rows ≡ s → words ≡ get_or rows i [] → (c : ℕ) → c < s → has words c ≡ colour g row c
-unfolding dark_in
-line-read s row i rows words g v e l q w c m =
-    ap (λ z. has z c) (w ∙ ap (λ z. get_or rows z []) e) ∙ (sym (colour-square s (dark_in rows) row c l m) ∙ ap (λ (z : Grid). colour z row c) v)
-
 -- a colour that differs where another place is dark too
 pub masked-bit : (d p w r x : Bool) → d ≡ not (is_same p x) → x ≡ (w && r) → d ≡ cond (w && r) (not p) p
 masked-bit d true w r x e f = e ∙ (ap (λ z. not (is_same true z)) f ∙ told (w && r))
@@ -158,12 +158,6 @@ filled-light left right c d p x a b e f ea eb =
     told false true = refl
     told false false = refl
 
--- past the side there is nothing to make light or dark
-pub filled-past : (s left right c : ℕ) (dark d p : Bool) → right ≤ s → s ≤ c → d ≡ cond (leb left c && ltb c right) dark p → p ≡ false → d ≡ false
-filled-past s left right c dark d p l m e f =
-    let t : ltb c right ≡ false = grind (arith, nat_tests) in
-    e ∙ (ap (λ z. cond z dark p) (and-false (leb left c) (ltb c right) t) ∙ f)
-
 -- what a matrix is seen as is a square of its own colours
 pub view-square : (s : ℕ) (rows : List (List ℕ)) (g : Grid) → square s (dark_in rows) ≡ g → g ≡ square g.side (colour g)
 view-square s rows g v = subst (λ (x : Grid). x ≡ square x.side (colour x)) v (square-same s (dark_in rows) (colour (square s (dark_in rows))) (λ r c l m. sym (colour-square s (dark_in rows) r c l m)))
@@ -196,14 +190,6 @@ rectangle-row g h top row left right dark k e =
     ])
 
 -- ---- the light square
-
--- a list of three words that are 0
-pub three-zeros : (ys : List ℕ) → length ys ≡ 3 → get_or ys 0 0 ≡ 0 → get_or ys 1 0 ≡ 0 → get_or ys 2 0 ≡ 0 → ys ≡ 0 ∷ 0 ∷ 0 ∷ []
-three-zeros [] e a b d = absurd (omega arith)
-three-zeros (x ∷ []) e a b d = absurd (omega arith)
-three-zeros (x ∷ y ∷ []) e a b d = absurd (omega arith)
-three-zeros (x ∷ y ∷ z ∷ []) e a b d = λ i. a i ∷ b i ∷ d i ∷ []
-three-zeros (x ∷ y ∷ z ∷ w ∷ ws) e a b d = absurd (omega arith)
 
 -- how many rows there are
 pub rows-long : (n : ℕ) (rows : List (List ℕ)) → rows ≡ replicate n (0 ∷ 0 ∷ 0 ∷ []) → length rows ≡ n

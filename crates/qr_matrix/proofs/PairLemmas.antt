@@ -9,7 +9,7 @@ use Rattle.std.proofs.lemmas.Nat.Bits.{bit_at_cat_low, bit_at_cat_high, bit_at-z
 use Rattle.std.proofs.lemmas.List.{get_or-set_same, get_or-set_other}
 use Rattle.std.proofs.lemmas.Bool.{cases_lt, cases_eq}
 use Rattle.std.proofs.lemmas.Bool.Decides.{nat_tests}
-use Rattle.qr_matrix.specs.Lines.{has, has_bit}
+use Rattle.qr_matrix.specs.Line.{has, has_bit}
 use Rattle.qr_matrix.specs.Penalty.{is_same}
 use Rattle.qr_matrix.specs.Grid.{Grid, colour, painted, with_row}
 use Rattle.qr_matrix.proofs.GridLemmas.{square-same, colour-square}

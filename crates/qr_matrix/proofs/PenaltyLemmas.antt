@@ -1,16 +1,12 @@
 -- The penalty from its parts.
 use Rattle.std.proofs.Common.{◌≡◌, ℕ, ◌+◌, ◌-◌, ◌*◌, ◌/◌, Bool, ap, ◌∙◌, arith}
-use Rattle.qr_matrix.specs.Penalty.{run_cost, block_count, window_count, over_lines, dark_count, dark_cost, penalty_of}
+use Rattle.qr_matrix.specs.Penalty.{run_cost, square_count, window_count, over_lines, dark_count, dark_cost, penalty_of}
 
 -- the penalty is the sum of its parts
-pub total-is : (s n a b w k d : ℕ) (dark : ℕ → ℕ → Bool) → n ≡ s * s → a ≡ over_lines s dark (run_cost s) → b ≡ block_count s dark → w ≡ over_lines s dark (window_count s) → k ≡ dark_count s dark
+pub total-is : (s n a b w k d : ℕ) (dark : ℕ → ℕ → Bool) → n ≡ s * s → a ≡ over_lines s dark (run_cost s) → b ≡ square_count s dark → w ≡ over_lines s dark (window_count s) → k ≡ dark_count s dark
     → d ≡ 10 * (((20 * k - 10 * n) + (10 * n - 20 * k)) / n)
     → a + 3 * b + 40 * w + d ≡ penalty_of s dark
 unfolding penalty_of dark_cost
 total-is s n a b w k d dark en ea eb ew ek ed =
     let e : d ≡ dark_cost s (dark_count s dark) = ed ∙ (ap (λ z. 10 * (((20 * k - 10 * z) + (10 * z - 20 * k)) / z)) en ∙ ap (dark_cost s) ek) in
     omega arith
-
--- and that of equal colours on an equal side
-pub same-penalty : (s n : ℕ) (d e : ℕ → ℕ → Bool) → s ≡ n → d ≡ e → penalty_of s d ≡ penalty_of n e
-same-penalty s n d e f g = ap (λ z. penalty_of z d) f ∙ ap (penalty_of n) g

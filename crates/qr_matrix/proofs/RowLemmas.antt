@@ -1,10 +1,11 @@
 -- Lines of words against the tests of a row.
-use Rattle.std.proofs.Common.{◌≡◌, ℕ, ◌+◌, ◌-◌, ◌*◌, ◌<◌, ◌≤◌, List, ltb, Bool, false, not, ◌&&◌, ap, ◌∙◌, arith}
+use Rattle.std.proofs.Common.{◌≡◌, ℕ, ◌+◌, ◌-◌, ◌*◌, ◌<◌, ◌≤◌, List, ltb, Bool, false, not, ◌&&◌, refl, ap, ◌∙◌, arith}
 use Rattle.std.proofs.lemmas.Bool.Decides.{nat_tests}
-use Rattle.qr_matrix.specs.Lines.{has, size_of}
+use Rattle.qr_matrix.specs.Line.{has}
+use Rattle.qr_matrix.specs.Steps.{size_of}
 use Rattle.qr_matrix.specs.Penalty.{count_below, is_same}
-use Rattle.qr_matrix.specs.Places.{joins, begins_five, begins_run, place_cost}
-use Rattle.qr_matrix.proofs.SumLemmas.{count_below-cut}
+use Rattle.qr_matrix.specs.Runs.{joins, begins_five, begins_long_run, place_cost}
+use Rattle.qr_matrix.proofs.SumLemmas.{count_below-same, count_below-cut}
 use Rattle.qr_matrix.proofs.BoolLemmas.{false-and, not-not}
 
 -- ---- the size of a line
@@ -13,6 +14,11 @@ use Rattle.qr_matrix.proofs.BoolLemmas.{false-and, not-not}
 pub size-is : (s : ℕ) (words : List ℕ) (q : ℕ → Bool) → s ≤ 192 → ((c : ℕ) → c < 192 → has words c ≡ q c) → ((c : ℕ) → s ≤ c → q c ≡ false) → size_of words ≡ count_below s q
 unfolding size_of
 size-is s words q l e f = count_below-cut 192 s (has words) q l e f
+
+-- a line whose places are those that pass a test has as many as pass it
+pub size-counts : (words : List ℕ) (q : ℕ → Bool) → ((c : ℕ) → has words c ≡ q c) → size_of words ≡ count_below 192 q
+unfolding size_of
+size-counts words q e = count_below-same 192 (has words) q (λ c _. e c)
 
 -- ---- neighbours of one colour
 
@@ -37,8 +43,8 @@ five-past s line c h =
     false-and (joins s line c && joins s line (c + 1)) (joins s line (c + 2) && joins s line (c + 3)) (false-and (joins s line c) (joins s line (c + 1)) (joins-past s line c (omega arith)))
 
 -- no run begins past the last
-run-past : (s : ℕ) (line : ℕ → Bool) (c : ℕ) → s ≤ c → begins_run s line c ≡ false
-unfolding begins_run
+run-past : (s : ℕ) (line : ℕ → Bool) (c : ℕ) → s ≤ c → begins_long_run s line c ≡ false
+unfolding begins_long_run
 run-past s line c h = false-and (begins_five s line c) (not (ltb 0 c && joins s line (c - 1))) (five-past s line c h)
 
 -- five places begin at four joins one after another
@@ -52,15 +58,15 @@ five-bit s line j c f h e =
     cc
 
 -- a run begins where five places begin and no join comes before
-run-bit : (s : ℕ) (line j : ℕ → Bool) (c : ℕ) (r f u : Bool) → ((c : ℕ) → j c ≡ joins s line c) → f ≡ begins_five s line c → u ≡ (ltb 0 c && j (c - 1)) → r ≡ (f && not u) → r ≡ begins_run s line c
-unfolding begins_run
+run-bit : (s : ℕ) (line j : ℕ → Bool) (c : ℕ) (r f u : Bool) → ((c : ℕ) → j c ≡ joins s line c) → f ≡ begins_five s line c → u ≡ (ltb 0 c && j (c - 1)) → r ≡ (f && not u) → r ≡ begins_long_run s line c
+unfolding begins_long_run
 run-bit s line j c r f u h e g k = let a = h (c - 1) in cc
 
--- the cost of the runs of a row from its words
-pub row_cost : (s a b : ℕ) (line : ℕ → Bool) (j f u r : List ℕ) → s ≤ 192 → ((c : ℕ) → has j c ≡ joins s line c) → ((c : ℕ) → has f c ≡ ((has j c && has j (c + 1)) && (has j (c + 2) && has j (c + 3)))) → ((c : ℕ) → c < 192 → has u c ≡ (ltb 0 c && has j (c - 1))) → ((c : ℕ) → has r c ≡ (has f c && not (has u c))) → a ≡ size_of f → b ≡ size_of r → a + 2 * b ≡ place_cost s line
+-- the cost of the runs of a row from its places
+pub row_cost : (s n : ℕ) (line : ℕ → Bool) (j f u : List ℕ) → s ≤ 192 → ((c : ℕ) → has j c ≡ joins s line c) → ((c : ℕ) → has f c ≡ ((has j c && has j (c + 1)) && (has j (c + 2) && has j (c + 3)))) → ((c : ℕ) → c < 192 → has u c ≡ (ltb 0 c && has j (c - 1))) → n ≡ size_of f + 2 * count_below 192 (λ c. has f c && not (has u c)) → n ≡ place_cost s line
 unfolding place_cost
-row_cost s a b line j f u r l hj hf hu hr ea eb =
+row_cost s n line j f u l hj hf hu e =
     let five : (c : ℕ) → has f c ≡ begins_five s line c = λ c. five-bit s line (has j) c (has f c) hj (hf c) in
     let p = size-is s f (begins_five s line) l (λ c k. five c) (λ c k. five-past s line c k) in
-    let q = size-is s r (begins_run s line) l (λ c k. run-bit s line (has j) c (has r c) (has f c) (has u c) hj (five c) (hu c k) (hr c)) (λ c k. run-past s line c k) in
+    let q = count_below-cut 192 s (λ c. has f c && not (has u c)) (begins_long_run s line) l (λ c k. run-bit s line (has j) c (has f c && not (has u c)) (has f c) (has u c) hj (five c) (hu c k) refl) (λ c k. run-past s line c k) in
     omega arith

@@ -2,9 +2,8 @@
 use Rattle.std.proofs.Common.{◌≡◌, ℕ, zero, suc, ◌+◌, ◌-◌, ◌*◌, ◌<◌, ◌≤◌, ◌⊎◌, inl, inr, eqb, ltb, leb, Bool, true, false, not, ◌&&◌, ◌||◌, cond, refl, sym, ap, ◌∙◌, subst, arith}
 use Rattle.std.proofs.lemmas.Bool.{cases_lt, false≢true}
 use Rattle.std.proofs.lemmas.Bool.Decides.{nat_tests}
-use Rattle.qr_matrix.specs.Penalty.{all_below, is_same, is_run, run_cost}
-use Rattle.qr_matrix.specs.Sums.{sum_below}
-use Rattle.qr_matrix.specs.Places.{joins, begins_five, begins_run, place_cost}
+use Rattle.qr_matrix.specs.Penalty.{all_below, is_same, is_run, run_cost, sum_below}
+use Rattle.qr_matrix.specs.Runs.{joins, begins_five, begins_long_run, place_cost}
 use Rattle.qr_matrix.proofs.SumLemmas.{sum_below-same, sum_below-add, sum_below-scale, sum_below-one}
 use Rattle.qr_matrix.proofs.BoolLemmas.{and-false}
 use Rattle.qr_matrix.proofs.RowLemmas.{joins-past}
@@ -281,7 +280,7 @@ cost_at s line a = cond (leb 5 (run_len s line a) && heads line a) (run_len s li
 
 -- what a place adds
 abbrev place_at : ℕ → (ℕ → Bool) → ℕ → ℕ
-place_at s line a = cond (begins_five s line a) 1 0 + 2 * cond (begins_run s line a) 1 0
+place_at s line a = cond (begins_five s line a) 1 0 + 2 * cond (begins_long_run s line a) 1 0
 
 -- the fives that are still to come of the run that place a goes on
 abbrev open_at : ℕ → (ℕ → Bool) → ℕ → ℕ
@@ -302,9 +301,9 @@ open-next s line a =
     ap (λ z. cond (z && joins s line (a + 1 - 1)) (left s line (a + 1) - 3) 0) e ∙ ap (λ z. cond (joins s line z) (left s line (a + 1) - 3) 0) f
 
 -- a run begins where four places are ahead and none before is joined
-begins_run-is : (s : ℕ) (line : ℕ → Bool) (a : ℕ) → begins_run s line a ≡ (leb 4 (left s line a) && not (ltb 0 a && joins s line (a - 1)))
-unfolding begins_run
-begins_run-is s line a = ap (λ z. z && not (ltb 0 a && joins s line (a - 1))) (five-is s line a)
+begins_long_run-is : (s : ℕ) (line : ℕ → Bool) (a : ℕ) → begins_long_run s line a ≡ (leb 4 (left s line a) && not (ltb 0 a && joins s line (a - 1)))
+unfolding begins_long_run
+begins_long_run-is s line a = ap (λ z. z && not (ltb 0 a && joins s line (a - 1))) (five-is s line a)
 
 -- equal tests count the same
 as-number : (a b : Bool) → a ≡ b → cond {A = ℕ} a 1 0 ≡ cond {A = ℕ} b 1 0
@@ -316,7 +315,7 @@ place-step s line a h =
     let f = ltb 0 a && joins s line (a - 1) in
     let b = balance (left s line a) (left s line (a + 1)) (joins s line a) (ltb 0 a && joins s line (a - 1)) (left-is s line a) in
     let p = as-number (begins_five s line a) _ (five-is s line a) in
-    let q = as-number (begins_run s line a) _ (begins_run-is s line a) in
+    let q = as-number (begins_long_run s line a) _ (begins_long_run-is s line a) in
     let r = open-next s line a in
     let t = ap (λ z. cond (leb 5 (run_len s line a) && z) (run_len s line a - 2) 0) (heads-is s line a h) in
     omega arith
@@ -345,6 +344,6 @@ runs-by-places s line =
     let a = sum_below-same s (λ a. sum_below (s + 1) (λ k. cond (leb 5 k && is_run s line a k) (k - 2) 0)) (cost_at s line) (λ a h. run_at s line a h) in
     let b = places-sum s line s (omega arith) in
     let c = open-end s line in
-    let d = sum_below-add s (λ a. cond (begins_five s line a) 1 0) (λ a. 2 * cond (begins_run s line a) 1 0) in
-    let e = sum_below-scale 2 s (λ a. cond (begins_run s line a) 1 0) in
+    let d = sum_below-add s (λ a. cond (begins_five s line a) 1 0) (λ a. 2 * cond (begins_long_run s line a) 1 0) in
+    let e = sum_below-scale 2 s (λ a. cond (begins_long_run s line a) 1 0) in
     omega arith

@@ -1,33 +1,13 @@
 -- Windows that are read on words.
-use Rattle.std.proofs.Common.{◌≡◌, ℕ, suc, ◌+◌, ◌<◌, ◌≤◌, List, ◌∷◌, length, get_or, drop, drop-cons, ltb, leb, Bool, true, false, ◌&&◌, ◌||◌, cond, refl, sym, ap, ◌∙◌, subst, arith}
+use Rattle.std.proofs.Common.{◌≡◌, ℕ, ◌+◌, ◌<◌, ◌≤◌, List, ltb, leb, Bool, true, false, ◌&&◌, ◌||◌, cond, refl, sym, ap, ◌∙◌, arith}
 use Rattle.std.proofs.lemmas.Bool.Decides.{nat_tests}
-use Rattle.qr_matrix.specs.Lines.{has, size_of}
-use Rattle.qr_matrix.specs.Penalty.{count_below, is_same, reads, tail_window, head_window, is_window, window_count}
-use Rattle.qr_matrix.specs.Sums.{sum_below}
+use Rattle.qr_matrix.specs.Line.{has}
+use Rattle.qr_matrix.specs.Steps.{size_of}
+use Rattle.qr_matrix.specs.Penalty.{count_below, reads, tail_window, head_window, is_window, window_count, sum_below}
 use Rattle.qr_matrix.proofs.SumLemmas.{sum_below-swap}
 use Rattle.qr_matrix.proofs.RowLemmas.{size-is}
 use Rattle.qr_matrix.proofs.BoolLemmas.{and-false, false-and}
 use Rattle.qr_matrix.proofs.ColumnLemmas.{guarded-size}
-
--- an item of a list and what is left after it
-drop-next : (xs : List Bool) (i : ℕ) → i < length xs → drop i xs ≡ get_or xs i false ∷ drop (i + 1) xs
-drop-next xs i h = let e : suc i ≡ i + 1 = omega arith in drop-cons xs i false h ∙ ap (λ z. get_or xs i false ∷ drop z xs) e
-
--- down a column a window is read from its end on
-reads-down-more : (s : ℕ) (line : ℕ → Bool) (c r i : ℕ) (xs : List Bool) (x m f : Bool) → i < length xs → x ≡ (m && f) → (c < s → m ≡ is_same (line (r + i)) (get_or xs i false)) → f ≡ (ltb c s && reads line (r + (i + 1)) (drop (i + 1) xs)) → x ≡ (ltb c s && reads line (r + i) (drop i xs))
-reads-down-more s line c r i xs x m f h ex em ef =
-    subst (λ ys. x ≡ (ltb c s && reads line (r + i) ys)) (sym (drop-next xs i h)) here
-  where
-    guard : (u a b m : Bool) → (u ≡ true → m ≡ a) → (m && (u && b)) ≡ (u && (a && b))
-    guard true a b m e = ap (λ z. z && b) (e refl)
-    guard false a b m e = and-false m false refl
-
-    here : x ≡ (ltb c s && (is_same (line (r + i)) (get_or xs i false) && reads line (r + i + 1) (drop (i + 1) xs)))
-    here =
-        let g : f ≡ (ltb c s && reads line (r + i + 1) (drop (i + 1) xs)) = ef ∙ ap (λ z. ltb c s && reads line z (drop (i + 1) xs)) (omega arith) in
-        ex ∙ (ap (λ z. m && z) g ∙ guard (ltb c s) (is_same (line (r + i)) (get_or xs i false)) (reads line (r + i + 1) (drop (i + 1) xs)) m (λ k. em (grind (arith, nat_tests))))
-
--- ---- the two windows
 
 -- a window of a row is one of the two
 pub window-bit : (s : ℕ) (line : ℕ → Bool) (c : ℕ) (x a b : Bool) → x ≡ (a || b) → a ≡ (leb (c + 11) s && reads line c tail_window) → b ≡ (leb (c + 11) s && reads line c head_window) → x ≡ is_window s line c
@@ -72,8 +52,3 @@ windows-down-row s dark r words l h = guarded-size s words (λ c. is_window s (�
 pub windows-are-columns : (s : ℕ) (dark : ℕ → ℕ → Bool) → sum_below s (λ r. count_below s (λ c. is_window s (λ i. dark i c) r)) ≡ sum_below s (λ c. window_count s (λ r. dark r c))
 unfolding window_count
 windows-are-columns s dark = sum_below-swap s s (λ r c. cond (is_window s (λ i. dark i c) r) 1 0)
-
--- the same at the index of a loop that counts down
-pub reads-down-step : (s : ℕ) (line : ℕ → Bool) (c r i j : ℕ) (xs : List Bool) (x m f : Bool) → j ≡ i + 1 → i < length xs → x ≡ (m && f) → (c < s → m ≡ is_same (line (r + i)) (get_or xs i false)) → f ≡ (ltb c s && reads line (r + j) (drop j xs)) → x ≡ (ltb c s && reads line (r + i) (drop i xs))
-reads-down-step s line c r i j xs x m f e h ex em ef =
-    reads-down-more s line c r i xs x m f h ex em (ef ∙ ap (λ z. ltb c s && reads line (r + z) (drop z xs)) e)

@@ -1,7 +1,6 @@
 pub mod Grid
-pub mod Runs
-pub mod Sums
 pub mod Penalty
-pub mod Places
-pub mod Lines
-pub mod Worked
+pub mod Runs
+pub mod Line
+pub mod Steps
+pub mod Laws

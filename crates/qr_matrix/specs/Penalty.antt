@@ -1,8 +1,12 @@
 -- The penalty of a square of modules. A line is a row or a column, as the colours of its places; true is dark. Public
--- clauses cite penalty_of, and laws its run_cost, block_count and window_count.
+-- clauses cite penalty_of, and laws its run_cost, square_count and window_count.
 use Rattle.std.specs.Prelude.{ℕ, ◌+◌, ◌-◌, ◌*◌, ◌/◌, ◌&&◌, ◌||◌, not, Bool, true, false, nat_lt, nat_le, ◌==◌, if◌then◌else◌, List, [], ◌∷◌}
 use Prim.Native.Nat.{zero, suc}
-use Rattle.qr_matrix.specs.Sums.{sum_below}
+
+-- the sum of f over the numbers below n [own]
+abbrev pub sum_below : ℕ → (ℕ → ℕ) → ℕ
+sum_below zero f = 0
+sum_below (suc n) f = f n + sum_below n f
 
 -- how many numbers below n pass the test [own]
 abbrev pub count_below : ℕ → (ℕ → Bool) → ℕ
@@ -36,7 +40,7 @@ abbrev pub reads : (ℕ → Bool) → ℕ → List Bool → Bool
 reads line c [] = true
 reads line c (b ∷ bs) = is_same (line c) b && reads line (c + 1) bs
 
--- the ratio 1 : 1 : 3 : 1 : 1 of a finder pattern before four light modules (ISO/IEC 18004:2015, 7.8.3.1, Table 11)
+-- the ratio 1:1:3:1:1 of a finder pattern before four light modules (ISO/IEC 18004:2015, 7.8.3.1, Table 11)
 abbrev pub tail_window : List Bool
 tail_window = true ∷ false ∷ true ∷ true ∷ true ∷ false ∷ true ∷ false ∷ false ∷ false ∷ false ∷ []
 
@@ -54,14 +58,14 @@ window_count s line = count_below s (is_window s line)
 
 -- the modules at (r, c), to the right of it, below it and between these are of one colour
 -- (ISO/IEC 18004:2015, 7.8.3.1, Table 11, block of modules in same colour)
-unfoldable pub is_block : ℕ → (ℕ → ℕ → Bool) → ℕ → ℕ → Bool
-is_block s dark r c =
+unfoldable pub is_square_of_two : ℕ → (ℕ → ℕ → Bool) → ℕ → ℕ → Bool
+is_square_of_two s dark r c =
     nat_lt (r + 1) s && nat_lt (c + 1) s
     && is_same (dark r c) (dark r (c + 1)) && is_same (dark r c) (dark (r + 1) c) && is_same (dark r c) (dark (r + 1) (c + 1))
 
--- how many blocks of two by two modules there are, those that overlap counted each [own]
-unfoldable pub block_count : ℕ → (ℕ → ℕ → Bool) → ℕ
-block_count s dark = sum_below s (λ r. count_below s (is_block s dark r))
+-- how many squares of two by two modules of one colour there are, those that overlap counted each [own]
+unfoldable pub square_count : ℕ → (ℕ → ℕ → Bool) → ℕ
+square_count s dark = sum_below s (λ r. count_below s (is_square_of_two s dark r))
 
 -- how many modules are dark [own]
 unfoldable pub dark_count : ℕ → (ℕ → ℕ → Bool) → ℕ
@@ -76,7 +80,8 @@ dark_cost s dark = 10 * (((20 * dark - 10 * (s * s)) + (10 * (s * s) - 20 * dark
 unfoldable pub over_lines : ℕ → (ℕ → ℕ → Bool) → ((ℕ → Bool) → ℕ) → ℕ
 over_lines s dark f = sum_below s (λ r. f (dark r)) + sum_below s (λ c. f (λ r. dark r c))
 
--- the penalty of a square of s rows and columns: its runs, 3 for each block, 40 for each finder-like window, and its
+-- the penalty of a square of s rows and columns: its runs, 3 for each square of two by two
+-- modules of one colour, 40 for each finder-like window, and its
 -- part of dark modules (ISO/IEC 18004:2015, 7.8.3.1, Table 11)
 unfoldable pub penalty_of : ℕ → (ℕ → ℕ → Bool) → ℕ
-penalty_of s dark = over_lines s dark (run_cost s) + 3 * block_count s dark + 40 * over_lines s dark (window_count s) + dark_cost s (dark_count s dark)
+penalty_of s dark = over_lines s dark (run_cost s) + 3 * square_count s dark + 40 * over_lines s dark (window_count s) + dark_cost s (dark_count s dark)

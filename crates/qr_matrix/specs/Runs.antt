@@ -1,6 +1,8 @@
--- Runs of equal modules in a row of a square. Public clauses cite this file.
-use Rattle.std.specs.Prelude.{◌≡◌, ◌≢◌, ◌<◌, ◌≤◌, ℕ}
+-- Runs of equal modules, as `Matrix::run_end` finds them in a row, and their cost place by place. Public clauses cite
+-- IsRunEnd and place_cost.
+use Rattle.std.specs.Prelude.{◌≡◌, ◌≢◌, ◌+◌, ◌-◌, ◌*◌, ◌<◌, ◌≤◌, ◌&&◌, not, ℕ, Bool, nat_lt}
 use Rattle.qr_matrix.specs.Grid.{Grid, colour}
+use Rattle.qr_matrix.specs.Penalty.{is_same, count_below}
 
 -- `end` is the least column after `col` whose colour in that row differs from that at `col`, or the side where there is
 -- none [own]
@@ -9,3 +11,20 @@ pub record IsRunEnd (g : Grid) (row col end : ℕ) : Type 0 where
   pub within : end ≤ g.side
   pub same : (c : ℕ) → col ≤ c → c < end → colour g row c ≡ colour g row col
   pub differs : end < g.side → colour g row end ≢ colour g row col
+
+-- the next place is in the line and has the colour of place c [own]
+unfoldable pub joins : ℕ → (ℕ → Bool) → ℕ → Bool
+joins s line c = nat_lt (c + 1) s && is_same (line c) (line (c + 1))
+
+-- five places of one colour begin at place c [own]
+unfoldable pub begins_five : ℕ → (ℕ → Bool) → ℕ → Bool
+begins_five s line c = (joins s line c && joins s line (c + 1)) && (joins s line (c + 2) && joins s line (c + 3))
+
+-- five places of one colour begin at place c, and the place before them has the other colour, or there is none [own]
+unfoldable pub begins_long_run : ℕ → (ℕ → Bool) → ℕ → Bool
+begins_long_run s line c = begins_five s line c && not (nat_lt 0 c && joins s line (c - 1))
+
+-- 1 for each place where five places of one colour begin, and 2 more where the place before them has the other colour
+-- or there is none [own]
+unfoldable pub place_cost : ℕ → (ℕ → Bool) → ℕ
+place_cost s line = count_below s (begins_five s line) + 2 * count_below s (begins_long_run s line)

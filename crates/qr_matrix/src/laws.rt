@@ -1,20 +1,21 @@
 //! The laws of the penalty's counts (ISO/IEC 18004:2015, 7.8.3.1, Table 11): what is counted on rows of words is what
-//! the definitions count module by module, for every side up to 177. Bits past the side count for nothing. The first
-//! two functions do nothing, their contracts are the laws; the others count, and their contracts say what.
+//! the definitions count module by module, for every square. The first two functions do nothing, their contracts are
+//! the laws; the others count, and their contracts say what.
 
-ghost use Rattle.std.specs.Prelude.{◌≡◌, ℕ, ◌≤◌, Bool, length};
-ghost use Rattle.qr_matrix.specs.Penalty.{over_lines, run_cost, block_count, window_count, penalty_of};
-ghost use Rattle.qr_matrix.specs.Places.{place_cost};
-ghost use Rattle.qr_matrix.specs.Lines.{dark_in};
-ghost use Rattle.qr_matrix.specs.Worked.{all_dark, all_light, chequered, ratio_in_a_row, ratio_in_a_column};
+ghost use Rattle.std.specs.Prelude.{◌≡◌, ℕ, Bool};
+ghost use Rattle.qr_matrix.specs.Penalty.{over_lines, run_cost, square_count, window_count, penalty_of};
+ghost use Rattle.qr_matrix.specs.Runs.{place_cost};
+ghost use Rattle.qr_matrix.specs.Grid.{colour};
+ghost use Rattle.qr_matrix.specs.Laws.{all_dark, all_light, chequered, ratio_in_a_row, ratio_in_a_column};
 
-use crate::blocks::block_count;
+use crate::matrix::Matrix;
 use crate::runs::runs_cost;
+use crate::squares::square_count;
 use crate::windows::window_count;
 
 /// The definition of the penalty computes the points of these squares, which are counted by hand from Table 11; and it
 /// finds the ratio of a finder pattern after and before four light modules, at whatever place of a line.
-#[tactic(auto, unfolding(crate::specs::Penalty::penalty_of, crate::specs::Penalty::over_lines, crate::specs::Penalty::run_cost, crate::specs::Penalty::is_run, crate::specs::Penalty::window_count, crate::specs::Penalty::is_window, crate::specs::Penalty::block_count, crate::specs::Penalty::is_block, crate::specs::Penalty::dark_count, crate::specs::Penalty::dark_cost))]
+#[tactic(auto, unfolding(crate::specs::Penalty::penalty_of, crate::specs::Penalty::over_lines, crate::specs::Penalty::run_cost, crate::specs::Penalty::is_run, crate::specs::Penalty::window_count, crate::specs::Penalty::is_window, crate::specs::Penalty::square_count, crate::specs::Penalty::is_square_of_two, crate::specs::Penalty::dark_count, crate::specs::Penalty::dark_cost))]
 pub fn penalties_compute()
     ensures one { penalty_of 1 all_light ≡ 100 }
     ensures dark { penalty_of 5 all_dark ≡ 178 }
@@ -32,28 +33,22 @@ pub fn runs_cost_by_places()
 {}
 
 /// The cost of runs that is counted on words is that of the runs of all rows and columns.
-pub fn runs_on_words(side: u8, rows: &[[u64; 3]]) -> u32
-    requires most { side ≤ 177 }
-    requires long { length rows.now ≡ side }
-    ensures { result ≡ over_lines side (dark_in rows.now) (run_cost side) }
+pub fn runs_on_words(m: &Matrix) -> u32
+    ensures { result ≡ over_lines m.now.side (colour m.now) (run_cost m.now.side) }
 {
-    runs_cost(side, rows)
+    runs_cost(m)
 }
 
-/// The blocks that are counted on words are those of the square.
-pub fn blocks_on_words(side: u8, rows: &[[u64; 3]]) -> u32
-    requires most { side ≤ 177 }
-    requires long { length rows.now ≡ side }
-    ensures { result ≡ block_count side (dark_in rows.now) }
+/// The squares of two by two modules of one colour that are counted on words are all there are.
+pub fn squares_on_words(m: &Matrix) -> u32
+    ensures { result ≡ square_count m.now.side (colour m.now) }
 {
-    block_count(side, rows)
+    square_count(m)
 }
 
 /// The windows that are counted on words are those of all rows and columns.
-pub fn windows_on_words(side: u8, rows: &[[u64; 3]]) -> u32
-    requires most { side ≤ 177 }
-    requires long { length rows.now ≡ side }
-    ensures { result ≡ over_lines side (dark_in rows.now) (window_count side) }
+pub fn windows_on_words(m: &Matrix) -> u32
+    ensures { result ≡ over_lines m.now.side (colour m.now) (window_count m.now.side) }
 {
-    window_count(side, rows)
+    window_count(m)
 }

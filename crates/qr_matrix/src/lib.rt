@@ -1,12 +1,12 @@
-//! The square of modules that makes a symbol, in rows of words, and its penalty, counted on the words.
+//! The square of modules that makes a symbol, in rows of words, and its penalty, counted on these.
 #![tactic(auto)]
 
-mod blocks;
 pub mod laws;
 mod line;
 mod matrix;
 mod penalties;
 mod runs;
+mod squares;
 mod windows;
 
 pub use matrix::Matrix;

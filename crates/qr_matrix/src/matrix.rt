@@ -2,12 +2,10 @@
 
 ghost use Rattle.std.specs.Prelude.{◌≡◌, ℕ, ◌+◌, ◌-◌, ◌%◌, ◌<◌, ◌≤◌, ◌&&◌, not, nat_le, nat_lt, if◌then◌else◌, false, length, IfOk};
 ghost use Rattle.qr_matrix.specs.Grid.{square, colour, painted, with_row, with_rectangle, light};
-ghost use Rattle.qr_matrix.specs.Lines.{dark_in, has, has_bit};
+ghost use Rattle.qr_matrix.specs.Line.{dark_in, has, has_bit};
 ghost use Rattle.qr_matrix.specs.Runs.{IsRunEnd};
 
-use crate::line::{
-    at, both, differ, either, first, first_places, four, pair, put, put_pair, repeated, without,
-};
+use crate::line::Line;
 use std::alloc::{AllocError, Global};
 use std::marker::Model;
 
@@ -16,13 +14,13 @@ use std::marker::Model;
 pub struct Matrix {
     side: u8,
     // Each row as a line of bits, column 0 the lowest, with none from the side on.
-    rows: Vec<[u64; 3]>,
+    rows: Vec<Line>,
 }
 
 impl Model for Matrix {
     ghost use Rattle.std.specs.Prelude.{◌≡◌, ℕ, ◌≤◌, false, length};
     ghost use Rattle.qr_matrix.specs.Grid.{Grid, square};
-    ghost use Rattle.qr_matrix.specs.Lines.{dark_in};
+    ghost use Rattle.qr_matrix.specs.Line.{dark_in};
 
     ghost Value = { Grid };
 
@@ -39,7 +37,7 @@ impl Matrix {
         requires most { side ≤ 177 }
         ensures { IfOk result (λ m. m ≡ light side) }
     {
-        let rows = vec![in alloc; [0u64; 3]; usize::from(side)]?;
+        let rows = vec![in alloc; Line::EMPTY; usize::from(side)]?;
         Ok(Matrix { side, rows })
     }
 
@@ -58,7 +56,7 @@ impl Matrix {
         requires col_in { col < self.now.side }
         ensures { result ≡ colour self.now row col }
     {
-        at(&self.rows[usize::from(row)], col)
+        self.rows[usize::from(row)].at(col)
     }
 
     /// Four modules of a row from a column on that is a multiple of four, the first the lowest bit.
@@ -69,7 +67,7 @@ impl Matrix {
         ensures small { result < 16 }
         ensures colours { (k : ℕ) → k < 4 → has_bit result k ≡ colour self.now row (col + k) }
     {
-        four(&self.rows()[usize::from(row)], col)
+        self.rows[usize::from(row)].four(col)
     }
 
     /// Two modules of a row, that in a column the higher bit and that to the left of it the lower.
@@ -81,7 +79,7 @@ impl Matrix {
         ensures left { has_bit result 0 ≡ colour self.now row (col - 1) }
         ensures right { has_bit result 1 ≡ colour self.now row col }
     {
-        pair(&self.rows()[usize::from(row)], col)
+        self.rows[usize::from(row)].pair(col)
     }
 
     /// Where the run of equal modules from `col` on ends: the least column after `col` whose
@@ -92,23 +90,23 @@ impl Matrix {
         ensures { IsRunEnd self.now row col result }
     {
         let side = self.side();
-        let line = self.line(row);
+        let line = self.line(usize::from(row));
         let others = if self.dark(row, col) {
-            without(first_places(side), line)
+            Line::below(side).and_not(line)
         } else {
             line
         };
-        first(without(others, first_places(col + 1))).min(side)
+        others.and_not(Line::below(col + 1)).first().min(side)
     }
 
-    // The rows, each a line of bits.
-    pub(crate) fn rows(&self) -> &[[u64; 3]]
-        ensures view { square self.now.side (dark_in result.now) ≡ self.now }
-        ensures long { length result.now ≡ self.now.side }
-        ensures inside { (r c : ℕ) → self.now.side ≤ c → dark_in result.now r c ≡ false }
-        ensures most { self.now.side ≤ 177 }
+    // A row as a line, which has no place from the side on.
+    pub(crate) fn line(&self, row: usize) -> Line
+        requires { row < self.now.side }
+        ensures colours { (c : ℕ) → has result c ≡ colour self.now row c }
+        ensures past { (c : ℕ) → self.now.side ≤ c → has result c ≡ false }
+        ensures few { self.now.side ≤ 177 }
     {
-        self.rows.as_slice()
+        self.rows[row]
     }
 
     /// Gives one module its colour.
@@ -117,7 +115,7 @@ impl Matrix {
         requires col_in { col < self.old.side }
         ensures { self.new ≡ painted self.old row col dark }
     {
-        put(&mut self.rows[usize::from(row)], col, dark);
+        self.rows[usize::from(row)].put(col, dark);
     }
 
     /// Gives two modules of a row their colours: that in a column by the higher bit, that to the left of it by the lower.
@@ -126,23 +124,14 @@ impl Matrix {
         requires left_in { 1 ≤ col }
         requires col_in { col < self.old.side }
         requires bits { bits < 4 }
-        ensures { self.new ≡ painted (painted self.old row col (has_bit bits 1)) row (col - 1) (has_bit bits 0) }
+        ensures { self.new ≡ painted (painted self.old row col (has_bit bits 1))
+            row (col - 1) (has_bit bits 0) }
     {
-        put_pair(&mut self.rows[usize::from(row)], col, bits);
-    }
-
-    // A row as a line.
-    fn line(&self, row: u8) -> [u64; 3]
-        requires { row < self.now.side }
-        ensures inside { (c : ℕ) → c < self.now.side → has result c ≡ colour self.now row c }
-        ensures past { (c : ℕ) → self.now.side ≤ c → has result c ≡ false }
-        ensures few { self.now.side ≤ 177 }
-    {
-        self.rows()[usize::from(row)]
+        self.rows[usize::from(row)].put_pair(col, bits);
     }
 
     // Gives a row the colours of a line.
-    fn set_line(&mut self, row: u8, line: [u64; 3])
+    fn set_line(&mut self, row: u8, line: Line)
         requires row_in { row < self.old.side }
         requires past { (c : ℕ) → self.old.side ≤ c → has line c ≡ false }
         ensures { self.new ≡ with_row self.old row (has line) }
@@ -158,11 +147,12 @@ impl Matrix {
         requires within_side { within.now.side ≡ self.old.side }
         requires pattern_in { pattern < 64 }
         ensures { self.new ≡ with_row self.old row
-            (λ c. if colour within.now row c && has_bit pattern (c % 6) then not (colour plain.now row c)
-            else colour plain.now row c) }
+            (λ c. if colour within.now row c && has_bit pattern (c % 6)
+            then not (colour plain.now row c) else colour plain.now row c) }
     {
-        let inverted = both(within.line(row), repeated(pattern));
-        self.set_line(row, differ(plain.line(row), inverted));
+        let index = usize::from(row);
+        let inverted = within.line(index) & Line::repeated(pattern);
+        self.set_line(row, plain.line(index) ^ inverted);
     }
 
     // Gives the modules of a row from `left` to before `right` one colour.
@@ -173,12 +163,12 @@ impl Matrix {
         ensures { self.new ≡ with_row self.old row
             (λ c. if nat_le left c && nat_lt c right then dark else colour self.old row c) }
     {
-        let line = self.line(row);
-        let columns = without(first_places(right), first_places(left));
+        let line = self.line(usize::from(row));
+        let columns = Line::below(right).and_not(Line::below(left));
         if dark {
-            self.set_line(row, either(line, columns));
+            self.set_line(row, line | columns);
         } else {
-            self.set_line(row, without(line, columns));
+            self.set_line(row, line.and_not(columns));
         }
     }
 

@@ -1,35 +1,30 @@
 //! The penalty of a symbol, by which its mask is chosen (ISO/IEC 18004:2015, 7.8.3).
 
-ghost use Rattle.std.specs.Prelude.{◌≡◌, ℕ, ◌+◌, ◌-◌, ◌*◌, ◌/◌, ◌<◌, ◌≤◌, false, length};
+ghost use Rattle.std.specs.Prelude.{◌≡◌, ◌+◌, ◌-◌, ◌*◌, ◌/◌, ◌<◌, ◌≤◌};
 ghost use Rattle.qr_matrix.specs.Grid.{colour};
 ghost use Rattle.qr_matrix.specs.Penalty.{dark_count, penalty_of};
-ghost use Rattle.qr_matrix.specs.Lines.{dark_in};
 
-use crate::blocks::block_count;
-use crate::line::count;
 use crate::matrix::Matrix;
 use crate::runs::runs_cost;
+use crate::squares::square_count;
 use crate::windows::window_count;
 
-// The points of Table 11: for a block, for a window, and for each twentieth by which the dark modules are more or fewer
-// than half.
-const BLOCK_POINTS: u32 = 3;
+// The points of Table 11: for a square of two by two modules of one colour, for a window, and for each twentieth by
+// which the dark modules are more or fewer than half.
+const SQUARE_POINTS: u32 = 3;
 
 const WINDOW_POINTS: u32 = 40;
 
 const BALANCE_POINTS: u32 = 10;
 
 // How many modules are dark.
-fn dark_count(side: u8, rows: &[[u64; 3]]) -> u32
-    requires few { side ≤ 177 }
-    requires long { length rows.now ≡ side }
-    requires inside { (r c : ℕ) → side ≤ c → dark_in rows.now r c ≡ false }
-    ensures value { result ≡ dark_count side (dark_in rows.now) }
-    ensures bound { result ≤ 192 * side }
+fn dark_count(matrix: &Matrix) -> u32
+    ensures value { result ≡ dark_count matrix.now.side (colour matrix.now) }
+    ensures bound { result ≤ 192 * matrix.now.side }
 {
     let mut total = 0;
-    for line in rows {
-        total += count(*line);
+    for row in 0..usize::from(matrix.side()) {
+        total += matrix.line(row).count();
     }
     total
 }
@@ -51,13 +46,11 @@ fn balance_cost(modules: u32, dark: u32) -> u32
 pub fn penalty(m: &Matrix) -> u32
     ensures { result ≡ penalty_of m.now.side (colour m.now) }
 {
-    let side = m.side();
-    let rows = m.rows();
-    let modules = u32::from(side) * u32::from(side);
-    runs_cost(side, rows)
-        + BLOCK_POINTS * block_count(side, rows)
-        + WINDOW_POINTS * window_count(side, rows)
-        + balance_cost(modules, dark_count(side, rows))
+    let modules = u32::from(m.side()) * u32::from(m.side());
+    runs_cost(m)
+        + SQUARE_POINTS * square_count(m)
+        + WINDOW_POINTS * window_count(m)
+        + balance_cost(modules, dark_count(m))
 }
 
 #[cfg(test)]

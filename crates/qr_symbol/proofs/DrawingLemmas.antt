@@ -18,7 +18,7 @@ use Rattle.qr_matrix.specs.Grid.{Grid, square, colour, painted, IsSquare}
 use Rattle.qr_symbol.specs.Mask.{inverts, inverted}
 use Rattle.qr_symbol.specs.Symbol.{word_bit, colour_by, colour_of, grid_of}
 use Rattle.qr_symbol.specs.Steps.Drawing.{fixed_colour, placed_colour, placed_if, number_after, number_along, placed_along, format_or, masked_colour, masked_grid, region_grid, plain_grid}
-use Rattle.qr_matrix.proofs.GridLemmas.{same-place, square-same, colour-square, colour-painted-here, colour-painted-there}
+use Rattle.qr_matrix.proofs.Facts.{same-place, square-same, colour-square, colour-painted-here, colour-painted-there}
 use Rattle.qr_symbol.proofs.KeptPlaceLemmas.{kept-in, kept-out, kept-push-in, kept-push-out}
 
 -- the module in a row and a column

@@ -15,7 +15,7 @@ use Rattle.qr_layout.proofs.Facts.{below, below-at, eqb-same, format-first}
 use Rattle.qr_matrix.specs.Grid.{Grid}
 use Rattle.qr_symbol.specs.Symbol.{colour_by, colour_of, grid_of}
 use Rattle.qr_symbol.specs.Reading.{IsFormat}
-use Rattle.qr_matrix.proofs.GridLemmas.{colour-square}
+use Rattle.qr_matrix.proofs.Facts.{colour-square}
 
 -- a word gives back its five bits, and has fifteen
 gives-back : ℕ → Bool

@@ -7,7 +7,7 @@ use Rattle.qr_layout.specs.Order.{in_region_of}
 use Rattle.qr_layout.specs.Strips.{both_of, rows_from, places_of}
 use Rattle.qr_layout.specs.declared.strips.Strip.{Strip}
 use Rattle.qr_matrix.specs.Grid.{Grid, colour}
-use Rattle.qr_matrix.proofs.GridLemmas.{colour-square}
+use Rattle.qr_matrix.proofs.Facts.{colour-square}
 use Rattle.qr_symbol.specs.Steps.Drawing.{region_grid}
 
 -- what the square of the region tells of a place

@@ -22,7 +22,7 @@ use Rattle.qr_symbol.specs.Mask.{inverts, inverted}
 use Rattle.qr_symbol.specs.Symbol.{colour_by, colour_of, grid_of}
 use Rattle.qr_symbol.specs.Interleaving.{IsInterleaved}
 use Rattle.qr_symbol.specs.Reading.{unmasked, read_bits, IsRead, IsMessage}
-use Rattle.qr_matrix.proofs.GridLemmas.{colour-square}
+use Rattle.qr_matrix.proofs.Facts.{colour-square}
 use Rattle.qr_symbol.proofs.DrawingLemmas.{in-square, whole-push, Mem-mid}
 use Rattle.qr_symbol.proofs.MessageLemmas.{append-front, data-one, data-cut-whole}
 

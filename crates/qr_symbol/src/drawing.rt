@@ -11,7 +11,7 @@ ghost use Rattle.qr_layout.specs.Strips.{both_of, rows_from};
 ghost use Rattle.qr_layout.specs.Format.{version_word_of};
 ghost use Rattle.qr_bits.specs.Bits.{codeword_bit};
 ghost use Rattle.qr_matrix.specs.Grid.{square, colour, light, IsSquare};
-ghost use Rattle.qr_matrix.specs.Lines.{has_bit};
+ghost use Rattle.qr_matrix.specs.Line.{has_bit};
 ghost use Rattle.qr_symbol.specs.Symbol.{word_bit};
 ghost use Rattle.qr_symbol.specs.Steps.Drawing.{fixed_colour, paint_of, placed_colour, placed_if, number_after, number_along, placed_along, IsWindow, format_or, region_grid};
 

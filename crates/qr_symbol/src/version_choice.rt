@@ -3,7 +3,7 @@
 //! The bits of segments depend on the version by the widths of the character count indicators alone, and these change
 //! only after the versions 9 and 26. So an input is cut into segments once for each of the three ranges of versions.
 
-ghost use Rattle.std.specs.Prelude.{◌≡◌, ◌≤◌, ◌<◌, ℕ, List, length, IfOk, MatchOption};
+ghost use Rattle.std.specs.Prelude.{◌≡◌, ◌≤◌, ◌<◌, ℕ, length, IfOk, MatchOption};
 ghost use Rattle.qr_bits.specs.declared.modes.Rule.{Rule};
 ghost use Rattle.qr_bits.specs.declared.fault.BitFault.{BitFault};
 ghost use Rattle.qr_bits.specs.declared.modes.Mode.{Mode};

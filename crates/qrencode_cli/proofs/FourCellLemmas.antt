@@ -2,9 +2,9 @@
 use Rattle.std.proofs.Common.{◌≡◌, ◌++◌, ◌∙◌, ◌<◌, ◌≤◌, ◌+◌, ◌-◌, ℕ, Bool, true, false, not, ◌&&◌, leb, ltb, List, [], refl, sym, ap, subst, arith, append_assoc}
 use Rattle.std.proofs.lemmas.Bool.Decides.{nat_tests}
 use Rattle.qr_matrix.specs.Grid.{Grid, colour}
-use Rattle.qr_matrix.specs.Lines.{has_bit}
+use Rattle.qr_matrix.specs.Line.{has_bit}
 use Rattle.qr_matrix.specs.Penalty.{is_same, all_below}
-use Rattle.qr_matrix.proofs.RepeatLemmas.{below-at, same-same}
+use Rattle.qr_matrix.proofs.Facts.{below-at, same-same}
 use Rattle.qrencode_cli.specs.Device.{Writer}
 use Rattle.qrencode_cli.specs.Text.{AreDark, ascii_module, cells_from, four_modules}
 use Rattle.qrencode_cli.specs.Raster.{is_dark_at, texts_below}

@@ -1,7 +1,7 @@
 -- The drawing of a symbol as lines of text. Public clauses cite this file.
 use Rattle.std.specs.Prelude.{◌≡◌, ℕ, ◌+◌, ◌*◌, ◌/◌, ◌<◌, Bool, not, if◌then◌else◌, List, [], ◌∷◌, ◌++◌}
 use Rattle.qr_matrix.specs.Grid.{Grid}
-use Rattle.qr_matrix.specs.Lines.{has_bit}
+use Rattle.qr_matrix.specs.Line.{has_bit}
 use Rattle.qrencode_cli.specs.Raster.{is_dark_at, raster_width, texts_below}
 use Rattle.qrencode_cli.specs.declared.text.Cells.{Cells}
 use Rattle.qrencode_cli.specs.declared.text.Cells.TheVariants.{Plain, Inverse, HalfBlocks}

@@ -1,4 +1,4 @@
-use Rattle.std.proofs.Common.{◌≡◌, ◌≤◌, ◌∙◌, ◌/◌, ℕ, sum_by, ap, sym, arith}
+use Rattle.std.proofs.Common.{◌∙◌, ◌/◌, ℕ, sum_by, ap, arith}
 use Rattle.std.proofs.lemmas.List.{take_all}
 use Rattle.std.proofs.lemmas.List.Sums.{sum_by_more}
 use Rattle.qr_bits.specs.Segmentation.{sixths_of, least_bits}

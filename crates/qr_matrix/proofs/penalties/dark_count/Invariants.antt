@@ -1,11 +1,10 @@
 use Rattle.std.proofs.Common.{◌≡◌, ◌*◌, ◌≤◌}
-use Rattle.qr_matrix.specs.Lines.{dark_in}
-use Rattle.qr_matrix.specs.Penalty.{count_below}
-use Rattle.qr_matrix.specs.Sums.{sum_below}
+use Rattle.qr_matrix.specs.Grid.{colour}
+use Rattle.qr_matrix.specs.Penalty.{count_below, sum_below}
 use Rattle.qr_matrix.proofs.penalties.dark_count.Given as goal
 
-abbrev pub invariant-loop-line : goal.invariant-loop-line
-invariant-loop-line l = record {
-  counted : l.total ≡ sum_below l.line-index (λ r. count_below l.side (dark_in l.rows r));
-  small : l.total ≤ 192 * l.line-index;
+abbrev pub invariant-loop-row : goal.invariant-loop-row
+invariant-loop-row l = record {
+  counted : l.total ≡ sum_below l.row (λ r. count_below l.matrix.side (colour l.matrix r));
+  small : l.total ≤ 192 * l.row;
 }

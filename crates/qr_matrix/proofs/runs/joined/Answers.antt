@@ -1,8 +1,13 @@
-use Rattle.qr_matrix.specs.Lines.{has}
-use Rattle.std.proofs.Common.{arith}
+use Rattle.std.proofs.Common.{◌+◌, ◌-◌, not, ltb, ap, ◌∙◌, arith}
+use Rattle.qr_matrix.specs.Grid.{colour}
+use Rattle.qr_matrix.specs.Line.{has}
+use Rattle.qr_matrix.specs.Penalty.{is_same}
 use Rattle.qr_matrix.proofs.RowLemmas.{joins-bit}
 use Rattle.qr_matrix.proofs.runs.joined.Goals as goal
 
 pub returns : goal.returns
-returns c =
-    λ k. joins-bit c.args.side (has c.args.line) k (has c.without.result k) (has c.first_places.result k) (has c.differ.result k) (has c.down.result k) (omega arith) (c.without.ensures k) (c.first_places.ensures k) (c.differ.ensures k) (c.down.ensures k)
+returns c = λ k.
+    let m = c.args.matrix.now in
+    joins-bit m.side (colour m c.args.row) k (has c.and_not.result k) (has c.below.result k) (has c.bitxor.result k) (has c.shifted_left.result k) (omega arith) (c.and_not.ensures k)
+    (c.below.ensures k ∙ ap (λ z. ltb k (z - 1)) c.side.ensures.value)
+    (c.bitxor.ensures k ∙ ap (λ z. not (is_same z (has c.shifted_left.result k))) (c.line-line.ensures.colours k)) (c.shifted_left.ensures k ∙ c.line-line.ensures.colours (k + 1))

@@ -1,16 +1,14 @@
 use Rattle.std.proofs.Common.{arith, ◌≡◌, ap, ◌∙◌, refl}
-use Rattle.qr_matrix.specs.Lines.{dark_in}
-use Rattle.qr_matrix.specs.Penalty.{count_below, over_lines, is_window, window_count}
-use Rattle.qr_matrix.specs.Sums.{sum_below}
+use Rattle.qr_matrix.specs.Grid.{colour}
+use Rattle.qr_matrix.specs.Penalty.{count_below, over_lines, is_window, window_count, sum_below}
 use Rattle.qr_matrix.proofs.SumLemmas.{sum_below-more}
 use Rattle.qr_matrix.proofs.WindowLemmas.{windows-down-row, windows-are-columns}
 use Rattle.qr_matrix.proofs.windows.window_count.Goals as goal
 
 pub loop-row-preserved : goal.loop-row-preserved
-unfolding dark_in
 loop-row-preserved c =
-    let s = c.args.side in
-    let d = dark_in c.args.rows.now in
+    let s = c.args.matrix.now.side in
+    let d = colour c.args.matrix.now in
     let e = windows-down-row s d c.loop-row.row c.windows_at.result (omega arith) c.windows_at.ensures in
     record {
       rows = sum_below-more c.loop-row.row _ _ _ (λ r. window_count s (d r)) c.loop-row.invariant.rows c.row_windows-across.ensures.value refl;
@@ -22,8 +20,8 @@ loop-row-preserved c =
 pub returns-clause-value : goal.returns-clause-value
 unfolding over_lines
 returns-clause-value c =
-    let s = c.args.side in
-    let d = dark_in c.args.rows.now in
+    let s = c.args.matrix.now.side in
+    let d = colour c.args.matrix.now in
     let r = c.loop-row.row in
     let n : r ≡ s = omega arith in
     let a = c.loop-row.invariant.rows ∙ ap (λ z. sum_below z (λ r. window_count s (d r))) n in

@@ -6,7 +6,7 @@ use Rattle.qr_layout.specs.Version.{side_of}
 use Rattle.qr_layout.specs.Region.{is_alignment, is_in_rectangle, is_in_region, corner_rectangles, timing_lines, version_rectangles}
 use Rattle.qr_layout.proofs.Facts.{region_in}
 use Rattle.qr_matrix.specs.Grid.{Grid, colour}
-use Rattle.qr_matrix.proofs.GridLemmas.{square-same}
+use Rattle.qr_matrix.proofs.Facts.{square-same}
 use Rattle.qr_symbol.specs.Steps.Drawing.{paint_of}
 use Rattle.qr_symbol.proofs.PaintLemmas.{over-square, over-colour, over-rectangle, region-tests}
 use Rattle.qr_symbol.proofs.drawing.draw_region.Goals as goal

@@ -4,7 +4,7 @@ use Rattle.qr_layout.specs.Version.{side_of}
 use Rattle.qr_layout.specs.Region.{is_in_region}
 use Rattle.qr_layout.specs.Strips.{both_of, rows_from}
 use Rattle.qr_matrix.specs.Grid.{Grid}
-use Rattle.qr_matrix.specs.Lines.{has_bit}
+use Rattle.qr_matrix.specs.Line.{has_bit}
 use Rattle.qr_symbol.specs.Steps.Drawing.{IsWindow, number_after, number_along, placed_along, placed_if}
 use Rattle.qr_symbol.proofs.DrawingLemmas.{row-number, row-placed, side-placed}
 use Rattle.qr_symbol.specs.declared.drawing.Window.{Window}

@@ -1,5 +1,5 @@
 use Rattle.std.proofs.Common.{◌≡◌, ◌+◌, ◌-◌, ap, ◌∙◌, arith}
-use Rattle.qr_matrix.specs.Lines.{has_bit}
+use Rattle.qr_matrix.specs.Line.{has_bit}
 use Rattle.qr_symbol.proofs.BitLemmas.{two-lowest}
 use Rattle.qr_symbol.proofs.drawing.two_bits.Goals as goal
 

@@ -1,5 +1,5 @@
 use Rattle.std.proofs.Common.{◌≡◌, ◌-◌, ◌*◌, ◌/◌, ap, sym, ◌∙◌, arith}
-use Rattle.qr_matrix.specs.Lines.{has_bit}
+use Rattle.qr_matrix.specs.Line.{has_bit}
 use Rattle.qr_symbol.proofs.BitLemmas.{window-more, window-fits, window-room}
 use Rattle.qr_symbol.proofs.drawing.window_at.Goals as goal
 

@@ -1,4 +1,4 @@
-use Rattle.std.proofs.Common.{◌≡◌, ◌≤◌, ℕ, Option, inl, inr, refl, sym, ◌∙◌, ap, subst, ◌+◌, arith}
+use Rattle.std.proofs.Common.{◌≡◌, ◌≤◌, ℕ, Option, inl, inr, sym, ◌∙◌, ap, subst, ◌+◌, arith}
 use Rattle.std.specs.Option.{SomeIff}
 use Rattle.qr_layout.specs.declared.version.Version.{Version}
 use Rattle.std.proofs.lemmas.Bool.{cases_lt}

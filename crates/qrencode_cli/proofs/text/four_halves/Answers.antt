@@ -1,5 +1,5 @@
 use Rattle.std.proofs.Common.{◌≡◌, ℕ, ◌++◌, ◌/◌, ◌%◌, ◌^◌, nat_eq, ap, ◌∙◌, arith}
-use Rattle.qr_matrix.specs.Lines.{has_bit}
+use Rattle.qr_matrix.specs.Line.{has_bit}
 use Rattle.qrencode_cli.specs.Text.{half_blocks}
 use Rattle.qrencode_cli.proofs.FourCellLemmas.{four-added}
 use Rattle.qrencode_cli.proofs.text.four_halves.Goals as goal

@@ -1,5 +1,5 @@
 use Rattle.std.proofs.Common.{◌≡◌, sym, ap, arith}
-use Rattle.qr_matrix.specs.Lines.{has_bit}
+use Rattle.qr_matrix.specs.Line.{has_bit}
 use Rattle.qrencode_cli.specs.Text.{four_modules}
 use Rattle.qrencode_cli.proofs.text.four_modules.Goals as goal
 

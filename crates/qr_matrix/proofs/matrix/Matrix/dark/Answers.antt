@@ -1,6 +1,6 @@
-use Rattle.std.proofs.Common.{ap, arith}
+use Rattle.std.proofs.Common.{ap, ◌∙◌, arith}
 use Rattle.qr_matrix.specs.Grid.{Grid}
-use Rattle.qr_matrix.proofs.MatrixLemmas.{read-step}
+use Rattle.qr_matrix.proofs.MatrixLemmas.{row-read}
 use Rattle.qr_matrix.proofs.matrix.Matrix.dark.Goals as goal
 
 pub index-requires : goal.index-requires
@@ -17,4 +17,6 @@ at-requires c =
 pub returns : goal.returns
 returns c =
     let m = c.self.inside in
-    read-step m.side c.args.row c.args.col c.from.result m.rows.items c.index.result.now c.args.self.now c.at.result c.self.view_is c.from.ensures c.requires.row_in c.requires.col_in c.self.invariant.2 c.index.ensures c.at.ensures
+    let g = c.args.self.now in
+    let e = ap (λ (g : Grid). g.side) c.self.view_is in
+    c.at.ensures ∙ row-read m.side c.args.row c.from.result m.rows.items c.index.result.now g c.self.view_is c.from.ensures (omega (arith, c.self.invariant.2)) c.self.invariant.2 c.self.invariant.3 c.index.ensures c.args.col

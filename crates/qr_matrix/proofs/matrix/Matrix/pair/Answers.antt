@@ -1,9 +1,29 @@
-use Rattle.std.proofs.Common.{◌-◌, refl, ◌∙◌, arith}
-use Rattle.qr_matrix.proofs.MatrixLemmas.{line-read}
+use Rattle.std.proofs.Common.{◌-◌, ap, ◌∙◌, arith}
+use Rattle.qr_matrix.specs.Grid.{Grid}
+use Rattle.qr_matrix.proofs.MatrixLemmas.{row-read}
 use Rattle.qr_matrix.proofs.matrix.Matrix.pair.Goals as goal
 
+pub index-requires : goal.index-requires
+index-requires c =
+    let m = c.self.inside in
+    let e = ap (λ (g : Grid). g.side) c.self.view_is in
+    omega (arith, m.rows.ok.0, c.self.invariant.2)
+
+pub pair-requires : goal.pair-requires
+pair-requires c =
+    let e = ap (λ (g : Grid). g.side) c.self.view_is in
+    omega (arith, c.self.invariant.1)
+
 pub returns-clause-left : goal.returns-clause-left
-returns-clause-left c = c.pair.ensures.lower ∙ line-read c.args.self.now.side c.args.row c.from.result c.rows.result.now _ c.args.self.now c.rows.ensures.view c.from.ensures c.requires.row_in c.rows.ensures.long refl (c.args.col - 1) (omega (arith, c.requires.col_in))
+returns-clause-left c =
+    let m = c.self.inside in
+    let g = c.args.self.now in
+    let e = ap (λ (g : Grid). g.side) c.self.view_is in
+    c.pair.ensures.lower ∙ row-read m.side c.args.row c.from.result m.rows.items c.index.result.now g c.self.view_is c.from.ensures (omega (arith, c.self.invariant.2)) c.self.invariant.2 c.self.invariant.3 c.index.ensures (c.args.col - 1)
 
 pub returns-clause-right : goal.returns-clause-right
-returns-clause-right c = c.pair.ensures.higher ∙ line-read c.args.self.now.side c.args.row c.from.result c.rows.result.now _ c.args.self.now c.rows.ensures.view c.from.ensures c.requires.row_in c.rows.ensures.long refl c.args.col c.requires.col_in
+returns-clause-right c =
+    let m = c.self.inside in
+    let g = c.args.self.now in
+    let e = ap (λ (g : Grid). g.side) c.self.view_is in
+    c.pair.ensures.higher ∙ row-read m.side c.args.row c.from.result m.rows.items c.index.result.now g c.self.view_is c.from.ensures (omega (arith, c.self.invariant.2)) c.self.invariant.2 c.self.invariant.3 c.index.ensures c.args.col

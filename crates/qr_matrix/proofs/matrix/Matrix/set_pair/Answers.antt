@@ -3,8 +3,8 @@ use Rattle.std.proofs.Math.ListN.{length-set}
 use Rattle.std.proofs.lemmas.Bool.Decides.{nat_tests}
 use Rattle.std.proofs.lemmas.List.{get_or_read}
 use Rattle.qr_matrix.specs.Grid.{Grid, colour}
-use Rattle.qr_matrix.specs.Lines.{has, has_bit, dark_in}
-use Rattle.qr_matrix.proofs.MatrixLemmas.{line-set, line-inside, line-read, line-write}
+use Rattle.qr_matrix.specs.Line.{has, has_bit, dark_in}
+use Rattle.qr_matrix.proofs.MatrixLemmas.{line-set, line-inside, row-read, line-write}
 use Rattle.qr_matrix.proofs.PairLemmas.{row-pair}
 use Rattle.qr_matrix.proofs.matrix.Matrix.set_pair.Goals as goal
 
@@ -25,7 +25,7 @@ invariant_of-self c =
     let m = c.self.inside in
     let i = c.from.result in
     let col = c.args.col in
-    let words = c.put_pair.new.line in
+    let words = c.put_pair.new.self in
     let old = c.index_mut.result.now in
     let e = ap (λ (g : Grid). g.side) c.self.view_is in
     let h = line-set m.rows.items c.args.row i words c.from.ensures (omega (arith, c.self.invariant.2)) in (
@@ -47,13 +47,12 @@ returns c =
     let row = c.args.row in
     let col = c.args.col in
     let i = c.from.result in
-    let words = c.put_pair.new.line in
+    let words = c.put_pair.new.self in
     let old = c.index_mut.result.now in
     let b = has_bit c.args.bits 1 in
     let d = has_bit c.args.bits 0 in
     let e = ap (λ (g : Grid). g.side) c.self.view_is in
-    let q : old ≡ get_or m.rows.items i [] = get_or_read m.rows.items i old (omega (arith, c.self.invariant.2)) c.index_mut.ensures.value [] in
     line-write m.side row m.rows.items (set m.rows.items i words) g words (λ k. cond (eqb k col) b (cond (eqb k (col - 1)) d (colour g row k))) c.self.view_is
     (line-set m.rows.items row i words c.from.ensures (omega (arith, c.self.invariant.2)))
-    (λ k l. c.put_pair.ensures k ∙ ap (λ z. cond (eqb k col) b (cond (eqb k (col - 1)) d z)) (line-read m.side row i m.rows.items old g c.self.view_is c.from.ensures (omega arith) c.self.invariant.2 q k l))
+    (λ k l. c.put_pair.ensures k ∙ ap (λ z. cond (eqb k col) b (cond (eqb k (col - 1)) d z)) (row-read m.side row i m.rows.items old g c.self.view_is c.from.ensures (omega (arith, c.self.invariant.2)) c.self.invariant.2 c.self.invariant.3 c.index_mut.ensures.value k))
     ∙ row-pair g row col b d c.requires.left_in c.requires.col_in

@@ -1,0 +1,18 @@
+use Rattle.std.proofs.Common.{not, ltb, ap, ◌∙◌, arith}
+use Rattle.qr_matrix.specs.Grid.{colour}
+use Rattle.qr_matrix.specs.Line.{has}
+use Rattle.qr_matrix.specs.Penalty.{is_same}
+use Rattle.qr_matrix.proofs.ColumnLemmas.{has-nothing, joins-down-bit, joins-down-none}
+use Rattle.qr_matrix.proofs.runs.joined_in_column.Goals as goal
+
+pub returns-then-row-from : goal.returns-then-row-from
+returns-then-row-from c = λ k.
+    let m = c.args.matrix.now in
+    joins-down-bit m.side (λ i. colour m i k) k c.args.row (has c.and_not.result k) (has c.below.result k) (has c.bitxor.result k) (omega arith) (c.and_not.ensures k)
+    (c.below.ensures k ∙ ap (ltb k) c.side-side.ensures.value)
+    (c.bitxor.ensures k ∙ (ap (λ z. not (is_same z (has c.line-then-row-from.result k))) (c.line.ensures.colours k) ∙ ap (λ z. not (is_same (colour m c.args.row k) z)) (c.line-then-row-from.ensures.colours k)))
+
+pub returns-else-row-from : goal.returns-else-row-from
+returns-else-row-from c = λ k.
+    let m = c.args.matrix.now in
+    joins-down-none m.side (λ i. colour m i k) k c.args.row _ (omega arith) (has-nothing k)

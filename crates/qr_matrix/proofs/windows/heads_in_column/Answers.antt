@@ -1,0 +1,37 @@
+use Rattle.std.proofs.Common.{◌≡◌, ◌+◌, not, ◌&&◌, ◌||◌, ltb, sym, ap, ◌∙◌}
+use Rattle.qr_matrix.specs.Grid.{colour}
+use Rattle.qr_matrix.specs.Line.{has}
+use Rattle.qr_matrix.proofs.ColumnLemmas.{guarded}
+use Rattle.qr_matrix.proofs.ReadingLemmas.{head-order, head-down}
+use Rattle.qr_matrix.proofs.windows.heads_in_column.Goals as goal
+
+pub returns : goal.returns
+returns c = λ k.
+    let m = c.args.matrix.now in
+    let g : has c.line-5.result k ≡ (ltb k m.side && colour m (c.args.row + 4) k) =
+    c.line-5.ensures.colours k ∙ guarded m.side k (colour m (c.args.row + 4) k) (λ h. sym (c.line-5.ensures.colours k) ∙ c.line-5.ensures.past k h) in
+    let l0 = c.line.ensures.colours k in
+    let l1 = c.line-2.ensures.colours k in
+    let l2 = c.line-3.ensures.colours k in
+    let l3 = c.line-4.ensures.colours k in
+    let l4 = c.line-5.ensures.colours k in
+    let l5 = c.line-6.ensures.colours k in
+    let l6 = c.line-7.ensures.colours k in
+    let l7 = c.line-8.ensures.colours k in
+    let l8 = c.line-9.ensures.colours k in
+    let l9 = c.line-10.ensures.colours k in
+    let l10 = c.line-11.ensures.colours k in
+    let h0 = c.bitor-upper.ensures k in
+    let h1 = c.bitor.ensures k in
+    let h2 = c.bitor-dark.ensures k in
+    let h3 = c.and_not-begun.ensures k in
+    let h4 = c.bitand.ensures k in
+    let h5 = c.bitand-2.ensures k in
+    let h6 = c.bitand-middle.ensures k in
+    let h7 = c.and_not.ensures k in
+    let h8 = c.bitand-core.ensures k in
+    let core : has c.bitand-core.result k ≡ (((((((ltb k m.side && colour m (c.args.row + 4) k) && not (colour m (c.args.row + 5) k)) && colour m (c.args.row + 6) k) && colour m (c.args.row + 7) k) && colour m (c.args.row + 8) k) && not (colour m (c.args.row + 9) k)) && colour m (c.args.row + 10) k) = cc in
+    let dark : has c.bitor-dark.result k ≡ (((colour m c.args.row k || colour m (c.args.row + 1) k) || colour m (c.args.row + 2) k) || colour m (c.args.row + 3) k) = cc in
+    c.and_not-2.ensures k
+    ∙ (ap (λ z. z && not (has c.bitor-dark.result k)) core ∙ (ap (λ z. (((((((ltb k m.side && colour m (c.args.row + 4) k) && not (colour m (c.args.row + 5) k)) && colour m (c.args.row + 6) k) && colour m (c.args.row + 7) k) && colour m (c.args.row + 8) k) && not (colour m (c.args.row + 9) k)) && colour m (c.args.row + 10) k) && not z) dark
+    ∙ (head-order (ltb k m.side) (colour m c.args.row k) (colour m (c.args.row + 1) k) (colour m (c.args.row + 2) k) (colour m (c.args.row + 3) k) (colour m (c.args.row + 4) k) (colour m (c.args.row + 5) k) (colour m (c.args.row + 6) k) (colour m (c.args.row + 7) k) (colour m (c.args.row + 8) k) (colour m (c.args.row + 9) k) (colour m (c.args.row + 10) k) ∙ head-down (λ i. colour m i k) (ltb k m.side) c.args.row)))

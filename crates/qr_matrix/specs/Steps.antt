@@ -1,0 +1,17 @@
+-- Private steps of lines and runs. No public clause cites this file.
+use Rattle.std.specs.Prelude.{◌≡◌, ℕ, ◌+◌, ◌*◌, ◌^◌, ◌<◌, Bool, List, length, slice_index}
+use Rattle.qr_matrix.specs.Penalty.{count_below}
+use Rattle.qr_matrix.specs.Runs.{begins_five, begins_long_run}
+use Rattle.qr_matrix.specs.Line.{has}
+
+-- three words of 64 bits
+abbrev pub AreWords : List ℕ → Type 0
+AreWords words = (length words ≡ 3) × (slice_index words 0 < 2 ^ 64) × (slice_index words 1 < 2 ^ 64) × (slice_index words 2 < 2 ^ 64)
+
+-- how many places a line has
+unfoldable pub size_of : List ℕ → ℕ
+size_of words = count_below 192 (has words)
+
+-- what row r adds to the cost of the runs of all columns
+unfoldable pub row_share : ℕ → (ℕ → ℕ → Bool) → ℕ → ℕ
+row_share s dark r = count_below s (λ c. begins_five s (λ i. dark i c) r) + 2 * count_below s (λ c. begins_long_run s (λ i. dark i c) r)
