@@ -4,6 +4,7 @@
 #![tactic(auto)]
 
 mod encoding;
+pub mod laws;
 mod modules;
 mod reading;
 mod series;
