@@ -54,7 +54,8 @@ uninstall-lib:
 	rm -f "$(LIBRARIES)/libqrproved.a" "$(LIBRARIES)/$(SONAME)" "$(LIBRARIES)/libqrproved.so"
 	rm -f "$(INCLUDES)/qrproved.h" "$(LIBRARIES)/pkgconfig/qrproved.pc"
 
-bench: all
+bench: all lib
 	bench/instructions
+	bench/library
 
 .PHONY: all bench check install install-lib lib uninstall uninstall-lib

@@ -81,7 +81,6 @@ pub extern "C" fn qrproved_read(
     ensures done { result ≡ DONE → IsGiven modules.now side bytes.old bytes.new content.new }
     ensures unchanged { result ≢ DONE → (bytes.new ≡ bytes.old) × (content.new ≡ content.old) }
     ensures side { (result ≡ SIDE) ↔ (IsSide side → ⊥) }
-    ensures modules { IsSide side → length modules.now < side * side → result ≡ ROOM }
     ensures room { (result ≡ ROOM) ↔ (IsSide side × ((length modules.now < side * side)
         ⊎ ((result ≢ MEMORY) × HasMoreBytes modules.now side bytes.old))) }
     ensures format { (result ≡ FORMAT)
