@@ -4,7 +4,7 @@
 
 ghost use Rattle.std.specs.Prelude.{◌≡◌, ◌<◌, ◌≤◌, ◌++◌, [], length, Err, IfOk, IsOk};
 ghost use Rattle.qr_symbol.specs.declared.fault.EncodeFault.{EncodeFault};
-ghost use Rattle.qr_label.specs.Label.{IsLabel, line_of};
+ghost use Rattle.qr_label.specs.Label.{IsLabel, character_of, line_of};
 
 use qr_bits::{INPUT_MAX, Rule};
 use qr_layout::{Level, Version};
@@ -42,11 +42,17 @@ fn push_line(text: &mut Vec<u8>, matrix: &Matrix, row: u8) -> Result<(), AllocEr
     ensures { IsOk result → text.new.items ≡ text.old.items ++ line_of matrix.now row }
 {
     for col in 0..matrix.side() {
-        let module = if matrix.dark(row, col) { b'#' } else { b' ' };
-        text.push(module)?;
+        text.push(character_of(matrix.dark(row, col)))?;
     }
     text.push(b'\n')?;
     Ok(())
+}
+
+// The character of a module.
+fn character_of(dark: bool) -> u8
+    ensures { result ≡ character_of dark }
+{
+    if dark { b'#' } else { b' ' }
 }
 
 #[cfg(test)]
