@@ -131,11 +131,15 @@ mod tests {
         let status = qrproved_encode(rt.alloc(), b"A", 1, 0, 1, &mut modules, &mut symbol);
         assert_eq!(rt; status, DONE);
         assert_eq!(rt; (symbol.version, symbol.side, symbol.mask), (1, 21, 0));
-        for (row, bits) in ROWS.iter().enumerate() {
-            for col in 0..21usize {
-                let byte = modules.get(row * 21 + col).copied();
-                let is_dark = *bits >> (20 - col) & 1 == 1;
-                assert_eq!(rt; byte, Some(u8::from(is_dark)), "row {row}, column {col}");
+        for row in 0..21u8 {
+            for col in 0..21u8 {
+                let byte = modules.get(21 * usize::from(row) + usize::from(col));
+                let is_dark = ROWS[usize::from(row)] >> (20 - col) & 1 == 1;
+                assert_eq!(rt;
+                    byte.copied(),
+                    Some(u8::from(is_dark)),
+                    "row {row}, column {col}"
+                );
             }
         }
         assert_eq!(rt;

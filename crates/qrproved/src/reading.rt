@@ -158,7 +158,7 @@ mod tests {
         let mut modules = eight_digits(&rt)?;
         // any byte but 0 is a dark module
         for module in &mut modules {
-            *module *= 200;
+            *module = if *module == 0 { 0 } else { 200 };
         }
         let mut bytes = [7u8; 10];
         let mut content = nothing();
@@ -214,6 +214,7 @@ mod tests {
         // data codewords that begin with the mode indicator 0111, which is none that is read
         let version = Version::new(1).ok_or("version 1")?;
         let message = [0x70u8; 16];
+        assert!(rt; version.data_codewords(Level::M) == 16);
         let sent = interleave(rt.alloc(), version, Level::M, &message)?;
         let symbol = build_masked(rt.alloc(), version, Level::M, &sent, 0)?;
         let mut unparsed = [0u8; 441];
