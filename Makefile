@@ -7,7 +7,7 @@ BINARY = $(DESTDIR)$(PREFIX)/bin/$(NAME)
 MANUAL = $(DESTDIR)$(PREFIX)/share/man/man1/$(NAME).1
 
 LIBRARY = crates/qrproved
-# For all processors of the kind: a static library does not test what it runs on.
+# For all processors of the kind, since a static library does not test what it runs on. Without it, those from 2009 on.
 LIBRARY_FLAGS = --cpu x86-64
 LIBRARY_OUT = $(LIBRARY)/out/lib
 SONAME = libqrproved.so.0
