@@ -2,6 +2,7 @@
 //! nothing: its contract is the law.
 
 ghost use Rattle.std.specs.Prelude.{◌≡◌, ◌<◌, ◌≤◌, ◌+◌, ◌⊎◌, ℕ, false, List, length, map, None, ◌↔◌, ◌∷◌, IsTrue, IfOk};
+ghost use Rattle.std.specs.List.{All};
 ghost use Rattle.qr_layout.specs.declared.level.Level.{Level};
 ghost use Rattle.qr_layout.specs.declared.region.Module.{Module};
 ghost use Rattle.qr_layout.specs.Order.{IsOrder};
@@ -16,9 +17,9 @@ ghost use Rattle.qr_symbol.specs.Symbol.{grid_of};
 ghost use Rattle.qr_symbol.specs.Reading.{read_bits, IsRead, IsMessage, IsFormat, IsReading, IsUnread};
 ghost use Rattle.qr_symbol.specs.Encoding.{IsSymbol, SymbolsAreOne};
 ghost use Rattle.qr_symbol.specs.VersionChoice.{HasNoVersion};
-ghost use Rattle.qr_symbol.specs.Series.{squares_of, AreParts, FitParts, NeedsParts, IsSeries};
+ghost use Rattle.qr_symbol.specs.Series.{squares_of, AreParts, FitParts, NeedsParts, IsSeries, HasNoSeries};
 ghost use Rattle.qr_symbol.specs.Joining.{IsJoined, IsUnjoined};
-ghost use Rattle.qr_layout.specs.Version.{total_codewords_of};
+ghost use Rattle.qr_layout.specs.Version.{side_of, total_codewords_of};
 ghost use Rattle.qr_layout.specs.Blocks.{data_codewords_of, blocks_of};
 ghost use Rattle.qr_bits.specs.declared.modes.Rule.{Rule};
 ghost use Rattle.qr_symbol.specs.Interleaving.{count_of, len_of, start_of, cut_len, data_cut, IsInterleaved};
@@ -152,18 +153,29 @@ pub fn parts_are_long(version: Version, level: Level)
         → AreParts version level rule x (p ∷ ps) → (5 ≤ length p) ⊎ (p ≡ x) }
 {}
 
+/// The symbols of a series have the side of their version, and are 16 at most.
+pub fn series_have_one_side(version: Version)
+    ensures side { (x : List ℕ) (l : Level) (rule : Rule) (ss : List Symbol)
+        → IsSeries version l rule x ss → All (λ g. g.side ≡ side_of version) (squares_of ss) }
+    ensures few { (x : List ℕ) (l : Level) (rule : Rule) (ss : List Symbol)
+        → IsSeries version l rule x ss → length ss ≤ 16 }
+{}
+
 /// The symbols of a series are joined to the input.
 pub fn series_are_joined(version: Version)
     ensures { (x : List ℕ) (l : Level) (rule : Rule) (ss : List Symbol)
         → IsSeries version l rule x ss → IsJoined (squares_of ss) x }
 {}
 
-/// An input of `INPUT_MAX` bytes or more has no symbol, from any version on, and no series of a version.
+/// An input of `INPUT_MAX` bytes or more has no symbol, from any version on, and no series of a version: it takes more
+/// than 16 symbols.
 pub fn long_inputs_have_none(version: Version)
     ensures symbol { (x : List ℕ) (l : Level) (rule : Rule) → INPUT_MAX ≤ length x
         → HasNoVersion version l rule x }
     ensures series { (x : List ℕ) (l : Level) (rule : Rule) (ss : List Symbol)
         → INPUT_MAX ≤ length x → IsSeries version l rule x ss → ⊥ }
+    ensures refused { (x : List ℕ) (l : Level) (rule : Rule) → INPUT_MAX ≤ length x
+        → HasNoSeries version l rule x }
 {}
 
 /// Two faults of encoding compare as equal exactly where they are the same.

@@ -1,4 +1,5 @@
 use Rattle.std.proofs.Common.{arith}
+use Rattle.qr_symbol.proofs.LongLemmas.{long-refused}
 use Rattle.qr_symbol.proofs.SeriesLemmas.{long-fits-none, long-has-no-series}
 use Rattle.qr_symbol.proofs.laws.long_inputs_have_none.Goals as goal
 
@@ -6,4 +7,5 @@ pub returns : goal.returns
 returns c = record {
   symbol = λ x l b long. long-fits-none x l c.args.version b (omega arith) (omega arith);
   series = λ x l b ss long s. long-has-no-series x l b c.args.version ss (omega arith) (omega arith) (omega arith) s;
+  refused = λ x l b long. long-refused x l b c.args.version (omega arith) (omega arith) (omega arith);
 }

@@ -1,0 +1,31 @@
+use Rattle.std.proofs.Common.{◌≡◌, ℕ, suc, ◌+◌, List, [], ◌∷◌, ◌++◌, append_assoc, refl, sym, ap, ◌∙◌, arith}
+use Rattle.std.specs.List.{flat_map, range_with_len}
+use Rattle.qr_label.specs.Label.{line_of}
+use Rattle.qr_label.proofs.LineLemmas.{flat-more}
+use Rattle.qr_label.proofs.label.Goals as goal
+
+pub loop-row-preserved : goal.loop-row-preserved
+loop-row-preserved c =
+    let row = c.loop-row.row in
+    let f = line_of c.in_ok-symbol.symbol.matrix in
+    let more = flat-more f 0 row in
+    let here : 0 + row ≡ row = omega arith in
+    let next : suc row ≡ row + 1 = omega arith in
+    c.in_ok-push_line.ensures refl
+    ∙ (ap (λ (xs : List ℕ). xs ++ f row) c.loop-row.invariant
+    ∙ (ap (λ (n : ℕ). flat_map f (range_with_len 0 row) ++ f n) (sym here) ∙ (sym more ∙ ap (λ (n : ℕ). flat_map f (range_with_len 0 n)) next)))
+
+pub returns-clause-label : goal.returns-clause-label
+returns-clause-label c =
+    let f = line_of c.in_ok-symbol.symbol.matrix in
+    let side = c.in_ok-symbol.symbol.matrix.side in
+    let end : c.loop-row.row ≡ side = omega (arith, c.side-row-end.ensures.value) in
+    let lines = c.loop-row.invariant ∙ ap (λ (n : ℕ). flat_map f (range_with_len 0 n)) end in
+    let words = c.in_ok-extend_from_slice.ensures.items ∙ ap (λ (xs : List ℕ). xs ++ c.args.words.now) lines in
+    record {
+      version = c.in_ok-symbol.symbol.version;
+      mask = c.in_ok-symbol.symbol.mask;
+      square = c.in_ok-symbol.symbol.matrix;
+      symbol = c.in_ok-symbol.ensures.symbol;
+      drawn = c.in_ok-push.ensures.items ∙ (ap (λ (xs : List ℕ). xs ++ (10 ∷ [])) words ∙ append_assoc (flat_map f (range_with_len 0 side)) c.args.words.now (10 ∷ []));
+    }

@@ -1,0 +1,23 @@
+-- What a label is. Public clauses cite this file.
+use Rattle.std.specs.Prelude.{◌≡◌, ℕ, Bool, if◌then◌else◌, List, [], ◌∷◌, ◌++◌, map}
+use Rattle.std.specs.List.{flat_map, range_with_len}
+use Rattle.qr_layout.specs.declared.level.Level.{Level}
+use Rattle.qr_bits.specs.declared.modes.Rule.TheVariants.{Auto}
+use Rattle.qr_matrix.specs.Grid.{Grid, colour}
+use Rattle.qr_symbol.specs.Encoding.{IsSymbol}
+
+-- the character of a module: `#` where it is dark, and a space where it is light [own]
+abbrev pub character_of : Bool → ℕ
+character_of dark = if dark then 35 else 32
+
+-- the line of a row: a character for each module, and a line feed [own]
+abbrev pub line_of : Grid → ℕ → List ℕ
+line_of g row = map (λ col. character_of (colour g row col)) (range_with_len 0 g.side) ++ 10 ∷ []
+
+-- the text is a label of the words: the lines of their symbol, and the words in a line of their own [own]
+pub record IsLabel (words : List ℕ) (level : Level) (smallest : ℕ) (text : List ℕ) : Type 0 where
+  pub version : ℕ
+  pub mask : ℕ
+  pub square : Grid
+  pub symbol : IsSymbol smallest level Auto words version mask square
+  pub drawn : text ≡ flat_map (line_of square) (range_with_len 0 square.side) ++ (words ++ 10 ∷ [])

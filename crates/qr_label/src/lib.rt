@@ -1,0 +1,73 @@
+//! An example of a crate that stands on `qr_symbol`: a label, which is the symbol of some words as text, and the words below
+//! it. The contract of `label` says what it draws, down to the last character.
+#![tactic(auto)]
+
+ghost use Rattle.std.specs.Prelude.{◌≡◌, ◌<◌, ◌≤◌, ◌++◌, [], length, Err, IfOk, IsOk};
+ghost use Rattle.qr_symbol.specs.declared.fault.EncodeFault.{EncodeFault};
+ghost use Rattle.qr_label.specs.Label.{IsLabel, character_of, line_of};
+
+use qr_bits::{INPUT_MAX, Rule};
+use qr_layout::{Level, Version};
+use qr_symbol::{EncodeFault, Matrix, encode};
+use std::alloc::{AllocError, Global};
+
+/// The label of some words: the lines of their symbol of this level, in the least version from `smallest` on, and then the
+/// words in a line of their own. There is no quiet zone, so the paper around it has to be light.
+///
+/// `Empty` if there are no words, and `TooLong` if they fit no version.
+pub fn label(
+    alloc: Global,
+    words: &[u8],
+    level: Level,
+    smallest: Version,
+) -> Result<Vec<u8>, EncodeFault>
+    requires { length words.now ≤ INPUT_MAX }
+    ensures label { IfOk result (λ text. IsLabel words.now level smallest text.items) }
+    ensures empty { words.now ≡ [] → result ≡ Err EncodeFault.Empty }
+    ensures long { 7089 < length words.now → result ≡ Err EncodeFault.TooLong }
+{
+    let symbol = encode(alloc, words, level, smallest, Rule::Auto)?;
+    let mut text = Vec::new(alloc);
+    for row in 0..symbol.matrix.side() {
+        push_line(&mut text, &symbol.matrix, row)?;
+    }
+    text.extend_from_slice(words)?;
+    text.push(b'\n')?;
+    Ok(text)
+}
+
+// Adds the line of a row.
+fn push_line(text: &mut Vec<u8>, matrix: &Matrix, row: u8) -> Result<(), AllocError>
+    requires { row < matrix.now.side }
+    ensures { IsOk result → text.new.items ≡ text.old.items ++ line_of matrix.now row }
+{
+    for col in 0..matrix.side() {
+        text.push(character_of(matrix.dark(row, col)))?;
+    }
+    text.push(b'\n')?;
+    Ok(())
+}
+
+// The character of a module.
+fn character_of(dark: bool) -> u8
+    ensures { result ≡ character_of dark }
+{
+    if dark { b'#' } else { b' ' }
+}
+
+#[cfg(test)]
+mod tests {
+    use super::*;
+    use std::test::Fail;
+
+    // The first and the last line of `A` in version 1-L in alphanumeric mode, as another encoder draws it.
+    #[test]
+    fn a_letter_at_1_l(rt: HostRuntime) -> Result<(), Fail> {
+        let version = Version::new(1).ok_or("version 1")?;
+        let text = label(rt.alloc(), b"A", Level::L, version)?;
+        assert_eq!(rt; text.len(), 21 * 22 + 2);
+        assert_eq!(rt; text.get(..7), Some(&b"#######"[..]));
+        assert_eq!(rt; text.get(21 * 22..), Some(&b"A\n"[..]));
+        Ok(())
+    }
+}

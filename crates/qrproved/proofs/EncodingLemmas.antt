@@ -1,0 +1,42 @@
+-- What the statuses of an input that is not encoded say.
+use Rattle.std.proofs.Common.{◌≡◌, ◌≢◌, ◌↔◌, ◌⊎◌, ℕ, List, [], Result, Err, refl, inl, inr, arith}
+use Rattle.std.proofs.lemmas.Bool.{cases_lt}
+use Rattle.qr_layout.specs.declared.level.Level.{Level}
+use Rattle.qr_bits.specs.declared.modes.Rule.{Rule}
+use Rattle.qr_symbol.specs.declared.fault.EncodeFault.{EncodeFault}
+use Rattle.qr_symbol.specs.declared.fault.EncodeFault.TheVariants as fault
+use Rattle.qr_symbol.specs.Encoding.{IsVersion}
+use Rattle.qrproved.specs.Status.{encode_status}
+
+-- bytes have one least version
+pub least-one : (x : List ℕ) (l : Level) (smallest : ℕ) (r : Rule) (v w : ℕ) → IsVersion smallest l r x v → IsVersion smallest l r x w → v ≡ w
+least-one x l smallest r v w h k = elim (cases_lt v w) [
+  | inl a ↦ absurd (k.first v h.least a h.fits)
+  | inr a ↦ elim (cases_lt w v) [
+    | inl b ↦ absurd (h.first w k.least b k.fits)
+    | inr b ↦ omega arith
+  ]
+]
+
+-- the status of an input that is too long comes exactly if it is, P, unless memory was refused
+pub too-long-status : {X : Type 0} (r : Result X EncodeFault) (f : EncodeFault) (S P : Type 0) → r ≡ Err f → S
+    → ((r ≡ Err fault.TooLong) ↔ ((r ≢ Err fault.Memory) × P))
+    → (encode_status f ≡ 2) ↔ ((encode_status f ≢ 4) × S × P)
+too-long-status r fault.Empty S P is s told = (λ h. absurd (omega arith), λ w. absurd (let e = told.1 (λ h. cc, w.2) in cc))
+too-long-status r fault.TooLong S P is s told = (λ h. (λ m. absurd (omega arith), s, (told.0 is).1), λ w. refl)
+too-long-status r fault.TooMany S P is s told = (λ h. absurd (omega arith), λ w. absurd (let e = told.1 (λ h. cc, w.2) in cc))
+too-long-status r fault.Memory S P is s told = (λ h. absurd (omega arith), λ w. absurd (w.0 refl))
+
+-- an input that is not encoded never has the status of a short buffer; one that has a symbol, R, is refused for lack of
+-- memory alone
+pub room-status : {X : Type 0} (r : Result X EncodeFault) (f : EncodeFault) (x : List ℕ) (S P R : Type 0) → r ≡ Err f → (R → P → ⊥)
+    → ((r ≡ Err fault.Empty) ↔ (x ≡ []))
+    → ((r ≡ Err fault.TooLong) ↔ ((r ≢ Err fault.Memory) × P))
+    → (f ≡ fault.Empty) ⊎ (f ≡ fault.TooLong) ⊎ (f ≡ fault.Memory)
+    → (encode_status f ≡ 6) ↔ ((encode_status f ≢ 4) × S × (x ≢ []) × R)
+room-status r fault.Empty x S P R is apart empty told kinds = (λ h. absurd (omega arith), λ w. absurd (w.2 (empty.0 is)))
+room-status r fault.TooLong x S P R is apart empty told kinds = (λ h. absurd (omega arith), λ w. absurd (apart w.3 (told.0 is).1))
+room-status r fault.TooMany x S P R is apart empty told (inl e) = absurd (cc)
+room-status r fault.TooMany x S P R is apart empty told (inr (inl e)) = absurd (cc)
+room-status r fault.TooMany x S P R is apart empty told (inr (inr e)) = absurd (cc)
+room-status r fault.Memory x S P R is apart empty told kinds = (λ h. absurd (omega arith), λ w. absurd (w.0 refl))

@@ -1,0 +1,3 @@
+mod ModuleLemmas
+mod EncodingLemmas
+mod ReadingLemmas

@@ -1,0 +1,14 @@
+use Rattle.std.proofs.Common.{◌≡◌, ℕ, ◌+◌, ◌*◌, ◌<◌, ◌≤◌, ◌⊎◌, length, slice_index_or}
+use Rattle.qr_matrix.specs.Grid.{colour}
+use Rattle.qrproved.specs.Modules.{byte_of}
+use Rattle.qrproved.proofs.modules.write_square.Given as goal
+
+-- the rows as far as they are written
+abbrev pub invariant-loop-row : goal.invariant-loop-row
+invariant-loop-row l = record {
+  side : l.side ≡ l.matrix.side;
+  next : l.next ≡ l.fn.start + l.row * l.side;
+  long : length l.modules ≡ length l.fn.modules;
+  modules : (row col : ℕ) → row < l.row → col < l.side → slice_index_or l.modules (l.fn.start + (row * l.side + col)) 0 ≡ byte_of (colour l.matrix row col);
+  others : (i : ℕ) → (i < l.fn.start) ⊎ (l.next ≤ i) → slice_index_or l.modules i 0 ≡ slice_index_or l.fn.modules i 0;
+}

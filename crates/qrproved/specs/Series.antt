@@ -1,0 +1,29 @@
+-- What a call for a series writes, and when its buffer is too short. Public clauses cite this file.
+use Rattle.std.specs.Prelude.{◌≡◌, ℕ, ◌*◌, ◌<◌, false, List, length}
+use Rattle.qr_layout.specs.Version.{side_of}
+use Rattle.qr_bits.specs.declared.modes.Mode.TheVariants.{Kanji}
+use Rattle.qr_bits.specs.Modes.{may_use}
+use Rattle.qr_symbol.specs.declared.symbol.Symbol.{Symbol}
+use Rattle.qr_symbol.specs.Series.{squares_of, IsSeries, NeedsParts}
+use Rattle.qr_symbol.specs.Joining.{IsJoined}
+use Rattle.qrproved.specs.declared.series.QrprovedSeries.{QrprovedSeries}
+use Rattle.qrproved.specs.Settings.{AreSettings, level_of, rule_of}
+use Rattle.qrproved.specs.Modules.{HoldsSquares}
+
+-- the buffer holds the series of the input, whose symbols are joined to the input and which without kanji mode is the
+-- shortest, and the struct tells how many symbols it has, and their side [own]
+pub record IsWrittenSeries (x : List ℕ) (version level rule : ℕ) (before after : List ℕ) (t : QrprovedSeries) : Type 0 where
+  pub settings : AreSettings version level rule
+  pub symbols : List Symbol
+  pub made : IsSeries version (level_of level) (rule_of rule) x symbols
+  pub joined : IsJoined (squares_of symbols) x
+  pub shortest : may_use (rule_of rule) Kanji ≡ false → NeedsParts version (level_of level) (rule_of rule) x (length symbols)
+  pub count : t.count ≡ length symbols
+  pub side : t.side ≡ side_of version
+  pub holds : HoldsSquares t.side (squares_of symbols) before after
+
+-- the series of the input has more modules than the buffer has bytes [own]
+pub record HasNoSeriesRoom (x : List ℕ) (version level rule : ℕ) (buffer : List ℕ) : Type 0 where
+  pub symbols : List Symbol
+  pub made : IsSeries version (level_of level) (rule_of rule) x symbols
+  pub room : length buffer < length symbols * (side_of version * side_of version)

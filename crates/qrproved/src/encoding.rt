@@ -1,0 +1,267 @@
+//! The call that encodes an input as one symbol (ISO/IEC 18004:2015, 7.1).
+
+ghost use Rattle.std.specs.Prelude.{◌≡◌, ◌≢◌, ◌<◌, ◌↔◌, ◌⊎◌, [], length};
+ghost use Rattle.qr_symbol.specs.Encoding.{HasNoVersion};
+ghost use Rattle.qrproved.specs.Settings.{AreSettings, level_of, rule_of};
+ghost use Rattle.qrproved.specs.Encoding.{HasNoRoom, IsWritten};
+
+use crate::modules::{area, write_square};
+use crate::settings::settings_of;
+use crate::status::{DONE, EMPTY, MEMORY, ROOM, SETTINGS, TOO_LONG, encode_status};
+use qr_bits::INPUT_MAX;
+use qr_symbol::encode;
+use qr_symbol::laws::long_inputs_have_none;
+use std::alloc::Global;
+
+/// What a symbol was made with.
+#[repr(C)]
+#[derive(Clone, Copy)]
+pub struct QrprovedSymbol {
+    /// The version, from 1 to 40.
+    pub version: u8,
+    /// How many modules a side has, from 21 to 177.
+    pub side: u8,
+    /// The mask, from 0 to 7.
+    pub mask: u8,
+}
+
+/// Writes the symbol of an input, of the least version from `version` on that it fits: the byte of the module in a row and
+/// a column stands at row times side plus column. The numbers of levels are 0 to 3 for L, M, Q and H, those of rules 0 to 2
+/// for all modes but kanji, byte mode alone, and all modes.
+///
+/// The causes of a refusal are looked for in this order: the numbers, an empty input, one that is too long, a buffer that
+/// is too short. What is refused for the numbers, as empty, or for more than 7,089 bytes is refused without any memory.
+#[unsafe(no_mangle)]
+pub extern "C" fn qrproved_encode(
+    alloc: Global,
+    input: &[u8],
+    version: u8,
+    level: u8,
+    rule: u8,
+    modules: &mut [u8],
+    symbol: &mut QrprovedSymbol,
+) -> u8
+    ensures done { result ≡ DONE
+        → IsWritten input.now version level rule modules.old modules.new symbol.new }
+    ensures unchanged { result ≢ DONE
+        → (modules.new ≡ modules.old) × (symbol.new ≡ symbol.old) }
+    ensures settings { (result ≡ SETTINGS) ↔ (AreSettings version level rule → ⊥) }
+    ensures empty { (result ≡ EMPTY) ↔ (AreSettings version level rule × (input.now ≡ [])) }
+    ensures too_long { (result ≡ TOO_LONG) ↔ ((result ≢ MEMORY)
+        × AreSettings version level rule
+        × HasNoVersion version (level_of level) (rule_of rule) input.now) }
+    ensures long { AreSettings version level rule → 7089 < length input.now
+        → result ≡ TOO_LONG }
+    ensures room { (result ≡ ROOM) ↔ ((result ≢ MEMORY) × AreSettings version level rule
+        × (input.now ≢ []) × HasNoRoom input.now version level rule modules.old) }
+    ensures status { (result ≡ DONE) ⊎ (result ≡ EMPTY) ⊎ (result ≡ TOO_LONG)
+        ⊎ (result ≡ MEMORY) ⊎ (result ≡ SETTINGS) ⊎ (result ≡ ROOM) }
+{
+    let Some(settings) = settings_of(version, level, rule) else {
+        return SETTINGS;
+    };
+    if input.len() > INPUT_MAX {
+        long_inputs_have_none(settings.version);
+        return TOO_LONG;
+    }
+    match encode(
+        alloc,
+        input,
+        settings.level,
+        settings.version,
+        settings.rule,
+    ) {
+        Err(fault) => encode_status(fault),
+        Ok(made) => {
+            let side = made.matrix.side();
+            if modules.len() < area(side) {
+                return ROOM;
+            }
+            write_square(&made.matrix, 0, modules);
+            symbol.version = made.version.number();
+            symbol.side = side;
+            symbol.mask = made.mask;
+            DONE
+        }
+    }
+}
+
+#[cfg(test)]
+mod tests {
+    use super::*;
+    use std::test::Fail;
+
+    // The modules of `A` in byte mode in version 1-L, as another encoder draws them.
+    static ROWS: [u32; 21] = [
+        0b111111100101101111111,
+        0b100000100111001000001,
+        0b101110101101101011101,
+        0b101110100101001011101,
+        0b101110100010101011101,
+        0b100000100000101000001,
+        0b111111101010101111111,
+        0b000000001101100000000,
+        0b111011111111011000100,
+        0b101100001000001000110,
+        0b010111100110100010001,
+        0b010110001100001000100,
+        0b001101101000101010101,
+        0b000000001001010101010,
+        0b111111101011011101111,
+        0b100000101111110111000,
+        0b101110101101011101101,
+        0b101110100110001000110,
+        0b101110101100100010001,
+        0b100000101000001000110,
+        0b111111101110101010111,
+    ];
+
+    fn nothing() -> QrprovedSymbol {
+        QrprovedSymbol {
+            version: 9,
+            side: 9,
+            mask: 9,
+        }
+    }
+
+    #[test]
+    fn a_letter_at_1_l(rt: HostRuntime) -> Result<(), Fail> {
+        let mut modules = [7u8; 443];
+        let mut symbol = nothing();
+        let status = qrproved_encode(rt.alloc(), b"A", 1, 0, 1, &mut modules, &mut symbol);
+        assert_eq!(rt; status, DONE);
+        assert_eq!(rt; (symbol.version, symbol.side, symbol.mask), (1, 21, 0));
+        for row in 0..21u8 {
+            for col in 0..21u8 {
+                let byte = modules.get(21 * usize::from(row) + usize::from(col));
+                let is_dark = ROWS[usize::from(row)] >> (20 - col) & 1 == 1;
+                assert_eq!(rt;
+                    byte.copied(),
+                    Some(u8::from(is_dark)),
+                    "row {row}, column {col}"
+                );
+            }
+        }
+        assert_eq!(rt;
+            modules.get(441..),
+            Some(&[7u8, 7][..]),
+            "past the last module"
+        );
+        Ok(())
+    }
+
+    // `g` in version 1-Q has mask 0, and five letters in version 1-L mask 7, as another encoder tells.
+    #[test]
+    fn numbers_of_levels_and_rules(rt: HostRuntime) -> Result<(), Fail> {
+        let digits = [b'7'; 42];
+        let rows = [
+            ("a letter at 1-Q", &b"g"[..], 1u8, 2u8, 0u8, 1u8, 0u8),
+            ("five letters at 1-L", &b"hello"[..], 1, 0, 0, 1, 7),
+        ];
+        for (name, input, version, level, rule, least, mask) in rows {
+            let mut modules = [7u8; 441];
+            let mut symbol = nothing();
+            let status = qrproved_encode(
+                rt.alloc(),
+                input,
+                version,
+                level,
+                rule,
+                &mut modules,
+                &mut symbol,
+            );
+            assert_eq!(rt; status, DONE, "{name}");
+            assert_eq!(rt; (symbol.version, symbol.mask), (least, mask), "{name}");
+        }
+        // what version holds so many digits, or bytes, or kanji pairs (Table 7)
+        let rows = [
+            ("41 digits at L", &digits[..41], 0u8, 0u8, 1u8),
+            ("42 digits at L", &digits[..], 0, 0, 2),
+            ("34 digits at M", &digits[..34], 1, 0, 1),
+            ("35 digits at M", &digits[..35], 1, 0, 2),
+            ("27 digits at Q", &digits[..27], 2, 0, 1),
+            ("28 digits at Q", &digits[..28], 2, 0, 2),
+            ("17 digits at H", &digits[..17], 3, 0, 1),
+            ("18 digits at H", &digits[..18], 3, 0, 2),
+            ("17 digits as bytes at L", &digits[..17], 0, 1, 1),
+            ("18 digits as bytes at L", &digits[..18], 0, 1, 2),
+        ];
+        for (name, input, level, rule, version) in rows {
+            let mut modules = [7u8; 625];
+            let mut symbol = nothing();
+            let status = qrproved_encode(
+                rt.alloc(),
+                input,
+                1,
+                level,
+                rule,
+                &mut modules,
+                &mut symbol,
+            );
+            assert_eq!(rt; status, DONE, "{name}");
+            assert_eq!(rt; symbol.version, version, "{name}");
+        }
+        Ok(())
+    }
+
+    // Ten kanji fit version 1-L in kanji mode alone (Table 7).
+    #[test]
+    fn kanji_at_1_l(rt: HostRuntime) -> Result<(), Fail> {
+        let kanji = [0x93, 0x5F].repeat(rt.alloc(), 10)?;
+        for (rule, version) in [(0u8, 2u8), (1, 2), (2, 1)] {
+            let mut modules = [7u8; 625];
+            let mut symbol = nothing();
+            let status = qrproved_encode(rt.alloc(), &kanji, 1, 0, rule, &mut modules, &mut symbol);
+            assert_eq!(rt; status, DONE, "rule {rule}");
+            assert_eq!(rt; symbol.version, version, "rule {rule}");
+        }
+        Ok(())
+    }
+
+    #[test]
+    fn refusals(rt: HostRuntime) -> Result<(), Fail> {
+        let digits = [b'7'; 7090];
+        let rows = [
+            ("no byte", &digits[..0], 1u8, 0u8, 0u8, 441usize, EMPTY),
+            ("7,090 digits", &digits[..], 1, 0, 0, 441, TOO_LONG),
+            (
+                "2,954 digits as bytes",
+                &digits[..2954],
+                1,
+                0,
+                1,
+                441,
+                TOO_LONG,
+            ),
+            ("version 0", &digits[..1], 0, 0, 0, 441, SETTINGS),
+            ("version 41", &digits[..1], 41, 0, 0, 441, SETTINGS),
+            ("level 4", &digits[..1], 1, 4, 0, 441, SETTINGS),
+            ("rule 3", &digits[..1], 1, 0, 3, 441, SETTINGS),
+            ("no byte at level 4", &digits[..0], 1, 4, 0, 441, SETTINGS),
+            ("440 bytes", &digits[..1], 1, 3, 0, 440, ROOM),
+            ("no bytes", &digits[..1], 1, 3, 0, 0, ROOM),
+        ];
+        for (name, input, version, level, rule, room, wanted) in rows {
+            let mut modules = [7u8; 441];
+            let mut symbol = nothing();
+            assert!(rt; room <= modules.len());
+            let status = qrproved_encode(
+                rt.alloc(),
+                input,
+                version,
+                level,
+                rule,
+                &mut modules[..room],
+                &mut symbol,
+            );
+            assert_eq!(rt; status, wanted, "{name}");
+            assert!(rt; modules.iter().all(|byte| *byte == 7), "{name}");
+            assert_eq!(rt;
+                (symbol.version, symbol.side, symbol.mask),
+                (9, 9, 9),
+                "{name}"
+            );
+        }
+        Ok(())
+    }
+}

@@ -1,0 +1,82 @@
+//! The modules of squares as bytes: row by row, one square after the other, without a quiet zone. A dark module is the
+//! byte 1, and any byte but 0 is read as one.
+
+ghost use Rattle.std.specs.Prelude.{◌≡◌, ℕ, ◌+◌, ◌*◌, ◌<◌, ◌≤◌, ◌⊎◌, length, slice_index_or, IfOk};
+ghost use Rattle.std.specs.List.{All};
+ghost use Rattle.qr_matrix.specs.Grid.{colour};
+ghost use Rattle.qr_symbol.specs.Series.{squares_of};
+ghost use Rattle.qrproved.specs.Modules.{HoldsSquares, byte_of, square_at};
+
+use qr_symbol::{Matrix, Symbol};
+use std::alloc::{AllocError, Global};
+
+/// How many modules a square of this side has.
+pub(crate) fn area(side: u8) -> usize
+    ensures { result ≡ side * side }
+{
+    usize::from(side) * usize::from(side)
+}
+
+// Writes the bytes of a row from `start` on.
+fn write_row(matrix: &Matrix, row: u8, start: usize, modules: &mut [u8])
+    requires row_in { row < matrix.now.side }
+    requires room { start + matrix.now.side ≤ length modules.old }
+    ensures modules { (col : ℕ) → col < matrix.now.side
+        → slice_index_or modules.new (start + col) 0 ≡ byte_of (colour matrix.now row col) }
+    ensures others { (i : ℕ) → (i < start) ⊎ (start + matrix.now.side ≤ i)
+        → slice_index_or modules.new i 0 ≡ slice_index_or modules.old i 0 }
+{
+    let side = matrix.side();
+    for col in 0..side {
+        modules[start + usize::from(col)] = u8::from(matrix.dark(row, col));
+    }
+}
+
+/// Writes the bytes of a square from `start` on.
+pub(crate) fn write_square(matrix: &Matrix, start: usize, modules: &mut [u8])
+    requires { start + matrix.now.side * matrix.now.side ≤ length modules.old }
+    ensures modules { (row col : ℕ) → row < matrix.now.side → col < matrix.now.side
+        → slice_index_or modules.new (start + (row * matrix.now.side + col)) 0
+        ≡ byte_of (colour matrix.now row col) }
+    ensures others { (i : ℕ) → (i < start) ⊎ (start + matrix.now.side * matrix.now.side ≤ i)
+        → slice_index_or modules.new i 0 ≡ slice_index_or modules.old i 0 }
+{
+    let side = matrix.side();
+    let mut next = start;
+    for row in 0..side {
+        write_row(matrix, row, next, modules);
+        next += usize::from(side);
+    }
+}
+
+/// Writes the bytes of symbols of one side, one after the other.
+pub(crate) fn write_squares(symbols: &[Symbol], side: u8, modules: &mut [u8])
+    requires sides { All (λ g. g.side ≡ side) (squares_of symbols.now) }
+    requires room { length symbols.now * (side * side) ≤ length modules.old }
+    ensures { HoldsSquares side (squares_of symbols.now) modules.old modules.new }
+{
+    let area = area(side);
+    let mut start = 0;
+    for symbol in symbols {
+        write_square(&symbol.matrix, start, modules);
+        start += area;
+    }
+}
+
+/// The square of this side whose modules have these bytes.
+pub(crate) fn matrix_of(alloc: Global, modules: &[u8], side: u8) -> Result<Matrix, AllocError>
+    requires least { 1 ≤ side }
+    requires most { side ≤ 177 }
+    requires room { side * side ≤ length modules.now }
+    ensures { IfOk result (λ m. m ≡ square_at side modules.now) }
+{
+    let mut matrix = Matrix::new(alloc, side)?;
+    let mut start = 0;
+    for row in 0..side {
+        for col in 0..side {
+            matrix.set(row, col, modules[start + usize::from(col)] != 0);
+        }
+        start += usize::from(side);
+    }
+    Ok(matrix)
+}

@@ -1,0 +1,249 @@
+//! The call that reads a symbol (ISO/IEC 18004:2015, 12).
+
+ghost use Rattle.std.specs.Prelude.{◌≡◌, ◌≢◌, ◌*◌, ◌<◌, ◌≤◌, ◌↔◌, ◌⊎◌, length, MatchOption};
+ghost use Rattle.qr_layout.specs.Version.{side_of};
+ghost use Rattle.qr_bits.specs.declared.fault.ParseFault.{ParseFault};
+ghost use Rattle.qr_symbol.specs.declared.fault.ReadFault.{ReadFault};
+ghost use Rattle.qrproved.specs.Reading.{HasMoreBytes, IsGiven, IsSide, IsUnreadAt, TellsHeader};
+
+use crate::modules::{area, matrix_of};
+use crate::status::{CHECK, DONE, FORMAT, MEMORY, ROOM, SEGMENTS, SIDE, read_status};
+use qr_bits::Header;
+use qr_layout::Version;
+use qr_symbol::laws::{contents_are_one, refusals_are_one};
+use qr_symbol::read_symbol;
+use std::alloc::Global;
+
+/// What a symbol says.
+#[repr(C)]
+#[derive(Clone, Copy)]
+pub struct QrprovedContent {
+    /// How many bytes it holds.
+    pub len: usize,
+    /// The version, from 1 to 40.
+    pub version: u8,
+    /// Whether it has a header: 1 if it is one of a series, 0 if it is a plain symbol, whose other fields are 0.
+    pub has_header: u8,
+    /// Which symbol of its series it is, from 0 to 15.
+    pub position: u8,
+    /// The number of symbols of its series less 1, from 0 to 15.
+    pub last: u8,
+    /// The parity of the whole input.
+    pub parity: u8,
+}
+
+// The version whose symbols have this side.
+fn version_of_side(side: u8) -> Option<Version>
+    ensures { MatchOption result (IsSide side → ⊥)
+        (λ v. (1 ≤ v) × (v ≤ 40) × (side ≡ side_of v)) }
+{
+    if side < 21 || (side - 17) % 4 != 0 {
+        return None;
+    }
+    Version::new((side - 17) / 4)
+}
+
+// What the struct tells of a symbol of this version that holds `len` bytes after this header or none.
+fn content_of(len: usize, version: Version, header: Option<Header>) -> QrprovedContent
+    ensures len { result.len ≡ len }
+    ensures version { result.version ≡ version }
+    ensures header { TellsHeader header result }
+{
+    let told = header.unwrap_or(Header {
+        position: 0,
+        last: 0,
+        parity: 0,
+    });
+    QrprovedContent {
+        len,
+        version: version.number(),
+        has_header: u8::from(header.is_some()),
+        position: told.position,
+        last: told.last,
+        parity: told.parity,
+    }
+}
+
+/// Reads the symbol whose modules stand in a buffer as `qrproved_encode` writes them; any byte but 0 is a dark module. Its
+/// bytes go to the second buffer, and what its header says to the struct. No errors are corrected.
+///
+/// The causes of a refusal are looked for in this order: the side, a buffer of fewer modules, the format information, the
+/// codewords, what they say, a second buffer that is too short. What is refused for the side, or for too few modules, is
+/// refused without any memory.
+#[unsafe(no_mangle)]
+pub extern "C" fn qrproved_read(
+    alloc: Global,
+    modules: &[u8],
+    side: u8,
+    bytes: &mut [u8],
+    content: &mut QrprovedContent,
+) -> u8
+    ensures done { result ≡ DONE → IsGiven modules.now side bytes.old bytes.new content.new }
+    ensures unchanged { result ≢ DONE → (bytes.new ≡ bytes.old) × (content.new ≡ content.old) }
+    ensures side { (result ≡ SIDE) ↔ (IsSide side → ⊥) }
+    ensures room { (result ≡ ROOM) ↔ (IsSide side × ((length modules.now < side * side)
+        ⊎ ((result ≢ MEMORY) × HasMoreBytes modules.now side bytes.old))) }
+    ensures format { (result ≡ FORMAT)
+        ↔ ((result ≢ MEMORY) × IsUnreadAt modules.now side ReadFault.Format) }
+    ensures check { (result ≡ CHECK)
+        ↔ ((result ≢ MEMORY) × IsUnreadAt modules.now side ReadFault.Check) }
+    ensures segments { (result ≡ SEGMENTS) ↔ ((result ≢ MEMORY)
+        × ((why : ParseFault) × IsUnreadAt modules.now side (ReadFault.Segments why))) }
+    ensures status { (result ≡ DONE) ⊎ (result ≡ MEMORY) ⊎ (result ≡ ROOM) ⊎ (result ≡ SIDE)
+        ⊎ (result ≡ FORMAT) ⊎ (result ≡ CHECK) ⊎ (result ≡ SEGMENTS) }
+{
+    let Some(version) = version_of_side(side) else {
+        return SIDE;
+    };
+    if modules.len() < area(side) {
+        return ROOM;
+    }
+    let Ok(matrix) = matrix_of(alloc, modules, side) else {
+        return MEMORY;
+    };
+    contents_are_one();
+    refusals_are_one();
+    match read_symbol(alloc, &matrix) {
+        Err(fault) => read_status(fault),
+        Ok(parsed) => {
+            let len = parsed.bytes.len();
+            if bytes.len() < len {
+                return ROOM;
+            }
+            bytes[..len].copy_from_slice(&parsed.bytes);
+            *content = content_of(len, version, parsed.header);
+            DONE
+        }
+    }
+}
+
+#[cfg(test)]
+mod tests {
+    use super::*;
+    use crate::encoding::{QrprovedSymbol, qrproved_encode};
+    use crate::modules::write_square;
+    use crate::series::{QrprovedSeries, qrproved_encode_series};
+    use qr_layout::Level;
+    use qr_symbol::{build_masked, interleave};
+    use std::test::Fail;
+
+    fn nothing() -> QrprovedContent {
+        QrprovedContent {
+            len: 9,
+            version: 9,
+            has_header: 9,
+            position: 9,
+            last: 9,
+            parity: 9,
+        }
+    }
+
+    // The modules of eight digits in version 1-M.
+    fn eight_digits(rt: &HostRuntime) -> Result<[u8; 441], Fail> {
+        let mut modules = [0u8; 441];
+        let mut symbol = QrprovedSymbol {
+            version: 0,
+            side: 0,
+            mask: 0,
+        };
+        let status = qrproved_encode(rt.alloc(), b"01234567", 1, 1, 0, &mut modules, &mut symbol);
+        if status != DONE {
+            return Err("eight digits are not encoded".into());
+        }
+        Ok(modules)
+    }
+
+    #[test]
+    fn eight_digits_are_read(rt: HostRuntime) -> Result<(), Fail> {
+        let mut modules = eight_digits(&rt)?;
+        // any byte but 0 is a dark module
+        for module in &mut modules {
+            *module = if *module == 0 { 0 } else { 200 };
+        }
+        let mut bytes = [7u8; 10];
+        let mut content = nothing();
+        let status = qrproved_read(rt.alloc(), &modules, 21, &mut bytes, &mut content);
+        assert_eq!(rt; status, DONE);
+        assert_eq!(rt; bytes, *b"01234567\x07\x07");
+        assert_eq!(rt;
+            (content.len, content.version, content.has_header),
+            (8, 1, 0)
+        );
+        assert_eq!(rt; (content.position, content.last, content.parity), (0, 0, 0));
+        Ok(())
+    }
+
+    #[test]
+    fn a_series_is_read(rt: HostRuntime) -> Result<(), Fail> {
+        let mut modules = [0u8; 882];
+        let mut series = QrprovedSeries { count: 0, side: 0 };
+        let status = qrproved_encode_series(
+            rt.alloc(),
+            b"ABCDEFGH",
+            1,
+            3,
+            1,
+            &mut modules,
+            &mut series,
+        );
+        assert_eq!(rt; status, DONE);
+        let rows = [
+            (0u8, &modules[..441], &b"ABCDE"[..]),
+            (1, &modules[441..], &b"FGH"[..]),
+        ];
+        for (position, square, part) in rows {
+            let mut bytes = [7u8; 5];
+            let mut content = nothing();
+            let status = qrproved_read(rt.alloc(), square, 21, &mut bytes, &mut content);
+            assert_eq!(rt; status, DONE);
+            assert_eq!(rt; bytes.get(..part.len()), Some(part), "symbol {position}");
+            assert_eq!(rt; content.len, part.len());
+            assert_eq!(rt; (content.has_header, content.position), (1, position));
+            assert_eq!(rt; (content.last, content.parity), (1, 0x08));
+        }
+        Ok(())
+    }
+
+    #[test]
+    fn refusals(rt: HostRuntime) -> Result<(), Fail> {
+        let drawn = eight_digits(&rt)?;
+        let mut format = drawn;
+        format[8] = 1 - format[8].min(1);
+        let mut codeword = drawn;
+        codeword[440] = 1 - codeword[440].min(1);
+        // data codewords that begin with the mode indicator 0111, which is none that is read
+        let version = Version::new(1).ok_or("version 1")?;
+        let message = [0x70u8; 16];
+        assert!(rt; version.data_codewords(Level::M) == 16);
+        let sent = interleave(rt.alloc(), version, Level::M, &message)?;
+        let symbol = build_masked(rt.alloc(), version, Level::M, &sent, 0)?;
+        let mut unparsed = [0u8; 441];
+        assert!(rt; symbol.matrix.side() == 21);
+        write_square(&symbol.matrix, 0, &mut unparsed);
+        let rows = [
+            ("no side", &drawn[..], 0u8, 8usize, SIDE),
+            ("side 20", &drawn[..], 20, 8, SIDE),
+            ("side 22", &drawn[..], 22, 8, SIDE),
+            ("side 181", &drawn[..], 181, 8, SIDE),
+            ("440 modules", &drawn[..440], 21, 8, ROOM),
+            ("room for 7 bytes", &drawn[..], 21, 7, ROOM),
+            ("another format information", &format[..], 21, 8, FORMAT),
+            ("another codeword", &codeword[..], 21, 8, CHECK),
+            ("another mode", &unparsed[..], 21, 8, SEGMENTS),
+        ];
+        for (name, modules, side, room, wanted) in rows {
+            let mut bytes = [7u8; 8];
+            let mut content = nothing();
+            assert!(rt; room <= bytes.len());
+            let status = qrproved_read(rt.alloc(), modules, side, &mut bytes[..room], &mut content);
+            assert_eq!(rt; status, wanted, "{name}");
+            assert_eq!(rt; bytes, [7u8; 8], "{name}");
+            assert_eq!(rt;
+                (content.len, content.version, content.has_header),
+                (9, 9, 9),
+                "{name}"
+            );
+        }
+        Ok(())
+    }
+}

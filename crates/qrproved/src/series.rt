@@ -1,0 +1,157 @@
+//! The call that encodes an input as a series of symbols (ISO/IEC 18004:2015, 8).
+
+ghost use Rattle.std.specs.Prelude.{◌≡◌, ◌≢◌, ◌<◌, ◌↔◌, ◌⊎◌, [], length};
+ghost use Rattle.qr_symbol.specs.Series.{HasNoSeries};
+ghost use Rattle.qrproved.specs.Settings.{AreSettings, level_of, rule_of};
+ghost use Rattle.qrproved.specs.Series.{HasNoSeriesRoom, IsWrittenSeries};
+
+use crate::modules::{area, write_squares};
+use crate::settings::settings_of;
+use crate::status::{DONE, EMPTY, MEMORY, ROOM, SETTINGS, TOO_MANY, encode_status};
+use qr_bits::INPUT_MAX;
+use qr_symbol::encode_series;
+use qr_symbol::laws::{long_inputs_have_none, series_are_one, series_have_one_side};
+use std::alloc::Global;
+
+/// What a series was made with.
+#[repr(C)]
+#[derive(Clone, Copy)]
+pub struct QrprovedSeries {
+    /// How many symbols it has, from 1 to 16.
+    pub count: u8,
+    /// How many modules a side of each has, from 21 to 177.
+    pub side: u8,
+}
+
+/// Writes the series of an input, all of one version: the byte of the module of a symbol in a row and a column stands at
+/// the number of the symbol, from 0 on, times side times side, plus row times side plus column. An input that fits one
+/// symbol is a plain symbol. The numbers are those of `qrproved_encode`.
+///
+/// The causes of a refusal are looked for in this order: the numbers, an empty input, more than 16 symbols, a buffer that is
+/// too short. What is refused for the numbers, as empty, or for more bytes than 16 symbols hold is refused without any
+/// memory.
+#[unsafe(no_mangle)]
+pub extern "C" fn qrproved_encode_series(
+    alloc: Global,
+    input: &[u8],
+    version: u8,
+    level: u8,
+    rule: u8,
+    modules: &mut [u8],
+    series: &mut QrprovedSeries,
+) -> u8
+    ensures done { result ≡ DONE
+        → IsWrittenSeries input.now version level rule modules.old modules.new series.new }
+    ensures unchanged { result ≢ DONE
+        → (modules.new ≡ modules.old) × (series.new ≡ series.old) }
+    ensures settings { (result ≡ SETTINGS) ↔ (AreSettings version level rule → ⊥) }
+    ensures empty { (result ≡ EMPTY) ↔ (AreSettings version level rule × (input.now ≡ [])) }
+    ensures too_many { (result ≡ TOO_MANY) ↔ ((result ≢ MEMORY)
+        × AreSettings version level rule
+        × HasNoSeries version (level_of level) (rule_of rule) input.now) }
+    ensures long { AreSettings version level rule → INPUT_MAX < length input.now
+        → result ≡ TOO_MANY }
+    ensures room { (result ≡ ROOM) ↔ ((result ≢ MEMORY) × AreSettings version level rule
+        × (input.now ≢ []) × HasNoSeriesRoom input.now version level rule modules.old) }
+    ensures status { (result ≡ DONE) ⊎ (result ≡ EMPTY) ⊎ (result ≡ TOO_MANY)
+        ⊎ (result ≡ MEMORY) ⊎ (result ≡ SETTINGS) ⊎ (result ≡ ROOM) }
+{
+    let Some(settings) = settings_of(version, level, rule) else {
+        return SETTINGS;
+    };
+    if input.len() > INPUT_MAX {
+        long_inputs_have_none(settings.version);
+        return TOO_MANY;
+    }
+    match encode_series(
+        alloc,
+        input,
+        settings.version,
+        settings.level,
+        settings.rule,
+    ) {
+        Err(fault) => encode_status(fault),
+        Ok(symbols) => {
+            series_are_one();
+            series_have_one_side(settings.version);
+            let side = settings.version.side();
+            if modules.len() < symbols.len() * area(side) {
+                return ROOM;
+            }
+            write_squares(&symbols, side, modules);
+            series.count = symbols.len() as u8;
+            series.side = side;
+            DONE
+        }
+    }
+}
+
+#[cfg(test)]
+mod tests {
+    use super::*;
+    use std::test::Fail;
+
+    // Eight letters in byte mode in version 1-H are two symbols of five and three letters.
+    #[test]
+    fn eight_letters_at_1_h(rt: HostRuntime) -> Result<(), Fail> {
+        let mut modules = [7u8; 884];
+        let mut series = QrprovedSeries { count: 9, side: 9 };
+        let status = qrproved_encode_series(
+            rt.alloc(),
+            b"ABCDEFGH",
+            1,
+            3,
+            1,
+            &mut modules,
+            &mut series,
+        );
+        assert_eq!(rt; status, DONE);
+        assert_eq!(rt; (series.count, series.side), (2, 21));
+        for start in [0usize, 441] {
+            let edge = modules.get(start..start + 8);
+            assert_eq!(rt;
+                edge,
+                Some(&[1u8, 1, 1, 1, 1, 1, 1, 0][..]),
+                "a finder pattern and its separator"
+            );
+        }
+        assert_eq!(rt;
+            modules.get(882..),
+            Some(&[7u8, 7][..]),
+            "past the last module"
+        );
+        Ok(())
+    }
+
+    #[test]
+    fn refusals(rt: HostRuntime) -> Result<(), Fail> {
+        let letters = [b'a'; 81];
+        let rows = [
+            ("no byte", &letters[..0], 1u8, 3u8, 1u8, 882usize, EMPTY),
+            ("81 letters", &letters[..], 1, 3, 1, 882, TOO_MANY),
+            ("version 0", &letters[..8], 0, 3, 1, 882, SETTINGS),
+            ("version 41", &letters[..8], 41, 3, 1, 882, SETTINGS),
+            ("level 4", &letters[..8], 1, 4, 1, 882, SETTINGS),
+            ("rule 3", &letters[..8], 1, 3, 3, 882, SETTINGS),
+            ("881 bytes", &letters[..8], 1, 3, 1, 881, ROOM),
+        ];
+        for (name, input, version, level, rule, room, wanted) in rows {
+            let mut modules = [7u8; 882];
+            let mut series = QrprovedSeries { count: 9, side: 9 };
+            assert!(rt; room <= modules.len());
+            let status = qrproved_encode_series(
+                rt.alloc(),
+                input,
+                version,
+                level,
+                rule,
+                &mut modules[..room],
+                &mut series,
+            );
+            assert_eq!(rt; status, wanted, "{name}");
+            assert!(rt; modules.iter().all(|byte| *byte == 7), "{name}");
+            assert_eq!(rt; (series.count, series.side), (9, 9), "{name}");
+        }
+        Ok(())
+    }
+}

@@ -1,0 +1,55 @@
+//! What the numbers of a call ask for: any number may come from C, and those that stand for nothing are refused.
+
+ghost use Rattle.std.specs.Prelude.{◌<◌, SomeIff};
+ghost use Rattle.qrproved.specs.Settings.{AreSettings, level_of, rule_of};
+
+use qr_bits::Rule;
+use qr_layout::{Level, Version};
+
+/// What a symbol or a series is made with.
+#[derive(Clone, Copy)]
+pub(crate) struct Settings {
+    /// The smallest version, or that of a series.
+    pub version: Version,
+    /// The level of error correction.
+    pub level: Level,
+    /// The modes that segments may have.
+    pub rule: Rule,
+}
+
+/// The settings of these numbers, if they are those of a version, a level and a rule.
+pub(crate) fn settings_of(version: u8, level: u8, rule: u8) -> Option<Settings>
+    ensures { SomeIff result (AreSettings version level rule)
+        (record { version = version; level = level_of level; rule = rule_of rule }) }
+{
+    Some(Settings {
+        version: Version::new(version)?,
+        level: level_of(level)?,
+        rule: rule_of(rule)?,
+    })
+}
+
+// The level of this number.
+fn level_of(number: u8) -> Option<Level>
+    ensures { SomeIff result (number < 4) (level_of number) }
+{
+    match number {
+        0 => Some(Level::L),
+        1 => Some(Level::M),
+        2 => Some(Level::Q),
+        3 => Some(Level::H),
+        _ => None,
+    }
+}
+
+// The rule of this number.
+fn rule_of(number: u8) -> Option<Rule>
+    ensures { SomeIff result (number < 3) (rule_of number) }
+{
+    match number {
+        0 => Some(Rule::Auto),
+        1 => Some(Rule::BytesOnly),
+        2 => Some(Rule::WithKanji),
+        _ => None,
+    }
+}

@@ -1,0 +1,68 @@
+/* Prints the symbol of its words as text, with the quiet zone: label [-a] WORD...
+ *
+ * By half blocks in UTF-8, light on a dark terminal, or with -a by two characters a module in ASCII. */
+#include "qrproved.h"
+#include <stdio.h>
+#include <string.h>
+
+enum { QUIET_ZONE = 4, INPUT_MAX = 8192 };
+
+static uint8_t modules[QRPROVED_SYMBOL_MAX];
+
+static const char *reason(uint8_t status)
+{
+	switch (status) {
+	case QRPROVED_EMPTY: return "there are no words";
+	case QRPROVED_TOO_LONG: return "the words do not fit a symbol";
+	case QRPROVED_MEMORY: return "out of memory";
+	default: return "not encoded";
+	}
+}
+
+/* The words with a space between them, and how many bytes they are; bytes that find no place are only counted. */
+static size_t joined(char **words, uint8_t *input, size_t room)
+{
+	size_t len = 0;
+	for (char **word = words; *word; word++) {
+		if (word != words && len++ < room)
+			input[len - 1] = ' ';
+		for (const char *at = *word; *at; at++)
+			if (len++ < room)
+				input[len - 1] = (uint8_t)*at;
+	}
+	return len;
+}
+
+/* Whether the module in that row and column is dark; all are light outside the symbol. */
+static int dark(const struct qrproved_symbol *symbol, int row, int col)
+{
+	int side = symbol->side;
+	return row >= 0 && row < side && col >= 0 && col < side && modules[row * side + col];
+}
+
+int main(int argc, char **argv)
+{
+	static uint8_t input[INPUT_MAX];
+	struct qrproved_symbol symbol;
+	int is_ascii = argc > 1 && strcmp(argv[1], "-a") == 0;
+	size_t len = joined(argv + (argc > 0) + is_ascii, input, sizeof input);
+	uint8_t status = QRPROVED_TOO_LONG;
+
+	if (len <= sizeof input)
+		status = qrproved_encode(input, len, 1, QRPROVED_LEVEL_M, QRPROVED_RULE_AUTO, modules, sizeof modules, &symbol);
+	if (status != QRPROVED_DONE) {
+		fprintf(stderr, "label: %s\n", reason(status));
+		return 1;
+	}
+	for (int row = -QUIET_ZONE; row < symbol.side + QUIET_ZONE; row += is_ascii ? 1 : 2) {
+		for (int col = -QUIET_ZONE; col < symbol.side + QUIET_ZONE; col++) {
+			int upper = dark(&symbol, row, col), lower = dark(&symbol, row + 1, col);
+			if (is_ascii)
+				fputs(upper ? "##" : "  ", stdout);
+			else
+				fputs(upper ? (lower ? " " : "\u2584") : (lower ? "\u2580" : "\u2588"), stdout);
+		}
+		putchar('\n');
+	}
+	return fflush(stdout) == 0 && !ferror(stdout) ? 0 : 1;
+}

@@ -1,0 +1,137 @@
+/* QR Code symbols (ISO/IEC 18004:2015, QR Code Model 2): an input is encoded as a symbol or as a series of symbols, and a
+ * symbol is read. The calls are proved to meet their contracts, in crates/qrproved; docs/LIBRARY.md says what that means
+ * for a caller. tests/library compares this file with the exports.
+ *
+ * Modules are bytes in the caller's buffer, row by row from the top left, without the quiet zone of four light modules
+ * that a drawing needs on each side. A call keeps nothing: no state, no file, no lock. It takes memory by malloc and
+ * gives all of it back before it returns.
+ *
+ * What the caller owes, at each call:
+ * - each pointer is to as many bytes as the length beside it says, or to a struct; where the length is 0 it is not used;
+ * - no two of the buffers and the struct overlap;
+ * - during the call nothing else writes to any of them, and nothing else reads those that the call writes to;
+ * - no call from a signal handler, nor in the forked child of a process with threads, since malloc may not be called there.
+ * Calls may run side by side in any threads, each with a buffer and a struct of its own.
+ */
+#ifndef QRPROVED_H
+#define QRPROVED_H
+
+#include <stddef.h>
+#include <stdint.h>
+
+#ifdef __cplusplus
+extern "C" {
+#endif
+
+#define QRPROVED_SIDE_MAX 177      /* modules on a side of the largest symbol, of version 40 */
+#define QRPROVED_SYMBOL_MAX 31329  /* bytes that hold the modules of every symbol: 177 times 177 */
+#define QRPROVED_COUNT_MAX 16      /* symbols in the longest series */
+#define QRPROVED_SERIES_MAX 501264 /* bytes that hold the modules of every series: 16 times 31,329 */
+#define QRPROVED_BYTES_MAX 7089    /* bytes that hold what any symbol says: the digits of version 40 and level L */
+
+/* Levels: how much of a damaged symbol can be restored, about 7, 15, 25 or 30 % of the codewords. */
+#define QRPROVED_LEVEL_L 0
+#define QRPROVED_LEVEL_M 1
+#define QRPROVED_LEVEL_Q 2
+#define QRPROVED_LEVEL_H 3
+
+/* Rules: which modes the segments of an input may have. */
+#define QRPROVED_RULE_AUTO 0       /* numeric, alphanumeric and byte mode, whatever takes the least bits */
+#define QRPROVED_RULE_BYTES_ONLY 1 /* the whole input in byte mode */
+#define QRPROVED_RULE_WITH_KANJI 2 /* also kanji mode, for pairs of bytes that are Shift JIS characters */
+
+/* What a call returns. On all but 0 the buffer and the struct are as they were. */
+#define QRPROVED_DONE 0     /* what was asked for is written */
+#define QRPROVED_EMPTY 1    /* the input has no byte */
+#define QRPROVED_TOO_LONG 2 /* no version from the smallest one on holds the input */
+#define QRPROVED_TOO_MANY 3 /* the input takes more than 16 symbols of the version */
+#define QRPROVED_MEMORY 4   /* malloc refused */
+#define QRPROVED_SETTINGS 5 /* the number of the version, the level or the rule is none */
+#define QRPROVED_ROOM 6     /* a buffer is too short */
+#define QRPROVED_SIDE 7     /* no version has this side */
+#define QRPROVED_FORMAT 8   /* the format information is that of no level and mask */
+#define QRPROVED_CHECK 9    /* the error correction codewords of a block are not those of its data codewords */
+#define QRPROVED_SEGMENTS 10 /* the data codewords cannot be parsed */
+
+/* What a symbol was made with. */
+struct qrproved_symbol {
+	uint8_t version; /* from 1 to 40 */
+	uint8_t side;    /* modules on a side: 17 + 4 * version */
+	uint8_t mask;    /* from 0 to 7 */
+};
+
+/* What a series was made with. */
+struct qrproved_series {
+	uint8_t count; /* symbols, from 1 to 16 */
+	uint8_t side;  /* modules on a side of each */
+};
+
+/* What a symbol says. */
+struct qrproved_content {
+	size_t len;         /* bytes that it holds */
+	uint8_t version;    /* from 1 to 40 */
+	uint8_t has_header; /* 1 if it is one of a series; 0 if it is a plain symbol, and then the rest is 0 */
+	uint8_t position;   /* which symbol of its series, from 0 to 15 */
+	uint8_t last;       /* symbols of its series less 1, from 0 to 15 */
+	uint8_t parity;     /* the exclusive or of all bytes of the input */
+};
+
+/* The layout that the compiled calls rest on. */
+#if defined(__cplusplus) && __cplusplus >= 201103L
+#define QRPROVED_HOLDS(fact) static_assert(fact, #fact)
+#elif defined(__STDC_VERSION__) && __STDC_VERSION__ >= 201112L
+#define QRPROVED_HOLDS(fact) _Static_assert(fact, #fact)
+#else
+#define QRPROVED_HOLDS(fact) struct qrproved_symbol
+#endif
+QRPROVED_HOLDS(sizeof(size_t) == 8);
+QRPROVED_HOLDS(sizeof(struct qrproved_symbol) == 3);
+QRPROVED_HOLDS(sizeof(struct qrproved_series) == 2);
+QRPROVED_HOLDS(sizeof(struct qrproved_content) == 16);
+QRPROVED_HOLDS(offsetof(struct qrproved_content, version) == 8);
+#undef QRPROVED_HOLDS
+
+/* Writes the symbol of the input: modules[row * side + column] is 1 where that module is dark, and 0 where it is light.
+ * Bytes past the last module stay as they were.
+ *
+ * version  the smallest version that may be taken, from 1 to 40; the symbol has the least one from there on that holds the
+ *          input
+ * level    QRPROVED_LEVEL_L to QRPROVED_LEVEL_H
+ * rule     QRPROVED_RULE_AUTO to QRPROVED_RULE_WITH_KANJI
+ * modules  QRPROVED_SYMBOL_MAX bytes hold every symbol
+ *
+ * Returns DONE, SETTINGS, EMPTY, TOO_LONG, ROOM or MEMORY. More than 7,089 bytes of input are TOO_LONG.
+ */
+uint8_t qrproved_encode(const uint8_t *input, size_t input_len, uint8_t version, uint8_t level, uint8_t rule,
+                        uint8_t *modules, size_t modules_len, struct qrproved_symbol *symbol);
+
+/* Writes the series of the input by structured append, all of one version: modules[(k * side + row) * side + column] is
+ * that of symbol k, from 0 on. An input that fits one symbol is one plain symbol. Bytes past the last module stay as they
+ * were.
+ *
+ * version  the version of all symbols, from 1 to 40
+ * modules  QRPROVED_SERIES_MAX bytes hold every series
+ *
+ * The rest is as for qrproved_encode. Returns DONE, SETTINGS, EMPTY, TOO_MANY, ROOM or MEMORY.
+ */
+uint8_t qrproved_encode_series(const uint8_t *input, size_t input_len, uint8_t version, uint8_t level, uint8_t rule,
+                               uint8_t *modules, size_t modules_len, struct qrproved_series *series);
+
+/* Reads the symbol whose modules stand in a buffer as qrproved_encode writes them; any byte but 0 is a dark module, and
+ * bytes past the last module are not looked at. What it says goes to the start of the second buffer, and the rest of that
+ * stays as it was. No errors are corrected: each codeword has to be as it was drawn.
+ *
+ * side   modules on a side: 21, 25, and so on to 177
+ * bytes  QRPROVED_BYTES_MAX bytes hold what any symbol says
+ *
+ * Returns DONE, SIDE, ROOM, FORMAT, CHECK, SEGMENTS or MEMORY. ROOM is for either buffer: modules_len is below side times
+ * side, or bytes_len below the bytes that the symbol holds.
+ */
+uint8_t qrproved_read(const uint8_t *modules, size_t modules_len, uint8_t side, uint8_t *bytes, size_t bytes_len,
+                      struct qrproved_content *content);
+
+#ifdef __cplusplus
+}
+#endif
+
+#endif

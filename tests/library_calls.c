@@ -1,0 +1,164 @@
+/* Calls the library for tests/library: library_calls WHAT
+ *
+ * encode, encode_series, read: one call, of which a growth of memory may be refused; says what came of it
+ * edges: lengths of 0, and buffers that are just large enough
+ * threads: eight threads, each with the answers of one thread */
+#include "qrproved.h"
+#include <pthread.h>
+#include <stdio.h>
+#include <string.h>
+
+enum { THREADS = 8, CALLS = 40, MARK = 7 };
+
+static const uint8_t TEXT[] = "0123456789ABCDEFGHabcdefgh,.0123456789ABCDEFGHabcdefgh,.0123456789ABCDEFGHabcdefgh,.";
+static uint8_t modules[QRPROVED_SERIES_MAX], bytes[QRPROVED_BYTES_MAX];
+
+static int is_marked(const void *all, size_t from, size_t to)
+{
+	for (size_t i = from; i < to; i++)
+		if (((const uint8_t *)all)[i] != MARK)
+			return 0;
+	return 1;
+}
+
+/* What came of a call: its status, and whether a buffer and a struct are as they were. */
+static void tell(const char *name, uint8_t status, const uint8_t *buffer, size_t buffer_len, const void *told, size_t told_len)
+{
+	int is_unchanged = is_marked(buffer, 0, buffer_len) && is_marked(told, 0, told_len);
+	printf("%s: status %d, %s\n", name, status, is_unchanged ? "all unchanged" : "changed");
+}
+
+static int encode(void)
+{
+	struct qrproved_symbol symbol;
+	memset(modules, MARK, sizeof modules), memset(&symbol, MARK, sizeof symbol);
+	uint8_t status = qrproved_encode(TEXT, sizeof TEXT - 1, 1, 0, 0, modules, sizeof modules, &symbol);
+	tell("encode", status, modules, sizeof modules, &symbol, sizeof symbol);
+	return 0;
+}
+
+static int encode_series(void)
+{
+	struct qrproved_series series;
+	memset(modules, MARK, sizeof modules), memset(&series, MARK, sizeof series);
+	uint8_t status = qrproved_encode_series(TEXT, sizeof TEXT - 1, 2, 1, 0, modules, sizeof modules, &series);
+	tell("encode_series", status, modules, sizeof modules, &series, sizeof series);
+	return 0;
+}
+
+static int read_symbol(void)
+{
+	struct qrproved_symbol symbol;
+	struct qrproved_content content;
+	if (qrproved_encode(TEXT, sizeof TEXT - 1, 1, 0, 0, modules, sizeof modules, &symbol)) {
+		puts("read: not prepared");
+		return 0;
+	}
+	memset(bytes, MARK, sizeof bytes), memset(&content, MARK, sizeof content);
+	uint8_t status = qrproved_read(modules, sizeof modules, symbol.side, bytes, sizeof bytes, &content);
+	tell("read", status, bytes, sizeof bytes, &content, sizeof content);
+	return 0;
+}
+
+static int wrong;
+
+static void want(const char *name, int is_so)
+{
+	if (!is_so) {
+		printf("FAILED: %s\n", name);
+		wrong = 1;
+	}
+}
+
+static int edges(void)
+{
+	struct qrproved_symbol symbol;
+	struct qrproved_series series;
+	struct qrproved_content content;
+	memset(modules, MARK, sizeof modules), memset(&symbol, MARK, sizeof symbol);
+	want("no input", qrproved_encode(NULL, 0, 1, 0, 0, modules, sizeof modules, &symbol) == QRPROVED_EMPTY);
+	want("no buffer", qrproved_encode(TEXT, 5, 1, 0, 0, NULL, 0, &symbol) == QRPROVED_ROOM);
+	want("numbers of 255", qrproved_encode(TEXT, 5, 255, 255, 255, modules, sizeof modules, &symbol) == QRPROVED_SETTINGS);
+	want("440 bytes", qrproved_encode(TEXT, 5, 1, 0, 0, modules, 440, &symbol) == QRPROVED_ROOM);
+	want("nothing is written", is_marked(modules, 0, sizeof modules) && is_marked(&symbol, 0, sizeof symbol));
+	want("441 bytes", qrproved_encode(TEXT, 5, 1, 0, 0, modules, 441, &symbol) == QRPROVED_DONE);
+	want("no more is written", symbol.side == 21 && is_marked(modules, 441, sizeof modules));
+	memset(modules, MARK, sizeof modules);
+	want("a long input", qrproved_encode(modules, 200000, 1, 0, 0, modules + 200000, 31329, &symbol) == QRPROVED_TOO_LONG);
+	want("a long series", qrproved_encode_series(modules, 200000, 40, 0, 0, modules + 200000, 31329, &series) == QRPROVED_TOO_MANY);
+	want("a series of 2", qrproved_encode_series(TEXT, 8, 1, 3, 1, modules, 882, &series) == QRPROVED_DONE);
+	want("no more is written for a series", series.count == 2 && series.side == 21 && is_marked(modules, 882, sizeof modules));
+	memset(bytes, MARK, sizeof bytes);
+	want("no modules", qrproved_read(NULL, 0, 21, bytes, sizeof bytes, &content) == QRPROVED_ROOM);
+	want("no room", qrproved_read(modules, 441, 21, NULL, 0, &content) == QRPROVED_ROOM);
+	want("side 0", qrproved_read(NULL, 0, 0, NULL, 0, &content) == QRPROVED_SIDE);
+	want("a part", qrproved_read(modules + 441, 441, 21, bytes, 3, &content) == QRPROVED_DONE);
+	want("its bytes", content.len == 3 && !memcmp(bytes, TEXT + 5, 3) && is_marked(bytes, 3, sizeof bytes));
+	want("its header", content.version == 1 && content.has_header == 1 && content.position == 1 && content.last == 1);
+	if (!wrong)
+		puts("edges: as wanted");
+	return wrong;
+}
+
+/* A sum over the symbols of some inputs, and of what is read of each; 0 for a fault. */
+static uint64_t sum_of(int k)
+{
+	static _Thread_local uint8_t drawn[QRPROVED_SYMBOL_MAX], said[QRPROVED_BYTES_MAX];
+	uint8_t input[300];
+	uint64_t sum = 1;
+	for (int call = 0; call < CALLS; call++) {
+		struct qrproved_symbol symbol;
+		struct qrproved_content content;
+		size_t len = (size_t)(1 + (k * 37 + call * 7) % 299);
+		for (size_t i = 0; i < len; i++)
+			input[i] = (uint8_t)(k * 31 + call + (int)i * 7);
+		if (qrproved_encode(input, len, (uint8_t)(1 + call % 12), (uint8_t)(call % 4), (uint8_t)(call % 3), drawn, sizeof drawn, &symbol))
+			return 0;
+		if (qrproved_read(drawn, sizeof drawn, symbol.side, said, sizeof said, &content) || content.len != len || memcmp(said, input, len))
+			return 0;
+		for (int i = 0; i < symbol.side * symbol.side; i++)
+			sum = sum * 31 + drawn[i] + symbol.mask;
+	}
+	return sum;
+}
+
+static uint64_t got[THREADS];
+
+static void *work(void *k)
+{
+	got[(size_t)k] = sum_of((int)(size_t)k);
+	return NULL;
+}
+
+static int threads(void)
+{
+	pthread_t all[THREADS];
+	int others = 0;
+	for (size_t k = 0; k < THREADS; k++)
+		if (pthread_create(&all[k], NULL, work, (void *)k))
+			return 2;
+	for (int k = 0; k < THREADS; k++)
+		pthread_join(all[k], NULL);
+	for (int k = 0; k < THREADS; k++)
+		others += !got[k] || got[k] != sum_of(k);
+	printf("threads: %d of %d differ\n", others, THREADS);
+	return others;
+}
+
+int main(int argc, char **argv)
+{
+	const char *what = argc == 2 ? argv[1] : "";
+	/* so that printing takes no memory */
+	setvbuf(stdout, NULL, _IONBF, 0);
+	if (!strcmp(what, "encode"))
+		return encode();
+	if (!strcmp(what, "encode_series"))
+		return encode_series();
+	if (!strcmp(what, "read"))
+		return read_symbol();
+	if (!strcmp(what, "edges"))
+		return edges();
+	if (!strcmp(what, "threads"))
+		return threads();
+	return 2;
+}
