@@ -5,7 +5,7 @@ use Rattle.qr_layout.specs.declared.level.Level.{Level}
 use Rattle.qr_bits.specs.declared.modes.Rule.{Rule}
 use Rattle.qr_symbol.specs.declared.fault.EncodeFault.{EncodeFault}
 use Rattle.qr_symbol.specs.declared.fault.EncodeFault.TheVariants as fault
-use Rattle.qr_symbol.specs.Encoding.{IsVersion}
+use Rattle.qr_symbol.specs.VersionChoice.{IsVersion}
 use Rattle.qrproved.specs.Status.{encode_status}
 
 -- bytes have one least version

@@ -2,7 +2,8 @@
 use Rattle.std.specs.Prelude.{◌≡◌, ℕ, ◌*◌, ◌<◌, List, [], ◌∷◌, length}
 use Rattle.qr_layout.specs.Version.{side_of}
 use Rattle.qr_matrix.specs.Grid.{Grid}
-use Rattle.qr_symbol.specs.Encoding.{IsSymbol, IsVersion}
+use Rattle.qr_symbol.specs.Encoding.{IsSymbol}
+use Rattle.qr_symbol.specs.VersionChoice.{IsVersion}
 use Rattle.qr_symbol.specs.Reading.{IsReadBack}
 use Rattle.qrproved.specs.declared.encoding.QrprovedSymbol.{QrprovedSymbol}
 use Rattle.qrproved.specs.Settings.{AreSettings, level_of, rule_of}

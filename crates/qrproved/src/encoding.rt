@@ -1,7 +1,7 @@
 //! The call that encodes an input as one symbol (ISO/IEC 18004:2015, 7.1).
 
 ghost use Rattle.std.specs.Prelude.{◌≡◌, ◌≢◌, ◌<◌, ◌↔◌, ◌⊎◌, [], length};
-ghost use Rattle.qr_symbol.specs.Encoding.{HasNoVersion};
+ghost use Rattle.qr_symbol.specs.VersionChoice.{HasNoVersion};
 ghost use Rattle.qrproved.specs.Settings.{AreSettings, level_of, rule_of};
 ghost use Rattle.qrproved.specs.Encoding.{HasNoRoom, IsWritten};
 
