@@ -22,6 +22,6 @@ unfoldable pub header_stream : Option Header → List Bool
 header_stream None = []
 header_stream (Some h) = field 4 header_indicator ++ (field 4 h.position ++ (field 4 h.last ++ field 8 h.parity))
 
--- the parity of bytes: the exclusive or of all of them (ISO/IEC 18004:2015, 8.3)
+-- the parity of an input: the exclusive or of all its bytes (ISO/IEC 18004:2015, 8.3)
 abbrev pub parity_of : List ℕ → ℕ
 parity_of bs = fold bit_xor 0 bs

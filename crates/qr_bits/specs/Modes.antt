@@ -13,7 +13,7 @@ indicator Alphanumeric = 2
 indicator Byte = 4
 indicator Kanji = 8
 
--- the terminator, which stands where no segment follows (ISO/IEC 18004:2015, 7.4.1, Table 2)
+-- the number that is read in place of a mode indicator where no segment follows (ISO/IEC 18004:2015, 7.4.1, Table 2)
 abbrev pub terminator : ℕ
 terminator = 0
 

@@ -9,7 +9,7 @@ use crate::register::Register;
 use arrayvec::ArrayVec;
 use std::marker::Model;
 
-/// The generator polynomial for a number of error correction codewords, which it is seen as; made once for many blocks.
+/// The generator polynomial for n error correction codewords, made once for many blocks. Contracts see it as the number n.
 #[derive(Drop)]
 pub struct Divisor {
     count: usize,

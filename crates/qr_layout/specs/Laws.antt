@@ -41,17 +41,17 @@ gap_between v k = if v == 32 then 26 else 2 * ((side_of v - 13 + 2 * (k - 1) - 1
 abbrev pub spaced_centres : ℕ → List ℕ
 spaced_centres v = 6 ∷ map (λ i. side_of v - 7 - gap_between v (v / 7 + 2) * (v / 7 - i)) (range_with_len 0 (v / 7 + 1))
 
--- the modules that the alignment patterns take beside the timing patterns, with k rows of centres: 25 for each pattern,
+-- how many modules the alignment patterns take beside the timing patterns, with k rows of centres: 25 for each pattern,
 -- less 5 for each of those that stand on a timing pattern (ISO/IEC 18004:2015, 6.3.5, 6.3.6)
 abbrev pub alignment_size : ℕ → ℕ
 alignment_size k = if nat_lt k 2 then 0 else 25 * (k ^ 2 - 3) - 10 * (k - 2)
 
--- the modules that the version information takes (ISO/IEC 18004:2015, 7.10)
+-- how many modules the version information takes (ISO/IEC 18004:2015, 7.10)
 abbrev pub version_size : ℕ → ℕ
 version_size v = if nat_lt v 7 then 0 else 36
 
--- the modules of the square less those that are taken: the corners, the timing patterns between them, the alignment
--- patterns and the version information (ISO/IEC 18004:2015, 6.3.7, 7.7.3)
+-- how many modules of the square are not taken by the corners, the timing patterns between them, the alignment patterns
+-- and the version information (ISO/IEC 18004:2015, 6.3.7, 7.7.3)
 abbrev pub region_size : ℕ → ℕ
 region_size v =
     side_of v ^ 2 - 225 - 2 * (side_of v - 17) - alignment_size (length (centres_of v)) - version_size v

@@ -96,8 +96,8 @@ pub fn blocks_are_short(v: Version, level: Level)
     ensures reached { longest_of (blocks_of 27 L) ≡ 153 }
 {}
 
-/// Half the error correction codewords of a block, and so many misread codewords leave no doubt of its data codewords,
-/// are at least 9 % of its codewords at L, 17 % at M, 23 % at Q and 30 % at H.
+/// A block is still known for certain if at most half as many of its codewords are misread as it has for error
+/// correction. That half is at least 9 % of the block at L, 17 % at M, 23 % at Q and 30 % at H.
 pub fn blocks_stand_damage(v: Version, level: Level)
     ensures { damage_of level * longest_of (blocks_of v level)
         ≤ 100 * ((blocks_of v level).ec_len / 2) }

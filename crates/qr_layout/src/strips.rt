@@ -1,5 +1,5 @@
-//! The strips of two columns in which a symbol is filled, from the right, of whose places the walk over the encoding region
-//! leaves out those that hold patterns or information (ISO/IEC 18004:2015, 7.7.3).
+//! A symbol is filled in strips of two columns, from the right. The walk over the encoding region passes over those places
+//! of a strip that hold patterns or information (ISO/IEC 18004:2015, 7.7.3).
 
 ghost use Rattle.std.specs.Prelude.{◌<◌, ◌≤◌, List};
 ghost use Rattle.std.specs.Iterator.{YieldsFirst, item_count};

@@ -139,7 +139,7 @@ impl Matrix {
         self.rows[usize::from(row)] = line;
     }
 
-    /// Gives a row the colours of `plain`, the other ones where `within` is dark and a pattern has the column. The
+    /// Gives a row the colours of `plain`, inverted where `within` is dark and the pattern's bit for the column is 1. The
     /// pattern is six bits, column 0 the lowest, and is repeated every six columns.
     pub fn set_row_masked(&mut self, row: u8, plain: &Matrix, within: &Matrix, pattern: u8)
         requires row_in { row < self.old.side }

@@ -25,7 +25,7 @@ pub record IsSymbolAt (v : ℕ) (l : Level) (rule : Rule) (x : List ℕ) (h : Op
   pub best : IsMask v l codewords mask
   pub drawn : g ≡ grid_of v l mask codewords
 
--- g is the symbol of the bytes at level l, with this mask, of the least version v from `smallest` on that they fit
+-- g is the symbol of the bytes at level l, with this mask, in the version v that is chosen from `smallest` on
 -- (ISO/IEC 18004:2015, 7.1)
 pub record IsSymbol (smallest : ℕ) (l : Level) (rule : Rule) (x : List ℕ) (v mask : ℕ) (g : Grid) : Type 0 where
   pub version : IsVersion smallest l rule x v

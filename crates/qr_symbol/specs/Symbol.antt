@@ -16,8 +16,8 @@ abbrev pub word_bit : ℕ → ℕ → Bool
 word_bit word i = word / 2 ^ i % 2 == 1
 
 -- the colour of the module in row r and column c by what it holds: its fixed colour, its bit of the format or version
--- information, or the bit of the codewords that has the place's number, inverted where the mask inverts; remainder
--- bits, past the last codeword, are 0, and inverted too (ISO/IEC 18004:2015, 7.7.2, 7.7.3, 7.8.1, 7.9.1, 7.10)
+-- information, or the bit of the codewords that has the place's number, inverted where the mask inverts, also past
+-- the last codeword (ISO/IEC 18004:2015, 7.7.2, 7.7.3, 7.8.1, 7.9.1, 7.10)
 abbrev pub colour_by : ℕ → Level → ℕ → List ℕ → ℕ → ℕ → Role → Bool
 colour_by v l mask cw r c (Fixed dark) = dark
 colour_by v l mask cw r c (FormatBit i) = word_bit (format_word_of l mask) i

@@ -174,8 +174,8 @@ fn deinterleave_blocks(
     }
 }
 
-/// The data codewords of a final sequence of codewords (ISO/IEC 18004:2015, 7.6 and 12). `Check` where it is that of no
-/// data codewords, since a block's error correction codewords are not those of its data codewords.
+/// The data codewords of a final sequence of codewords (ISO/IEC 18004:2015, 7.6 and 12). `Check` if the error
+/// correction codewords of some block do not belong to its data codewords.
 pub fn deinterleave(
     alloc: Global,
     version: Version,

@@ -97,7 +97,8 @@ pub fn contents_are_one()
     ensures { (g : Grid) (p q : Content) → IsReading g p → IsReading g q → p ≡ q }
 {}
 
-/// A square that is read as a content can only be refused for lack of memory. No square has two other reasons.
+/// A square that is read as a content can only be refused for lack of memory. That aside, a square is refused for one
+/// reason at most.
 pub fn refusals_are_one()
     ensures read { (g : Grid) (p : Content) (e : ReadFault) → IsReading g p → IsUnread g e
         → e ≡ ReadFault.Memory }
@@ -110,7 +111,8 @@ pub fn joinings_are_one()
     ensures { (gs : List Grid) (x y : List ℕ) → IsJoined gs x → IsJoined gs y → x ≡ y }
 {}
 
-/// Squares that are joined to bytes can only be refused for lack of memory. No squares have two other reasons.
+/// Squares that are joined to bytes can only be refused for lack of memory. That aside, squares are refused for one
+/// reason at most.
 pub fn joining_refusals_are_one()
     ensures joined { (gs : List Grid) (x : List ℕ) (e : ReadFault) → IsJoined gs x
         → IsUnjoined gs e → e ≡ ReadFault.Memory }

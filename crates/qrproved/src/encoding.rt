@@ -30,7 +30,7 @@ pub struct QrprovedSymbol {
 /// for all modes but kanji, byte mode alone, and all modes.
 ///
 /// The causes of a refusal are looked for in this order: the numbers, an empty input, one that is too long, a buffer that
-/// is too short. What is refused for the numbers, as empty, or for more than 7,089 bytes is refused without any memory.
+/// is too short. Wrong numbers, an empty input and one of more than 7,089 bytes are refused before memory is asked for.
 #[unsafe(no_mangle)]
 pub extern "C" fn qrproved_encode(
     alloc: Global,

@@ -28,8 +28,7 @@ pub struct QrprovedSeries {
 /// symbol is a plain symbol. The numbers are those of `qrproved_encode`.
 ///
 /// The causes of a refusal are looked for in this order: the numbers, an empty input, more than 16 symbols, a buffer that is
-/// too short. What is refused for the numbers, as empty, or for more bytes than 16 symbols hold is refused without any
-/// memory.
+/// too short. Wrong numbers, an empty input and one of more than 113,425 bytes are refused before memory is asked for.
 #[unsafe(no_mangle)]
 pub extern "C" fn qrproved_encode_series(
     alloc: Global,
