@@ -10,7 +10,7 @@ ghost use Rattle.qrencode_cli.specs.Steps.Pen.{Puts};
 ghost use Rattle.qrencode_cli.specs.Raster.{is_dark_at, raster_width};
 
 use crate::device::Sink;
-use crate::pen::{DrawFault, WRITE_MAX, Pen};
+use crate::pen::{DrawFault, Pen, WRITE_MAX};
 use crate::svg::put_document;
 use crate::text::{Cells, put_texts};
 use qr_symbol::{Matrix, Symbol};
