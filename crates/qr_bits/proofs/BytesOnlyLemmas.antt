@@ -12,7 +12,7 @@ use Rattle.qr_bits.specs.declared.place.Place.TheVariants.{Start}
 use Rattle.qr_bits.specs.Segmentation.{bits, with_front, runs_of, IsLettering, NotAfter, IsLeastSegmentation, IsLongestFit}
 use Rattle.qr_bits.specs.Modes.{is_kanji_pair, may_use, count_width}
 use Rattle.qr_bits.specs.Steps.Place.{begins, place_after, may_begin, may_end, may_take, allowed}
-use Rattle.qr_bits.specs.Steps.Segmentation.{byte_segments}
+use Rattle.qr_bits.specs.Steps.Segmentation.{one_segment}
 use Rattle.qr_bits.proofs.ChoiceLemmas.{take_begin}
 use Rattle.qr_bits.proofs.SegmentLemmas.{least_fits}
 use Rattle.qr_bits.proofs.LetteringLemmas.{may_end-after, can_take, is_lettering, covers_by, by_covers}
@@ -59,14 +59,14 @@ abbrev one : ℕ → List Segment
 one n = record { mode = Byte; len = n } ∷ []
 
 -- their runs are one
-runs_of-bytes : (xs : List ℕ) → runs_of (all_bytes xs) ≡ byte_segments (length xs)
+runs_of-bytes : (xs : List ℕ) → runs_of (all_bytes xs) ≡ one_segment Byte (length xs)
 unfolding runs_of all_bytes
 runs_of-bytes [] = refl
 runs_of-bytes (x ∷ []) = refl
 runs_of-bytes (x ∷ y ∷ ys) =
     let e : 1 + suc (length ys) ≡ suc (suc (length ys)) = omega arith in
-    let p : runs_of (all_bytes (x ∷ y ∷ ys)) ≡ with_front Byte (byte_segments (length (y ∷ ys))) = ap (with_front Byte) (runs_of-bytes (y ∷ ys)) in
-    let q : with_front Byte (byte_segments (length (y ∷ ys))) ≡ one (suc (suc (length ys))) = ap one e in
+    let p : runs_of (all_bytes (x ∷ y ∷ ys)) ≡ with_front Byte (one_segment Byte (length (y ∷ ys))) = ap (with_front Byte) (runs_of-bytes (y ∷ ys)) in
+    let q : with_front Byte (one_segment Byte (length (y ∷ ys))) ≡ one (suc (suc (length ys))) = ap one e in
     p ∙ q
 
 -- each lettering by this rule is that one
@@ -75,7 +75,7 @@ unfolding may_end
 one_lettering xs ks h = only_bytes xs ks Start h.0 (can_take is_kanji_pair BytesOnly xs ks (h.0, covers_by xs (runs_of ks) h.1) Start refl)
 
 -- Where bytes alone may stand, the one segment of all of them is the least segmentation.
-pub bytes_least : (v : ℕ) (xs : List ℕ) → IsLeastSegmentation v BytesOnly xs (byte_segments (length xs))
+pub bytes_least : (v : ℕ) (xs : List ℕ) → IsLeastSegmentation v BytesOnly xs (one_segment Byte (length xs))
 unfolding may_end
 bytes_least v xs =
     let is = is_lettering is_kanji_pair BytesOnly xs (all_bytes xs) Start refl (bytes_taken xs Start refl) in (
@@ -89,22 +89,22 @@ bytes_least v xs =
     )
 
 -- some bytes are one segment
-pub bytes_some : (n : ℕ) → (n == 0) ≡ false → record { mode = Byte; len = n } ∷ [] ≡ byte_segments n
-bytes_some zero h = cc
-bytes_some (suc n) h = refl
+pub bytes_some : (m : Mode) (n : ℕ) → (n == 0) ≡ false → record { mode = m; len = n } ∷ [] ≡ one_segment m n
+bytes_some m zero h = cc
+bytes_some m (suc n) h = refl
 
 -- no bytes are none
-pub bytes_none : (n : ℕ) → (n == 0) ≡ true → [] ≡ byte_segments n
-bytes_none zero h = refl
-bytes_none (suc n) h = absurd (omega (arith, eqb-true (suc n) 0 h))
+pub bytes_none : (m : Mode) (n : ℕ) → (n == 0) ≡ true → [] ≡ one_segment m n
+bytes_none m zero h = refl
+bytes_none m (suc n) h = absurd (omega (arith, eqb-true (suc n) 0 h))
 
 -- the one segment of n bytes has at most these bits
-bits-most : (v n : ℕ) → bits v (byte_segments n) ≤ 4 + count_width v Byte + 8 * n
+bits-most : (v n : ℕ) → bits v (one_segment Byte n) ≤ 4 + count_width v Byte + 8 * n
 bits-most v zero = omega arith
 bits-most v (suc n) = omega arith
 
 -- and no fewer, if there is a byte
-bits-least : (v n : ℕ) → 0 < n → 4 + count_width v Byte + 8 * n ≤ bits v (byte_segments n)
+bits-least : (v n : ℕ) → 0 < n → 4 + count_width v Byte + 8 * n ≤ bits v (one_segment Byte n)
 bits-least v zero h = absurd (omega arith)
 bits-least v (suc n) h = omega arith
 

@@ -20,6 +20,7 @@ pub mod StreamReadingLemmas
 pub mod DataLemmas
 pub mod PieceLemmas
 pub mod BytesOnlyLemmas
+pub mod DigitsOnlyLemmas
 pub mod FoldingLemmas
 pub mod Facts
 pub mod LeastLemmas

@@ -64,25 +64,30 @@ kept true = refl
 kept false = refl
 
 -- the two bits from s on are those of b
-pub pair-bits : (n b s j : ℕ) → has_bit (bit_xor n (bit_and (bit_xor (n / 2 ^ s) b) 3 * 2 ^ s)) j ≡ cond (eqb j (s + 1)) (has_bit b 1) (cond (eqb j s) (has_bit b 0) (has_bit n j))
+pub pair-bits : (n b s j : ℕ) → has_bit (bit_xor n (bit_and (bit_xor n (b * 2 ^ s)) (3 * 2 ^ s))) j ≡ cond (eqb j (s + 1)) (has_bit b 1) (cond (eqb j s) (has_bit b 0) (has_bit n j))
 pair-bits n b s j =
-    let d = bit_and (bit_xor (n / 2 ^ s) b) 3 in
-    has_bit-xor n (d * 2 ^ s) j ∙ elim (cases_lt j s) [
+    let d = bit_and (bit_xor n (b * 2 ^ s)) (3 * 2 ^ s) in
+    has_bit-xor n d j ∙ elim (cases_lt j s) [
       | inl l ↦
           let t : eqb j (s + 1) ≡ false = grind (arith, nat_tests) in
           let u : eqb j s ≡ false = grind (arith, nat_tests) in
-          ap (λ z. not (is_same (has_bit n j) z)) (has_bit-shl-low d s j l) ∙ (kept (has_bit n j)
+          let none : has_bit d j ≡ false = has_bit-and (bit_xor n (b * 2 ^ s)) (3 * 2 ^ s) j ∙ (ap (λ z. has_bit (bit_xor n (b * 2 ^ s)) j && z) (has_bit-shl-low 3 s j l) ∙ nothing (has_bit (bit_xor n (b * 2 ^ s)) j)) in
+          ap (λ z. not (is_same (has_bit n j) z)) none ∙ (kept (has_bit n j)
           ∙ (sym (ap (λ z. cond z (has_bit b 0) (has_bit n j)) u) ∙ sym (ap (λ z. cond z (has_bit b 1) (cond (eqb j s) (has_bit b 0) (has_bit n j))) t)))
       | inr l ↦
           let k = j - s in
           let e : s + k ≡ j = omega arith in
-          let f : k + s ≡ j = omega arith in
-          let inner : has_bit d k ≡ (not (is_same (has_bit n j) (has_bit b k)) && ltb k 2) =
-          has_bit-and (bit_xor (n / 2 ^ s) b) 3 k ∙ (ap (λ z. z && has_bit 3 k) (has_bit-xor (n / 2 ^ s) b k ∙ ap (λ z. not (is_same z (has_bit b k))) (has_bit-shr n s k ∙ ap (has_bit n) f))
-          ∙ ap (λ z. not (is_same (has_bit n j) (has_bit b k)) && z) (has_bit-ones 2 k)) in
-          ap (λ z. not (is_same (has_bit n j) z)) (ap (has_bit (d * 2 ^ s)) (sym e) ∙ (has_bit-shl-high d s k ∙ inner)) ∙ by_place k refl l
+          let up : (x : ℕ) → has_bit (x * 2 ^ s) j ≡ has_bit x k = λ x. ap (has_bit (x * 2 ^ s)) (sym e) ∙ has_bit-shl-high x s k in
+          let inner : has_bit d j ≡ (not (is_same (has_bit n j) (has_bit b k)) && ltb k 2) =
+          has_bit-and (bit_xor n (b * 2 ^ s)) (3 * 2 ^ s) j ∙ (ap (λ z. z && has_bit (3 * 2 ^ s) j) (has_bit-xor n (b * 2 ^ s) j ∙ ap (λ z. not (is_same (has_bit n j) z)) (up b))
+          ∙ ap (λ z. not (is_same (has_bit n j) (has_bit b k)) && z) (up 3 ∙ has_bit-ones 2 k)) in
+          ap (λ z. not (is_same (has_bit n j) z)) inner ∙ by_place k refl l
     ]
   where
+    nothing : (x : Bool) → (x && false) ≡ false
+    nothing true = refl
+    nothing false = refl
+
     by_place : (k : ℕ) → k ≡ j - s → s ≤ j → not (is_same (has_bit n j) (not (is_same (has_bit n j) (has_bit b k)) && ltb k 2)) ≡ cond (eqb j (s + 1)) (has_bit b 1) (cond (eqb j s) (has_bit b 0) (has_bit n j))
     by_place zero e l =
         let t : eqb j (s + 1) ≡ false = grind (arith, nat_tests) in
@@ -140,19 +145,21 @@ unfolding has_bit
 high-bit b l = let e : b / 2 ≡ b / 2 ^ 1 % 2 = omega arith in ap (λ z. eqb z 1) e
 
 -- a word whose two bits are changed is a line with two places of these colours
-pub pair-step : (ws : List ℕ) (c i k b bits : ℕ) → length ws ≡ 3 → ((j : ℕ) → get_or ws j 0 < 2 ^ 64) → 1 ≤ c → c < 192 → (c % 64 ≡ 0 → ⊥) → i ≡ c / 64 → k ≡ c / 64 → b ≡ bits
-    → (p : ℕ) → has (set ws k (bit_xor (get_or ws i 0) (bit_and (bit_xor (get_or ws i 0 / 2 ^ (c % 64 - 1)) b) 3 * 2 ^ (c % 64 - 1) % 2 ^ 64))) p ≡ cond (eqb p c) (has_bit bits 1) (cond (eqb p (c - 1)) (has_bit bits 0) (has ws p))
-pair-step ws c i k b bits l w o h n e f g =
+pub pair-step : (ws : List ℕ) (c i k b bits : ℕ) → length ws ≡ 3 → ((j : ℕ) → get_or ws j 0 < 2 ^ 64) → 1 ≤ c → c < 192 → (c % 64 ≡ 0 → ⊥) → i ≡ c / 64 → k ≡ c / 64 → b ≡ bits → bits < 4
+    → (p : ℕ) → has (set ws k (bit_xor (get_or ws i 0) (bit_and (bit_xor (get_or ws i 0) (b * 2 ^ (c % 64 - 1) % 2 ^ 64)) (3 * 2 ^ (c % 64 - 1) % 2 ^ 64)))) p ≡ cond (eqb p c) (has_bit bits 1) (cond (eqb p (c - 1)) (has_bit bits 0) (has ws p))
+pair-step ws c i k b bits l w o h n e f g few =
     let s = c % 64 - 1 in
     let word = get_or ws i 0 in
-    let d = bit_and (bit_xor (word / 2 ^ s) b) 3 in
-    let small : d ≤ 3 = and_le_r (bit_xor (word / 2 ^ s) b) 3 in
     let low : s ≤ 62 = omega arith in
     let power : 2 ^ s ≤ 2 ^ 62 = pow_mono low in
-    let product : d * 2 ^ s ≤ 3 * 2 ^ s = mul-le-mul_right (2 ^ s) small in
-    let same : d * 2 ^ s % 2 ^ 64 ≡ d * 2 ^ s = omega arith in
-    let x = bit_xor word (d * 2 ^ s % 2 ^ 64) in
-    word-step ws k x (λ p. cond (eqb p c) (has_bit bits 1) (cond (eqb p (c - 1)) (has_bit bits 0) (has ws p))) l w (xor_lt 64 word (d * 2 ^ s % 2 ^ 64) (w i) (omega arith)) (omega arith)
+    let product : b * 2 ^ s ≤ 3 * 2 ^ s = mul-le-mul_right (2 ^ s) (omega arith) in
+    let bits_same : b * 2 ^ s % 2 ^ 64 ≡ b * 2 ^ s = omega arith in
+    let mask_same : 3 * 2 ^ s % 2 ^ 64 ≡ 3 * 2 ^ s = omega arith in
+    let d = bit_and (bit_xor word (b * 2 ^ s % 2 ^ 64)) (3 * 2 ^ s % 2 ^ 64) in
+    let same : d ≡ bit_and (bit_xor word (b * 2 ^ s)) (3 * 2 ^ s) = λ i. bit_and (bit_xor word (bits_same i)) (mask_same i) in
+    let below : d < 2 ^ 64 = let m = and_le_r (bit_xor word (b * 2 ^ s % 2 ^ 64)) (3 * 2 ^ s % 2 ^ 64) in omega arith in
+    let x = bit_xor word d in
+    word-step ws k x (λ p. cond (eqb p c) (has_bit bits 1) (cond (eqb p (c - 1)) (has_bit bits 0) (has ws p))) l w (xor_lt 64 word d (w i) below) (omega arith)
     (λ j m.
     let t : eqb j (s + 1) ≡ eqb (64 * k + j) c = grind (arith, nat_tests) in
     let u : eqb j s ≡ eqb (64 * k + j) (c - 1) = grind (arith, nat_tests) in
@@ -167,6 +174,10 @@ pair-step ws c i k b bits l w o h n e f g =
     let t : eqb p c ≡ false = grind (arith, nat_tests) in
     let u : eqb p (c - 1) ≡ false = grind (arith, nat_tests) in
     sym (ap (λ z. cond z (has_bit bits 1) (cond (eqb p (c - 1)) (has_bit bits 0) (has ws p))) t ∙ ap (λ z. cond z (has_bit bits 0) (has ws p)) u))
+
+-- what a word lets through is a word
+pub masked-small : (x m : ℕ) → bit_and x (m % 2 ^ 64) < 2 ^ 64
+masked-small x m = let l = and_le_r x (m % 2 ^ 64) in omega arith
 
 -- ---- two places of a square
 

@@ -9,8 +9,7 @@ ghost use Rattle.qr_matrix.specs.Grid.{colour};
 ghost use Rattle.qr_matrix.specs.Laws.{all_dark, all_light, chequered, ratio_in_a_row, ratio_in_a_column};
 
 use crate::matrix::Matrix;
-use crate::runs::runs_cost;
-use crate::squares::square_count;
+use crate::runs::runs_and_squares;
 use crate::windows::window_count;
 
 /// The definition of the penalty computes the points of these squares, which are counted by hand from Table 11; and it
@@ -36,19 +35,19 @@ pub fn runs_cost_by_places()
 pub fn runs_on_words(m: &Matrix) -> u32
     ensures { result ≡ over_lines m.now.side (colour m.now) (run_cost m.now.side) }
 {
-    runs_cost(m)
+    runs_and_squares(m, m.words()).0
 }
 
 /// The squares of two by two modules of one colour that are counted on words are all there are.
 pub fn squares_on_words(m: &Matrix) -> u32
     ensures { result ≡ square_count m.now.side (colour m.now) }
 {
-    square_count(m)
+    runs_and_squares(m, m.words()).1
 }
 
 /// The windows that are counted on words are those of all rows and columns.
 pub fn windows_on_words(m: &Matrix) -> u32
     ensures { result ≡ over_lines m.now.side (colour m.now) (window_count m.now.side) }
 {
-    window_count(m)
+    window_count(m, m.words())
 }

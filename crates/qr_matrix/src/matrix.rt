@@ -1,6 +1,6 @@
 //! The square of modules that makes a symbol, without its quiet zone (ISO/IEC 18004:2015, 6.3.2).
 
-ghost use Rattle.std.specs.Prelude.{◌≡◌, ℕ, ◌+◌, ◌-◌, ◌%◌, ◌<◌, ◌≤◌, ◌&&◌, not, nat_le, nat_lt, if◌then◌else◌, false, length, IfOk};
+ghost use Rattle.std.specs.Prelude.{◌≡◌, ℕ, ◌+◌, ◌-◌, ◌*◌, ◌%◌, ◌<◌, ◌≤◌, ◌&&◌, not, nat_le, nat_lt, if◌then◌else◌, false, length, IfOk};
 ghost use Rattle.qr_matrix.specs.Grid.{square, colour, painted, with_row, with_rectangle, light};
 ghost use Rattle.qr_matrix.specs.Line.{dark_in, has, has_bit};
 ghost use Rattle.qr_matrix.specs.Runs.{IsRunEnd};
@@ -89,6 +89,11 @@ impl Matrix {
         requires col_in { col < self.now.side }
         ensures { IsRunEnd self.now row col result }
     {
+        // Most runs end in the word in which they begin.
+        let alike = self.rows[usize::from(row)].alike(col);
+        if col % 64 + alike < 64 {
+            return col + alike;
+        }
         let side = self.side();
         let line = self.line(usize::from(row));
         let others = if self.dark(row, col) {
@@ -107,6 +112,30 @@ impl Matrix {
         ensures few { self.now.side ≤ 177 }
     {
         self.rows[row]
+    }
+
+    // In how many words a row is.
+    pub(crate) fn words(&self) -> u8
+        ensures least { 64 * (result - 1) < self.now.side }
+        ensures most { self.now.side ≤ 64 * result }
+        ensures three { result ≤ 3 }
+    {
+        (self.side - 1) / 64 + 1
+    }
+
+    // A row as a line. The caller tells in how many words it is: where that is a number of the source, the compiler leaves out
+    // what would be done with the others.
+    #[inline(always)]
+    pub(crate) fn line_in(&self, row: usize, words: u8) -> Line
+        requires row_in { row < self.now.side }
+        requires least { 64 * (words - 1) < self.now.side }
+        requires most { self.now.side ≤ 64 * words }
+        requires three { words ≤ 3 }
+        ensures colours { (c : ℕ) → has result c ≡ colour self.now row c }
+        ensures past { (c : ℕ) → self.now.side ≤ c → has result c ≡ false }
+        ensures few { self.now.side ≤ 177 }
+    {
+        self.line(row) & Line::below(64 * words)
     }
 
     /// Gives one module its colour.

@@ -5,8 +5,7 @@ ghost use Rattle.qr_matrix.specs.Grid.{colour};
 ghost use Rattle.qr_matrix.specs.Penalty.{dark_count, penalty_of};
 
 use crate::matrix::Matrix;
-use crate::runs::runs_cost;
-use crate::squares::square_count;
+use crate::runs::runs_and_squares;
 use crate::windows::window_count;
 
 // The points of Table 11: for a square of two by two modules of one colour, for a window, and for each twentieth by
@@ -18,13 +17,17 @@ const WINDOW_POINTS: u32 = 40;
 const BALANCE_POINTS: u32 = 10;
 
 // How many modules are dark.
-fn dark_count(matrix: &Matrix) -> u32
+#[inline(always)]
+fn dark_count(matrix: &Matrix, words: u8) -> u32
+    requires least { 64 * (words - 1) < matrix.now.side }
+    requires most { matrix.now.side ≤ 64 * words }
+    requires three { words ≤ 3 }
     ensures value { result ≡ dark_count matrix.now.side (colour matrix.now) }
     ensures bound { result ≤ 192 * matrix.now.side }
 {
     let mut total = 0;
     for row in 0..usize::from(matrix.side()) {
-        total += matrix.line(row).count();
+        total += matrix.line_in(row, words).count();
     }
     total
 }
@@ -42,15 +45,30 @@ fn balance_cost(modules: u32, dark: u32) -> u32
     BALANCE_POINTS * (excess / modules)
 }
 
+// The penalty, where a row is in so many words.
+#[inline(always)]
+fn penalty_in(m: &Matrix, words: u8) -> u32
+    requires least { 64 * (words - 1) < m.now.side }
+    requires most { m.now.side ≤ 64 * words }
+    requires three { words ≤ 3 }
+    ensures { result ≡ penalty_of m.now.side (colour m.now) }
+{
+    let modules = u32::from(m.side()) * u32::from(m.side());
+    let (runs, squares) = runs_and_squares(m, words);
+    runs + SQUARE_POINTS * squares
+        + WINDOW_POINTS * window_count(m, words)
+        + balance_cost(modules, dark_count(m, words))
+}
+
 /// The penalty of a square of modules: the sum of the points of Table 11 (ISO/IEC 18004:2015, 7.8.3.1).
 pub fn penalty(m: &Matrix) -> u32
     ensures { result ≡ penalty_of m.now.side (colour m.now) }
 {
-    let modules = u32::from(m.side()) * u32::from(m.side());
-    runs_cost(m)
-        + SQUARE_POINTS * square_count(m)
-        + WINDOW_POINTS * window_count(m)
-        + balance_cost(modules, dark_count(m))
+    match m.words() {
+        1 => penalty_in(m, 1),
+        2 => penalty_in(m, 2),
+        _ => penalty_in(m, 3),
+    }
 }
 
 #[cfg(test)]

@@ -169,6 +169,10 @@ start-none c = omega arith
 pub start-next : (c : Cut) (i : ℕ) → start_of c (i + 1) ≡ start_of c i + len_of c i
 start-next c i = let e = mul-suc c.short_len i in let o : i + 1 ≡ suc i = omega arith in rw (o, e) (grind (arith, nat_tests))
 
+-- before the first block there is no codeword
+pub start-first : (c : Cut) (p : ℕ) → p ≡ start_of c 0 + p
+start-first c p = omega arith
+
 -- blocks begin in their order
 pub start-most : (c : Cut) (i j : ℕ) → i ≤ j → start_of c i ≤ start_of c j
 start-most c i j l = let m = mul-le-mul_left c.short_len l in omega arith

@@ -244,8 +244,41 @@ pub(crate) fn draw_region(matrix: &mut Matrix, v: Version)
     paint_version(matrix, v, None);
 }
 
+// Gives that one of two modules of a row of a strip which is in the encoding region, if one is, the first of two bits, and
+// returns the number of the next bit. There are few such rows.
+#[inline(never)]
+fn draw_part(matrix: &mut Matrix, bits: u8, number: usize, right: Module, within: u8) -> usize
+    requires row_in { right.row < matrix.old.side }
+    requires left_in { 1 ≤ right.col }
+    requires col_in { right.col < matrix.old.side }
+    requires within { within < 3 }
+    requires bits { bits < 4 }
+    requires few { number ≤ 40000 }
+    ensures number { result ≡ number_after (has_bit within 0) (number_after (has_bit within 1) number) }
+    ensures few { result ≤ number + 2 }
+    ensures matrix { (cw : List ℕ) → has_bit bits 1 ≡ codeword_bit cw number
+        → has_bit bits 0 ≡ codeword_bit cw (number + 1)
+        → matrix.new ≡ placed_if (has_bit within 0) cw (number_after (has_bit within 1) number)
+        (placed_if (has_bit within 1) cw number matrix.old right.row right.col)
+        right.row (right.col - 1) }
+{
+    let Module { row, col } = right;
+    match within {
+        2 => {
+            matrix.set(row, col, bits / 2 == 1);
+            number + 1
+        }
+        1 => {
+            matrix.set(row, col - 1, bits / 2 == 1);
+            number + 1
+        }
+        _ => number,
+    }
+}
+
 // Gives the modules of a row of a strip that are in the encoding region, as `within` says with the right one its higher
 // bit, the next of two bits of the codewords, and returns the number of the bit after them.
+#[inline(always)]
 fn draw_pair(matrix: &mut Matrix, bits: u8, number: usize, right: Module, within: u8) -> usize
     requires row_in { right.row < matrix.old.side }
     requires left_in { 1 ≤ right.col }
@@ -266,22 +299,13 @@ fn draw_pair(matrix: &mut Matrix, bits: u8, number: usize, right: Module, within
         matrix.set_pair(row, col, bits);
         return number + 2;
     }
-    match within {
-        2 => {
-            matrix.set(row, col, bits / 2 == 1);
-            number + 1
-        }
-        1 => {
-            matrix.set(row, col - 1, bits / 2 == 1);
-            number + 1
-        }
-        _ => number,
-    }
+    draw_part(matrix, bits, number, right, within)
 }
 
 // Gives the modules of a strip that are in the encoding region the bits of the codewords from `first` on, and returns the
 // number of the bit after them.
-fn draw_strip(
+#[inline(always)]
+fn draw_rows(
     matrix: &mut Matrix,
     v: Version,
     region: &Matrix,
@@ -316,6 +340,43 @@ fn draw_strip(
         number = draw_pair(matrix, bits, number, Module { row, col }, within);
     }
     number
+}
+
+// The same, by three copies of it: one for strips over the border of two words, and one for each direction of the others.
+fn draw_strip(
+    matrix: &mut Matrix,
+    v: Version,
+    region: &Matrix,
+    codewords: &[u8],
+    first: usize,
+    strip: Strip,
+) -> usize
+    requires side { matrix.old.side ≡ side_of v }
+    requires region { region.now ≡ region_grid v }
+    requires left_in { 1 ≤ strip.right }
+    requires right_in { strip.right < side_of v }
+    requires few { first ≤ 29648 }
+    ensures number { result ≡ number_along v (both_of (rows_from (side_of v) strip 0 (side_of v))) first }
+    ensures matrix { matrix.new ≡ placed_along v codewords.now (both_of (rows_from (side_of v) strip 0 (side_of v)))
+        first matrix.old }
+{
+    let Strip { right, upward } = strip;
+    if right % 64 == 0 {
+        return draw_rows(matrix, v, region, codewords, first, strip);
+    }
+    if upward {
+        let strip = Strip {
+            right,
+            upward: true,
+        };
+        draw_rows(matrix, v, region, codewords, first, strip)
+    } else {
+        let strip = Strip {
+            right,
+            upward: false,
+        };
+        draw_rows(matrix, v, region, codewords, first, strip)
+    }
 }
 
 // Gives each module of the encoding region the colour of its bit, strip by strip.

@@ -74,10 +74,13 @@ fn interleave_into(sent: &mut Vec<u8>, cut: Cut, codewords: &[u8]) -> Result<(),
 {
     let blocks = cut.count();
     for place in 0..usize::from(cut.short_len) + 1 {
+        let mut at = place;
         for block in 0..blocks {
-            if place < cut.len(block) {
-                sent.push(codewords[cut.start(block) + place])?;
+            let len = cut.len(block);
+            if place < len {
+                sent.push(codewords[at])?;
             }
+            at += len;
         }
     }
     Ok(())

@@ -6,9 +6,10 @@ use Rattle.qr_matrix.specs.Line.{has_bit}
 use Rattle.qr_matrix.specs.Penalty.{is_same, all_below}
 use Rattle.qr_matrix.proofs.Facts.{below-at, same-same}
 use Rattle.qrencode_cli.specs.Device.{Writer}
-use Rattle.qrencode_cli.specs.Text.{AreDark, ascii_module, cells_from, four_modules}
+use Rattle.qrencode_cli.specs.Text.{AreDark, ascii_module, cell_of, cells_from, four_modules}
 use Rattle.qrencode_cli.specs.Raster.{is_dark_at, texts_below}
 use Rattle.qrencode_cli.specs.Steps.Writing.{Stops, Writes}
+use Rattle.qrencode_cli.specs.declared.text.Cells.{Cells}
 use Rattle.qrencode_cli.specs.declared.text.Cells.TheVariants.{Plain, Inverse}
 use Rattle.qrencode_cli.proofs.LineLemmas.{texts_below-more, texts_below-split}
 use Rattle.qrencode_cli.proofs.WritingLemmas.{stops_before, writes_on, writes_stop}
@@ -88,6 +89,14 @@ four-added a b c d = append_assoc (a ++ b) c d ∙ append_assoc a b (c ++ d)
 -- the texts of four places
 abbrev pub four_of : (ℕ → List ℕ) → ℕ → List ℕ
 four_of text n = text n ++ (text (n + 1) ++ (text (n + 2) ++ text (n + 3)))
+
+-- the texts of four cells from a place on, counted from an earlier one
+pub four-from : (cells : Cells) (margin : ℕ) (g : Grid) (y a n : ℕ) → cells_from cells margin g y (a + n) ≡ four_of (λ i. cell_of cells margin g y (a + i)) n
+four-from cells margin g y a n =
+    let e1 : a + n + 1 ≡ a + (n + 1) = omega arith in
+    let e2 : a + n + 2 ≡ a + (n + 2) = omega arith in
+    let e3 : a + n + 3 ≡ a + (n + 3) = omega arith in
+    λ i. cell_of cells margin g y (a + n) ++ (cell_of cells margin g y (e1 i) ++ (cell_of cells margin g y (e2 i) ++ cell_of cells margin g y (e3 i)))
 
 -- the texts of four places more
 texts_below-four : (n : ℕ) (text : ℕ → List ℕ) → texts_below (n + 4) text ≡ texts_below n text ++ four_of text n

@@ -1,5 +1,5 @@
 -- How the texts of places join while they are put.
-use Rattle.std.proofs.Common.{◌≡◌, ◌++◌, ◌∙◌, ◌<◌, ◌+◌, ◌-◌, ℕ, zero, suc, List, [], ◌∷◌, MatchResult, Result, Ok, Err, refl, sym, ap, subst, arith, append_assoc, append-nil, map, take, drop, length, get_or}
+use Rattle.std.proofs.Common.{◌≡◌, ◌++◌, ◌∙◌, ◌<◌, ◌≤◌, ◌+◌, ◌-◌, ℕ, zero, suc, List, [], ◌∷◌, MatchResult, Result, Ok, Err, refl, sym, ap, subst, arith, append_assoc, append-nil, map, take, drop, length, get_or}
 use Rattle.std.specs.List.{flat_map, range_with_len}
 use Rattle.std.proofs.lemmas.Grind.{flat_map-append}
 use Rattle.std.proofs.lemmas.List.{take_more, take-append-drop}
@@ -36,6 +36,20 @@ texts_below-split k (suc d) text =
       rw e (texts_below-more (k + 1 + d) text ∙ ap (λ l. l ++ text (k + 1 + d)) r.1
           ∙ append_assoc (texts_below k text ++ text k) r.0 (text (k + 1 + d))),
     )
+
+-- the texts of n places and of d more
+pub texts_below-add : (n d : ℕ) (text : ℕ → List ℕ) → texts_below (n + d) text ≡ texts_below n text ++ texts_below d (λ i. text (n + i))
+unfolding texts_below
+texts_below-add n zero text =
+    let e : n + 0 ≡ n = omega arith in
+    rw e (sym (append-nil (texts_below n text)))
+texts_below-add n (suc d) text =
+    let e : n + suc d ≡ n + d + 1 = omega arith in
+    let f : d + 1 ≡ suc d = omega arith in
+    ap (λ k. texts_below k text) e ∙ (texts_below-more (n + d) text
+    ∙ (ap (λ l. l ++ text (n + d)) (texts_below-add n d text)
+    ∙ (append_assoc (texts_below n text) (texts_below d (λ i. text (n + i))) (text (n + d))
+    ∙ ap (λ l. texts_below n text ++ l) (sym (texts_below-more d (λ i. text (n + i))) ∙ ap (λ k. texts_below k (λ i. text (n + i))) f))))
 
 -- before the first place nothing was put
 pub put_none : (a : Writer) (i : ℕ) (h : List ℕ) (text : ℕ → List ℕ) → Writes a a i i (h ++ texts_below 0 text) h
@@ -104,3 +118,22 @@ module _ {A : Type 0} (text : A → List ℕ) where
       append_assoc h0 (flat_map text (take (n + 1) xs)) (flat_map text (drop (n + 1) xs))
       ∙ ap (λ l. h0 ++ l) (sym (flat_map-append text (take (n + 1) xs) (drop (n + 1) xs)) ∙ ap (λ l. flat_map text l) (take-append-drop (n + 1) xs)) in
       subst (λ l. Stops a c i l) whole (stops_before a c i _ (flat_map text (drop (n + 1) xs)) s)
+
+-- the texts of the next d places were put
+pub put_more : (a b c : Writer) (i j k m n d : ℕ) (h0 h1 h2 : List ℕ) (text : ℕ → List ℕ) → m ≡ n
+    → Writes a b i j (h0 ++ texts_below n text) h1 → Writes b c j k (h1 ++ texts_below d (λ i. text (m + i))) h2 → Writes a c i k (h0 ++ texts_below (n + d) text) h2
+put_more a b c i j k m n d h0 h1 h2 text e p q =
+    let r = subst (λ z. Writes b c j k (h1 ++ texts_below d (λ i. text (z + i))) h2) e q in
+    rw (texts_below-add n d text) (writes_on a b c i j k h0 h1 h2 (texts_below n text) (texts_below d (λ i. text (n + i))) p r)
+
+-- the texts of the next d places of o stopped
+pub more_stops : (a b c : Writer) (i j m n d o : ℕ) (h0 h1 : List ℕ) (text : ℕ → List ℕ) → m ≡ n → n + d ≤ o
+    → Writes a b i j (h0 ++ texts_below n text) h1 → Stops b c j (h1 ++ texts_below d (λ i. text (m + i))) → Stops a c i (h0 ++ texts_below o text)
+more_stops a b c i j m n d o h0 h1 text e lt p q =
+    let r = subst (λ z. Stops b c j (h1 ++ texts_below d (λ i. text (z + i)))) e q in
+    let s : Stops a c i (h0 ++ texts_below (n + d) text) = rw (texts_below-add n d text) (writes_stop a b c i j h0 h1 (texts_below n text) (texts_below d (λ i. text (n + i))) p r) in
+    let rest = texts_below (o - (n + d)) (λ i. text (n + d + i)) in
+    let f : n + d + (o - (n + d)) ≡ o = omega arith in
+    let whole : (h0 ++ texts_below (n + d) text) ++ rest ≡ h0 ++ texts_below o text =
+    append_assoc h0 (texts_below (n + d) text) rest ∙ ap (λ l. h0 ++ l) (sym (texts_below-add (n + d) (o - (n + d)) text) ∙ ap (λ k. texts_below k text) f) in
+    subst (λ l. Stops a c i l) whole (stops_before a c i _ rest s)

@@ -49,6 +49,10 @@ line_count HalfBlocks rows = (rows + 1) / 2
 abbrev pub line_of : Cells → ℕ → Grid → ℕ → List ℕ
 line_of cells margin g y = texts_below (raster_width margin g) (cell_of cells margin g y)
 
+-- the cells of line y from the first module on, as many as there are groups of four in a row [own]
+abbrev pub fours_of : Cells → ℕ → Grid → ℕ → List ℕ
+fours_of cells margin g y = texts_below (g.side / 4 * 4) (λ i. cell_of cells margin g y (margin + i))
+
 -- the drawing of a symbol as a text: its lines, each with a newline [own]
 abbrev pub text_drawing : Cells → ℕ → Grid → List ℕ
 text_drawing cells margin g =

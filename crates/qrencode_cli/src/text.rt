@@ -5,7 +5,7 @@ ghost use Rattle.std.specs.Prelude.{◌≡◌, ◌≢◌, ℕ, true, ◌≤◌, 
 ghost use Rattle.std.specs.List.{flat_map};
 ghost use Rattle.arrayvec.specs.ArrayVec.{array_vec_len};
 ghost use Rattle.qr_symbol.specs.Series.{squares_of};
-ghost use Rattle.qrencode_cli.specs.Text.{AreDark, ascii_module, cell_of, cells_from, four_halves, four_modules, half_blocks, line_count, line_of, text_drawing};
+ghost use Rattle.qrencode_cli.specs.Text.{AreDark, ascii_module, cell_of, cells_from, four_halves, four_modules, fours_of, half_blocks, line_count, line_of, text_drawing};
 ghost use Rattle.qrencode_cli.specs.Steps.Pen.{Puts};
 ghost use Rattle.qrencode_cli.specs.declared.text.Cells.TheVariants.{HalfBlocks};
 ghost use Rattle.qrencode_cli.specs.Raster.{raster_width};
@@ -161,30 +161,28 @@ fn four_cells(cells: Cells, matrix: &Matrix, margin: u8, y: u16, x: u16) -> Opti
     }
 }
 
-// The text of four cells of a line, where they can be taken at once; `is_row` is what `shows_row` says of the line.
-fn four_at(
+// Puts the modules of a row from its first on, four at a time, as far as there are four.
+#[inline(always)]
+fn put_fours<W: Sink>(
+    pen: &mut Pen,
+    out: &mut W,
     cells: Cells,
     matrix: &Matrix,
     margin: u8,
-    y: u16,
-    x: u16,
-    is_row: bool,
-) -> Option<[u8; 8]>
-    requires y_in { y < 1000 }
-    requires x_in { x < 1000 }
-    requires cells { is_row ≡ true → cells ≢ HalfBlocks }
-    requires top { is_row ≡ true → margin ≤ y }
-    requires bottom { is_row ≡ true → y < margin + matrix.now.side }
-    ensures text { IfSome result (λ t. t ≡ cells_from cells margin matrix.now y x) }
+    row: u8,
+) -> Result<(), DrawFault>
+    requires cells { cells ≢ HalfBlocks }
+    requires row_in { row < matrix.now.side }
+    ensures { Puts (W.device out.old) (W.device out.new)
+        pen.old pen.new (fours_of cells margin matrix.now (margin + row)) result }
 {
-    let first = u16::from(margin);
-    if is_row && x >= first {
-        let col = x - first;
-        if col + 4 <= u16::from(matrix.side()) && col % 4 == 0 {
-            return Some(four_of_row(cells, matrix, (y - first) as u8, col as u8));
-        }
+    let end = matrix.side() / 4 * 4;
+    let mut col = 0;
+    'fours: while col < end {
+        pen.put_eight(out, four_of_row(cells, matrix, row, col))?;
+        col += 4;
     }
-    four_cells(cells, matrix, margin, y, x)
+    Ok(())
 }
 
 // Adds two modules, one above the other, to a text.
@@ -268,11 +266,18 @@ fn put_cells<W: Sink>(
         pen.old pen.new (line_of cells margin matrix.now y) result }
 {
     let width = raster_width(matrix, margin);
+    let first = u16::from(margin);
+    let fours = u16::from(matrix.side() / 4 * 4);
     let is_row = shows_row(cells, matrix, margin, y);
     let mut x = 0;
     'cells: while x < width {
+        if is_row && x == first && fours > 0 {
+            put_fours(pen, out, cells, matrix, margin, (y - first) as u8)?;
+            x += fours;
+            continue;
+        }
         if x + 4 <= width {
-            match four_at(cells, matrix, margin, y, x, is_row) {
+            match four_cells(cells, matrix, margin, y, x) {
                 Some(text) => {
                     pen.put_eight(out, text)?;
                     x += 4;

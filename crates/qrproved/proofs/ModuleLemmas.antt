@@ -1,11 +1,13 @@
 -- Where rows and squares of modules stand among bytes: blocks of one length, one after the other.
-use Rattle.std.proofs.Common.{◌≡◌, ℕ, ◌+◌, ◌*◌, ◌<◌, ◌≤◌, ◌⊎◌, List, [], ◌∷◌, length, get_or, slice_index_or, sym, ap, ◌∙◌, inr, arith}
+use Rattle.std.proofs.Common.{◌≡◌, ℕ, zero, suc, ◌+◌, ◌-◌, ◌*◌, ◌<◌, ◌≤◌, ◌⊎◌, List, [], ◌∷◌, ◌++◌, length, take, drop, length-append, length-drop, get_or, slice_index_or, refl, sym, ap, ◌∙◌, inl, inr, arith}
+use borrow.Rule.Slice.PartMut.{put_mid}
 use Rattle.std.proofs.Math.Nat.{mul-le-mul_right}
-use Rattle.std.proofs.lemmas.List.{get_or-map}
+use Rattle.std.proofs.lemmas.List.{get_or-map, get_or-append_right, get_or_append_left, get_or-drop, get_or-take, length-take-le}
 use Rattle.qr_matrix.specs.Grid.{Grid, colour, light}
+use Rattle.qr_matrix.specs.Line.{has_bit}
 use Rattle.qr_symbol.specs.declared.symbol.Symbol.{Symbol}
 use Rattle.qr_symbol.specs.Series.{squares_of}
-use Rattle.qrproved.specs.Modules.{HoldsSquares, byte_of}
+use Rattle.qrproved.specs.Modules.{HoldsSquares, byte_of, four_bytes}
 
 -- a block ends before the later ones begin
 pub block-end : (s k n : ℕ) → k < n → k * s + s ≤ n * s
@@ -38,3 +40,34 @@ one-held side g before after same room long written kept =
           ∙ (written row col (omega arith) (omega arith) ∙ ap (λ (n : ℕ). byte_of (colour (slice_index_or (g ∷ []) n (light 0)) row col)) (sym zero));
       others = λ i l. kept i (inr (omega (arith, area)));
     }
+
+-- ---- a part of some bytes, written at once
+
+module _ (a k : ℕ) (xs ys : List ℕ) (room : a + k ≤ length xs) (many : length ys ≡ k) where
+  -- the bytes stay as many
+  pub part-long : length (put_mid a k xs ys) ≡ length xs
+  part-long = omega (arith, length-append (take a xs) (ys ++ drop k (drop a xs)), length-append ys (drop k (drop a xs)), length-take-le a xs (omega arith), length-drop k (drop a xs), length-drop a xs)
+
+  -- those of the part
+  pub part-here : (j : ℕ) → j < k → slice_index_or (put_mid a k xs ys) (a + j) 0 ≡ slice_index_or ys j 0
+  part-here j l =
+      let e : a + j - a ≡ j = omega arith in
+      get_or-append_right (take a xs) (ys ++ drop k (drop a xs)) a (a + j) 0 (length-take-le a xs (omega arith)) (omega arith)
+      ∙ (ap (λ n. get_or (ys ++ drop k (drop a xs)) n 0) e ∙ get_or_append_left ys (drop k (drop a xs)) 0 j (omega arith))
+
+  -- and the others
+  pub part-others : (i : ℕ) → (i < a) ⊎ (a + k ≤ i) → slice_index_or (put_mid a k xs ys) i 0 ≡ slice_index_or xs i 0
+  part-others i (inl l) = get_or_append_left (take a xs) (ys ++ drop k (drop a xs)) 0 i (omega (arith, length-take-le a xs (omega arith))) ∙ get_or-take a xs i 0 l
+  part-others i (inr l) =
+      let e : a + (k + (i - a - k)) ≡ i = omega arith in
+      get_or-append_right (take a xs) (ys ++ drop k (drop a xs)) a i 0 (length-take-le a xs (omega arith)) (omega arith)
+      ∙ (get_or-append_right ys (drop k (drop a xs)) k (i - a) 0 many (omega arith)
+      ∙ (get_or-drop k (drop a xs) (i - a - k) 0 ∙ (get_or-drop a xs (k + (i - a - k)) 0 ∙ ap (λ n. get_or xs n 0) e)))
+
+-- each of four bytes is that of its bit
+pub four-each : (bits j : ℕ) → j < 4 → slice_index_or (four_bytes bits) j 0 ≡ byte_of (has_bit bits j)
+four-each bits zero l = refl
+four-each bits (suc zero) l = refl
+four-each bits (suc (suc zero)) l = refl
+four-each bits (suc (suc (suc zero))) l = refl
+four-each bits (suc (suc (suc (suc j)))) l = absurd (omega arith)

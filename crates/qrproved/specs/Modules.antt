@@ -1,10 +1,15 @@
 -- The modules of squares as bytes. Public clauses cite this file.
-use Rattle.std.specs.Prelude.{◌≡◌, ℕ, ◌+◌, ◌*◌, ◌<◌, ◌≤◌, ◌==◌, Bool, not, if◌then◌else◌, List, length, slice_index_or}
+use Rattle.std.specs.Prelude.{◌≡◌, ℕ, ◌+◌, ◌*◌, ◌<◌, ◌≤◌, ◌==◌, Bool, not, if◌then◌else◌, List, [], ◌∷◌, length, slice_index_or}
 use Rattle.qr_matrix.specs.Grid.{Grid, square, colour, light}
+use Rattle.qr_matrix.specs.Line.{has_bit}
 
 -- the byte of a module: 1 where it is dark, 0 where it is light [own]
 abbrev pub byte_of : Bool → ℕ
 byte_of dark = if dark then 1 else 0
+
+-- the bytes of four modules, by four bits, the lowest first [own]
+abbrev pub four_bytes : ℕ → List ℕ
+four_bytes bits = byte_of (has_bit bits 0) ∷ byte_of (has_bit bits 1) ∷ byte_of (has_bit bits 2) ∷ byte_of (has_bit bits 3) ∷ []
 
 -- the bytes begin with the squares of this side, one after the other and each row by row, and those past the last module
 -- are as they were [own]

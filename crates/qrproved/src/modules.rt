@@ -5,7 +5,7 @@ ghost use Rattle.std.specs.Prelude.{◌≡◌, ℕ, ◌+◌, ◌*◌, ◌<◌, �
 ghost use Rattle.std.specs.List.{All};
 ghost use Rattle.qr_matrix.specs.Grid.{colour};
 ghost use Rattle.qr_symbol.specs.Series.{squares_of};
-ghost use Rattle.qrproved.specs.Modules.{HoldsSquares, byte_of, square_at};
+ghost use Rattle.qrproved.specs.Modules.{HoldsSquares, byte_of, four_bytes, square_at};
 
 use qr_symbol::{Matrix, Symbol};
 use std::alloc::{AllocError, Global};
@@ -17,7 +17,32 @@ pub(crate) fn area(side: u8) -> usize
     usize::from(side) * usize::from(side)
 }
 
-// Writes the bytes of a row from `start` on.
+// The bytes of four modules, of which the first is the lowest bit.
+fn four_bytes(bits: u8) -> [u8; 4]
+    requires { bits < 16 }
+    ensures { result ≡ four_bytes bits }
+{
+    match bits {
+        0 => [0, 0, 0, 0],
+        1 => [1, 0, 0, 0],
+        2 => [0, 1, 0, 0],
+        3 => [1, 1, 0, 0],
+        4 => [0, 0, 1, 0],
+        5 => [1, 0, 1, 0],
+        6 => [0, 1, 1, 0],
+        7 => [1, 1, 1, 0],
+        8 => [0, 0, 0, 1],
+        9 => [1, 0, 0, 1],
+        10 => [0, 1, 0, 1],
+        11 => [1, 1, 0, 1],
+        12 => [0, 0, 1, 1],
+        13 => [1, 0, 1, 1],
+        14 => [0, 1, 1, 1],
+        _ => [1, 1, 1, 1],
+    }
+}
+
+// Writes the bytes of a row from `start` on, four at once as far as there are four.
 fn write_row(matrix: &Matrix, row: u8, start: usize, modules: &mut [u8])
     requires row_in { row < matrix.now.side }
     requires room { start + matrix.now.side ≤ length modules.old }
@@ -27,8 +52,16 @@ fn write_row(matrix: &Matrix, row: u8, start: usize, modules: &mut [u8])
         → slice_index_or modules.new i 0 ≡ slice_index_or modules.old i 0 }
 {
     let side = matrix.side();
-    for col in 0..side {
-        modules[start + usize::from(col)] = u8::from(matrix.dark(row, col));
+    let mut col = 0;
+    'cols: while col < side {
+        let at = start + usize::from(col);
+        if col % 4 == 0 && col + 4 <= side {
+            modules[at..at + 4].copy_from_slice(&four_bytes(matrix.four(row, col)));
+            col += 4;
+        } else {
+            modules[at] = u8::from(matrix.dark(row, col));
+            col += 1;
+        }
     }
 }
 

@@ -12,7 +12,7 @@ loop-row-preserved c =
     let e = windows-down-row s d c.loop-row.row c.windows_at.result (omega arith) c.windows_at.ensures in
     record {
       rows = sum_below-more c.loop-row.row _ _ _ (λ r. window_count s (d r)) c.loop-row.invariant.rows c.row_windows-across.ensures.value refl;
-      columns = sum_below-more c.loop-row.row _ _ _ (λ r. count_below s (λ c. is_window s (λ i. d i c) r)) c.loop-row.invariant.columns (c.count-upright.ensures.value ∙ e) refl;
+      columns = sum_below-more c.loop-row.row _ _ _ (λ r. count_below s (λ c. is_window s (λ i. d i c) r)) c.loop-row.invariant.columns (c.count_few-upright.ensures.value ∙ e) refl;
       small = omega arith;
       few = omega arith;
     }

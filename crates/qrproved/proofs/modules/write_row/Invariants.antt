@@ -1,13 +1,17 @@
-use Rattle.std.proofs.Common.{◌≡◌, ℕ, ◌+◌, ◌<◌, ◌≤◌, ◌⊎◌, length, slice_index_or}
+use Rattle.std.proofs.Common.{◌≡◌, ℕ, ◌+◌, ◌-◌, ◌<◌, ◌≤◌, ◌⊎◌, length, slice_index_or}
 use Rattle.qr_matrix.specs.Grid.{colour}
 use Rattle.qrproved.specs.Modules.{byte_of}
 use Rattle.qrproved.proofs.modules.write_row.Given as goal
 
 -- the row as far as it is written
-abbrev pub invariant-loop-col : goal.invariant-loop-col
-invariant-loop-col l = record {
+abbrev pub invariant-cols : goal.invariant-cols
+invariant-cols l = record {
   side : l.side ≡ l.matrix.side;
+  within : l.col ≤ l.side;
   long : length l.modules ≡ length l.fn.modules;
   modules : (col : ℕ) → col < l.col → slice_index_or l.modules (l.start + col) 0 ≡ byte_of (colour l.matrix l.row col);
   others : (i : ℕ) → (i < l.start) ⊎ (l.start + l.col ≤ i) → slice_index_or l.modules i 0 ≡ slice_index_or l.fn.modules i 0;
 }
+
+abbrev pub decreases-cols : goal.decreases-cols
+decreases-cols l = l.side - l.col

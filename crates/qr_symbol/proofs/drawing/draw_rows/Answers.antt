@@ -10,8 +10,8 @@ use Rattle.qr_symbol.proofs.DrawingLemmas.{row-number, row-placed, side-placed}
 use Rattle.qr_symbol.specs.declared.drawing.Window.{Window}
 use Rattle.qr_bits.specs.Bits.{codeword_bit}
 use Rattle.qr_symbol.proofs.KeptPlaceLemmas.{region-told}
-use Rattle.qr_symbol.proofs.drawing.draw_strip.Goals as goal
-use Rattle.qr_symbol.proofs.drawing.draw_strip.Goals.{then-strip, else-strip, then-number-window, else-number-window}
+use Rattle.qr_symbol.proofs.drawing.draw_rows.Goals as goal
+use Rattle.qr_symbol.proofs.drawing.draw_rows.Goals.{then-strip, else-strip, then-number-window, else-number-window}
 
 -- the number of a bit does not fall
 number_after-more : (t : Bool) (n : ℕ) → n ≤ number_after t n

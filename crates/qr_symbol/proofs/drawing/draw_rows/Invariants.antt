@@ -2,7 +2,7 @@ use Rattle.std.proofs.Common.{◌≡◌, ◌+◌, ◌-◌, ◌*◌, ◌≤◌}
 use Rattle.qr_layout.specs.Strips.{both_of, rows_from}
 use Rattle.qr_layout.specs.Version.{side_of}
 use Rattle.qr_symbol.specs.Steps.Drawing.{IsWindow, number_along, placed_along}
-use Rattle.qr_symbol.proofs.drawing.draw_strip.Given as goal
+use Rattle.qr_symbol.proofs.drawing.draw_rows.Given as goal
 
 abbrev pub invariant-loop-passed : goal.invariant-loop-passed
 invariant-loop-passed l = record {

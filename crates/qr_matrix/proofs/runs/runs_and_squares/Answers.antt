@@ -1,0 +1,84 @@
+use Rattle.std.proofs.Common.{◌≡◌, ℕ, ◌+◌, ◌-◌, ◌*◌, ◌≤◌, Bool, true, ◌&&◌, ltb, arith, ap, sym, ◌∙◌, refl}
+use Rattle.qr_matrix.specs.Grid.{colour}
+use Rattle.qr_matrix.specs.Line.{has}
+use Rattle.qr_matrix.specs.Penalty.{count_below, is_square_of_two, over_lines, run_cost, square_count, sum_below}
+use Rattle.qr_matrix.specs.Runs.{joins, place_cost}
+use Rattle.qr_matrix.specs.Steps.{row_share}
+use Rattle.std.proofs.lemmas.Bool.Decides.{nat_tests}
+use Rattle.std.proofs.Math.Nat.{mul-suc}
+use Rattle.qr_matrix.proofs.SumLemmas.{sum_below-more, sum_below-same}
+use Rattle.qr_matrix.proofs.RowLemmas.{row_cost}
+use Rattle.qr_matrix.proofs.RunLemmas.{runs-by-places}
+use Rattle.qr_matrix.proofs.SquareLemmas.{square-bit, squares-row}
+use Rattle.qr_matrix.proofs.ColumnLemmas.{has-nothing, five-down-bit, share-of, shares-are-columns}
+use Rattle.qr_matrix.proofs.runs.runs_and_squares.Goals as goal
+
+pub loop-row-init : goal.loop-row-init
+loop-row-init c = record {
+  rows = refl;
+  rows_small = omega arith;
+  columns = refl;
+  columns_small = omega arith;
+  squares = refl;
+  squares_small = omega arith;
+  above = λ k. has-nothing k;
+  first = c.joined_in_column-first.ensures;
+  second = c.joined_in_column-second.ensures;
+  third = c.joined_in_column-third.ensures;
+}
+
+-- a side of so many words
+fits : (s w : ℕ) → s ≤ 64 * w → w ≤ 3 → s ≤ 192
+fits s w h k = omega arith
+
+-- a sum of so many costs, and one more
+small : (a b m r : ℕ) → a ≤ m * r → b ≤ m → a + b ≤ m * (r + 1)
+small a b m r h k = let e = mul-suc m r in omega arith
+
+pub loop-row-preserved : goal.loop-row-preserved
+loop-row-preserved c =
+    let few = fits c.args.matrix.now.side c.args.words c.requires.most c.requires.three in
+    let rows_small = small c.loop-row.rows c.fives_cost-rows.result 576 c.loop-row.row c.loop-row.invariant.rows_small c.fives_cost-rows.ensures.bound in
+    let columns_small = small c.loop-row.columns c.fives_cost-columns.result 576 c.loop-row.row c.loop-row.invariant.columns_small c.fives_cost-columns.ensures.bound in
+    let squares_small = small c.loop-row.squares c.count-squares.result 192 c.loop-row.row c.loop-row.invariant.squares_small c.count-squares.ensures.bound in
+    let s = c.args.matrix.now.side in
+    let d = colour c.args.matrix.now in
+    let i = c.loop-row.invariant in
+    let r = c.loop-row.row in
+    let later : (a b k : ℕ) (x : Bool) → a ≡ b → x ≡ (ltb k s && joins s (λ i. d i k) a) → x ≡ (ltb k s && joins s (λ i. d i k) b) = λ a b k x e h. h ∙ ap (λ z. ltb k s && joins s (λ i. d i k) z) e in
+    let square : (k : ℕ) → has c.squares_at.result k ≡ is_square_of_two s d r k = λ k. square-bit s d r k (has c.squares_at.result k) (has c.joined-joins.result k) (has c.loop-row.first k) (has c.loop-row.first (k + 1)) (c.squares_at.ensures k) (c.joined-joins.ensures k) (i.first k) (i.first (k + 1)) in
+    record {
+      rows = sum_below-more r _ _ _ (λ r. place_cost s (d r)) i.rows (row_cost s c.fives_cost-rows.result (d r) c.joined-joins.result c.fours.result c.shifted_right.result few c.joined-joins.ensures c.fours.ensures c.shifted_right.ensures c.fives_cost-rows.ensures.value) refl;
+      rows_small = rows_small;
+      columns = sum_below-more r _ _ _ (row_share s d) i.columns (share-of s d r c.fives_cost-columns.result c.bitand-fives.result c.loop-row.above few (λ k. five-down-bit s (λ i. d i k) k r (has c.bitand-fives.result k) (has c.bitand.result k) (has c.bitand-in-loop-row.result k) (has c.loop-row.first k) (has c.loop-row.second k) (has c.loop-row.third k) (has c.joined_in_column-fourth.result k) (c.bitand-fives.ensures k) (c.bitand.ensures k) (c.bitand-in-loop-row.ensures k) (i.first k) (i.second k) (i.third k) (c.joined_in_column-fourth.ensures k)) i.above c.fives_cost-columns.ensures.value) refl;
+      columns_small = columns_small;
+      squares = sum_below-more r _ _ _ (λ r. count_below s (is_square_of_two s d r)) i.squares (c.count-squares.ensures.value ∙ squares-row s d r c.squares_at.result few square) refl;
+      squares_small = squares_small;
+      above = λ k.
+          let t : ltb 0 (r + 1) ≡ true = grind (arith, nat_tests) in
+          let e : r ≡ r + 1 - 1 = omega arith in
+          later r (r + 1 - 1) k (has c.loop-row.first k) e (i.first k) ∙ sym (ap (λ z. z && (ltb k s && joins s (λ i. d i k) (r + 1 - 1))) t);
+      first = i.second;
+      second = λ k. later (r + 2) (r + 1 + 1) k (has c.loop-row.third k) (omega arith) (i.third k);
+      third = λ k. later (r + 3) (r + 1 + 2) k (has c.joined_in_column-fourth.result k) (omega arith) (c.joined_in_column-fourth.ensures k);
+    }
+
+pub returns-clause-runs : goal.returns-clause-runs
+unfolding over_lines
+returns-clause-runs c =
+    let s = c.args.matrix.now.side in
+    let d = colour c.args.matrix.now in
+    let i = c.loop-row.invariant in
+    let n : c.loop-row.row ≡ s = omega arith in
+    let rows : c.loop-row.rows ≡ sum_below s (λ r. run_cost s (d r)) =
+    i.rows ∙ (ap (λ z. sum_below z (λ r. place_cost s (d r))) n ∙ sum_below-same s (λ r. place_cost s (d r)) (λ r. run_cost s (d r)) (λ r _. sym (runs-by-places s (d r)))) in
+    let columns : c.loop-row.columns ≡ sum_below s (λ k. run_cost s (λ r. d r k)) =
+    i.columns ∙ (ap (λ z. sum_below z (row_share s d)) n ∙ (shares-are-columns s d
+    ∙ sum_below-same s (λ k. place_cost s (λ r. d r k)) (λ k. run_cost s (λ r. d r k)) (λ k _. sym (runs-by-places s (λ r. d r k))))) in
+    omega arith
+
+pub returns-clause-squares : goal.returns-clause-squares
+unfolding square_count
+returns-clause-squares c =
+    let s = c.args.matrix.now.side in
+    c.loop-row.invariant.squares ∙ ap (λ z. sum_below z (λ r. count_below s (is_square_of_two s (colour c.args.matrix.now) r))) (omega arith)
