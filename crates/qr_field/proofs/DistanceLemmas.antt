@@ -9,6 +9,7 @@ use Rattle.std.proofs.lemmas.List.{take_at}
 use Rattle.std.proofs.lemmas.List.Elements.{All-nil, All-cons, All-head, All-tail}
 use Rattle.qr_field.specs.Galois.{product}
 use Rattle.qr_field.specs.Polynomial.{IsByte, plus, power, IsCorrection}
+use Rattle.qr_field.specs.Steps.Polynomial.{value_at}
 use Rattle.qr_field.specs.Distance.{difference, differences, erasures, errors}
 use Rattle.qr_field.proofs.BitLemmas.{xor-swap}
 use Rattle.qr_field.proofs.ByteLemmas.{product-by_zero, product-of_zero, product-by_one}
@@ -16,32 +17,32 @@ use Rattle.qr_field.proofs.ProductLemmas.{product-lt, product-xor}
 use Rattle.qr_field.proofs.PowerLemmas.{power-lt, power-add}
 use Rattle.qr_field.proofs.FieldLemmas.{product-assoc, product-front, product-by_sum, product-factor, powers-sum, sum-none}
 use Rattle.qr_field.proofs.ListLemmas.{length-plus, bytes-plus}
-use Rattle.qr_field.proofs.ValueLemmas.{value_at, value-lt, value-zero, value-plus, block-bytes, block-root}
+use Rattle.qr_field.proofs.ValueLemmas.{value-lt, value-zero, value-plus, block-bytes, block-root}
 
 -- ---- coefficients that are not 0
 
 -- the number of coefficients that are not 0
-abbrev weight : List ℕ → ℕ
+abbrev pub weight : List ℕ → ℕ
 weight [] = 0
 weight (c ∷ p) = difference c 0 + weight p
 
 -- codewords that agree
-difference-same : (x y : ℕ) → x ≡ y → difference x y ≡ 0
+pub difference-same : (x y : ℕ) → x ≡ y → difference x y ≡ 0
 difference-same x y e = rw (eq-eqb x y e)
 
 -- codewords that differ
-difference-other : (x y : ℕ) → (x ≡ y → ⊥) → difference x y ≡ 1
+pub difference-other : (x y : ℕ) → (x ≡ y → ⊥) → difference x y ≡ 1
 difference-other x y n = rw (ne_eqb x y n)
 
 -- where two pairs agree and differ together
-difference-alike : (x y u v : ℕ) → (x ≡ y → u ≡ v) → (u ≡ v → x ≡ y) → difference x y ≡ difference u v
+pub difference-alike : (x y u v : ℕ) → (x ≡ y → u ≡ v) → (u ≡ v → x ≡ y) → difference x y ≡ difference u v
 difference-alike x y u v f g = elim (cases_eq x y) [
   | inl e ↦ difference-same x y e ∙ sym (difference-same u v (f e))
   | inr n ↦ difference-other x y n ∙ sym (difference-other u v (λ e. n (g e)))
 ]
 
 -- the weight of a sum is the number of places in which its lists differ
-weight-plus : (xs ys : List ℕ) → length xs ≡ length ys → weight (plus xs ys) ≡ differences xs ys
+pub weight-plus : (xs ys : List ℕ) → length xs ≡ length ys → weight (plus xs ys) ≡ differences xs ys
 weight-plus [] [] e = refl
 weight-plus [] (y ∷ ys) e = absurd (omega arith)
 weight-plus (x ∷ xs) [] e = absurd (omega arith)
@@ -52,7 +53,7 @@ weight-plus (x ∷ xs) (y ∷ ys) e =
     omega (arith, one, f)
 
 -- lists that differ nowhere are one
-differences-none : (xs ys : List ℕ) → differences xs ys ≡ 0 → xs ≡ ys
+pub differences-none : (xs ys : List ℕ) → differences xs ys ≡ 0 → xs ≡ ys
 differences-none [] [] e = refl
 differences-none [] (y ∷ ys) e = absurd (omega (arith, e))
 differences-none (x ∷ xs) [] e = absurd (omega (arith, e))
@@ -64,7 +65,7 @@ differences-none (x ∷ xs) (y ∷ ys) e = elim (cases_eq x y) [
 ]
 
 -- a list with no coefficient but 0 has the value 0
-value-none : (i : ℕ) (p : List ℕ) → weight p ≡ 0 → value_at i p ≡ 0
+pub value-none : (i : ℕ) (p : List ℕ) → weight p ≡ 0 → value_at i p ≡ 0
 value-none i [] e = refl
 value-none i (c ∷ p) e = elim (cases_eq c 0) [
   | inl f ↦
@@ -171,7 +172,7 @@ value-alone c p l e =
 
 -- a list of at most 255 coefficients, of which at most n are not 0, whose values at the first n powers are 0, has no
 -- coefficient but 0
-weight-none : (k n : ℕ) (p : List ℕ) → length p ≤ k → k ≤ 255 → All IsByte p → weight p ≤ n →
+pub weight-none : (k n : ℕ) (p : List ℕ) → length p ≤ k → k ≤ 255 → All IsByte p → weight p ≤ n →
     ((i : ℕ) → i < n → value_at i p ≡ 0) → weight p ≡ 0
 weight-none k n [] l h a w r = refl
 weight-none zero n (c ∷ p) l h a w r = absurd (omega arith)
@@ -256,7 +257,7 @@ differences-length (z ∷ zs) [] = omega arith
 differences-length (z ∷ zs) (x ∷ xs) = let e = differences-length zs xs in omega (arith, e)
 
 -- a place counts once at most
-difference-most : (x y : ℕ) → difference x y ≤ 1
+pub difference-most : (x y : ℕ) → difference x y ≤ 1
 difference-most x y = elim (cases_eq x y) [
   | inl e ↦ let none = difference-same x y e in omega (arith, none)
   | inr n ↦ let one = difference-other x y n in omega (arith, one)

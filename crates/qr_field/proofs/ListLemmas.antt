@@ -67,7 +67,7 @@ plus-cancel (x ∷ xs) [] l = absurd (omega arith)
 plus-cancel (x ∷ xs) (y ∷ ys) l = let e = xor-cancel x y in let f = plus-cancel xs ys (omega arith) in cc
 
 -- the front of a sum
-take-plus : (n : ℕ) (xs ys : List ℕ) → take n (plus xs ys) ≡ plus (take n xs) (take n ys)
+pub take-plus : (n : ℕ) (xs ys : List ℕ) → take n (plus xs ys) ≡ plus (take n xs) (take n ys)
 take-plus zero xs ys = refl
 take-plus (suc n) [] ys = refl
 take-plus (suc n) (x ∷ xs) [] = refl

@@ -62,6 +62,15 @@ impl Divisor {
         }
     }
 
+    /// The number of error correction codewords.
+    pub fn count(&self) -> usize
+        ensures is { result ≡ self.now }
+        ensures least { 1 ≤ result }
+        ensures most { result ≤ 30 }
+    {
+        self.count
+    }
+
     // The multiple of the coefficients after the leading 1 by a factor.
     fn multiple(&self, factor: u8) -> Register
         ensures { value_of result ≡ packed (scaled factor (divisor_of self.now)) }

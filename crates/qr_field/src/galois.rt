@@ -2,7 +2,7 @@
 //! (ISO/IEC 18004:2015, 7.5.2). An element is a byte, read as a polynomial over bits; the sum of two elements is
 //! their exclusive or.
 
-ghost use Rattle.std.specs.Prelude.{◌≡◌, ℕ};
+ghost use Rattle.std.specs.Prelude.{◌≡◌, ◌≤◌, ℕ};
 ghost use Rattle.qr_field.specs.Galois.{IsProduct, product};
 
 use crate::logarithm::{logarithm, power_of};
@@ -21,6 +21,20 @@ pub fn mul(a: u8, b: u8) -> u8
     power_of(exponent as u8)
 }
 
+/// The quotient of two elements of the field, the second of them not 0: the one element whose product with the second is
+/// the first (ISO/IEC 18004:2015, 7.5.2).
+pub fn div(a: u8, b: u8) -> u8
+    requires { 1 ≤ b }
+    ensures { product result b ≡ a }
+{
+    if a == 0 {
+        return 0;
+    }
+    let rest = u16::from(logarithm(a)) + (255 - u16::from(logarithm(b)));
+    let exponent = if rest < 255 { rest } else { rest - 255 };
+    power_of(exponent as u8)
+}
+
 #[cfg(test)]
 mod tests {
     use super::*;
@@ -34,6 +48,18 @@ mod tests {
         ];
         for (name, a, b, product) in rows {
             assert_eq!(rt; mul(a, b), product, "{name}");
+        }
+    }
+
+    #[test]
+    fn quotients(rt: HostRuntime) {
+        let rows = [
+            ("one by 2", 1u8, 2u8, 0x8Eu8),
+            ("a product by its factor", 0x1D, 2, 0x80),
+            ("nothing by all bits", 0, 0xFF, 0),
+        ];
+        for (name, a, b, quotient) in rows {
+            assert_eq!(rt; div(a, b), quotient, "{name}");
         }
     }
 }

@@ -41,8 +41,8 @@ pub(crate) static LOGARITHMS: [u8; 255] = [
     214, 244, 234, 168, 80, 88, 175,
 ];
 
-// 2 to a power below 255.
-pub(crate) fn power_of(exponent: u8) -> u8
+/// 2 to a power below 255 (ISO/IEC 18004:2015, 7.5.2).
+pub fn power_of(exponent: u8) -> u8
     requires { exponent < 255 }
     ensures { result ≡ power exponent }
 {

@@ -12,11 +12,11 @@ use Rattle.qr_symbol.specs.Steps.Interleaving.{IsSent, IsChecks}
 use Rattle.qr_symbol.proofs.TagLemmas.{start-next, start-most}
 
 -- a block's error correction codewords are as many as those of any other
-check-len : (b : Blocks) (k : ℕ) → k < count_of (data_cut b) → len_of (correction_cut b) k ≡ b.ec_len
+pub check-len : (b : Blocks) (k : ℕ) → k < count_of (data_cut b) → len_of (correction_cut b) k ≡ b.ec_len
 check-len b k l = grind (arith, nat_tests)
 
 -- one block more
-checks-push : (b : Blocks) (d xs ys es : List ℕ) (k : ℕ) → k < count_of (data_cut b) → IsChecks b d k xs → IsCorrection (block_of b d k) b.ec_len es → ys ≡ xs ++ es → IsChecks b d (k + 1) ys
+pub checks-push : (b : Blocks) (d xs ys es : List ℕ) (k : ℕ) → k < count_of (data_cut b) → IsChecks b d k xs → IsCorrection (block_of b d k) b.ec_len es → ys ≡ xs ++ es → IsChecks b d (k + 1) ys
 checks-push b d xs ys es k l h c e =
     let next = start-next (correction_cut b) k in
     let one = check-len b k l in
@@ -56,7 +56,7 @@ checks-push b d xs ys es k l h c e =
     none k = omega arith
 
 -- functions that agree where a fact holds give one list
-map-each : {X Y : Type 0} (P : X → Type 0) (f g : X → Y) (xs : List X) → All P xs → ((x : X) → P x → f x ≡ g x) → map f xs ≡ map g xs
+pub map-each : {X Y : Type 0} (P : X → Type 0) (f g : X → Y) (xs : List X) → All P xs → ((x : X) → P x → f x ≡ g x) → map f xs ≡ map g xs
 map-each P f g [] a e = refl
 map-each P f g (x ∷ xs) a e = let h = e x (a 0 x (omega arith)) in let t = map-each P f g xs (λ k d l. a (suc k) d (omega arith)) e in λ i. h i ∷ t i
 

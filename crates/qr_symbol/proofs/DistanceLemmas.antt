@@ -17,7 +17,7 @@ use Rattle.qr_symbol.proofs.MessageLemmas.{data-cut-whole}
 use Rattle.qr_symbol.proofs.TagLemmas.{start-none, start-next, len-most}
 
 -- a block of codewords that stand block after block
-abbrev part : Cut → List ℕ → ℕ → List ℕ
+abbrev pub part : Cut → List ℕ → ℕ → List ℕ
 part c d i = take (len_of c i) (drop (start_of c i) d)
 
 -- codewords with the same first blocks have the same codewords there
@@ -35,7 +35,7 @@ fronts-same c d e (suc i) h =
     a ∙ (ap (λ xs. xs ++ part c d i) f ∙ (ap (λ xs. take (start_of c i) e ++ xs) (h i (omega arith)) ∙ sym b))
 
 -- codewords with the same blocks are the same
-parts-same : (c : Cut) (d e : List ℕ) → length d ≡ cut_len c → length e ≡ cut_len c →
+pub parts-same : (c : Cut) (d e : List ℕ) → length d ≡ cut_len c → length e ≡ cut_len c →
     ((j : ℕ) → j < count_of c → part c d j ≡ part c e j) → d ≡ e
 parts-same c d e n m h =
     sym (take-length d) ∙ (ap (λ k. take k d) n ∙ (fronts-same c d e (count_of c) h ∙ (ap (λ k. take k e) (sym m) ∙ take-length e)))

@@ -36,14 +36,14 @@ unfolding is-short remainder_of
 all-short = refl
 
 -- a level has two bits
-level-small : (l : Level) → level_bits l ≤ 3
+pub level-small : (l : Level) → level_bits l ≤ 3
 level-small L = omega arith
 level-small M = omega arith
 level-small Q = omega arith
 level-small H = omega arith
 
 -- and levels have different ones
-level-one : (l k : Level) → level_bits l ≡ level_bits k → l ≡ k
+pub level-one : (l k : Level) → level_bits l ≡ level_bits k → l ≡ k
 level-one L L e = refl
 level-one L M e = absurd (omega arith)
 level-one L Q e = absurd (omega arith)

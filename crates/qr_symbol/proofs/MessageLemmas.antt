@@ -15,7 +15,7 @@ use Rattle.qr_symbol.proofs.RankLemmas.{tags-one, tags-many, tag-of, map-at, Mem
 -- ---- one final message
 
 -- blocks have one list of error correction codewords each
-checks-one : (b : Blocks) (d : List ℕ) (n : ℕ) (xs ys : List (List ℕ)) → length xs ≡ n → length ys ≡ n
+pub checks-one : (b : Blocks) (d : List ℕ) (n : ℕ) (xs ys : List (List ℕ)) → length xs ≡ n → length ys ≡ n
     → ((i : ℕ) → i < n → IsCorrection (block_of b d i) b.ec_len (get_or xs i []))
     → ((i : ℕ) → i < n → IsCorrection (block_of b d i) b.ec_len (get_or ys i []))
     → xs ≡ ys

@@ -11,3 +11,4 @@ pub mod Fault
 pub mod Interleaving
 pub mod Distance
 pub mod Steps
+pub mod Mending

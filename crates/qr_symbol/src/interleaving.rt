@@ -1,11 +1,12 @@
 //! The final sequence of codewords: data and error correction codewords, interleaved (ISO/IEC 18004:2015, 7.5.2 and 7.6),
 //! and back.
 
-ghost use Rattle.std.specs.Prelude.{◌≡◌, ◌≢◌, ◌↔◌, ℕ, ◌+◌, ◌≤◌, ◌⊎◌, List, length, Err, IfOk, IfErr};
+ghost use Rattle.std.specs.Prelude.{◌≡◌, ◌≢◌, ◌↔◌, ℕ, ◌+◌, ◌<◌, ◌≤◌, ◌⊎◌, List, length, Err, IfOk, IfErr};
 ghost use Rattle.qr_layout.specs.Blocks.{data_codewords_of};
 ghost use Rattle.qr_layout.specs.Version.{total_codewords_of};
 ghost use Rattle.qr_symbol.specs.declared.fault.ReadFault.{ReadFault};
 ghost use Rattle.qr_symbol.specs.Interleaving.{count_of, len_of, start_of, cut_len, data_cut, correction_cut, IsFinalMessage, IsInterleaved};
+ghost use Rattle.qr_symbol.specs.Mending.{part_of};
 ghost use Rattle.qr_symbol.specs.Steps.Interleaving.{IsSent, IsChecks, IsGathered};
 
 use crate::fault::ReadFault;
@@ -15,14 +16,14 @@ use std::alloc::{AllocError, Global};
 
 // Codewords block after block: `short` blocks of `short_len` codewords, and then `long` blocks of one more.
 #[derive(Clone, Copy)]
-struct Cut {
-    short: u16,
-    short_len: u8,
-    long: u8,
+pub(crate) struct Cut {
+    pub(crate) short: u16,
+    pub(crate) short_len: u8,
+    pub(crate) long: u8,
 }
 
 impl Cut {
-    fn of_data(blocks: Blocks) -> Cut
+    pub(crate) fn of_data(blocks: Blocks) -> Cut
         ensures { result ≡ data_cut blocks }
     {
         Cut {
@@ -32,7 +33,7 @@ impl Cut {
         }
     }
 
-    fn of_corrections(blocks: Blocks) -> Cut
+    pub(crate) fn of_corrections(blocks: Blocks) -> Cut
         ensures { result ≡ correction_cut blocks }
     {
         Cut {
@@ -42,7 +43,7 @@ impl Cut {
         }
     }
 
-    fn count(self) -> usize
+    pub(crate) fn count(self) -> usize
         ensures { result ≡ count_of self }
     {
         usize::from(self.short) + usize::from(self.long)
@@ -59,11 +60,22 @@ impl Cut {
         }
     }
 
-    fn start(self, block: usize) -> usize
+    pub(crate) fn start(self, block: usize) -> usize
         requires { block ≤ count_of self }
         ensures { result ≡ start_of self block }
     {
         usize::from(self.short_len) * block + block.saturating_sub(usize::from(self.short))
+    }
+
+    // A block of codewords that stand block after block.
+    pub(crate) fn part(self, codewords: &[u8], block: usize) -> &[u8]
+        requires within { block < count_of self }
+        requires whole { length codewords.now ≡ cut_len self }
+        ensures value { result.now ≡ part_of self codewords.now block }
+        ensures len { length result.now ≡ len_of self block }
+    {
+        let start = self.start(block);
+        &codewords[start..start + self.len(block)]
     }
 }
 
@@ -148,6 +160,16 @@ fn deinterleave_into(message: &mut Vec<u8>, cut: Cut, codewords: &[u8])
             }
         }
     }
+}
+
+// The codewords of blocks, block after block, from codewords that were sent by rising tags.
+pub(crate) fn gather(alloc: Global, cut: Cut, codewords: &[u8]) -> Result<Vec<u8>, AllocError>
+    requires { cut_len cut ≤ length codewords.now }
+    ensures { IfOk result (λ d. IsGathered cut codewords.now d.items) }
+{
+    let mut gathered = vec![in alloc; 0u8; cut.start(cut.count())]?;
+    deinterleave_into(&mut gathered, cut, codewords);
+    Ok(gathered)
 }
 
 // The data codewords of a final sequence, if it is one.

@@ -1,7 +1,7 @@
 //! The laws of masks, of interleaving, of reading and of series. But for those that compare and clone, each function does
 //! nothing: its contract is the law.
 
-ghost use Rattle.std.specs.Prelude.{◌≡◌, ◌<◌, ◌≤◌, ◌+◌, ◌⊎◌, ℕ, false, List, length, map, None, ◌↔◌, ◌∷◌, IsTrue, IfOk};
+ghost use Rattle.std.specs.Prelude.{◌≡◌, ◌<◌, ◌≤◌, ◌+◌, ◌⊎◌, ℕ, false, List, length, map, replicate, None, ◌↔◌, ◌∷◌, IsTrue, IfOk};
 ghost use Rattle.std.specs.List.{All};
 ghost use Rattle.qr_layout.specs.declared.level.Level.{Level};
 ghost use Rattle.qr_layout.specs.declared.region.Module.{Module};
@@ -14,6 +14,7 @@ ghost use Rattle.qr_symbol.specs.declared.fault.ReadFault.{ReadFault};
 ghost use Rattle.qr_symbol.specs.declared.symbol.Symbol.{Symbol};
 ghost use Rattle.qr_matrix.specs.Grid.{Grid};
 ghost use Rattle.qr_symbol.specs.Symbol.{grid_of};
+ghost use Rattle.qr_symbol.specs.Mending.{tolerance_of, IsNearFormat, IsMendedIn, IsMendedReading, IsUnmended};
 ghost use Rattle.qr_symbol.specs.Reading.{read_bits, IsRead, IsMessage, IsFormat, IsReading, IsUnread};
 ghost use Rattle.qr_symbol.specs.Encoding.{IsSymbol, SymbolsAreOne};
 ghost use Rattle.qr_symbol.specs.VersionChoice.{HasNoVersion};
@@ -23,7 +24,7 @@ ghost use Rattle.qr_layout.specs.Version.{side_of, total_codewords_of};
 ghost use Rattle.qr_layout.specs.Blocks.{data_codewords_of, blocks_of};
 ghost use Rattle.qr_bits.specs.declared.modes.Rule.{Rule};
 ghost use Rattle.qr_symbol.specs.Interleaving.{count_of, len_of, start_of, cut_len, data_cut, IsInterleaved};
-ghost use Rattle.qr_symbol.specs.Distance.{MessagesLieApart, DamagedMessagesAreOne};
+ghost use Rattle.qr_symbol.specs.Distance.{blocks_in, MessagesLieApart, DamagedMessagesAreOne};
 ghost use Rattle.qr_symbol.specs.Laws.{all_masks, first_rows, computed_rows};
 
 use crate::fault::{EncodeFault, ReadFault};
@@ -90,6 +91,46 @@ pub fn reading_is_one(version: Version, level: Level)
 pub fn format_is_one()
     ensures { (g : Grid) (l k : Level) (m n : ℕ) → IsFormat g l m → IsFormat g k n
         → (l ≡ k) × (m ≡ n) }
+{}
+
+/// The format information of a square is nearly that of one level and one mask at most.
+pub fn near_format_is_one()
+    ensures { (g : Grid) (l k : Level) (m n : ℕ) → IsNearFormat g l m → IsNearFormat g k n
+        → (l ≡ k) × (m ≡ n) }
+{}
+
+/// The definition of how many codewords of a block may be changed computes the six numbers of Table 9 that are less than half
+/// of the error correction codewords, and one of the others.
+pub fn tolerances_compute()
+    ensures one { tolerance_of 1 Level.L ≡ 2 × tolerance_of 1 Level.M ≡ 4 }
+    ensures one_more { tolerance_of 1 Level.Q ≡ 6 × tolerance_of 1 Level.H ≡ 8 }
+    ensures two { tolerance_of 2 Level.L ≡ 4 }
+    ensures three { tolerance_of 3 Level.L ≡ 7 }
+    ensures forty { tolerance_of 40 Level.L ≡ 15 }
+{}
+
+/// Codewords are a damaged form of one message at most, and so is what was changed.
+pub fn mended_messages_are_one(version: Version, level: Level)
+    ensures { (cw m n x y : List ℕ) → IsMendedIn version level cw m x → IsMendedIn version level cw n y
+        → (m ≡ n) × (x ≡ y) }
+{}
+
+/// A square is read with its damage mended as one content at most.
+pub fn mended_readings_are_one()
+    ensures { (g : Grid) (p q : Content) (x y : List ℕ) → IsMendedReading g p x → IsMendedReading g q y
+        → (p ≡ q) × (x ≡ y) }
+{}
+
+/// A square that is read without mending is read as the same content with it, and no codeword is changed.
+pub fn readings_are_mended_readings()
+    ensures { (g : Grid) (p : Content) → (h : IsReading g p)
+        → IsMendedReading g p (replicate (blocks_in h.version h.level) 0) }
+{}
+
+/// A square that is read with its damage mended can only be refused for lack of memory.
+pub fn mended_readings_are_not_refused()
+    ensures { (g : Grid) (p : Content) (x : List ℕ) (e : ReadFault) → IsMendedReading g p x → IsUnmended g e
+        → e ≡ ReadFault.Memory }
 {}
 
 /// A square is read as one content at most.

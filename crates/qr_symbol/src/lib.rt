@@ -11,6 +11,7 @@ mod interleaving;
 mod joining;
 pub mod laws;
 mod mask;
+mod mending;
 mod reading;
 #[cfg(test)]
 mod samples;
@@ -23,6 +24,7 @@ pub use encoding::encode;
 pub use fault::{EncodeFault, ReadFault};
 pub use interleaving::{deinterleave, interleave};
 pub use joining::read_series;
+pub use mending::{Mended, mend_symbol};
 pub use qr_matrix::{Matrix, penalty};
 pub use reading::read_symbol;
 pub use series::encode_series;

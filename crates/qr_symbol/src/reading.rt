@@ -18,7 +18,7 @@ use qr_matrix::Matrix;
 use std::alloc::{AllocError, Global};
 
 // The version whose symbols have this side.
-fn version_of_side(side: u8) -> Option<Version>
+pub(crate) fn version_of_side(side: u8) -> Option<Version>
     ensures { MatchOption result
         ((v : ℕ) → 1 ≤ v → v ≤ 40 → side ≡ side_of v → ⊥)
         (λ v. (1 ≤ v) × (v ≤ 40) × (side ≡ side_of v)) }
@@ -76,7 +76,7 @@ fn format_of(matrix: &Matrix) -> Option<(Level, u8)>
 }
 
 // The codewords that the modules of the encoding region hold under a mask; the remainder bits are left aside.
-fn read_codewords(
+pub(crate) fn read_codewords(
     alloc: Global,
     version: Version,
     mask: u8,

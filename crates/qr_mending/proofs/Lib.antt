@@ -1,0 +1,5 @@
+mod SumLemmas
+mod PoolLemmas
+mod WeightLemmas
+mod SpectrumLemmas
+pub mod MendingLemmas

@@ -1,0 +1,5 @@
+use Rattle.qr_mending.proofs.MendingLemmas.{mended-one}
+use Rattle.qr_mending.proofs.laws.mended_blocks_are_one.Goals as goal
+
+pub returns : goal.returns
+returns c = mended-one

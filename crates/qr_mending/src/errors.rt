@@ -1,0 +1,56 @@
+//! The errors of a damaged block: from their locator all their values follow, and from these the errors.
+
+ghost use Rattle.std.specs.Prelude.{◌≡◌, ℕ, ◌+◌, ◌<◌, ◌≤◌, List, length};
+ghost use Rattle.arrayvec.specs.ArrayVec.{array_vec_len};
+ghost use Rattle.qr_field.specs.Steps.Polynomial.{value_at};
+ghost use Rattle.qr_mending.specs.Steps.Sums.{HasValues};
+ghost use Rattle.qr_mending.specs.Steps.Errors.{coefficient, IsLocated};
+
+use crate::sums::{dot, value};
+use arrayvec::ArrayVec;
+use qr_field::power_of;
+
+// The value of the errors at the next power of 2. Their locator is the list of its coefficients, the leading 1 last.
+fn next_value(locator: &[u8], syndromes: &[u8], series: &[u8]) -> u8
+    requires least { 1 ≤ length locator.now }
+    requires long { length locator.now ≤ length syndromes.now + 1 }
+    ensures { (errors : List ℕ) → IsLocated locator.now errors → HasValues syndromes.now errors →
+        HasValues series.now errors → result ≡ value_at (length series.now) errors }
+{
+    let count = series.len();
+    let degree = locator.len() - 1;
+    if count < degree {
+        return syndromes[count];
+    }
+    dot(&locator[..degree], &series[count - degree..])
+}
+
+// The values at all powers of 2 of errors whose first values are the syndromes.
+pub(crate) fn values(locator: &[u8], syndromes: &[u8]) -> ArrayVec<u8, 255>
+    requires least { 1 ≤ length locator.now }
+    requires long { length locator.now ≤ length syndromes.now + 1 }
+    ensures count { array_vec_len result ≡ 255 }
+    ensures values { (errors : List ℕ) → IsLocated locator.now errors → HasValues syndromes.now errors →
+        HasValues result.items errors }
+{
+    let mut series = ArrayVec::new();
+    for _i in 0..255usize {
+        let value = next_value(locator, syndromes, series.as_slice());
+        series.push(value);
+    }
+    series
+}
+
+// The error at a place, counted from the last codeword.
+pub(crate) fn error(locator: &[u8], series: &[u8], place: u8) -> u8
+    requires count { length series.now ≡ 255 }
+    requires place { place < 255 }
+    ensures { (errors : List ℕ) → IsLocated locator.now errors → HasValues series.now errors →
+        place < length errors → result ≡ coefficient place errors }
+{
+    if value(locator, power_of(place)) != 0 {
+        return 0;
+    }
+    let inverse = if place == 0 { 0 } else { 255 - place };
+    value(series, power_of(inverse))
+}

@@ -1,0 +1,84 @@
+//! A polynomial that has a root at each damaged place: by Gaussian elimination, one equation after the other, from the
+//! powers of x, of which there is one more than there are equations.
+
+ghost use Rattle.std.specs.Prelude.{◌≡◌, ◌≢◌, ℕ, ◌+◌, ◌*◌, ◌<◌, ◌≤◌, List, length, drop};
+ghost use Rattle.qr_mending.specs.Steps.Polynomial.{at, all_of, miss_of, IsMonic, IsRelieved, HasDegrees, IsPool};
+
+use crate::polynomial::Polynomial;
+use arrayvec::ArrayVec;
+
+// The powers of x from 0 to `t`.
+fn monomials(t: usize) -> ArrayVec<Polynomial, 16>
+    requires { t ≤ 15 }
+    ensures { (syndromes : List ℕ) → IsPool t 0 syndromes result.items }
+{
+    let mut pool = ArrayVec::new();
+    for degree in 0..t + 1 {
+        pool.push(Polynomial::monomial(degree));
+    }
+    pool
+}
+
+// The first polynomial whose sum with the window is not 0, or the number of polynomials.
+fn first_miss(pool: &[Polynomial], window: &[u8], t: usize) -> usize
+    requires degrees { HasDegrees t pool.now }
+    requires small { t ≤ 15 }
+    requires long { t < length window.now }
+    ensures within { result ≤ length pool.now }
+    ensures before { (k : ℕ) → k < result → miss_of (at pool.now k) window.now ≡ 0 }
+    ensures misses { result < length pool.now → miss_of (at pool.now result) window.now ≢ 0 }
+{
+    for k in 0..pool.len() {
+        if pool[k].miss(window) != 0 {
+            return k;
+        }
+    }
+    pool.len()
+}
+
+// Makes the sums of the polynomials from a place on 0.
+fn relieve(pool: &mut [Polynomial], first: usize, pivot: &Polynomial, window: &[u8], t: usize)
+    requires degrees { HasDegrees t pool.old }
+    requires small { t ≤ 15 }
+    requires long { t < length window.now }
+    requires higher { (k : ℕ) → first ≤ k → k < length pool.old → pivot.now.degree < (at pool.old k).degree }
+    requires misses { miss_of pivot.now window.now ≢ 0 }
+    ensures before { (k : ℕ) → k < first → at pool.new k ≡ at pool.old k }
+    ensures relieved { (k : ℕ) → first ≤ k → k < length pool.old →
+        IsRelieved pivot.now window.now (at pool.old k) (at pool.new k) }
+{
+    for k in first..pool.len() {
+        pool[k] = pool[k].relieved(pivot, window);
+    }
+}
+
+// Solves one equation more.
+fn solve(pool: &mut ArrayVec<Polynomial, 16>, syndromes: &[u8], i: usize, t: usize)
+    requires pool { IsPool t i syndromes.now pool.old.items }
+    requires small { t ≤ 15 }
+    requires long { 2 * t ≤ length syndromes.now }
+    requires within { i < t }
+    ensures { IsPool t (i + 1) syndromes.now pool.new.items }
+{
+    let window = &syndromes[i..];
+    let first = first_miss(pool.as_slice(), window, t);
+    if first < pool.len() {
+        let pivot = pool.remove(first);
+        relieve(pool.as_mut_slice(), first, &pivot, window, t);
+    }
+}
+
+// A polynomial of degree t at most whose sums with the syndromes from each of the first t on are 0.
+pub(crate) fn locator(syndromes: &[u8], t: usize) -> Polynomial
+    requires small { t ≤ 15 }
+    requires long { 2 * t ≤ length syndromes.now }
+    ensures degree { result.degree ≤ t }
+    ensures monic { IsMonic result }
+    ensures solved { (i : ℕ) → i < t → miss_of result (drop i syndromes.now) ≡ 0 }
+{
+    let mut pool = monomials(t);
+    for i in 0..t {
+        solve(&mut pool, syndromes, i, t);
+    }
+    pool.as_slice()[0]
+}
