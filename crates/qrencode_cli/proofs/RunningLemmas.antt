@@ -1,5 +1,5 @@
 -- How the parts of a run make its answer.
-use Rattle.std.proofs.Common.{◌≡◌, ◌∙◌, ℕ, List, [], Option, Result, Ok, Err, MatchOption, OnOk, OnErr, None, Some, IfErr, is_err, true, false, refl, sym, append-nil, length}
+use Rattle.std.proofs.Common.{◌≤◌, arith, ◌≡◌, ◌∙◌, ℕ, List, [], Option, Result, Ok, Err, MatchOption, OnOk, OnErr, None, Some, IfErr, is_err, true, false, refl, sym, append-nil, length}
 use Rattle.std.specs.Io.KnownBytes.{Appends}
 use Rattle.clap.specs.Walk.{Text}
 use Rattle.qrencode_cli.specs.Command.{Breaks, Draws, Reads, ReadsFor, Shows, Tells}
@@ -83,7 +83,8 @@ begins-all old new text p = (text, ([], append-nil text), p)
 pub tells-fault : (old new : Writer) (f : Fault) (slice : List ℕ) → slice ≡ fault_line f → (r : Result (Unit {0}) DrawFault)
     → OnOk r (Appends old.taken new.taken slice) → OnErr r (AppendsBeginning old.taken new.taken slice)
     → (old.counts ≡ no_writes → is_write_fault new.counts ≡ is_err r)
-    → (old.counts ≡ no_writes → OnOk r (new.counts.taken ≡ counted (length slice))) → new.counts.flushes ≡ old.counts.flushes
+    → (old.counts ≡ no_writes → OnOk r (new.counts.taken ≡ counted (length slice)))
+    → (old.counts ≡ no_writes → OnErr r (new.counts.taken ≤ counted (length slice))) → new.counts.flushes ≡ old.counts.flushes
     → Tells old new {T = Unit {0}} (Err f)
-tells-fault old new f slice is (Ok t) ok err well many flushes = rw (← is) (begins-all old.taken new.taken slice ok, λ z w. ok, λ z w. many z, flushes)
-tells-fault old new f slice is (Err e) ok err well many flushes = rw (← is) (err, λ z w. let bad : true ≡ false = sym (well z) ∙ w in cc, λ z w. let bad : true ≡ false = sym (well z) ∙ w in cc, flushes)
+tells-fault old new f slice is (Ok t) ok err well many most flushes = rw (← is) (begins-all old.taken new.taken slice ok, λ z. let m = many z in omega arith, λ z w. ok, λ z w. many z, flushes)
+tells-fault old new f slice is (Err e) ok err well many most flushes = rw (← is) (err, λ z. most z, λ z w. let bad : true ≡ false = sym (well z) ∙ w in cc, λ z w. let bad : true ≡ false = sym (well z) ∙ w in cc, flushes)

@@ -1,5 +1,5 @@
 -- What one write does while a piece is sent.
-use Rattle.std.proofs.Common.{◌≡◌, ◌≤◌, ◌<◌, ◌+◌, ◌^◌, ◌++◌, ◌∙◌, ℕ, List, sym, Option, None, Some, Result, append-nil, Ok, Err, true, ap, refl, arith, max, take, drop}
+use Rattle.std.proofs.Common.{◌≡◌, ◌≤◌, ◌<◌, ◌+◌, ◌^◌, ◌++◌, ◌∙◌, ℕ, List, sym, Option, None, Some, Result, append-nil, length, Ok, Err, true, ap, refl, arith, max, take, drop}
 use Rattle.std.proofs.lemmas.List.{take-append-drop}
 use Rattle.std.proofs.lemmas.Bool.Decides.{nat_tests}
 use Rattle.std.proofs.Math.Seq.{take-add}
@@ -80,12 +80,23 @@ within-after v w len tries (Err Failed) e h =
     let few = h.few in
     rw e (record { faults = rw (f, z) (omega arith); interrupted = rw t (omega arith) })
 
+-- a write that took nothing left the count as it was
+pub most-failed : (u v w : WriteCounts) (len at all : ℕ) (t : Trouble) → w ≡ write_counted len (Err t) v → at ≤ all
+    → (u.taken < 2 ^ 64 → v.taken ≡ counted (u.taken + at)) → u.taken < 2 ^ 64 → w.taken ≤ counted (u.taken + all)
+most-failed u v w len at all Interrupted e low m fits = let g = m fits in rw e (omega arith)
+most-failed u v w len at all Failed e low m fits = let g = m fits in rw e (omega arith)
+
+pub most-zero : (u v w : WriteCounts) (len n at all : ℕ) → n ≡ 0 → w ≡ write_counted len (Ok n) v → at ≤ all
+    → (u.taken < 2 ^ 64 → v.taken ≡ counted (u.taken + at)) → u.taken < 2 ^ 64 → w.taken ≤ counted (u.taken + all)
+most-zero u v w len n at all zero e low m fits = let g = m fits in rw e (omega arith)
+
 -- a write that took nothing, and after which no other comes
 pub stops : (a b c : Option (List ℕ)) (bytes : List ℕ) (at : ℕ) (u v w : WriteCounts) (tried tries : ℕ)
-    → Appends a b (take at bytes) → Keeps b c → (IsWell u tried → IsWell v tries)
+    → Appends a b (take at bytes) → Keeps b c → (u.taken < 2 ^ 64 → w.taken ≤ counted (u.taken + length bytes)) → (IsWell u tried → IsWell v tries)
     → (IsWell v tries → is_write_fault w ≡ true) → (IsWell v tries → IsWrittenWithin w)
     → w.offered ≤ max u.offered 1200 → w.flushes ≡ u.flushes → Stops (writer a u) (writer c w) tried bytes
-stops a b c bytes at u v w tried tries p k well fault within offered flushes = record {
+stops a b c bytes at u v w tried tries p k most well fault within offered flushes = record {
+  most = most;
   front = (take at bytes, (drop at bytes, take-append-drop at bytes), Appends-kept a b c _ p k);
   fault = λ h. fault (well h);
   within = λ h. within (well h);

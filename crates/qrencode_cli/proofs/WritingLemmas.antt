@@ -1,5 +1,5 @@
 -- How what was written of parts of a text joins.
-use Rattle.std.proofs.Common.{◌≡◌, ◌++◌, ◌∙◌, ℕ, List, [], OnErr, Option, Result, Ok, Err, append_assoc, append-nil, refl, sym, ap, arith, ◌∷◌, ◌<◌, ◌+◌, ◌^◌, length, length-append, get_or, take, drop, subst}
+use Rattle.std.proofs.Common.{◌≡◌, ◌++◌, ◌∙◌, ℕ, List, [], OnErr, Option, Result, Ok, Err, append_assoc, append-nil, refl, sym, ap, arith, ◌∷◌, ◌<◌, ◌≤◌, ◌+◌, ◌^◌, length, length-append, get_or, take, drop, subst}
 use Rattle.std.proofs.lemmas.List.{take_more, take-append-drop}
 use Rattle.std.proofs.KnownBytes.{Appends-trans, Appends-nil}
 use Rattle.qrencode_cli.specs.Device.{AppendsBeginning, Writer, counted}
@@ -11,6 +11,14 @@ use Rattle.qrencode_cli.specs.declared.pen.Pen.{Pen}
 -- counts of bytes add up
 counted-on : (a b c x y z : ℕ) → z ≡ x + y → a < 2 ^ 64 → b ≡ counted (a + x) → (b < 2 ^ 64 → c ≡ counted (b + y)) → c ≡ counted (a + z)
 counted-on a b c x y z e fits f h = let small : b < 2 ^ 64 = omega arith in let g = h small in omega arith
+
+-- a count that goes on to at most so many more bytes
+most-on : (a b c s h l k y t : ℕ) → s + h ≡ l → k ≡ h + y → t ≡ l + y → a < 2 ^ 64 → b ≡ counted (a + s) → (b < 2 ^ 64 → c ≤ counted (b + k)) → c ≤ counted (a + t)
+most-on a b c s h l k y t e f g fits m n = let small : b < 2 ^ 64 = omega arith in let o = n small in omega arith
+
+-- a count of at most so many bytes is one of at most more
+most-before : (a c x t y : ℕ) → t ≡ x + y → c ≤ counted (a + x) → c ≤ counted (a + t)
+most-before a c x t y e m = omega arith
 
 -- one part after another was sent
 Sends-trans : (a b c : Writer) (h0 h1 h2 x y : List ℕ)
@@ -52,6 +60,9 @@ pub writes_stop : (a b c : Writer) (i j : ℕ) (h0 h1 x y : List ℕ)
     → Writes a b i j (h0 ++ x) h1 → Stops b c j (h1 ++ y) → Stops a c i (h0 ++ (x ++ y))
 writes_stop a b c i j h0 h1 x y p q = record {
   front = Sends-stops a b c h0 h1 x y p.sends q.front;
+  most = λ fits. most-on _ _ _ (length p.sends.sent) (length h1) (length (h0 ++ x)) _ (length y) _
+      (sym (length-append p.sends.sent h1) ∙ ap (λ l. length l) p.sends.whole) (length-append h1 y)
+      (ap (λ l. length l) (sym (append_assoc h0 x y)) ∙ length-append (h0 ++ x) y) fits (p.sends.many fits) q.most;
   fault = λ h. q.fault (p.well h);
   within = λ h. q.within (p.well h);
   offered = let e = p.offered in let f = q.offered in omega arith;
@@ -66,6 +77,7 @@ begins_before a b x y (s, (rest, e), q) = (s, (rest ++ y, sym (append_assoc s re
 pub stops_before : (a b : Writer) (i : ℕ) (x y : List ℕ) → Stops a b i x → Stops a b i (x ++ y)
 stops_before a b i x y p = record {
   front = begins_before a.taken b.taken x y p.front;
+  most = λ fits. most-before _ _ (length x) _ (length y) (length-append x y) (p.most fits);
   fault = p.fault;
   within = p.within;
   offered = p.offered;

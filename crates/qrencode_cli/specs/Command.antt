@@ -99,7 +99,8 @@ pub record Draws (old new : Writer) (drawing : List ℕ) : Type 0 where
 
 -- a beginning of the drawing was written and nothing was flushed, or the whole was written and one flush failed [own]
 abbrev pub Breaks : Writer → Writer → List ℕ → Type 0
-Breaks old new drawing = (AppendsBeginning old.taken new.taken drawing × (new.counts.flushes ≡ old.counts.flushes))
+Breaks old new drawing = (AppendsBeginning old.taken new.taken drawing × (new.counts.flushes ≡ old.counts.flushes)
+    × (old.counts ≡ no_writes → new.counts.taken ≤ counted (length drawing)))
     ⊎ (Appends old.taken new.taken drawing × (new.counts.flushes ≡ counted (old.counts.flushes + 1)) × (new.counts.settled ≡ false))
 
 -- what standard output got: the drawing, a beginning of it after a write fault, and before any other fault no call [own]
@@ -112,6 +113,7 @@ Shows words given old new _ = new ≡ old
 abbrev pub Gives : Reader → Reader → List ℕ → Type 0
 Gives old new given = Consumes old.remaining new.remaining given
     × (old.counts ≡ no_reads → new.counts.given ≡ length given)
+    × (old.counts ≡ no_reads → (new.counts.ends ≡ 1) ⊎ (length given ≡ INPUT_MAX))
 
 -- what a run that asks the reader did to it: all was read, unless memory or the reader was at fault [own]
 abbrev pub Reads : Reader → Reader → List ℕ → {T : Type 0} → Result T Fault → Type 0
@@ -128,6 +130,7 @@ ReadsFor (Ok s) old new given outcome = MatchOption s.string (Reads old new give
 -- not flushed [own]
 abbrev pub IsTold : Writer → Writer → List ℕ → Type 0
 IsTold old new line = AppendsBeginning old.taken new.taken line
+    × (old.counts ≡ no_writes → new.counts.taken ≤ counted (length line))
     × (old.counts ≡ no_writes → is_write_fault new.counts ≡ false → Appends old.taken new.taken line)
     × (old.counts ≡ no_writes → is_write_fault new.counts ≡ false → new.counts.taken ≡ counted (length line))
     × (new.counts.flushes ≡ old.counts.flushes)

@@ -95,6 +95,8 @@ pub fn draw<W: Sink>(
     ensures fault { (W.device out.old).counts ≡ no_writes → is_write_fault (W.device out.new).counts ≡ is_err result }
     ensures taken { (W.device out.old).counts ≡ no_writes
         → OnOk result ((W.device out.new).counts.taken ≡ counted (length (drawn kind margin (squares_of symbols.now)))) }
+    ensures most { (W.device out.old).counts ≡ no_writes
+        → OnErr result ((W.device out.new).counts.taken ≤ counted (length (drawn kind margin (squares_of symbols.now)))) }
     ensures within { (W.device out.old).counts ≡ no_writes → IsWrittenWithin (W.device out.new).counts }
     ensures offered { (W.device out.new).counts.offered ≤ max (W.device out.old).counts.offered WRITE_MAX }
     ensures flushes { (W.device out.new).counts.flushes ≡ (W.device out.old).counts.flushes }

@@ -23,4 +23,4 @@ returns-in_err-bytes-in-None-clause-prepares g c =
 pub returns-clause-prepares : goal.returns-clause-prepares
 returns-clause-prepares g c = prepares-reader _ c.in_ok-settings.settings c.in_ok-settings.ensures _ _ _ _ c.make_picture-in-None.result
     (sym (ap (λ (s : SettingsView). s.string) c.settings.view_is) ∙ ap (option_map string_bytes) c.in-None.is) c.as_slice.ensures.value c.in_ok-bytes-in-None.ensures.bytes
-    (c.in_ok-bytes-in-None.ensures.consumed, c.in_ok-bytes-in-None.ensures.given) c.make_picture-in-None.ensures
+    (c.in_ok-bytes-in-None.ensures.consumed, c.in_ok-bytes-in-None.ensures.given, c.in_ok-bytes-in-None.ensures.ended) c.make_picture-in-None.ensures
