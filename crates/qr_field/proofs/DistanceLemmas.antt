@@ -1,11 +1,11 @@
 -- How far blocks lie apart: a list whose first n values are 0 has more than n coefficients that are not 0, or none; so
 -- two blocks with n error correction codewords differ in more than n places, or nowhere.
-use Rattle.std.proofs.Common.{◌≡◌, ℕ, zero, suc, ◌+◌, ◌-◌, ◌*◌, ◌<◌, ◌≤◌, Option, None, Some, List, [], ◌∷◌, ◌++◌, length, take, refl, sym, ap, ◌∙◌, inl, inr, arith, bit_xor, length-append}
+use Rattle.std.proofs.Common.{◌≡◌, ℕ, zero, suc, ◌+◌, ◌-◌, ◌*◌, ◌<◌, ◌≤◌, Option, None, Some, List, [], ◌∷◌, ◌++◌, length, map, take, refl, sym, ap, ◌∙◌, inl, inr, arith, bit_xor, length-append}
 use Rattle.std.specs.List.{All}
 use Rattle.std.specs.Int.Bits.{xor_zero_l, xor_zero_r, xor_self}
 use Rattle.std.proofs.lemmas.Nat.{xor_of_8}
 use Rattle.std.proofs.lemmas.Bool.{cases_eq, cases_lt, eq-eqb, ne_eqb}
-use Rattle.std.proofs.lemmas.List.{take_at}
+use Rattle.std.proofs.lemmas.List.{length-map, take_at}
 use Rattle.std.proofs.lemmas.List.Elements.{All-nil, All-cons, All-head, All-tail}
 use Rattle.qr_field.specs.Galois.{product}
 use Rattle.qr_field.specs.Polynomial.{IsByte, plus, power, IsCorrection}
@@ -321,3 +321,14 @@ pub unambiguous-known : (n t : ℕ) (d e d' e' : List ℕ) (read : List (Option 
 unambiguous-known n t d e d' e' read c c' s l h a b =
     let f = errors-between read (d ++ e) (d' ++ e') in
     near-same n d e d' e' c c' s l (omega (arith, f, h, a, b))
+
+-- a list of which each place was read has no erasures
+pub erasures-read : (xs : List ℕ) → erasures (map (λ x. Some x) xs) ≡ 0
+erasures-read [] = refl
+erasures-read (x ∷ xs) = erasures-read xs
+
+-- its errors are the places in which it differs
+pub errors-read : (xs ys : List ℕ) → errors (map (λ x. Some x) xs) ys ≡ differences xs ys
+errors-read [] ys = refl
+errors-read (x ∷ xs) [] = ap suc (length-map xs (λ x. Some x))
+errors-read (x ∷ xs) (y ∷ ys) = ap (λ z. difference x y + z) (errors-read xs ys)

@@ -19,13 +19,6 @@ BlocksLieApart =
     (n : ℕ) (d e d' e' : List ℕ) → IsCorrection d n e → IsCorrection d' n e' → length d ≡ length d' →
     length d + n ≤ 255 → (d ≡ d' → ⊥) → n + 1 ≤ differences (d ++ e) (d' ++ e')
 
--- a list of codewords that differs in at most t places from two such blocks, where 2t is at most n, is a damaged form
--- of one block only: the two have the same data codewords (ISO/IEC 18004:2015, 7.5.1)
-abbrev pub DamageIsUnambiguous : Type 0
-DamageIsUnambiguous =
-    (n t : ℕ) (d e d' e' damaged : List ℕ) → IsCorrection d n e → IsCorrection d' n e' → length d ≡ length d' →
-    length d + n ≤ 255 → 2 * t ≤ n → differences damaged (d ++ e) ≤ t → differences damaged (d' ++ e') ≤ t → d ≡ d'
-
 -- the number of places that could not be read: each is listed as none [own]
 abbrev pub erasures : List (Option ℕ) → ℕ
 erasures [] = 0

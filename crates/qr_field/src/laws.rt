@@ -1,12 +1,11 @@
 //! The laws of products, generator polynomials and error correction codewords (ISO/IEC 18004:2015, 7.5.2 and
 //! Annex A). Each function does nothing: its contract is the law.
 
-ghost use Rattle.std.specs.Prelude.{◌≡◌, ◌<◌, ◌≤◌, ℕ, ◌-◌, List, [], ◌∷◌, ◌++◌, All, map, length, slice_index};
+ghost use Rattle.std.specs.Prelude.{◌≡◌, ◌<◌, ◌≤◌, ℕ, ◌-◌, List, [], ◌∷◌, ◌++◌, All, map, length, slice_index, Some, None};
 ghost use Rattle.qr_field.specs.Galois.{IsProduct, product};
 ghost use Rattle.qr_field.specs.Polynomial.{IsByte, zeros, power, generator_of, IsCorrection, HasCorrection};
-ghost use Rattle.qr_field.specs.Distance.{differences, BlocksLieApart, DamageIsUnambiguous, ErasuresAreUnambiguous};
-ghost use Rattle.qr_field.specs.Laws.{lengths_in_use, printed_exponents};
-ghost use Rattle.qr_field.specs.Laws.{eight_digits, eight_digits_correction};
+ghost use Rattle.qr_field.specs.Distance.{differences, erasures, errors, BlocksLieApart, ErasuresAreUnambiguous};
+ghost use Rattle.qr_field.specs.Laws.{lengths_in_use, printed_exponents, eight_digits, eight_digits_correction};
 
 use crate::logarithm::{LOGARITHMS, POWERS};
 
@@ -56,16 +55,26 @@ pub fn blocks_lie_apart()
     ensures { BlocksLieApart }
 {}
 
-/// A block that is damaged in at most half as many places as it has error correction codewords stands for the data
-/// codewords of one block only.
-pub fn damage_is_unambiguous()
-    ensures { DamageIsUnambiguous }
-{}
-
-/// The same where some places could not be read at all, as those under a blot: the number of these and twice the number
-/// of misread places together may be as large as the number of error correction codewords.
+/// What was read of a block stands for the data codewords of one block only, if the number of places that could not be
+/// read, as those under a blot, and twice the number of misread places together are at most the number of error
+/// correction codewords.
 pub fn erasures_are_unambiguous()
     ensures { ErasuresAreUnambiguous }
+{}
+
+/// If every place was read, the misread places are those in which the lists differ: so the law of erasures holds for a
+/// block that is damaged in at most half as many places as it has error correction codewords.
+pub fn damage_is_unambiguous()
+    ensures read { (xs : List ℕ) → erasures (map (λ x. Some x) xs) ≡ 0 }
+    ensures misread { (xs ys : List ℕ) → errors (map (λ x. Some x) xs) ys ≡ differences xs ys }
+{}
+
+/// The definitions of damage count what is known of short blocks: two of three places not read; two of four misread, where
+/// a place that only one list has counts too; and two places in which lists differ, one of them past the shorter list.
+pub fn damage_computes()
+    ensures erasures { erasures (None ∷ Some 7 ∷ None ∷ []) ≡ 2 }
+    ensures errors { errors (Some 7 ∷ None ∷ Some 9 ∷ Some 4 ∷ []) (7 ∷ 8 ∷ 8 ∷ []) ≡ 2 }
+    ensures differences { differences (7 ∷ 8 ∷ []) (7 ∷ 9 ∷ 1 ∷ []) ≡ 2 }
 {}
 
 /// Blocks of 256 codewords may lie nearer to each other: these two with 2 error correction codewords differ in 2 places
