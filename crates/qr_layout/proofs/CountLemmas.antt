@@ -1,9 +1,30 @@
 -- How many places of a square pass a test: as many as a list has that holds just these places, each once.
-use Rattle.std.proofs.Common.{◌≡◌, ◌≢◌, ℕ, zero, suc, ◌+◌, ◌<◌, Bool, true, false, cond, List, [], ◌∷◌, ◌++◌, length, length-append, refl, sym, ap, ◌∙◌, subst, inl, inr, arith}
+use Rattle.std.proofs.Common.{◌≡◌, ◌≢◌, ℕ, zero, suc, ◌+◌, ◌<◌, Bool, true, false, cond, List, [], ◌∷◌, ◌++◌, length, length-append, add-zero, zero-add, refl, sym, ap, ◌∙◌, subst, inl, inr, arith}
 use Rattle.std.proofs.lemmas.Bool.{cases_lt}
 use Rattle.qr_layout.specs.declared.region.Module.{Module}
-use Rattle.qr_layout.specs.Order.{sum_below, places_passing}
+use Rattle.std.specs.List.{range_with_len, sum_by}
+use Rattle.std.proofs.lemmas.List.Sums.{sum_by_push}
+use Rattle.qr_layout.specs.Order.{places_passing}
 use Rattle.qr_layout.proofs.ListLemmas.{Mem, Distinct, Mem-at, All-of-Mem, Mem-append, Mem-left, Mem-right, length-le_members}
+
+-- f 0 + .. + f (n - 1)
+abbrev pub sum_below : ℕ → (ℕ → ℕ) → ℕ
+sum_below zero f = 0
+sum_below (suc n) f = f n + sum_below n f
+
+-- one number more comes at the end
+range-push : (a n : ℕ) → range_with_len a (suc n) ≡ range_with_len a n ++ (a + n) ∷ []
+range-push a zero = rw add-zero refl
+range-push a (suc n) = let e : a + 1 + n ≡ a + suc n = omega arith in ap (λ xs. a ∷ xs) (range-push (a + 1) n ∙ ap (λ k. range_with_len (a + 1) n ++ k ∷ []) e)
+
+-- a sum over the numbers below n
+sum-range : (n : ℕ) (f : ℕ → ℕ) → sum_by f (range_with_len 0 n) ≡ sum_below n f
+sum-range zero f = refl
+sum-range (suc n) f =
+    let e = ap (λ xs. sum_by f xs) (range-push 0 n) ∙ sum_by_push f (range_with_len 0 n) (0 + n) in
+    let g = ap f (zero-add n) in
+    let h = sum-range n f in
+    omega arith
 
 -- sums of equal terms are equal
 pub sum_below-same : (n : ℕ) (f g : ℕ → ℕ) → ((k : ℕ) → k < n → f k ≡ g k) → sum_below n f ≡ sum_below n g
@@ -124,11 +145,16 @@ unfolding grid_places
 grid-length p zero s = refl
 grid-length p (suc r) s = length-append (row_places p r s) (grid_places p r s) ∙ (ap (λ z. z + length (grid_places p r s)) (row-length p r s) ∙ ap (λ z. sum_below s (λ c. cond (p r c) 1 0) + z) (grid-length p r s))
 
+-- the places that pass, as a double sum
+pub places-sum : (s : ℕ) (p : ℕ → ℕ → Bool) → places_passing s p ≡ sum_below s (λ r. sum_below s (λ c. cond (p r c) 1 0))
+unfolding places_passing
+places-sum s p = sum-range s _ ∙ sum_below-same s _ _ (λ r h. sum-range s (λ c. cond (p r c) 1 0))
+
 -- a list of the places that pass, each once, is as long as the count says
 pub count-of : (s : ℕ) (p : ℕ → ℕ → Bool) (ms : List Module) → Distinct ms → ((m : Module) → Mem m ms → (m.row < s) × (m.col < s) × (p m.row m.col ≡ true)) → ((m : Module) → m.row < s → m.col < s → p m.row m.col ≡ true → Mem m ms) → length ms ≡ places_passing s p
-unfolding places_passing
 count-of s p ms d f g =
     let a = length-le_members ms (grid_places p s s) d (λ m k. grid-has p s s m (f m k)) in
     let b = length-le_members (grid_places p s s) ms (grid-distinct p s s) (λ m k. let w = grid-facts p s s m k in g m w.0 w.1 w.2) in
     let c = grid-length p s s in
+    let e = places-sum s p in
     omega arith

@@ -2,13 +2,15 @@
 use Rattle.std.proofs.Common.{◌≡◌, ℕ, ◌+◌, ◌<◌, Bool, true, false, not, ◌&&◌, ◌||◌, cond, eqb, ltb, leb, List, [], ◌∷◌, refl, ap, ◌∙◌, arith}
 use Rattle.std.proofs.lemmas.Bool.Decides.{nat_tests}
 use Rattle.std.specs.List.{list_any, filter}
-use Rattle.qr_layout.specs.Region.{is_in_region, Rectangle, taken_rectangles, is_in_rectangle}
+use Rattle.qr_layout.specs.Region.{is_in_region}
+use Rattle.qr_layout.specs.Steps.Rectangles.{Rectangle, taken_rectangles, is_in_rectangle}
+use Rattle.qr_layout.proofs.AlignmentLemmas.{region_taken}
 use Rattle.qr_layout.specs.Version.{side_of}
 use Rattle.qr_layout.specs.Alignment.{centres_of}
 use Rattle.qr_layout.specs.Version.{total_codewords_of, remainder_bits_of, module_count_of}
 use Rattle.qr_layout.proofs.TableLemmas.{below}
-use Rattle.qr_layout.specs.Order.{sum_below, places_passing}
-use Rattle.qr_layout.proofs.CountLemmas.{sum_below-same}
+use Rattle.qr_layout.specs.Order.{places_passing}
+use Rattle.qr_layout.proofs.CountLemmas.{sum_below, sum_below-same, places-sum}
 
 -- the row goes through the rectangle
 abbrev pub is_in_rows : ℕ → Rectangle → Bool
@@ -45,16 +47,14 @@ any-filter r c (b ∷ bs) = ap (λ z. z || list_any (is_in_rectangle r c) bs) (i
 
 -- a place inside the square is in the region where no rectangle of its row takes it
 region-free : (v r c : ℕ) → r < side_of v → c < side_of v → is_in_region v r c ≡ not (list_any (is_in_columns c) (filter (is_in_rows r) (taken_rectangles v)))
-unfolding is_in_region
 region-free v r c h k =
     let p : ltb r (side_of v) ≡ true = grind (arith, nat_tests) in
     let q : ltb c (side_of v) ≡ true = grind (arith, nat_tests) in
-    ap (λ z. z && ltb c (side_of v) && not (list_any (is_in_rectangle r c) (taken_rectangles v))) p ∙ (ap (λ z. z && not (list_any (is_in_rectangle r c) (taken_rectangles v))) q ∙ ap not (any-filter r c (taken_rectangles v)))
+    region_taken v r c ∙ (ap (λ z. z && ltb c (side_of v) && not (list_any (is_in_rectangle r c) (taken_rectangles v))) p ∙ (ap (λ z. z && not (list_any (is_in_rectangle r c) (taken_rectangles v))) q ∙ ap not (any-filter r c (taken_rectangles v))))
 
 -- the places of the region, counted row by row
 pub region-count : (v : ℕ) → places_passing (side_of v) (is_in_region v) ≡ free_of (side_of v) (taken_rectangles v)
-unfolding places_passing
-region-count v = sum_below-same (side_of v) _ _ (λ r h. sum_below-same (side_of v) _ _ (λ c k. ap (λ z. cond z 1 0) (region-free v r c h k)))
+region-count v = places-sum (side_of v) (is_in_region v) ∙ sum_below-same (side_of v) _ _ (λ r h. sum_below-same (side_of v) _ _ (λ c k. ap (λ z. cond z 1 0) (region-free v r c h k)))
 
 -- the count of one version is what its codewords and remainder bits want
 abbrev pub agrees : ℕ → Bool

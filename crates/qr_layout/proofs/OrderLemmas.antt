@@ -1,12 +1,11 @@
 -- There is one order, and it is as long as the count says.
 use Rattle.std.proofs.Common.{◌≡◌, ◌≢◌, ℕ, zero, suc, ◌+◌, ◌-◌, ◌<◌, ◌≤◌, Bool, true, leb, eqb, List, [], ◌∷◌, ◌++◌, ◌&&◌, length, refl, sym, ◌∙◌, subst, inl, inr, arith}
-use Rattle.std.proofs.lemmas.Bool.Decides.{nat_tests}
 use borrow.Author.Tests.{leb-true}
 use Rattle.std.specs.List.{Contains}
 use Rattle.qr_layout.specs.declared.region.Module.{Module}
 use Rattle.qr_layout.specs.Region.{is_in_region, InRegion}
 use Rattle.qr_layout.specs.Version.{side_of}
-use Rattle.qr_layout.specs.Order.{Key, key_of, IsBefore, is_before, IsOrder, places_passing, number_of}
+use Rattle.qr_layout.specs.Order.{Key, key_of, is_before, IsOrder, places_passing, number_of}
 use Rattle.qr_layout.specs.Version.{total_codewords_of, remainder_bits_of, module_count_of}
 use Rattle.qr_layout.specs.Alignment.{centres_of}
 use Rattle.qr_layout.specs.Laws.{region_size}
@@ -14,17 +13,20 @@ use Rattle.qr_layout.proofs.TableLemmas.{below, below-at, eqb-same}
 use Rattle.qr_layout.proofs.ListLemmas.{Mem, Rises, Distinct, Mem-at, All-of-Mem, All-rec, Mem-left, Mem-right, Mem-append, Rises-of-pairs, one_rising}
 use Rattle.qr_layout.proofs.CountLemmas.{count-of}
 use Rattle.qr_layout.proofs.FastCountLemmas.{region-count, agrees, agrees-40}
+use Rattle.qr_layout.proofs.PathLemmas.{before-parts}
 use Rattle.qr_layout.proofs.RegionLemmas.{row-in, col-in, &&-left, &&-right}
 
 -- no two keys are each before the other
-before-asym : (a b : Key) → IsBefore a b → IsBefore b a → ⊥
-unfolding IsBefore
-before-asym a b (inl h) (inl k) = absurd (omega arith)
-before-asym a b (inl h) (inr k) = absurd (let e = k.0 in omega arith)
-before-asym a b (inr h) (inl k) = absurd (let e = h.0 in omega arith)
-before-asym a b (inr h) (inr k) = elim h.1 [
-  | inl x ↦ elim k.1 [ inl y ↦ absurd (omega arith) | inr y ↦ absurd (let e = y.0 in omega arith) ]
-  | inr x ↦ elim k.1 [ inl y ↦ absurd (let e = x.0 in omega arith) | inr y ↦ absurd (let e = x.1 in let f = y.1 in omega arith) ]
+before-asym : (a b : Key) → is_before a b ≡ true → is_before b a ≡ true → ⊥
+before-asym a b h k = elim (before-parts a b h) [
+  | inl x ↦ elim (before-parts b a k) [ inl y ↦ absurd (omega arith) | inr y ↦ absurd (let e = y.0 in omega arith) ]
+  | inr x ↦ elim (before-parts b a k) [
+    | inl y ↦ absurd (let e = x.0 in omega arith)
+    | inr y ↦ elim x.1 [
+      | inl z ↦ elim y.1 [ inl w ↦ absurd (omega arith) | inr w ↦ absurd (let e = w.0 in omega arith) ]
+      | inr z ↦ elim y.1 [ inl w ↦ absurd (let e = z.0 in omega arith) | inr w ↦ absurd (let e = z.1 in let f = w.1 in omega arith) ]
+    ]
+  ]
 ]
 
 -- what a list contains stands in it
@@ -40,7 +42,7 @@ Rises-distinct R a (x ∷ xs) h = (All-of-Mem (λ y. x ≢ y) xs (λ y m e. let 
 
 -- the key of the first module is before that of the second
 abbrev Before : ℕ → Module → Module → Type 0
-Before v m n = IsBefore (key_of v m) (key_of v n)
+Before v m n = is_before (key_of v m) (key_of v n) ≡ true
 
 -- no two modules are each before the other
 asym : (v : ℕ) (m n : Module) → Before v m n → Before v n m → ⊥
@@ -103,16 +105,6 @@ order-small v ms l h o = let d = order-length v ms l h o in let c = module-count
 
 -- ---- the number of a place
 
--- keys in order pass the test
-before-test : (a b : Key) → IsBefore a b → is_before a b ≡ true
-unfolding IsBefore is_before
-before-test a b h = grind (arith, nat_tests)
-
--- keys that pass the test are in order
-test-before : (a b : Key) → is_before a b ≡ true → IsBefore a b
-unfolding IsBefore is_before
-test-before a b h = grind (arith, nat_tests)
-
 -- what stands before m in a rising list is in the relation to it
 Rises-front : {X : Type 0} (R : X → X → Type 0) (front back : List X) (m : X) → Rises R (front ++ m ∷ back) → (x : X) → Mem x front → R x m
 Rises-front R [] back m h x k = absurd k
@@ -142,10 +134,10 @@ number-at v front back m o =
     let p = λ (r : ℕ) (c : ℕ). is_in_region v r c && is_before (key_of v (record { row = r; col = c })) (key_of v m) in
     sym (count-of (side_of v) p front
     (Rises-distinct (Before v) (asym v) front (Rises-first (Before v) front (m ∷ back) rises))
-    (λ x k. let w = order-mem v whole o x (Mem-left x front (m ∷ back) k) in (row-in v x w, col-in v x w, &&-both _ _ w (before-test (key_of v x) (key_of v m) (Rises-front (Before v) front back m rises x k))))
+    (λ x k. let w = order-mem v whole o x (Mem-left x front (m ∷ back) k) in (row-in v x w, col-in v x w, &&-both _ _ w (Rises-front (Before v) front back m rises x k)))
     (λ x a b k.
     let w : is_in_region v x.row x.col ≡ true = &&-left _ (is_before (key_of v x) (key_of v m)) k in
-    let l = test-before (key_of v x) (key_of v m) (&&-right (is_in_region v x.row x.col) _ k) in
+    let l = &&-right (is_in_region v x.row x.col) (is_before (key_of v x) (key_of v m)) k in
     elim (Mem-append x front (m ∷ back) (order-has v whole o x w)) [
       | inl j ↦ j
       | inr j ↦ elim j [

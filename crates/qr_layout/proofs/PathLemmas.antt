@@ -5,7 +5,7 @@ use Rattle.std.proofs.lemmas.Bool.Decides.{nat_tests}
 use Rattle.std.proofs.lemmas.Bool.{cases_lt}
 use Rattle.qr_layout.specs.declared.order.Cursor.{Cursor}
 use Rattle.qr_layout.specs.Version.{side_of}
-use Rattle.qr_layout.specs.Order.{column_without_timing, strip_of, key_of, IsBefore}
+use Rattle.qr_layout.specs.Order.{column_without_timing, Key, strip_of, key_of, is_before}
 use Rattle.qr_layout.specs.Steps.Order.{half_of, column_of, place_of, rank_of, left_of, next_of, IsCursor}
 
 -- a positive number of times w is at least w
@@ -90,16 +90,30 @@ before-arith h p q w x y a b c d e f = elim (cases_lt q p) [
 digits-arith : (x y i j : ℕ) → i < 2 → j < 2 → 2 * x + i < 2 * y + j → (x < y) ⊎ ((x ≡ y) × (i < j))
 digits-arith x y i j a b c = elim (cases_lt x y) [ inl k ↦ inl k | inr k ↦ inr (omega arith, omega arith) ]
 
+-- what it means for a key to be before another
+abbrev KeysRise : Key → Key → Type 0
+KeysRise a b = (a.strip < b.strip) ⊎ ((a.strip ≡ b.strip) × ((a.rank < b.rank) ⊎ ((a.rank ≡ b.rank) × (a.side < b.side))))
+
+-- a key that passes the test is before the other
+pub before-parts : (a b : Key) → is_before a b ≡ true → KeysRise a b
+unfolding is_before
+before-parts a b h = grind (arith, nat_tests)
+
+-- a key that is before the other passes the test
+before-test : (a b : Key) → KeysRise a b → is_before a b ≡ true
+unfolding is_before
+before-test a b h = grind (arith, nat_tests)
+
 -- a position with fewer places left has a later key
-pub IsBefore-left : (v : ℕ) (a b : Cursor) → IsCursor v a → IsCursor v b → 0 < a.strips → 0 < b.strips → left_of (side_of v) b < left_of (side_of v) a → IsBefore (key_of v (place_of a)) (key_of v (place_of b))
-unfolding IsBefore left_of
-IsBefore-left v a b i j k l m =
+pub is_before-left : (v : ℕ) (a b : Cursor) → IsCursor v a → IsCursor v b → 0 < a.strips → 0 < b.strips → left_of (side_of v) b < left_of (side_of v) a → is_before (key_of v (place_of a)) (key_of v (place_of b)) ≡ true
+unfolding left_of
+is_before-left v a b i j k l m =
     let s = side_of v in
     let x = rank-bound s a i.row_in in
     let y = rank-bound s b j.row_in in
     let p = half_of-bound a.second in
     let q = half_of-bound b.second in
-    rw (key_of-place v a i k, key_of-place v b j l) (elim (before-arith (8 + 2 * v) a.strips b.strips (2 * s) (2 * rank_of s a + half_of a.second) (2 * rank_of s b + half_of b.second) i.strips_in j.strips_in (omega arith) (omega arith) m l) [
+    rw (key_of-place v a i k, key_of-place v b j l) (before-test _ _ (elim (before-arith (8 + 2 * v) a.strips b.strips (2 * s) (2 * rank_of s a + half_of a.second) (2 * rank_of s b + half_of b.second) i.strips_in j.strips_in (omega arith) (omega arith) m l) [
       | inl z ↦ inl z
       | inr z ↦ inr (z.0, digits-arith (rank_of s a) (rank_of s b) (half_of a.second) (half_of b.second) p q z.1)
-    ])
+    ]))

@@ -2,48 +2,53 @@
 use Rattle.std.proofs.Common.{◌≡◌, ℕ, zero, suc, ◌+◌, ◌-◌, ◌*◌, ◌<◌, ◌≤◌, Bool, true, false, ◌&&◌, ◌||◌, cond, eqb, ltb, leb, Option, None, Some, refl, sym, ap, ◌∙◌, subst, inl, inr, ◌⊎◌, arith}
 use Rattle.std.proofs.lemmas.Bool.Decides.{nat_tests}
 use Rattle.std.proofs.lemmas.Bool.{cases_lt}
+use Rattle.std.specs.List.{find, range_with_len}
 use Rattle.qr_layout.specs.Version.{side_of}
-use Rattle.qr_layout.specs.Role.{first_place, second_place, version_place, transposed, is_at, one_below, format_bit_at, version_bit_at}
-
--- the search stops at a number that passes
-one-hit : (n : ℕ) (p : ℕ → Bool) → p n ≡ true → one_below (suc n) p ≡ Some n
-one-hit n p e = rw e refl
-
--- the search goes on at a number that does not pass
-one-miss : (n : ℕ) (p : ℕ → Bool) → p n ≡ false → one_below (suc n) p ≡ one_below n p
-one-miss n p e = rw e refl
+use Rattle.qr_layout.specs.Role.{first_place, second_place, version_place, transposed, is_at, format_bit_at, version_bit_at}
 
 -- a test passes or not
 pub decide : (b : Bool) → (b ≡ true) ⊎ (b ≡ false)
 decide true = inl refl
 decide false = inr refl
 
--- the only number below n that passes the test is the one that is found
-pub one_below-some : (n : ℕ) (p : ℕ → Bool) (i : ℕ) → i < n → p i ≡ true → ((j : ℕ) → j < n → p j ≡ true → j ≡ i) → one_below n p ≡ Some i
-one_below-some zero p i l h f = absurd (omega arith)
-one_below-some (suc n) p i l h f = elim (decide (p n)) [
-  | inl e ↦ let g : n ≡ i = f n (omega arith) e in one-hit n p e ∙ ap (λ k. Some k) g
-  | inr e ↦ elim (cases_lt i n) [
-    | inl k ↦ one-miss n p e ∙ one_below-some n p i k h (λ j m q. f j (omega arith) q)
-    | inr k ↦ let g : n ≡ i = omega arith in let q = subst (λ z. p z ≡ false) g e in cc
+-- the only one of n numbers from a on that passes the test is the one that is found
+found-some : (n a : ℕ) (p : ℕ → Bool) (i : ℕ) → a ≤ i → i < a + n → p i ≡ true → ((j : ℕ) → a ≤ j → j < a + n → p j ≡ true → j ≡ i) → find p (range_with_len a n) ≡ Some i
+found-some zero a p i l k h f = absurd (omega arith)
+found-some (suc n) a p i l k h f = elim (decide (p a)) [
+  | inl e ↦ let g : a ≡ i = f a (omega arith) (omega arith) e in rw e (ap (λ k. Some k) g)
+  | inr e ↦ elim (cases_lt a i) [
+    | inl m ↦ rw e (found-some n (a + 1) p i (omega arith) (omega arith) h (λ j b d q. f j (omega arith) (omega arith) q))
+    | inr m ↦ let g : i ≡ a = omega arith in let q = subst (λ z. p z ≡ true) g h in cc
   ]
 ]
 
--- where none passes the test, none is found
-pub one_below-none : (n : ℕ) (p : ℕ → Bool) → ((j : ℕ) → j < n → p j ≡ true → ⊥) → one_below n p ≡ None
-one_below-none zero p f = refl
-one_below-none (suc n) p f = elim (decide (p n)) [
-  | inl e ↦ absurd (f n (omega arith) e)
-  | inr e ↦ one-miss n p e ∙ one_below-none n p (λ j m q. f j (omega arith) q)
+-- if none of n numbers from a on passes the test, none is found
+found-none : (n a : ℕ) (p : ℕ → Bool) → ((j : ℕ) → a ≤ j → j < a + n → p j ≡ true → ⊥) → find p (range_with_len a n) ≡ None
+found-none zero a p f = refl
+found-none (suc n) a p f = elim (decide (p a)) [
+  | inl e ↦ absurd (f a (omega arith) (omega arith) e)
+  | inr e ↦ rw e (found-none n (a + 1) p (λ j b d q. f j (omega arith) (omega arith) q))
 ]
 
--- what is found is below n and passes the test
-pub one_below-at : (n : ℕ) (p : ℕ → Bool) (i : ℕ) → one_below n p ≡ Some i → (i < n) × (p i ≡ true)
-one_below-at zero p i h = cc
-one_below-at (suc n) p i h = elim (decide (p n)) [
-  | inl e ↦ let g : Some n ≡ Some i = sym (one-hit n p e) ∙ h in let k : n ≡ i = cc in (omega arith, subst (λ z. p z ≡ true) k e)
-  | inr e ↦ let w = one_below-at n p i (sym (one-miss n p e) ∙ h) in let l = w.0 in (omega arith, w.1)
+-- the number that is found is one of them and passes the test
+found-at : (n a : ℕ) (p : ℕ → Bool) (i : ℕ) → find p (range_with_len a n) ≡ Some i → (i < a + n) × (p i ≡ true)
+found-at zero a p i h = cc
+found-at (suc n) a p i h = elim (decide (p a)) [
+  | inl e ↦ let k : a ≡ i = (let g = rw e at h in cc) in (omega arith, subst (λ z. p z ≡ true) k e)
+  | inr e ↦ let w = found-at n (a + 1) p i (rw e at h) in let l = w.0 in (omega arith, w.1)
 ]
+
+-- the only number below n that passes the test is the one that is found
+pub first-some : (n : ℕ) (p : ℕ → Bool) (i : ℕ) → i < n → p i ≡ true → ((j : ℕ) → j < n → p j ≡ true → j ≡ i) → find p (range_with_len 0 n) ≡ Some i
+first-some n p i l h f = found-some n 0 p i (omega arith) (omega arith) h (λ j a b q. f j (omega arith) q)
+
+-- if no number below n passes the test, none is found
+pub first-none : (n : ℕ) (p : ℕ → Bool) → ((j : ℕ) → j < n → p j ≡ true → ⊥) → find p (range_with_len 0 n) ≡ None
+first-none n p f = found-none n 0 p (λ j a b q. f j (omega arith) q)
+
+-- the number that is found is below n and passes the test
+pub first-at : (n : ℕ) (p : ℕ → Bool) (i : ℕ) → find p (range_with_len 0 n) ≡ Some i → (i < n) × (p i ≡ true)
+first-at n p i h = let w = found-at n 0 p i h in let l = w.0 in (omega arith, w.1)
 
 -- bit i of the format information stands at (r, c)
 abbrev pub stands : ℕ → ℕ → ℕ → ℕ → Bool
@@ -80,12 +85,12 @@ only-format s r c i j l a b h k = stands-here s r c j l b k ∙ sym (stands-here
 -- the bit that stands at a place is the one that is found there
 pub format-some : (s r c i : ℕ) → 21 ≤ s → i < 15 → stands s r c i ≡ true → Some i ≡ format_bit_at s r c
 unfolding format_bit_at
-format-some s r c i l a h = sym (one_below-some 15 (stands s r c) i a h (λ j b k. only-format s r c i j l a b h k))
+format-some s r c i l a h = sym (first-some 15 (stands s r c) i a h (λ j b k. only-format s r c i j l a b h k))
 
 -- where no bit stands none is found
 pub format-none : (s r c : ℕ) → ((j : ℕ) → j < 15 → stands s r c j ≡ true → ⊥) → None ≡ format_bit_at s r c
 unfolding format_bit_at
-format-none s r c f = sym (one_below-none 15 (stands s r c) f)
+format-none s r c f = sym (first-none 15 (stands s r c) f)
 
 -- rows 0 to 5 of column 8
 pub format-top : (s r : ℕ) → 21 ≤ s → r < 6 → Some r ≡ format_bit_at s r 8
@@ -136,17 +141,17 @@ only-version : (s r c i j : ℕ) → 21 ≤ s → i < 18 → j < 18 → stands_f
 only-version s r c i j l a b h k = grind (arith, nat_tests)
 
 -- from version 7 on the bit is searched for
-version-found : (v r c : ℕ) (o : Option ℕ) → 7 ≤ v → o ≡ one_below 18 (stands_for_version (side_of v) r c) → o ≡ version_bit_at v r c
+version-found : (v r c : ℕ) (o : Option ℕ) → 7 ≤ v → o ≡ find (stands_for_version (side_of v) r c) (range_with_len 0 18) → o ≡ version_bit_at v r c
 unfolding version_bit_at
 version-found v r c o h e = let t : ltb v 7 ≡ false = grind (arith, nat_tests) in rw t e
 
 -- the bit that stands at a place is the one that is found there
 pub version-some : (v r c i : ℕ) → 7 ≤ v → i < 18 → stands_for_version (side_of v) r c i ≡ true → Some i ≡ version_bit_at v r c
-version-some v r c i l a h = version-found v r c (Some i) l (sym (one_below-some 18 (stands_for_version (side_of v) r c) i a h (λ j b k. only-version (side_of v) r c i j (omega arith) a b h k)))
+version-some v r c i l a h = version-found v r c (Some i) l (sym (first-some 18 (stands_for_version (side_of v) r c) i a h (λ j b k. only-version (side_of v) r c i j (omega arith) a b h k)))
 
 -- where no bit stands none is found
 pub version-none : (v r c : ℕ) → 7 ≤ v → ((j : ℕ) → j < 18 → stands_for_version (side_of v) r c j ≡ true → ⊥) → None ≡ version_bit_at v r c
-version-none v r c l f = version-found v r c None l (sym (one_below-none 18 (stands_for_version (side_of v) r c) f))
+version-none v r c l f = version-found v r c None l (sym (first-none 18 (stands_for_version (side_of v) r c) f))
 
 -- versions below 7 have none
 pub version-small : (v r c : ℕ) → v < 7 → None ≡ version_bit_at v r c

@@ -2,19 +2,20 @@
 use Rattle.std.proofs.Common.{◌≡◌, ℕ, ◌+◌, ◌-◌, ◌%◌, ◌<◌, ◌≤◌, Bool, true, false, not, ◌&&◌, ◌||◌, cond, eqb, ltb, [], ◌∷◌, Option, None, Some, refl, sym, ap, ◌∙◌, subst, inl, inr, ◌⊎◌, arith}
 use Rattle.std.proofs.lemmas.Bool.Decides.{nat_tests}
 use Rattle.std.proofs.lemmas.Bool.{cases_lt}
-use Rattle.std.specs.List.{list_any}
+use Rattle.std.specs.List.{find, list_any, range_with_len}
 use Rattle.std.specs.Option.{option_map_or}
 use Rattle.qr_layout.specs.declared.region.Module.{Module}
 use Rattle.qr_layout.specs.declared.role.Role.{Role}
 use Rattle.qr_layout.specs.declared.role.Role.TheVariants.{Fixed, FormatBit, VersionBit, Region}
 use Rattle.qr_layout.specs.Version.{side_of}
 use Rattle.qr_layout.specs.Alignment.{centres_of}
-use Rattle.qr_layout.specs.Region.{is_in_rectangle, corner_rectangles, timing_lines, version_rectangles, is_alignment, is_in_region}
-use Rattle.qr_layout.specs.Role.{finder_ring, is_alignment_light, pattern_colour, first_place, second_place, version_place, transposed, is_at, one_below, format_bit_at, version_bit_at, is_dark_module, role_of}
+use Rattle.qr_layout.specs.Region.{is_alignment, is_in_region}
+use Rattle.qr_layout.specs.Steps.Rectangles.{is_in_rectangle, corner_rectangles, timing_lines, version_rectangles}
+use Rattle.qr_layout.specs.Role.{finder_ring, is_alignment_light, pattern_colour, first_place, second_place, version_place, transposed, is_at, format_bit_at, version_bit_at, is_dark_module, role_of}
 use Rattle.qr_layout.proofs.RegionLemmas.{&&-left, &&-right}
 use Rattle.qr_layout.proofs.TableLemmas.{below, below-at, eqb-same}
 use Rattle.qr_layout.proofs.AlignmentLemmas.{region_in, region_parts}
-use Rattle.qr_layout.proofs.RoleLemmas.{decide, either, one_below-at, format-top, format-bend, format-foot, format-left, format-seven, format-right, format-no_row, format-no_column, format-off, in_block, version-small, version-right, version-below, version-neither}
+use Rattle.qr_layout.proofs.RoleLemmas.{decide, either, first-at, format-top, format-bend, format-foot, format-left, format-seven, format-right, format-no_row, format-no_column, format-off, in_block, version-small, version-right, version-below, version-neither}
 
 -- the choice of a role, over what its parts say
 abbrev role_with : Option Bool → Bool → Option ℕ → Option ℕ → Role
@@ -60,7 +61,7 @@ either-place m n k h = elim (either (is_at n m.row m.col) (is_at k m.row m.col) 
 -- a bit of the format information that is found stands at one of its two places
 found-format : (s : ℕ) (m : Module) (i : ℕ) → format_bit_at s m.row m.col ≡ Some i → (i < 15) × ((m ≡ first_place i) ⊎ (m ≡ second_place s i))
 unfolding format_bit_at
-found-format s m i h = let w = one_below-at 15 (λ i. is_at (first_place i) m.row m.col || is_at (second_place s i) m.row m.col) i h in (w.0, either-place m (first_place i) (second_place s i) w.1)
+found-format s m i h = let w = first-at 15 (λ i. is_at (first_place i) m.row m.col || is_at (second_place s i) m.row m.col) i h in (w.0, either-place m (first_place i) (second_place s i) w.1)
 
 -- a bit of the format information stands only at its two places
 pub format-only : (v : ℕ) (m : Module) (i : ℕ) → role_of v m.row m.col ≡ FormatBit i → (i < 15) × ((m ≡ first_place i) ⊎ (m ≡ second_place (side_of v) i))
@@ -78,8 +79,8 @@ found-version : (v : ℕ) (m : Module) (i : ℕ) → version_bit_at v m.row m.co
 unfolding version_bit_at
 found-version v m i h =
     let p : ℕ → Bool = λ i. is_at (version_place (side_of v) i) m.row m.col || is_at (transposed (version_place (side_of v) i)) m.row m.col in
-    let o = old-enough v i (one_below 18 p) h in
-    let w = one_below-at 18 p i o.1 in
+    let o = old-enough v i (find p (range_with_len 0 18)) h in
+    let w = first-at 18 p i o.1 in
     (o.0, w.0, either-place m (version_place (side_of v) i) (transposed (version_place (side_of v) i)) w.1)
 
 -- a bit of the version information stands only at its two places

@@ -6,7 +6,7 @@ use borrow.Author.Tests.{ltb-true}
 use Rattle.qr_layout.specs.declared.level.Level.{Level}
 use Rattle.qr_layout.specs.declared.level.Level.TheVariants.{L, M, Q, H}
 use Rattle.qr_layout.specs.declared.format.TheConstants.{FORMAT_WORDS, VERSION_WORDS}
-use Rattle.qr_layout.specs.Format.{remainder_of, format_with, five_bits, format_word_of, version_word_of, level_bits, sum_of_shifts, IsRemainder, IsFormatWord, IsVersionWord}
+use Rattle.qr_layout.specs.Format.{remainder_of, format_with, five_bits, format_word_of, version_word_of, level_bits, sum_of_shifts, IsWordRemainder, IsFormatWord, IsVersionWord}
 use Rattle.qr_layout.proofs.RegionLemmas.{&&-left, &&-right}
 use Rattle.qr_layout.proofs.TableLemmas.{below, below-at, eqb-same}
 
@@ -63,7 +63,7 @@ unfolding is_remainder remainder_of shifts_of
 version-remainders = refl
 
 -- what the test of a remainder means
-passed : (n divisor k x : ℕ) → (2 ^ n ≤ divisor) × (divisor < 2 ^ (n + 1)) → is_remainder n divisor k x ≡ true → IsRemainder n divisor x (remainder_of n divisor k x)
+passed : (n divisor k x : ℕ) → (2 ^ n ≤ divisor) × (divisor < 2 ^ (n + 1)) → is_remainder n divisor k x ≡ true → IsWordRemainder n divisor x (remainder_of n divisor k x)
 unfolding is_remainder
 passed n divisor k x d h = record {
   monic = d;

@@ -1,8 +1,7 @@
 -- The alignment patterns: where their centres stand. Public clauses cite this file.
-use Rattle.std.specs.Prelude.{◌≡◌, ℕ, ◌+◌, ◌-◌, ◌*◌, ◌/◌, ◌%◌, ◌<◌, ◌≤◌, Bool, ◌&&◌, ◌||◌, ◌==◌, if◌then◌else◌, List, [], ◌∷◌, length}
+use Rattle.std.specs.Prelude.{ℕ, ◌-◌, Bool, ◌&&◌, ◌||◌, ◌==◌, if◌then◌else◌, List, [], ◌∷◌}
 use Rattle.std.specs.List.{flat_map, slice_index_or}
 use Rattle.qr_layout.specs.declared.region.Module.{Module}
-use Rattle.qr_layout.specs.Version.{side_of}
 
 -- the rows, and columns, of the alignment patterns' centres in the versions 1 to 40, in turn (ISO/IEC 18004:2015, Annex
 -- E)
@@ -17,16 +16,6 @@ centre_table =
 -- the rows, and columns, of the centres in version v; none in version 1 (ISO/IEC 18004:2015, Annex E)
 unfoldable pub centres_of : ℕ → List ℕ
 centres_of v = slice_index_or centre_table (v - 1) []
-
--- the centres are regular: v / 7 + 2 even rows from 6 to s - 7, all gaps but the first alike, and with three centres
--- both gaps alike (ISO/IEC 18004:2015, Annex E)
-pub record AreRegular (v : ℕ) (cs : List ℕ) : Type 0 where
-  pub count : length cs ≡ v / 7 + 2
-  pub first : slice_index_or cs 0 0 ≡ 6
-  pub last : slice_index_or cs (v / 7 + 1) 0 ≡ side_of v - 7
-  pub even : (i : ℕ) → i < length cs → slice_index_or cs i 0 % 2 ≡ 0
-  pub later_gaps : (i : ℕ) → 1 ≤ i → i + 2 < length cs → slice_index_or cs i 0 + slice_index_or cs (i + 2) 0 ≡ 2 * slice_index_or cs (i + 1) 0
-  pub three : length cs ≡ 3 → slice_index_or cs 0 0 + slice_index_or cs 2 0 ≡ 2 * slice_index_or cs 1 0
 
 -- a row and a column that meet in a corner, where a finder pattern stands (ISO/IEC 18004:2015, 6.3.6)
 abbrev pub is_corner_pair : ℕ → ℕ → ℕ → Bool

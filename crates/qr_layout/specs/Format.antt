@@ -43,7 +43,7 @@ sum_of_shifts divisor (k ∷ ks) = bit_xor (divisor * 2 ^ k) (sum_of_shifts divi
 
 -- r is the remainder of x by a divisor of degree n, as polynomials over bits: it has n bits, and x and r differ by
 -- shifted copies of the divisor (ISO/IEC 18004:2015, Annexes C and D)
-pub record IsRemainder (n divisor x r : ℕ) : Type 0 where
+pub record IsWordRemainder (n divisor x r : ℕ) : Type 0 where
   pub monic : (2 ^ n ≤ divisor) × (divisor < 2 ^ (n + 1))
   pub small : r < 2 ^ n
   pub shifts : List ℕ
@@ -53,12 +53,12 @@ pub record IsRemainder (n divisor x r : ℕ) : Type 0 where
 -- 18004:2015, Annex C)
 pub record IsFormatWord (five word : ℕ) : Type 0 where
   pub rest : ℕ
-  pub remainder : IsRemainder 10 0x537 (five * 2 ^ 10) rest
+  pub remainder : IsWordRemainder 10 0x537 (five * 2 ^ 10) rest
   pub word_is : word ≡ bit_xor (five * 2 ^ 10 + rest) 0x5412
 
 -- the word is six bits and their remainder by x^12 + x^11 + x^10 + x^9 + x^8 + x^5 + x^2 + 1 (ISO/IEC 18004:2015, Annex
 -- D)
 pub record IsVersionWord (v word : ℕ) : Type 0 where
   pub rest : ℕ
-  pub remainder : IsRemainder 12 0x1F25 (v * 2 ^ 12) rest
+  pub remainder : IsWordRemainder 12 0x1F25 (v * 2 ^ 12) rest
   pub word_is : word ≡ v * 2 ^ 12 + rest

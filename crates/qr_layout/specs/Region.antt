@@ -1,57 +1,43 @@
 -- The encoding region as the codewords fill it: the places of the square that no function pattern and no format or
 -- version information takes. (The standard's own term counts the places of format and version information in.) Public
 -- clauses cite this file.
-use Rattle.std.specs.Prelude.{◌≡◌, ℕ, ◌+◌, ◌-◌, Bool, true, not, ◌&&◌, nat_lt, nat_le, if◌then◌else◌, List, [], ◌∷◌, ◌++◌, map}
+use Rattle.std.specs.Prelude.{◌≡◌, ℕ, ◌-◌, Bool, true, max, not, ◌&&◌, ◌||◌, ◌==◌, nat_lt, nat_le}
+use Rattle.std.specs.Int.{abs_diff}
 use Rattle.std.specs.List.{list_any}
 use Rattle.qr_layout.specs.declared.region.Module.{Module}
 use Rattle.qr_layout.specs.Version.{side_of}
 use Rattle.qr_layout.specs.Alignment.{centres_of, alignment_places}
 
--- the rows from top to before bottom, and the columns from left to before right [own]
-pub record Rectangle : Type 0 where
-  pub top : ℕ
-  pub bottom : ℕ
-  pub left : ℕ
-  pub right : ℕ
-
--- the place (r, c) lies in the rectangle [own]
-abbrev pub is_in_rectangle : ℕ → ℕ → Rectangle → Bool
-is_in_rectangle r c b = nat_le b.top r && nat_lt r b.bottom && nat_le b.left c && nat_lt c b.right
-
--- the corners: a finder pattern, its separator, and beside it the format information and the dark module
+-- the place is in a corner: a finder pattern, its separator, and beside it the format information and the dark module
 -- (ISO/IEC 18004:2015, 6.3.3, 6.3.4, 7.9)
-abbrev pub corner_rectangles : ℕ → List Rectangle
-corner_rectangles s =
-    record { top = 0; bottom = 9; left = 0; right = 9 } ∷ record { top = 0; bottom = 9; left = s - 8; right = s } ∷ record { top = s - 8; bottom = s; left = 0; right = 9 } ∷ []
+abbrev pub is_corner : ℕ → ℕ → ℕ → Bool
+is_corner s r c = nat_le r 8 && (nat_le c 8 || nat_le (s - 8) c) || nat_le (s - 8) r && nat_le c 8
 
--- row 6 and column 6, which the timing patterns run along (ISO/IEC 18004:2015, 6.3.5)
-abbrev pub timing_lines : ℕ → List Rectangle
-timing_lines s = record { top = 6; bottom = 7; left = 0; right = s } ∷ record { top = 0; bottom = s; left = 6; right = 7 } ∷ []
+-- the place is in the row or the column along which a timing pattern runs (ISO/IEC 18004:2015, 6.3.5)
+abbrev pub is_timing : ℕ → ℕ → Bool
+is_timing r c = r == 6 || c == 6
 
--- the two blocks of version information, from version 7 on (ISO/IEC 18004:2015, 7.10)
-abbrev pub version_rectangles : ℕ → ℕ → List Rectangle
-version_rectangles v s =
-    if nat_lt v 7 then [] else (record { top = 0; bottom = 6; left = s - 11; right = s - 8 } ∷ record { top = s - 11; bottom = s - 8; left = 0; right = 6 } ∷ [])
+-- the place is in the block of version information beside the top right finder pattern (ISO/IEC 18004:2015, 7.10)
+abbrev pub is_version_block : ℕ → ℕ → ℕ → Bool
+is_version_block s r c = nat_lt r 6 && (nat_le (s - 11) c && nat_lt c (s - 8))
 
--- the five by five modules of an alignment pattern (ISO/IEC 18004:2015, 6.3.6)
-abbrev pub square_round : Module → Rectangle
-square_round m = record { top = m.row - 2; bottom = m.row + 3; left = m.col - 2; right = m.col + 3 }
+-- the place is in one of the two blocks of version information, from version 7 on (ISO/IEC 18004:2015, 7.10)
+abbrev pub is_version_information : ℕ → ℕ → ℕ → Bool
+is_version_information v r c = nat_le 7 v && (is_version_block (side_of v) r c || is_version_block (side_of v) c r)
 
--- the alignment patterns (ISO/IEC 18004:2015, 6.3.6)
-abbrev pub alignment_squares : ℕ → List ℕ → List Rectangle
-alignment_squares s cs = map square_round (alignment_places s cs)
+-- the square ring round (a, b) on which the place (r, c) lies; ring 0 is (a, b) itself [own]
+abbrev pub ring_of : ℕ → ℕ → ℕ → ℕ → ℕ
+ring_of a b r c = max (abs_diff a r) (abs_diff b c)
 
--- the place (r, c) lies in an alignment pattern (ISO/IEC 18004:2015, 6.3.6)
+-- the place is in an alignment pattern: in ring 0, 1 or 2 round a centre (ISO/IEC 18004:2015, 6.3.6)
 abbrev pub is_alignment : ℕ → ℕ → ℕ → Bool
-is_alignment v r c = list_any (is_in_rectangle r c) (alignment_squares (side_of v) (centres_of v))
-
--- all that the codewords do not fill (ISO/IEC 18004:2015, 6.3.7, 7.7.3)
-abbrev pub taken_rectangles : ℕ → List Rectangle
-taken_rectangles v = let s = side_of v in corner_rectangles s ++ timing_lines s ++ version_rectangles v s ++ alignment_squares s (centres_of v)
+is_alignment v r c = list_any (λ m. nat_le (ring_of m.row m.col r c) 2) (alignment_places (side_of v) (centres_of v))
 
 -- the place (r, c) of version v is in the encoding region (ISO/IEC 18004:2015, 6.3.7, 7.7.3)
 unfoldable pub is_in_region : ℕ → ℕ → ℕ → Bool
-is_in_region v r c = nat_lt r (side_of v) && nat_lt c (side_of v) && not (list_any (is_in_rectangle r c) (taken_rectangles v))
+is_in_region v r c =
+    nat_lt r (side_of v) && nat_lt c (side_of v)
+    && not (is_corner (side_of v) r c || is_timing r c || is_version_information v r c || is_alignment v r c)
 
 -- the module is in the encoding region (ISO/IEC 18004:2015, 6.3.7, 7.7.3)
 abbrev pub InRegion : ℕ → Module → Type 0

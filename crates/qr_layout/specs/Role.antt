@@ -1,19 +1,13 @@
 -- What each module of a symbol holds. Public clauses cite this file.
-use Rattle.std.specs.Prelude.{ℕ, ◌+◌, ◌-◌, ◌/◌, ◌%◌, min, max, Bool, true, false, not, ◌&&◌, ◌||◌, nat_lt, ◌==◌, if◌then◌else◌, Option, None, Some}
-use Prim.Native.Nat.{zero, suc}
-use Rattle.std.specs.Int.{abs_diff}
-use Rattle.std.specs.List.{list_any}
+use Rattle.std.specs.Prelude.{ℕ, ◌+◌, ◌-◌, ◌/◌, ◌%◌, min, Bool, true, false, not, ◌&&◌, ◌||◌, nat_lt, ◌==◌, if◌then◌else◌, Option, None, Some}
+use Rattle.std.specs.List.{find, list_any, range_with_len}
 use Rattle.std.specs.Option.{option_map_or}
 use Rattle.qr_layout.specs.declared.region.Module.{Module}
 use Rattle.qr_layout.specs.declared.role.Role.{Role}
 use Rattle.qr_layout.specs.declared.role.Role.TheVariants.{Fixed, FormatBit, VersionBit, Region}
 use Rattle.qr_layout.specs.Version.{side_of}
 use Rattle.qr_layout.specs.Alignment.{centres_of, alignment_places}
-use Rattle.qr_layout.specs.Region.{is_alignment}
-
--- the square ring round (a, b) on which the place (r, c) lies; ring 0 is (a, b) itself [own]
-abbrev pub ring_of : ℕ → ℕ → ℕ → ℕ → ℕ
-ring_of a b r c = max (abs_diff a r) (abs_diff b c)
+use Rattle.qr_layout.specs.Region.{is_alignment, ring_of}
 
 -- the ring round the nearest finder pattern's centre: rings 0, 1 and 3 are dark, ring 2 is light, and ring 4 is the
 -- separator (ISO/IEC 18004:2015, 6.3.3)
@@ -60,20 +54,15 @@ transposed m = record { row = m.col; col = m.row }
 abbrev pub is_at : Module → ℕ → ℕ → Bool
 is_at m r c = m.row == r && m.col == c
 
--- a number below n that passes the test, if there is one [own]
-abbrev pub one_below : ℕ → (ℕ → Bool) → Option ℕ
-one_below zero p = None
-one_below (suc n) p = if p n then Some n else one_below n p
-
 -- the bit of the format information that stands at (r, c) (ISO/IEC 18004:2015, 7.9.1)
 unfoldable pub format_bit_at : ℕ → ℕ → ℕ → Option ℕ
-format_bit_at s r c = one_below 15 (λ i. is_at (first_place i) r c || is_at (second_place s i) r c)
+format_bit_at s r c = find (λ i. is_at (first_place i) r c || is_at (second_place s i) r c) (range_with_len 0 15)
 
 -- the bit of the version information that stands at (r, c), from version 7 on (ISO/IEC 18004:2015, 7.10)
 unfoldable pub version_bit_at : ℕ → ℕ → ℕ → Option ℕ
 version_bit_at v r c =
     if nat_lt v 7 then None else
-    one_below 18 (λ i. is_at (version_place (side_of v) i) r c || is_at (transposed (version_place (side_of v) i)) r c)
+    find (λ i. is_at (version_place (side_of v) i) r c || is_at (transposed (version_place (side_of v) i)) r c) (range_with_len 0 18)
 
 -- the dark module: it stands beside the bottom left finder pattern, and is dark in every symbol
 -- (ISO/IEC 18004:2015, 7.9.1)

@@ -1,2 +1,3 @@
 -- Definitions of single steps. Only private clauses cite them, so that a reader need not believe them.
 pub mod Order
+pub mod Rectangles

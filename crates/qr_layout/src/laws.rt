@@ -1,27 +1,29 @@
 //! Laws that hold for every version, level and mask. Their statements are the clauses; except for `nth_place`, which
-//! walks, and the functions that compare and clone, they do nothing.
+//! walks, `first_version` and `default_module`, they do nothing.
 
-ghost use Rattle.std.specs.Prelude.{◌≡◌, ◌<◌, ◌≤◌, ◌-◌, ◌*◌, ◌/◌, ◌⊎◌, ◌↔◌, true, ℕ, List, ◌∷◌, ◌++◌, length, map, slice_get, IsTrue, IfOk};
+ghost use Rattle.std.specs.Prelude.{◌≡◌, ◌<◌, ◌≤◌, ◌-◌, ◌*◌, ◌/◌, ◌⊎◌, ◌↔◌, true, ℕ, List, ◌∷◌, ◌++◌, length, map, slice_get};
 ghost use Rattle.std.specs.List.{range_with_len};
 ghost use Rattle.qr_layout.specs.declared.region.Module.{Module};
 ghost use Rattle.qr_layout.specs.declared.level.Level.TheVariants.{L, M, Q, H};
 ghost use Rattle.qr_layout.specs.declared.role.Role.TheVariants.{Fixed, FormatBit, VersionBit, Region};
 ghost use Rattle.qr_layout.specs.Version.{side_of, module_count_of};
-ghost use Rattle.qr_layout.specs.Blocks.{data_codewords_of, blocks_of, longest_of, damage_of, AreWhole};
+ghost use Rattle.qr_layout.specs.Blocks.{correction_len_of, data_codewords_of, blocks_of, longest_of, damage_of, AreWhole};
 ghost use Rattle.qr_layout.specs.Format.{five_bits, format_word_of, version_word_of, IsFormatWord, IsVersionWord};
-ghost use Rattle.qr_layout.specs.Alignment.{centres_of, AreRegular};
+ghost use Rattle.qr_layout.specs.Alignment.{centres_of};
 ghost use Rattle.qr_layout.specs.Region.{is_in_region, InRegion};
 ghost use Rattle.qr_layout.specs.Order.{IsOrder, number_of, places_passing};
 ghost use Rattle.qr_layout.specs.Role.{first_place, second_place, version_place, transposed, role_of};
-ghost use Rattle.qr_layout.specs.Laws.{all_versions, printed_data, spaced_centres, region_size, row_6, row_8, column_8};
+ghost use Rattle.qr_layout.specs.Laws.{all_versions, printed_correction, printed_data, spaced_centres, region_size, row_6, row_8, column_8, alignment_figure, finder_figure, version_figure};
 
-use crate::blocks::Blocks;
+pub use crate::equality::{
+    blocks_are_equal, blocks_clones, level_clones, levels_are_equal, module_clones,
+    modules_are_equal, role_clones, roles_are_equal, strip_clones, strips_are_equal,
+    version_clones, versions_are_equal,
+};
 use crate::level::Level;
 use crate::order::walk;
 use crate::region::Module;
-use crate::role::Role;
 use crate::version::Version;
-use std::alloc::AllocError;
 
 /// There is only one order.
 pub fn order_is_one(v: Version)
@@ -63,11 +65,6 @@ pub fn nth_place(v: Version, number: usize) -> Option<Module>
     walk(v).nth(number)
 }
 
-/// From version 2 on the alignment patterns' centres are regular.
-pub fn centres_are_regular(v: Version)
-    ensures { 2 ≤ v → AreRegular v (centres_of v) }
-{}
-
 /// From version 2 on the centres are those of the rule of their spacing.
 #[tactic(auto, unfolding(crate::specs::Alignment::centres_of))]
 pub fn centres_are_spaced()
@@ -81,6 +78,16 @@ pub fn data_codewords_compute()
     ensures m { map (λ v. data_codewords_of v M) all_versions ≡ printed_data M }
     ensures q { map (λ v. data_codewords_of v Q) all_versions ≡ printed_data Q }
     ensures h { map (λ v. data_codewords_of v H) all_versions ≡ printed_data H }
+{}
+
+/// The error correction codewords of a block are as many as Table 9 prints, by its number of misread codewords that can
+/// be mended, in all versions and levels.
+#[tactic(auto, unfolding(crate::specs::Blocks::correction_len_of))]
+pub fn correction_lens_compute()
+    ensures l { map (λ v. correction_len_of v L) all_versions ≡ map (printed_correction L) all_versions }
+    ensures m { map (λ v. correction_len_of v M) all_versions ≡ map (printed_correction M) all_versions }
+    ensures q { map (λ v. correction_len_of v Q) all_versions ≡ map (printed_correction Q) all_versions }
+    ensures h { map (λ v. correction_len_of v H) all_versions ≡ map (printed_correction H) all_versions }
 {}
 
 /// The blocks hold the codewords of the symbol.
@@ -140,6 +147,16 @@ pub fn roles_compute()
     ensures timing { map (role_of 1 6) (range_with_len 0 21) ≡ row_6 }
 {}
 
+/// A finder pattern of version 1, an alignment pattern of version 2 and the version information of version 7 are what
+/// the standard's figures show (6.3.3 to 6.3.6 and 7.10).
+#[tactic(auto, unfolding(crate::specs::Role::role_of, crate::specs::Role::pattern_colour, crate::specs::Role::is_alignment_light, crate::specs::Role::format_bit_at, crate::specs::Role::version_bit_at, crate::specs::Alignment::centres_of))]
+pub fn patterns_compute()
+    ensures finder { map (λ r. map (role_of 1 r) (range_with_len 0 8)) (range_with_len 0 8) ≡ finder_figure }
+    ensures alignment { map (λ r. map (role_of 2 r) (range_with_len 15 7)) (range_with_len 15 7) ≡ alignment_figure }
+    ensures version_right { map (λ r. map (role_of 7 r) (range_with_len 34 3)) (range_with_len 0 6) ≡ version_figure }
+    ensures version_below { map (λ c. map (λ r. role_of 7 r c) (range_with_len 34 3)) (range_with_len 0 6) ≡ version_figure }
+{}
+
 /// Each bit of the format information stands at its two places and nowhere else.
 pub fn format_bits_have_places(v: Version)
     ensures first { (i : ℕ) → i < 15
@@ -175,74 +192,18 @@ pub fn region_is_the_rest(v: Version)
         → (role_of v r c ≡ Region) ↔ (is_in_region v r c ≡ true) }
 {}
 
-/// Two versions compare as equal exactly where they are the same.
-pub fn versions_are_equal(a: Version, b: Version) -> bool
-    ensures { IsTrue result ↔ (a ≡ b) }
+/// The first version is 1.
+pub fn first_version() -> Version
+    ensures { result ≡ 1 }
 {
-    a == b
+    Version::FIRST
 }
 
-/// Two levels compare as equal exactly where they are the same.
-pub fn levels_are_equal(a: Level, b: Level) -> bool
-    ensures { IsTrue result ↔ (a ≡ b) }
+/// The default module is the one in the top left corner.
+pub fn default_module() -> Module
+    ensures { result ≡ record { row = 0; col = 0 } }
 {
-    a == b
-}
-
-/// Two modules compare as equal exactly where they are the same.
-pub fn modules_are_equal(a: Module, b: Module) -> bool
-    ensures { IsTrue result ↔ (a ≡ b) }
-{
-    a == b
-}
-
-/// Two roles compare as equal exactly where they are the same.
-pub fn roles_are_equal(a: Role, b: Role) -> bool
-    ensures { IsTrue result ↔ (a ≡ b) }
-{
-    a == b
-}
-
-/// Two cuts into blocks compare as equal exactly where they are the same.
-pub fn blocks_are_equal(a: Blocks, b: Blocks) -> bool
-    ensures { IsTrue result ↔ (a ≡ b) }
-{
-    a == b
-}
-
-/// A clone of a version is the same version.
-pub fn version_clones(a: Version) -> Result<Version, AllocError>
-    ensures { IfOk result (λ b. b ≡ a) }
-{
-    a.clone()
-}
-
-/// A clone of a level is the same level.
-pub fn level_clones(a: Level) -> Result<Level, AllocError>
-    ensures { IfOk result (λ b. b ≡ a) }
-{
-    a.clone()
-}
-
-/// A clone of a module is the same module.
-pub fn module_clones(a: Module) -> Result<Module, AllocError>
-    ensures { IfOk result (λ b. b ≡ a) }
-{
-    a.clone()
-}
-
-/// A clone of a role is the same role.
-pub fn role_clones(a: Role) -> Result<Role, AllocError>
-    ensures { IfOk result (λ b. b ≡ a) }
-{
-    a.clone()
-}
-
-/// A clone of a cut into blocks is the same cut into blocks.
-pub fn blocks_clones(a: Blocks) -> Result<Blocks, AllocError>
-    ensures { IfOk result (λ b. b ≡ a) }
-{
-    a.clone()
+    Module::default()
 }
 
 #[cfg(test)]
@@ -250,42 +211,10 @@ mod tests {
     use super::*;
     use std::test::Fail;
 
-    // Equal where each field is, and unequal where one is not.
     #[test]
-    fn equal_and_unequal_values(rt: HostRuntime) -> Result<(), Fail> {
-        let (first, second) = (Version::FIRST, Version::new(2).ok_or("no version 2")?);
-        assert!(rt; versions_are_equal(first, first) && !versions_are_equal(first, second));
-        assert!(rt; levels_are_equal(Level::Q, Level::Q) && !levels_are_equal(Level::Q, Level::H));
-        assert!(rt;
-            roles_are_equal(Role::FormatBit(3), Role::FormatBit(3))
-                && !roles_are_equal(Role::FormatBit(3), Role::VersionBit(3))
-                && !roles_are_equal(Role::FormatBit(3), Role::FormatBit(4))
-        );
-        let place = Module { row: 1, col: 2 };
-        assert!(rt;
-            modules_are_equal(place, place)
-                && !modules_are_equal(place, Module { row: 1, col: 3 })
-                && !modules_are_equal(place, Module { row: 0, col: 2 })
-        );
-        let blocks = first.blocks(Level::L);
-        assert!(rt; blocks_are_equal(blocks, blocks));
-        assert!(rt; !blocks_are_equal(blocks, first.blocks(Level::M)));
-        Ok(())
-    }
-
-    #[test]
-    fn clones(rt: HostRuntime) -> Result<(), Fail> {
-        let version = Version::new(7).ok_or("no version 7")?;
-        let place = Module { row: 1, col: 2 };
-        assert_eq!(rt; version_clones(version)?, version);
-        assert_eq!(rt; level_clones(Level::H)?, Level::H);
-        assert_eq!(rt; module_clones(place)?, place);
-        assert_eq!(rt; role_clones(Role::Region)?, Role::Region);
-        assert_eq!(rt;
-            blocks_clones(version.blocks(Level::H))?,
-            version.blocks(Level::H)
-        );
-        Ok(())
+    fn first_values(rt: HostRuntime) {
+        assert_eq!(rt; first_version().number(), 1);
+        assert_eq!(rt; default_module(), Module { row: 0, col: 0 });
     }
 
     #[test]

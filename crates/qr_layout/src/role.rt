@@ -5,7 +5,8 @@ ghost use Rattle.std.specs.Prelude.{◌≡◌, ◌≢◌, ◌<◌, ◌≤◌, �
 ghost use Rattle.std.specs.List.{list_any};
 ghost use Rattle.qr_layout.specs.Version.{side_of};
 ghost use Rattle.qr_layout.specs.Alignment.{is_corner_pair};
-ghost use Rattle.qr_layout.specs.Role.{ring_of, finder_ring, is_alignment_light, pattern_colour, first_place, second_place, format_bit_at, version_bit_at, role_of};
+ghost use Rattle.qr_layout.specs.Region.{ring_of};
+ghost use Rattle.qr_layout.specs.Role.{finder_ring, is_alignment_light, pattern_colour, first_place, second_place, format_bit_at, version_bit_at, role_of};
 
 use crate::alignment::{centre_list, is_corner_pair, is_in_alignment};
 use crate::region::{Module, is_in_version_block};

@@ -1,7 +1,7 @@
 //! The forty versions: their sides, and how many codewords and remainder bits their symbols have (ISO/IEC 18004:2015,
 //! 6.3.2 and 7.1, Table 1).
 
-ghost use Rattle.std.specs.Prelude.{◌≡◌, ◌≤◌, SomeIff};
+ghost use Rattle.std.specs.Prelude.{◌≡◌, ◌≤◌, SomeIff, ℕ, MatchOption};
 ghost use Rattle.qr_layout.specs.Version.{side_of};
 ghost use Rattle.qr_layout.specs.Version.{total_codewords_of, remainder_bits_of};
 
@@ -51,6 +51,18 @@ impl Version {
         } else {
             None
         }
+    }
+
+    /// The version whose symbols have this side, if a version has it: 21, 25, and so on to 177.
+    pub fn of_side(side: u8) -> Option<Version>
+        ensures { MatchOption result
+            ((v : ℕ) → 1 ≤ v → v ≤ 40 → side ≡ side_of v → ⊥)
+            (λ v. (1 ≤ v) × (v ≤ 40) × (side ≡ side_of v)) }
+    {
+        if side < 21 || (side - 17) % 4 != 0 {
+            return None;
+        }
+        Version::new((side - 17) / 4)
     }
 
     /// The number of the version, from 1 to 40.
