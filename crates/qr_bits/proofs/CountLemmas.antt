@@ -11,12 +11,12 @@ use Rattle.qr_bits.specs.declared.modes.Mode.{Mode}
 use Rattle.qr_bits.specs.declared.modes.Mode.TheVariants.{Numeric, Alphanumeric, Byte, Kanji}
 use Rattle.qr_bits.specs.declared.modes.Rule.{Rule}
 use Rattle.qr_bits.specs.declared.segmentation.Segment.{Segment}
-use Rattle.qr_bits.specs.Modes.{count_of, count_width, payload_bits}
-use Rattle.qr_bits.specs.Segmentation.{segment_bits, bits, Covers, runs_of, HasFit}
+use Rattle.qr_bits.specs.Modes.{character_count, count_width, payload_bits}
+use Rattle.qr_bits.specs.Segmentation.{segment_bits, bits, runs_of, HasFit}
 use Rattle.qr_bits.specs.Stream.{CountsFit}
 use Rattle.qr_bits.specs.Padding.{capacity_of}
 use Rattle.qr_bits.proofs.SegmentLemmas.{segment_least, bits_least}
-use Rattle.qr_bits.proofs.WritingLemmas.{covers_suits}
+use Rattle.qr_bits.proofs.CoverLemmas.{CoversInTurn, covers_suits, in_turn, from_turn}
 use Rattle.std.proofs.lemmas.List.{length-drop}
 
 -- the most data codewords of the versions to 9, to 26 and to 40
@@ -80,7 +80,7 @@ capacity_most v l a b =
     omega (arith, data_most v l a b)
 
 -- a segment whose bits fit has a count that fits
-count_fits : (v n : ℕ) (m : Mode) → segment_bits v (record { mode = m; len = n }) ≤ 8 * most_data v → count_of m n < 2 ^ count_width v m
+count_fits : (v n : ℕ) (m : Mode) → segment_bits v (record { mode = m; len = n }) ≤ 8 * most_data v → character_count m n < 2 ^ count_width v m
 count_fits v n Numeric h =
     groups v (λ s m. 4 + cond s 10 (cond m 12 14) + payload_bits Numeric n ≤ 8 * cond s 232 (cond m 1370 2956) → n < 2 ^ cond s 10 (cond m 12 14))
     (λ _ k. omega arith) (λ _ _ k. omega arith) (λ _ k. omega arith) h
@@ -108,11 +108,11 @@ head_least v Byte h = rw (lt-leb v 9 (omega arith)) (lit≤ tt)
 head_least v Kanji h = rw (lt-leb v 9 (omega arith), lt-leb v 26 h) (lit≤ tt)
 
 -- bytes whose segments have so few bits are few
-short_large : (v : ℕ) (xs : List ℕ) (segs : List Segment) → 26 < v → Covers xs segs → bits v segs ≤ 23648 → length xs ≤ 7089
-unfolding Covers
+short_large : (v : ℕ) (xs : List ℕ) (segs : List Segment) → 26 < v → CoversInTurn xs segs → bits v segs ≤ 23648 → length xs ≤ 7089
+unfolding CoversInTurn
 short_large v xs [] h c few = omega (arith, ap length c)
 short_large v xs (s ∷ ss) h c few =
-    omega (arith, segment_least v s, head_least v s.mode h, bits_least v (drop s.len xs) ss (covers_suits (drop s.len xs) ss c.3), length-drop s.len xs, c.1)
+    omega (arith, segment_least v s, head_least v s.mode h, bits_least v (drop s.len xs) ss (covers_suits (drop s.len xs) ss (from_turn _ _ c.3)), length-drop s.len xs, c.1)
 
 -- What fits a symbol has at most 7,089 bytes.
 pub fitting_short : (v : ℕ) (l : Level) (r : Rule) (xs : List ℕ) → 1 ≤ v → v ≤ 40 → HasFit v r xs (capacity_of v l) → length xs ≤ 7089
@@ -122,7 +122,7 @@ fitting_short v l r xs a b fit =
     let held = data_most v l a b in
     let most : most_data v ≤ 1370 = groups v (λ s m. v < 27 → cond s 232 (cond m 1370 2956) ≤ 1370) (λ _ _. lit≤ tt) (λ _ _ _. lit≤ tt) (λ k n. absurd (omega arith)) small in
     omega (arith, held, most, bits_least v xs (runs_of fit.0) (covers_suits xs (runs_of fit.0) fit.1.1), fit.2))
-    (λ (large : 27 ≤ v). short_large v xs (runs_of fit.0) (omega arith) fit.1.1 (omega (arith, capacity_most v l a b, fit.2)))
+    (λ (large : 27 ≤ v). short_large v xs (runs_of fit.0) (omega arith) (in_turn _ _ fit.1.1) (omega (arith, capacity_most v l a b, fit.2)))
     (cases_lt v 27)
 
 -- What fits a symbol has at most three bytes for each ten of its bits.

@@ -8,6 +8,7 @@ use Rattle.qr_bits.specs.declared.modes.Mode.TheVariants.{Numeric, Alphanumeric,
 use Rattle.qr_bits.specs.declared.modes.Rule.{Rule}
 use Rattle.qr_bits.specs.declared.segmentation.Segment.{Segment}
 use Rattle.qr_bits.specs.Modes.{suits, may_use, count_width, payload_bits}
+use Rattle.qr_bits.proofs.CoverLemmas.{CoversInTurn, in_turn, from_turn}
 use Rattle.qr_bits.specs.Segmentation.{bits, with_front, runs_of, Covers, NotAfter, IsLeastSegmentation}
 use Rattle.qr_bits.specs.Steps.Segmentation.{one_segment}
 use Rattle.qr_bits.proofs.BackLemmas.{sum_by-runs_of}
@@ -40,8 +41,8 @@ runs_of-digits (x ∷ y ∷ ys) =
     p ∙ q
 
 -- it covers them
-digits_covered : (xs : List ℕ) → IsTrue (suits Numeric xs) → Covers xs (one_segment Numeric (length xs))
-unfolding Covers
+digits_covered : (xs : List ℕ) → IsTrue (suits Numeric xs) → CoversInTurn xs (one_segment Numeric (length xs))
+unfolding CoversInTurn
 digits_covered [] h = refl
 digits_covered (x ∷ xs) h =
     let n = length (x ∷ xs) in
@@ -74,8 +75,8 @@ segment_more v Byte n h = omega (arith, (widths v).1)
 segment_more v Kanji n h = omega (arith, (widths v).2)
 
 -- nor do segments of some bytes
-segments_more : (v : ℕ) (s : Segment) (ss : List Segment) (xs : List ℕ) → Covers xs (s ∷ ss) → 4 + count_width v Numeric + (10 * length xs + 2) / 3 ≤ bits v (s ∷ ss)
-unfolding Covers
+segments_more : (v : ℕ) (s : Segment) (ss : List Segment) (xs : List ℕ) → CoversInTurn xs (s ∷ ss) → 4 + count_width v Numeric + (10 * length xs + 2) / 3 ≤ bits v (s ∷ ss)
+unfolding CoversInTurn
 segments_more v s [] xs c =
     let none = ap length c.3 in
     omega (arith, segment_more v s.mode s.len c.0, length-drop s.len xs, c.1, none)
@@ -83,8 +84,8 @@ segments_more v s (t ∷ ts) xs c =
     omega (arith, segment_more v s.mode s.len c.0, segments_more v t ts (drop s.len xs) c.3, length-drop s.len xs, c.1)
 
 -- nor do any
-digits_fewest : (v : ℕ) (xs : List ℕ) (segs : List Segment) → Covers xs segs → bits v (one_segment Numeric (length xs)) ≤ bits v segs
-unfolding Covers
+digits_fewest : (v : ℕ) (xs : List ℕ) (segs : List Segment) → CoversInTurn xs segs → bits v (one_segment Numeric (length xs)) ≤ bits v segs
+unfolding CoversInTurn
 digits_fewest v [] segs c = omega arith
 digits_fewest v (x ∷ xs) [] c = absurd (let e = ap length c in omega arith)
 digits_fewest v (x ∷ xs) (s ∷ ss) c = omega (arith, segments_more v s ss (x ∷ xs) c, digits_bits (length (x ∷ xs)))
@@ -104,8 +105,8 @@ pub digits_least : (v : ℕ) (r : Rule) (xs : List ℕ) → may_use r Numeric �
 digits_least v r xs u h = (
   all_digits xs,
   record {
-    lettering = (digits_used r xs u, subst (Covers xs) (sym (runs_of-digits xs)) (digits_covered xs h));
-    least = λ ks k. let f = ap (bits v) (runs_of-digits xs) in omega (arith, f, digits_fewest v xs (runs_of ks) k.1);
+    lettering = (digits_used r xs u, subst (Covers xs) (sym (runs_of-digits xs)) (from_turn _ _ (digits_covered xs h)));
+    least = λ ks k. let f = ap (bits v) (runs_of-digits xs) in omega (arith, f, digits_fewest v xs (runs_of ks) (in_turn _ _ k.1));
     first = λ ks k _. digits_first xs ks (let e = (covers_all xs (runs_of ks) k.1).1 in let f = sum_by-runs_of ks in omega arith);
   },
   sym (runs_of-digits xs),

@@ -9,7 +9,8 @@ use Rattle.qr_bits.specs.declared.modes.Mode.TheVariants.{Numeric, Alphanumeric,
 use Rattle.qr_bits.specs.declared.modes.Rule.{Rule}
 use Rattle.qr_bits.specs.declared.segmentation.Segment.{Segment}
 use Rattle.qr_bits.specs.Modes.{is_digit, is_alphanumeric, suits, payload_bits}
-use Rattle.qr_bits.specs.Segmentation.{bits, Covers, runs_of, HasFit, sixths_of, least_bits}
+use Rattle.qr_bits.specs.Segmentation.{bits, runs_of, HasFit, sixths_of, least_bits}
+use Rattle.qr_bits.proofs.CoverLemmas.{CoversInTurn, in_turn}
 use Rattle.qr_bits.proofs.CharacterLemmas.{past_z}
 use Rattle.qr_bits.proofs.SegmentLemmas.{payload_least}
 
@@ -62,8 +63,8 @@ payload_held Byte xs h = omega (arith, bytes_held xs)
 payload_held Kanji xs h = omega (arith, bytes_held xs)
 
 -- nor do segments have fewer
-segments_held : (v : ℕ) (xs : List ℕ) (segs : List Segment) → Covers xs segs → sum_by sixths_of xs ≤ 6 * bits v segs
-unfolding Covers
+segments_held : (v : ℕ) (xs : List ℕ) (segs : List Segment) → CoversInTurn xs segs → sum_by sixths_of xs ≤ 6 * bits v segs
+unfolding CoversInTurn
 segments_held v xs [] c = omega (arith, ap (sum_by sixths_of) c)
 segments_held v xs (s ∷ ss) c =
     let many : length (take s.len xs) ≡ s.len = length-take-le s.len xs c.1 in
@@ -73,4 +74,4 @@ segments_held v xs (s ∷ ss) c =
 -- What fits has room for the least bits.
 pub least_held : (v : ℕ) (r : Rule) (xs : List ℕ) (room : ℕ) → HasFit v r xs room → least_bits xs ≤ room
 unfolding least_bits
-least_held v r xs room fit = omega (arith, segments_held v xs (runs_of fit.0) fit.1.1, fit.2)
+least_held v r xs room fit = omega (arith, segments_held v xs (runs_of fit.0) (in_turn _ _ fit.1.1), fit.2)

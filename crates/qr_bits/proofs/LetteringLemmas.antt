@@ -10,6 +10,7 @@ use Rattle.qr_bits.specs.declared.place.Place.{Place}
 use Rattle.qr_bits.specs.declared.place.Place.TheVariants.{Digit1, Digit2, Character1, HalfPair, WholePair}
 use Rattle.qr_bits.specs.Modes.{is_digit, is_alphanumeric, in_twos, is_kanji_pair, may_use, suits}
 use Rattle.qr_bits.specs.Segmentation.{Covers, rank, with_front, runs_of}
+use Rattle.qr_bits.proofs.CoverLemmas.{CoversInTurn, in_turn, from_turn}
 use Rattle.qr_bits.specs.Steps.Place.{place_after, begins, may_begin, may_take, may_end, allowed}
 use Rattle.qr_bits.proofs.BestLemmas.{same_rank}
 use Rattle.qr_bits.proofs.ChoiceLemmas.{take_begin, place_after-whole}
@@ -39,15 +40,21 @@ suits-by Kanji xs = refl
 
 -- with the test for kanji pairs segments cover as it is defined
 pub covers_by : (xs : List ℕ) (segs : List Segment) → Covers xs segs → CoversBy is_kanji_pair xs segs
-unfolding Covers CoversBy
-covers_by xs [] h = h
-covers_by xs (s ∷ ss) h = (h.0, h.1, sym (suits-by s.mode (take s.len xs)) ∙ h.2, covers_by (drop s.len xs) ss h.3)
+unfolding CoversInTurn CoversBy
+covers_by xs segs h = turn xs segs (in_turn xs segs h)
+  where
+    turn : (xs : List ℕ) (segs : List Segment) → CoversInTurn xs segs → CoversBy is_kanji_pair xs segs
+    turn xs [] h = h
+    turn xs (s ∷ ss) h = (h.0, h.1, sym (suits-by s.mode (take s.len xs)) ∙ h.2, turn (drop s.len xs) ss h.3)
 
 -- and the other way
 pub by_covers : (xs : List ℕ) (segs : List Segment) → CoversBy is_kanji_pair xs segs → Covers xs segs
-unfolding Covers CoversBy
-by_covers xs [] h = h
-by_covers xs (s ∷ ss) h = (h.0, h.1, suits-by s.mode (take s.len xs) ∙ h.2, by_covers (drop s.len xs) ss h.3)
+unfolding CoversInTurn CoversBy
+by_covers xs segs h = from_turn xs segs (turn xs segs h)
+  where
+    turn : (xs : List ℕ) (segs : List Segment) → CoversBy is_kanji_pair xs segs → CoversInTurn xs segs
+    turn xs [] h = h
+    turn xs (s ∷ ss) h = (h.0, h.1, suits-by s.mode (take s.len xs) ∙ h.2, turn (drop s.len xs) ss h.3)
 
 -- no segment is empty
 abbrev Positive : List Segment → Type 0

@@ -1,4 +1,5 @@
 pub mod BitLemmas
+pub mod CoverLemmas
 pub mod SegmentLemmas
 pub mod CharacterLemmas
 pub mod WritingLemmas

@@ -10,13 +10,14 @@ use Rattle.qr_bits.specs.declared.modes.Rule.{Rule}
 use Rattle.qr_bits.specs.declared.segmentation.Segment.{Segment}
 use Rattle.qr_bits.specs.declared.place.Place.{Place}
 use Rattle.qr_bits.specs.declared.place.Place.TheVariants.{Start}
-use Rattle.qr_bits.specs.Segmentation.{rank, bits, with_front, runs_of, Covers, HasFit}
+use Rattle.qr_bits.specs.Segmentation.{rank, bits, with_front, runs_of, HasFit}
 use Rattle.qr_bits.specs.Modes.{in_twos, is_kanji_pair, is_digit, is_alphanumeric, may_use}
 use Rattle.qr_bits.specs.Steps.Segmentation.{with_back}
 use Rattle.qr_bits.specs.Steps.Place.{turned, begins, may_end, IsChoice}
 use Rattle.qr_bits.proofs.BestLemmas.{BestBelow, same_rank}
 use Rattle.qr_bits.proofs.BackLemmas.{runs_of-push}
 use Rattle.qr_bits.proofs.LetterLemmas.{bits-runs_of}
+use Rattle.qr_bits.proofs.CoverLemmas.{CoversInTurn, from_turn}
 use Rattle.qr_bits.proofs.LetteringLemmas.{suits_by, CoversBy, IsLetteringBy, covers_by, by_covers, can_take, is_lettering}
 use Rattle.qr_bits.proofs.TableLemmas.{bytes_rest, best_more}
 use Rattle.qr_bits.specs.declared.place.ByPlace.{ByPlace}
@@ -136,8 +137,8 @@ front_least v r xs f cost n below fit =
 
 -- no letter at all fits
 pub empty_fits : (v : ℕ) (r : Rule) (n : ℕ) → HasFit v r [] n
-unfolding Covers runs_of
-empty_fits v r n = ([], (refl, refl), omega arith)
+unfolding CoversInTurn runs_of
+empty_fits v r n = ([], (refl, from_turn [] [] refl), omega arith)
 
 -- the first two bytes
 begins_at : (r : Rule) (test : ℕ → ℕ → Bool) (xs : List ℕ) → 2 ≤ length xs → begins r test xs ≡ (may_use r Kanji && test (get_or xs 0 0) (get_or xs 1 0))

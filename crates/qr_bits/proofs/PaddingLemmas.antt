@@ -74,8 +74,7 @@ length-header_stream (Some h) =
 
 -- a header's numbers fit
 pub header_fits : (h : Option Header) → ForSome h (λ k. (k.position < 16) × (k.last < 16)) → ForSome h (λ k. k.parity < 256) → HeaderFits h
-header_fits None a b = tt
-header_fits (Some h) a b = let r = a h refl in (r.0, r.1, b h refl)
+header_fits h a b = λ k e. let r = a k e in (r.0, r.1, b k e)
 
 -- a header has at most 20 bits
 pub header_most : (h : Option Header) → header_bits h ≤ 20

@@ -1,14 +1,14 @@
 -- A parse, segment by segment.
-use Rattle.std.proofs.Common.{◌≡◌, ℕ, zero, suc, ◌+◌, ◌≤◌, Bool, true, false, cond, ◌==◌, nat_lt, nat_le, List, [], ◌∷◌, ◌++◌, length, take, drop, Result, Ok, Err, refl, sym, ◌∙◌, ap, ⊎_elim, arith}
+use Rattle.std.proofs.Common.{◌≡◌, ℕ, zero, suc, ◌+◌, ◌≤◌, Bool, true, false, cond, ◌==◌, nat_lt, nat_le, List, [], ◌∷◌, ◌++◌, length, take, drop, Result, Ok, Err, refl, sym, ◌∙◌, ap, inl, inr, ⊎_elim, arith}
 use Rattle.std.proofs.lemmas.Bool.{lt-ltb, le-ltb, ltb-false, or_parts, or_left, and_parts, cases_Bool}
 use Rattle.std.proofs.lemmas.List.{append-nil, append_assoc, length-drop}
 use Rattle.qr_bits.specs.declared.modes.Mode.{Mode}
 use Rattle.qr_bits.specs.declared.segmentation.Segment.{Segment}
 use Rattle.qr_bits.specs.declared.fault.ParseFault.{ParseFault}
-use Rattle.qr_bits.specs.declared.fault.ParseFault.TheVariants.{Memory, BadMode, Cut, BadValue}
+use Rattle.qr_bits.specs.declared.fault.ParseFault.TheVariants.{Memory, Cut}
 use Rattle.qr_bits.specs.Bits.{value}
-use Rattle.qr_bits.specs.Modes.{payload_bits, count_width, len_of}
-use Rattle.qr_bits.specs.Parsing.{◌>>=◌, Fails, values_of, mode_of, ends, number_at, payload_at, segment_at, segments_at, segments_of, begins_header, header_at}
+use Rattle.qr_bits.specs.Modes.{payload_bits, count_width, byte_count}
+use Rattle.qr_bits.specs.Parsing.{◌>>=◌, IsFaultOf, IsResultOf, values_of, mode_of, ends, leading_number, payload_at, segment_at, segments_at, segments_of, begins_header, header_at}
 use borrow.Author.Tests.{leb-true}
 
 -- where two readings succeed, the first does, and the second of what it gave
@@ -22,8 +22,8 @@ guard_ok true e r y h = cc
 guard_ok false e r y h = (refl, h)
 
 -- a number leaves no more bits
-number_shorter : (w : ℕ) (bits : List Bool) (n : ℕ × List Bool) → number_at w bits ≡ Ok n → length n.1 ≤ length bits
-unfolding number_at
+number_shorter : (w : ℕ) (bits : List Bool) (n : ℕ × List Bool) → leading_number w bits ≡ Ok n → length n.1 ≤ length bits
+unfolding leading_number
 number_shorter w bits n h =
     let g = guard_ok (nat_lt (length bits) w) Cut (Ok (value (take w bits), drop w bits)) n h in
     let e : drop w bits ≡ n.1 = cc in
@@ -33,10 +33,10 @@ number_shorter w bits n h =
 payload_shorter : (m : Mode) (n : ℕ) (bits : List Bool) (p : List ℕ × List Bool) → payload_at m n bits ≡ Ok p → length p.1 ≤ length bits
 unfolding payload_at
 payload_shorter m n bits p h =
-    let g = guard_ok (nat_lt (length bits) (payload_bits m (len_of m n))) Cut (values_of m n bits >>= λ xs. Ok (xs, drop (payload_bits m (len_of m n)) bits)) p h in
-    let b = bind_ok (values_of m n bits) (λ xs. Ok (xs, drop (payload_bits m (len_of m n)) bits)) p g.1 in
-    let e : drop (payload_bits m (len_of m n)) bits ≡ p.1 = cc in
-    omega (arith, length-drop (payload_bits m (len_of m n)) bits, ap length e)
+    let g = guard_ok (nat_lt (length bits) (payload_bits m (byte_count m n))) Cut (values_of m n bits >>= λ xs. Ok (xs, drop (payload_bits m (byte_count m n)) bits)) p h in
+    let b = bind_ok (values_of m n bits) (λ xs. Ok (xs, drop (payload_bits m (byte_count m n)) bits)) p g.1 in
+    let e : drop (payload_bits m (byte_count m n)) bits ≡ p.1 = cc in
+    omega (arith, length-drop (payload_bits m (byte_count m n)) bits, ap length e)
 
 -- what holds after each step that succeeds holds of the whole
 pub bind_all : {A B : Type 0} (r : Result A ParseFault) (f : A → Result B ParseFault) (P : B → Type 0)
@@ -58,9 +58,9 @@ unfolding segment_at
 segment_shorter v bits s four h =
     let P : Segment × List ℕ × List Bool → Type 0 = λ t. length t.2 + 4 ≤ length bits in
     bind_all (mode_of (value (take 4 bits))) _ P (λ m em t ht.
-    bind_all (number_at (count_width v m) (drop 4 bits)) _ P (λ n en t ht.
+    bind_all (leading_number (count_width v m) (drop 4 bits)) _ P (λ n en t ht.
     bind_all (payload_at m n.0 n.1) _ P (λ p ep t ht.
-    let e : p.1 ≡ t.2 = ap (λ (u : Segment × List ℕ × List Bool). u.2) (same_ok (record { mode = m; len = len_of m n.0 }, p.0, p.1) t ht) in
+    let e : p.1 ≡ t.2 = ap (λ (u : Segment × List ℕ × List Bool). u.2) (same_ok (record { mode = m; len = byte_count m n.0 }, p.0, p.1) t ht) in
     omega (arith, number_shorter (count_width v m) (drop 4 bits) n en, payload_shorter m n.0 n.1 p ep, length-drop 4 bits, ap length e)) t ht) t ht) s h
 
 -- where no end stands, there are four bits
@@ -139,12 +139,15 @@ pub behind_fault : (v : ℕ) (bits : List Bool) (segs : List Segment) (xs : List
 behind_fault v bits segs xs f e h = rw (segments_step v bits e, h) refl
 
 -- a fault of the next segment is that of the whole
-pub fault_all : (v : ℕ) (bits start : List Bool) (segs : List Segment) (xs : List ℕ) (f : ParseFault) → ends bits ≡ false → Fails f (segment_at v bits)
-    → behind segs xs (segments_of v bits) ≡ segments_of v start → Fails f (segments_of v start)
-fault_all v bits start segs xs Memory e h i = tt
-fault_all v bits start segs xs BadMode e h i = sym i ∙ behind_fault v bits segs xs BadMode e h
-fault_all v bits start segs xs Cut e h i = sym i ∙ behind_fault v bits segs xs Cut e h
-fault_all v bits start segs xs BadValue e h i = sym i ∙ behind_fault v bits segs xs BadValue e h
+pub fault_all : (v : ℕ) (bits start : List Bool) (segs : List Segment) (xs : List ℕ) (f : ParseFault) → ends bits ≡ false → IsFaultOf f (segment_at v bits)
+    → behind segs xs (segments_of v bits) ≡ segments_of v start → IsFaultOf f (segments_of v start)
+fault_all v bits start segs xs f e (inl m) i = inl m
+fault_all v bits start segs xs f e (inr h) i = inr (sym i ∙ behind_fault v bits segs xs f e h)
+
+-- a fault that is not lack of memory is the one that reading gives
+pub fault-read : {A : Type 0} (e : ParseFault) (read : Result A ParseFault) → (e ≡ Memory → ⊥) → IsResultOf (Err e) read → read ≡ Err e
+fault-read e read other (inl m) = absurd (other cc)
+fault-read e read other (inr h) = h
 
 -- at an end all segments are read
 pub end_all : (v : ℕ) (bits start : List Bool) (segs : List Segment) (xs : List ℕ) → ends bits ≡ true

@@ -1,5 +1,5 @@
 -- What the payloads say, group by group.
-use Rattle.std.proofs.Common.{◌≡◌, ℕ, zero, suc, ◌+◌, ◌-◌, ◌/◌, ◌%◌, ◌^◌, ◌<◌, ◌≤◌, Bool, List, [], ◌∷◌, ◌++◌, length, take, drop, Result, Ok, Err, refl, sym, ◌∙◌, ap, arith, lit<}
+use Rattle.std.proofs.Common.{◌≡◌, ℕ, zero, suc, ◌+◌, ◌-◌, ◌/◌, ◌%◌, ◌^◌, ◌<◌, ◌≤◌, Bool, List, [], ◌∷◌, ◌++◌, length, take, drop, Result, Ok, Err, refl, sym, ◌∙◌, ap, inr, arith, lit<}
 use Rattle.std.proofs.lemmas.Bool.{lt-ltb, le-ltb}
 use Rattle.std.proofs.lemmas.List.{length-take, append_assoc}
 use Rattle.std.proofs.Math.Nat.{pow-le-pow_right}
@@ -8,7 +8,7 @@ use Rattle.qr_bits.specs.declared.fault.ParseFault.{ParseFault}
 use Rattle.qr_bits.specs.declared.fault.ParseFault.TheVariants.{BadValue}
 use Rattle.qr_bits.specs.Bits.{value}
 use Rattle.qr_bits.specs.Modes.{payload_bits}
-use Rattle.qr_bits.specs.Parsing.{◌>>=◌, digit, digits_of, character, characters_of, bytes_of}
+use Rattle.qr_bits.specs.Parsing.{◌>>=◌, IsFaultOf, digit, digits_of, character, characters_of, bytes_of}
 use Rattle.qr_bits.proofs.BitLemmas.{value_below}
 use Rattle.qr_bits.proofs.WritingLemmas.{three_more, two_more}
 
@@ -145,5 +145,5 @@ pub finish : (front out zs : List ℕ) (read whole : Result (List ℕ) ParseFaul
 finish front out zs read whole h e = with_front-ok out whole (front ++ zs) (sym h ∙ ap (with_front front) e)
 
 -- where the rest fails, the whole fails
-pub fails : (front out : List ℕ) (read whole : Result (List ℕ) ParseFault) (f : ParseFault) → with_front front read ≡ with_front out whole → read ≡ Err f → whole ≡ Err f
-fails front out read whole f h e = with_front-err out whole f (sym h ∙ ap (with_front front) e)
+pub fails : (front out : List ℕ) (read whole : Result (List ℕ) ParseFault) (f : ParseFault) → with_front front read ≡ with_front out whole → read ≡ Err f → IsFaultOf f whole
+fails front out read whole f h e = inr (with_front-err out whole f (sym h ∙ ap (with_front front) e))

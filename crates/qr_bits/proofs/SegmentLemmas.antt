@@ -1,10 +1,11 @@
 -- Lists of segments: their bits, their lengths, and what they cover.
-use Rattle.std.proofs.Common.{◌≡◌, ℕ, suc, ◌+◌, ◌*◌, ◌/◌, ◌%◌, ◌<◌, ◌≤◌, ◌↔◌, Bool, true, false, cond, ◌==◌, List, [], ◌∷◌, length, get_or, take, drop, refl, sym, ◌∙◌, ap, inl, inr, arith, lit≤, IsTrue, All}
+use Rattle.std.proofs.Common.{◌≡◌, ℕ, suc, ◌+◌, ◌*◌, ◌/◌, ◌%◌, ◌<◌, ◌≤◌, ◌↔◌, Bool, true, false, cond, ◌==◌, List, [], ◌∷◌, length, get_or, take, drop, refl, sym, subst, ◌∙◌, ap, inl, inr, arith, lit≤, IsTrue, All}
 use Rattle.std.specs.List.{sum_by}
 use Rattle.std.proofs.lemmas.Bool.{cond_both, eqb-true}
 use Rattle.std.proofs.lemmas.List.{length-drop, drop_all}
 use Rattle.std.proofs.lemmas.List.Sums.{sum_by-cons}
-use Rattle.std.proofs.lemmas.List.Elements.{All-cons, All-nil, All-head, All-tail}
+use Rattle.std.proofs.lemmas.List.Elements.{All-head, All-tail}
+use Rattle.qr_bits.proofs.CoverLemmas.{CoversInTurn, in_turn, from_turn}
 use Rattle.std.proofs.Math.Seq.{drop-cons}
 use Rattle.qr_bits.specs.declared.modes.Mode.{Mode}
 use Rattle.qr_bits.specs.declared.modes.Mode.TheVariants.{Numeric, Alphanumeric, Byte, Kanji}
@@ -58,31 +59,39 @@ bits_most v [] h = omega arith
 bits_most v (s ∷ ss) h =
     omega (arith, segment_most v s (All-head (λ (t : Segment). 0 < t.len) s ss h), bits_most v ss (All-tail (λ (t : Segment). 0 < t.len) s ss h), sum_by-cons (λ (t : Segment). t.len) s ss)
 
+-- what suits has the bytes' length
+suits_length : (xs : List ℕ) (segs : List Segment) → Suits xs segs → sum_by (λ s. s.len) segs ≡ length xs
+unfolding Suits
+suits_length xs [] h = ap length (sym h)
+suits_length xs (s ∷ ss) h = omega (arith, sum_by-cons (λ (t : Segment). t.len) s ss, suits_length (drop s.len xs) ss h.2, length-drop s.len xs, h.0)
+
 -- what covers has no empty segment, and the bytes' length
 pub covers_all : (xs : List ℕ) (segs : List Segment) → Covers xs segs → All (λ s. 0 < s.len) segs × (sum_by (λ s. s.len) segs ≡ length xs)
 unfolding Covers
-covers_all xs [] h = (All-nil (λ (t : Segment). 0 < t.len), ap length (sym h))
-covers_all xs (s ∷ ss) h =
-    let rest = covers_all (drop s.len xs) ss h.3 in
-    (All-cons (λ (t : Segment). 0 < t.len) s ss h.0 rest.0, omega (arith, sum_by-cons (λ (t : Segment). t.len) s ss, rest.1, length-drop s.len xs, h.1))
+covers_all xs segs h = (h.0, suits_length xs segs h.1)
 
 -- the segments from one on cover: the one takes its part, and the others cover what is left
 pub covers_next : (xs : List ℕ) (segs : List Segment) (i : ℕ) (d : Segment) → i < length segs → Covers xs (drop i segs)
     → (0 < (get_or segs i d).len) × ((get_or segs i d).len ≤ length xs) × IsTrue (suits (get_or segs i d).mode (take (get_or segs i d).len xs)) × Covers (drop (get_or segs i d).len xs) (drop (i + 1) segs)
-unfolding Covers
-covers_next xs segs i d h c = let one : i + 1 ≡ suc i = omega arith in rw one (rw (drop-cons segs i d) at c)
+unfolding CoversInTurn
+covers_next xs segs i d h c =
+    let one : i + 1 ≡ suc i = omega arith in
+    let t = subst (CoversInTurn xs) (drop-cons segs i d h) (in_turn xs (drop i segs) c) in
+    (t.0, t.1, t.2, rw one (from_turn _ _ t.3))
 
 -- a segment that takes its part, and others that cover what is left, cover the whole
 pub next_covers : (xs : List ℕ) (segs : List Segment) (i : ℕ) (d : Segment) → i < length segs
     → 0 < (get_or segs i d).len → (get_or segs i d).len ≤ length xs → IsTrue (suits (get_or segs i d).mode (take (get_or segs i d).len xs)) → Covers (drop (get_or segs i d).len xs) (drop (i + 1) segs)
     → Covers xs (drop i segs)
-unfolding Covers
-next_covers xs segs i d h a b c e = let one : i + 1 ≡ suc i = omega arith in rw (drop-cons segs i d) (a, b, c, rw one at e)
+unfolding CoversInTurn
+next_covers xs segs i d h a b c e =
+    let one : i + 1 ≡ suc i = omega arith in
+    from_turn xs (drop i segs) (subst (CoversInTurn xs) (sym (drop-cons segs i d h)) (a, b, c, in_turn _ _ (rw one at e)))
 
 -- no segment is left
 pub covers_end : (xs : List ℕ) (segs : List Segment) (i : ℕ) → length segs ≤ i → (Covers xs (drop i segs) → xs ≡ []) × (xs ≡ [] → Covers xs (drop i segs))
-unfolding Covers
-covers_end xs segs i h = let none = drop_all i segs h in rw none ((λ c. c), (λ c. c))
+unfolding CoversInTurn
+covers_end xs segs i h = let none = drop_all i segs h in rw none (in_turn xs [], from_turn xs [])
 
 -- each byte has at least ten bits in three
 pub payload_least : (m : Mode) (n : ℕ) → 10 * n ≤ 3 * payload_bits m n

@@ -11,10 +11,10 @@ use Rattle.qr_bits.specs.declared.segmentation.Segment.{Segment}
 use Rattle.qr_bits.specs.declared.header.Header.{Header}
 use Rattle.qr_bits.specs.declared.fault.ParseFault.TheVariants.{BadMode, Cut}
 use Rattle.qr_bits.specs.Bits.{field, value}
-use Rattle.qr_bits.specs.Modes.{count_of, count_width, is_kanji_pair, len_of, payload_bits, suits, indicator}
+use Rattle.qr_bits.specs.Modes.{character_count, count_width, is_kanji_pair, byte_count, payload_bits, suits, indicator}
 use Rattle.qr_bits.specs.Header.{header_indicator, header_stream, HeaderFits}
 use Rattle.qr_bits.specs.Stream.{payload, segment_stream, segments_stream, Suits, CountsFit, IsStream}
-use Rattle.qr_bits.specs.Parsing.{◌>>=◌, values_of, mode_of, ends, number_at, payload_at, segment_at, segments_at, segments_of, begins_header, header_at, first_header, Content, parse}
+use Rattle.qr_bits.specs.Parsing.{◌>>=◌, values_of, mode_of, ends, leading_number, payload_at, segment_at, segments_at, segments_of, begins_header, header_at, first_header, Content, parse}
 use Rattle.qr_bits.proofs.BitLemmas.{length-field}
 use Rattle.qr_bits.proofs.PayloadLemmas.{value_take_below}
 use Rattle.qr_bits.proofs.ParsingLemmas.{bind_ok, bind_all, guard_ok, same_ok, not_ended, ended_empty, segment_shorter, segments_end, segments_step, header_whole}
@@ -25,15 +25,15 @@ use Rattle.qr_bits.proofs.WritingLemmas.{in_twos-even, length-payload}
 -- ---- a number
 
 -- a field is read as its number
-number_again : (w n : ℕ) (rest : List Bool) → n < 2 ^ w → number_at w (field w n ++ rest) ≡ Ok (n, rest)
-unfolding number_at
+number_again : (w n : ℕ) (rest : List Bool) → n < 2 ^ w → leading_number w (field w n ++ rest) ≡ Ok (n, rest)
+unfolding leading_number
 number_again w n rest h =
     let there : w ≤ length (field w n ++ rest) = omega (arith, length-append (field w n) rest, length-field w n) in
     rw (le-ltb (length (field w n ++ rest)) w there, read_field w n rest h, drop-field w n rest) refl
 
 -- what is read as a number is its field
-number_takes : (w : ℕ) (bits : List Bool) (n : ℕ × List Bool) → number_at w bits ≡ Ok n → (n.0 < 2 ^ w) × (bits ≡ field w n.0 ++ n.1)
-unfolding number_at
+number_takes : (w : ℕ) (bits : List Bool) (n : ℕ × List Bool) → leading_number w bits ≡ Ok n → (n.0 < 2 ^ w) × (bits ≡ field w n.0 ++ n.1)
+unfolding leading_number
 number_takes w bits n h =
     let g = guard_ok (nat_lt (length bits) w) Cut (Ok (value (take w bits), drop w bits)) n h in
     let P : ℕ × List Bool → Type 0 = λ t. (t.0 < 2 ^ w) × (bits ≡ field w t.0 ++ t.1) in
@@ -43,21 +43,21 @@ number_takes w bits n h =
 -- ---- the data
 
 -- the count of bytes that suit a mode tells how many they are
-len_again : (m : Mode) (xs : List ℕ) → suits m xs ≡ true → len_of m (count_of m (length xs)) ≡ length xs
+len_again : (m : Mode) (xs : List ℕ) → suits m xs ≡ true → byte_count m (character_count m (length xs)) ≡ length xs
 len_again Numeric xs h = refl
 len_again Alphanumeric xs h = refl
 len_again Byte xs h = refl
 len_again Kanji xs h = in_twos-even is_kanji_pair xs h
 
 -- a count is that of its bytes
-count_again : (m : Mode) (n : ℕ) → count_of m (len_of m n) ≡ n
+count_again : (m : Mode) (n : ℕ) → character_count m (byte_count m n) ≡ n
 count_again Numeric n = refl
 count_again Alphanumeric n = refl
 count_again Byte n = refl
 count_again Kanji n = omega arith
 
 -- data is read again as it was written
-payload_again : (m : Mode) (xs : List ℕ) (rest : List Bool) → All (λ b. b < 256) xs → suits m xs ≡ true → payload_at m (count_of m (length xs)) (payload m xs ++ rest) ≡ Ok (xs, rest)
+payload_again : (m : Mode) (xs : List ℕ) (rest : List Bool) → All (λ b. b < 256) xs → suits m xs ≡ true → payload_at m (character_count m (length xs)) (payload m xs ++ rest) ≡ Ok (xs, rest)
 unfolding payload_at
 payload_again m xs rest bytes h =
     let same = len_again m xs h in
@@ -67,13 +67,13 @@ payload_again m xs rest bytes h =
     rw (same, le-ltb (length (payload m xs ++ rest)) (payload_bits m (length xs)) there, values_again m xs rest bytes h, behind) refl
 
 -- what is read as data is written so
-payload_takes : (m : Mode) (n : ℕ) (bits : List Bool) (p : List ℕ × List Bool) → payload_at m n bits ≡ Ok p → IsWritten m n bits p.0 × (p.1 ≡ drop (payload_bits m (len_of m n)) bits)
+payload_takes : (m : Mode) (n : ℕ) (bits : List Bool) (p : List ℕ × List Bool) → payload_at m n bits ≡ Ok p → IsWritten m n bits p.0 × (p.1 ≡ drop (payload_bits m (byte_count m n)) bits)
 unfolding payload_at
 payload_takes m n bits p h =
-    let g = guard_ok (nat_lt (length bits) (payload_bits m (len_of m n))) Cut (values_of m n bits >>= λ xs. Ok (xs, drop (payload_bits m (len_of m n)) bits)) p h in
-    let b = bind_ok (values_of m n bits) (λ xs. Ok (xs, drop (payload_bits m (len_of m n)) bits)) p g.1 in
-    let P : List ℕ × List Bool → Type 0 = λ t. IsWritten m n bits t.0 × (t.1 ≡ drop (payload_bits m (len_of m n)) bits) in
-    subst P (same_ok (b.0, drop (payload_bits m (len_of m n)) bits) p b.2) (values_takes m n b.0 bits (ltb-false _ _ g.0) b.1, refl)
+    let g = guard_ok (nat_lt (length bits) (payload_bits m (byte_count m n))) Cut (values_of m n bits >>= λ xs. Ok (xs, drop (payload_bits m (byte_count m n)) bits)) p h in
+    let b = bind_ok (values_of m n bits) (λ xs. Ok (xs, drop (payload_bits m (byte_count m n)) bits)) p g.1 in
+    let P : List ℕ × List Bool → Type 0 = λ t. IsWritten m n bits t.0 × (t.1 ≡ drop (payload_bits m (byte_count m n)) bits) in
+    subst P (same_ok (b.0, drop (payload_bits m (byte_count m n)) bits) p b.2) (values_takes m n b.0 bits (ltb-false _ _ g.0) b.1, refl)
 
 -- ---- a segment
 
@@ -123,16 +123,16 @@ indicator_plain Kanji = refl
 first_four : (v : ℕ) (m : Mode) (xs : List ℕ) (rest : List Bool) → (value (take 4 (segment_stream v m xs ++ rest)) ≡ indicator m) × (4 ≤ length (segment_stream v m xs ++ rest))
 unfolding segment_stream
 first_four v m xs rest =
-    let behind = field (count_width v m) (count_of m (length xs)) ++ payload m xs in
+    let behind = field (count_width v m) (character_count m (length xs)) ++ payload m xs in
     rw (append_assoc (field 4 (indicator m)) behind rest)
     (read_field 4 (indicator m) (behind ++ rest) (indicator_most m), omega (arith, length-append (field 4 (indicator m)) (behind ++ rest), length-field 4 (indicator m)))
 
 -- a segment is read again as it was written
-segment_again : (v : ℕ) (m : Mode) (xs : List ℕ) (rest : List Bool) → All (λ b. b < 256) xs → suits m xs ≡ true → count_of m (length xs) < 2 ^ count_width v m
+segment_again : (v : ℕ) (m : Mode) (xs : List ℕ) (rest : List Bool) → All (λ b. b < 256) xs → suits m xs ≡ true → character_count m (length xs) < 2 ^ count_width v m
     → segment_at v (segment_stream v m xs ++ rest) ≡ Ok (record { mode = m; len = length xs }, xs, rest)
 unfolding segment_at segment_stream
 segment_again v m xs rest bytes suited fits =
-    let count = field (count_width v m) (count_of m (length xs)) in
+    let count = field (count_width v m) (character_count m (length xs)) in
     let whole : (field 4 (indicator m) ++ (count ++ payload m xs)) ++ rest ≡ field 4 (indicator m) ++ (count ++ (payload m xs ++ rest)) =
     append_assoc (field 4 (indicator m)) (count ++ payload m xs) rest ∙ ap (λ (t : List Bool). field 4 (indicator m) ++ t) (append_assoc count (payload m xs) rest) in
     rw (
@@ -140,7 +140,7 @@ segment_again v m xs rest bytes suited fits =
       read_field 4 (indicator m) (count ++ (payload m xs ++ rest)) (indicator_most m),
       mode_again m,
       drop-field 4 (indicator m) (count ++ (payload m xs ++ rest)),
-      number_again (count_width v m) (count_of m (length xs)) (payload m xs ++ rest) fits,
+      number_again (count_width v m) (character_count m (length xs)) (payload m xs ++ rest) fits,
       payload_again m xs rest bytes suited,
       len_again m xs suited,
     ) refl
@@ -150,13 +150,13 @@ record IsSegment (v : ℕ) (bits : List Bool) (s : Segment) (xs : List ℕ) (res
   long : length xs ≡ s.len
   bytes : All (λ b. b < 256) xs
   suited : suits s.mode xs ≡ true
-  fits : count_of s.mode s.len < 2 ^ count_width v s.mode
+  fits : character_count s.mode s.len < 2 ^ count_width v s.mode
   whole : bits ≡ segment_stream v s.mode xs ++ rest
 
 -- a segment of parts that were read
 segment_from : (v : ℕ) (m : Mode) (bits : List Bool) (n : ℕ × List Bool) (p : List ℕ × List Bool) → 4 ≤ length bits → value (take 4 bits) ≡ indicator m
-    → (n.0 < 2 ^ count_width v m) × (drop 4 bits ≡ field (count_width v m) n.0 ++ n.1) → IsWritten m n.0 n.1 p.0 × (p.1 ≡ drop (payload_bits m (len_of m n.0)) n.1)
-    → IsSegment v bits (record { mode = m; len = len_of m n.0 }) p.0 p.1
+    → (n.0 < 2 ^ count_width v m) × (drop 4 bits ≡ field (count_width v m) n.0 ++ n.1) → IsWritten m n.0 n.1 p.0 × (p.1 ≡ drop (payload_bits m (byte_count m n.0)) n.1)
+    → IsSegment v bits (record { mode = m; len = byte_count m n.0 }) p.0 p.1
 unfolding segment_stream
 segment_from v m bits n p four e number said =
     let w = said.0 in
@@ -178,9 +178,9 @@ unfolding segment_at segment_stream
 segment_takes v bits s four h =
     let P : Segment × List ℕ × List Bool → Type 0 = λ t. IsSegment v bits t.0 t.1 t.2 in
     bind_all (mode_of (value (take 4 bits))) _ P (λ m em t ht.
-    bind_all (number_at (count_width v m) (drop 4 bits)) _ P (λ n en t ht.
+    bind_all (leading_number (count_width v m) (drop 4 bits)) _ P (λ n en t ht.
     bind_all (payload_at m n.0 n.1) _ P (λ p ep t ht.
-    subst P (same_ok (record { mode = m; len = len_of m n.0 }, p.0, p.1) t ht) (segment_from v m bits n p four (mode_takes _ m em) (number_takes (count_width v m) (drop 4 bits) n en) (payload_takes m n.0 n.1 p ep))) t ht) t ht) s h
+    subst P (same_ok (record { mode = m; len = byte_count m n.0 }, p.0, p.1) t ht) (segment_from v m bits n p four (mode_takes _ m em) (number_takes (count_width v m) (drop 4 bits) n en) (payload_takes m n.0 n.1 p ep))) t ht) t ht) s h
 
 -- ---- segments to the end
 
@@ -290,7 +290,8 @@ header_parts bits long =
 -- a header is read again as it was written
 header_again : (h : Header) (rest : List Bool) → HeaderFits (Some h) → first_header (header_stream (Some h) ++ rest) ≡ Ok (Some h, rest)
 unfolding first_header header_stream
-header_again h rest fits =
+header_again h rest all_fit =
+    let fits = all_fit h refl in
     let p = field 4 h.position in
     let l = field 4 h.last in
     let q = field 8 h.parity in
@@ -337,6 +338,13 @@ unfolding first_header header_stream
 first_again v None xs segs tail fits e = rw (none_begins v xs segs tail e) refl
 first_again v (Some h) xs segs tail fits e = rw (append_assoc (header_stream (Some h)) (segments_stream v xs segs) tail) (header_again h (segments_stream v xs segs ++ tail) fits)
 
+-- the numbers of a header that is there fit
+fits_of : (h : Header) → h.position < 16 → h.last < 16 → h.parity < 256 → HeaderFits (Some h)
+fits_of h a b d = λ k e.
+    let P : Header → Type 0 = λ z. (z.position < 16) × (z.last < 16) × (z.parity < 256) in
+    let g : h ≡ k = cc in
+    subst P g (a, b, d)
+
 -- what is read as a header is its fields
 header_takes : (bits : List Bool) (r : Header × List Bool) → header_at bits ≡ Ok r → HeaderFits (Some r.0) × (bits ≡ (field 4 r.0.position ++ (field 4 r.0.last ++ field 8 r.0.parity)) ++ r.1)
 unfolding header_at
@@ -345,7 +353,7 @@ header_takes bits r h =
     let long : 16 ≤ length bits = ltb-false _ _ g.0 in
     let P : Header × List Bool → Type 0 = λ t. HeaderFits (Some t.0) × (bits ≡ (field 4 t.0.position ++ (field 4 t.0.last ++ field 8 t.0.parity)) ++ t.1) in
     subst P (same_ok (record { position = value (take 4 bits); last = value (take 4 (drop 4 bits)); parity = value (take 8 (drop 8 bits)) }, drop 16 bits) r g.1)
-    ((value_take_below 4 bits, value_take_below 4 (drop 4 bits), value_take_below 8 (drop 8 bits)), header_parts bits long)
+    (fits_of _ (value_take_below 4 bits) (value_take_below 4 (drop 4 bits)) (value_take_below 8 (drop 8 bits)), header_parts bits long)
 
 -- what is read as a header or none is its bits
 first_takes : (bits : List Bool) (r : Option Header × List Bool) → first_header bits ≡ Ok r → HeaderFits r.0 × (bits ≡ header_stream r.0 ++ r.1)
@@ -358,7 +366,7 @@ first_takes bits r h =
     let w = header_takes (drop 4 bits) q eq in
     let fields = field 4 q.0.position ++ (field 4 q.0.last ++ field 8 q.0.parity) in
     subst P (same_ok (Some q.0, q.1) t ht) (w.0, rw (append_assoc (field 4 header_indicator) fields q.1, ← w.1) (started bits e))) r (rw e at h))
-    (λ (e : begins_header bits ≡ false). subst P (same_ok (None, bits) r (rw e at h)) (tt, refl))
+    (λ (e : begins_header bits ≡ false). subst P (same_ok (None, bits) r (rw e at h)) ((λ k z. cc), refl))
     (cases_Bool (begins_header bits))
 
 -- ---- the whole

@@ -8,7 +8,7 @@ use Rattle.qr_bits.specs.declared.modes.Mode.{Mode}
 use Rattle.qr_bits.specs.declared.modes.Mode.TheVariants.{Numeric, Alphanumeric, Byte, Kanji}
 use Rattle.qr_bits.specs.declared.fault.ParseFault.TheVariants.{BadValue}
 use Rattle.qr_bits.specs.Bits.{field, value, bits_of}
-use Rattle.qr_bits.specs.Modes.{count_of, is_alphanumeric, len_of, payload_bits, suits, character_value}
+use Rattle.qr_bits.specs.Modes.{character_count, is_alphanumeric, byte_count, payload_bits, suits, character_value}
 use Rattle.qr_bits.specs.Stream.{character_bits, payload}
 use Rattle.qr_bits.specs.Parsing.{◌>>=◌, character, characters_of, bytes_of, values_of}
 use Rattle.qr_bits.proofs.KanjiLemmas.{pairs_again, pairs_takes}
@@ -20,10 +20,10 @@ use Rattle.qr_bits.proofs.WritingLemmas.{two_more}
 
 -- what was read of n digits, characters, bytes or kanji pairs is written so
 pub record IsWritten (m : Mode) (n : ℕ) (bits : List Bool) (xs : List ℕ) : Type 0 where
-  pub long : length xs ≡ len_of m n
+  pub long : length xs ≡ byte_count m n
   pub bytes : All (λ b. b < 256) xs
   pub suited : suits m xs ≡ true
-  pub whole : bits ≡ payload m xs ++ drop (payload_bits m (len_of m n)) bits
+  pub whole : bits ≡ payload m xs ++ drop (payload_bits m (byte_count m n)) bits
 
 -- ---- characters
 
@@ -123,7 +123,7 @@ bytes_takes (suc n) bits h =
 -- ---- any mode
 
 -- What is written is read again, whatever follows.
-pub values_again : (m : Mode) (xs : List ℕ) (rest : List Bool) → All (λ b. b < 256) xs → suits m xs ≡ true → values_of m (count_of m (length xs)) (payload m xs ++ rest) ≡ Ok xs
+pub values_again : (m : Mode) (xs : List ℕ) (rest : List Bool) → All (λ b. b < 256) xs → suits m xs ≡ true → values_of m (character_count m (length xs)) (payload m xs ++ rest) ≡ Ok xs
 unfolding values_of payload
 values_again Numeric xs rest bytes h = digits_again xs rest (are_digits xs h)
 values_again Alphanumeric xs rest bytes h = characters_again xs rest h
@@ -131,7 +131,7 @@ values_again Byte xs rest bytes h = ap Ok (bytes_again xs rest bytes)
 values_again Kanji xs rest bytes h = pairs_again xs rest h
 
 -- What is read is written so.
-pub values_takes : (m : Mode) (n : ℕ) (xs : List ℕ) (bits : List Bool) → payload_bits m (len_of m n) ≤ length bits → values_of m n bits ≡ Ok xs → IsWritten m n bits xs
+pub values_takes : (m : Mode) (n : ℕ) (xs : List ℕ) (bits : List Bool) → payload_bits m (byte_count m n) ≤ length bits → values_of m n bits ≡ Ok xs → IsWritten m n bits xs
 unfolding values_of payload
 values_takes Numeric n xs bits h e =
     let w = digits_takes n xs bits h e in

@@ -8,8 +8,8 @@ use Rattle.qr_bits.specs.declared.modes.Mode.{Mode}
 use Rattle.qr_bits.specs.declared.modes.Mode.TheVariants.{Numeric, Alphanumeric, Byte, Kanji}
 use Rattle.qr_bits.specs.declared.segmentation.Segment.{Segment}
 use Rattle.qr_bits.specs.Bits.{field}
-use Rattle.qr_bits.specs.Modes.{count_of, count_width, payload_bits, in_twos, is_kanji_pair, suits, kanji_value, character_value}
-use Rattle.qr_bits.specs.Segmentation.{segment_bits, bits, Covers}
+use Rattle.qr_bits.specs.Modes.{character_count, count_width, payload_bits, in_twos, is_kanji_pair, suits, kanji_value, character_value}
+use Rattle.qr_bits.specs.Segmentation.{segment_bits, bits}
 use Rattle.qr_bits.specs.Stream.{kanji_bits, digit_bits, character_bits, payload, segment_stream, segments_stream, Suits}
 use Rattle.qr_bits.proofs.BitLemmas.{length-field, length-bits_of}
 
@@ -165,9 +165,9 @@ length-payload Kanji xs h = length-kanji_bits xs h
 pub length-segment_stream : (v n : ℕ) (m : Mode) (xs : List ℕ) → suits m xs ≡ true → length xs ≡ n → length (segment_stream v m xs) ≡ segment_bits v (record { mode = m; len = n })
 unfolding segment_stream
 length-segment_stream v n m xs h e =
-    let count = field (count_width v m) (count_of m (length xs)) in
+    let count = field (count_width v m) (character_count m (length xs)) in
     let id = Rattle.qr_bits.specs.Modes.indicator m in
-    omega (arith, length-append (field 4 id) (count ++ payload m xs), length-append count (payload m xs), length-field 4 id, length-field (count_width v m) (count_of m (length xs)), length-payload m xs h, ap (payload_bits m) e)
+    omega (arith, length-append (field 4 id) (count ++ payload m xs), length-append count (payload m xs), length-field 4 id, length-field (count_width v m) (character_count m (length xs)), length-payload m xs h, ap (payload_bits m) e)
 
 -- the stream of segments has their bits
 pub length-segments_stream : (v : ℕ) (xs : List ℕ) (segs : List Segment) → Suits xs segs → length (segments_stream v xs segs) ≡ bits v segs
@@ -176,12 +176,6 @@ length-segments_stream v xs [] h = refl
 length-segments_stream v xs (s ∷ ss) h =
     let one = length-segment_stream v s.len s.mode (take s.len xs) h.1 (length-take-le s.len xs h.0) in
     omega (arith, length-append (segment_stream v s.mode (take s.len xs)) (segments_stream v (drop s.len xs) ss), one, length-segments_stream v (drop s.len xs) ss h.2)
-
--- what covers suits
-pub covers_suits : (xs : List ℕ) (segs : List Segment) → Covers xs segs → Suits xs segs
-unfolding Covers Suits
-covers_suits xs [] h = h
-covers_suits xs (s ∷ ss) h = (h.1, h.2, covers_suits (drop s.len xs) ss h.3)
 
 -- ---- segments, one after the other
 

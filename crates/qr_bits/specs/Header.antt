@@ -1,5 +1,6 @@
 -- The header of structured append: its bits and the parity. Public clauses cite these.
-use Rattle.std.specs.Prelude.{ℕ, ◌+◌, ◌<◌, Bool, List, [], ◌++◌, Option, Some, None, bit_xor, fold}
+use Rattle.std.specs.Prelude.{ℕ, ◌<◌, Bool, List, [], ◌++◌, Option, bit_xor, fold}
+use Rattle.std.specs.Option.{ForSome, option_map_or}
 use Rattle.qr_bits.specs.declared.header.Header.{Header}
 use Rattle.qr_bits.specs.Bits.{field}
 
@@ -9,18 +10,15 @@ header_indicator = 3
 
 -- the bits of a header: 20, where there is one (ISO/IEC 18004:2015, 8.1)
 abbrev pub header_bits : Option Header → ℕ
-header_bits None = 0
-header_bits (Some h) = 20
+header_bits header = option_map_or (λ _. 20) header 0
 
 -- the header's numbers fit their fields (ISO/IEC 18004:2015, 8.2, 8.3)
 abbrev pub HeaderFits : Option Header → Type 0
-HeaderFits None = Unit {0}
-HeaderFits (Some h) = (h.position < 16) × (h.last < 16) × (h.parity < 256)
+HeaderFits header = ForSome header (λ h. (h.position < 16) × (h.last < 16) × (h.parity < 256))
 
 -- the bits of a header: the indicator, the position, the number of symbols less 1, the parity (ISO/IEC 18004:2015, 8.1 to 8.3)
 unfoldable pub header_stream : Option Header → List Bool
-header_stream None = []
-header_stream (Some h) = field 4 header_indicator ++ (field 4 h.position ++ (field 4 h.last ++ field 8 h.parity))
+header_stream header = option_map_or (λ h. field 4 header_indicator ++ (field 4 h.position ++ (field 4 h.last ++ field 8 h.parity))) header []
 
 -- the parity of an input: the exclusive or of all its bytes (ISO/IEC 18004:2015, 8.3)
 abbrev pub parity_of : List ℕ → ℕ

@@ -19,85 +19,63 @@ use Rattle.qr_bits.specs.Parsing.{ends, parse}
 -- bits, or the terminator and anything (ISO/IEC 18004:2015, 7.4.1, 7.4.9, 8.1).
 abbrev pub StreamsAreParsed : Type 0
 StreamsAreParsed =
-    (v : ℕ) (bits : List Bool) (h : Option Header) (segs : List Segment) (xs : List ℕ)
-    → (parse v bits ≡ Ok (record { header = h; segments = segs; bytes = xs }))
-    ↔ ((front : List Bool) × (tail : List Bool)
-    × IsStream v xs segs h front × (bits ≡ front ++ tail) × (ends tail ≡ true))
+    (v : ℕ) (bits : List Bool) (h : Option Header) (segs : List Segment) (xs : List ℕ) →
+    (parse v bits ≡ Ok (record { header = h; segments = segs; bytes = xs })) ↔
+    ((front : List Bool) × (tail : List Bool) × IsStream v xs segs h front × (bits ≡ front ++ tail) × (ends tail ≡ true))
 
 -- A parse of data codewords gives back the header, the segments and the bytes that they were made of [own].
 abbrev pub DataAreParsed : Type 0
 DataAreParsed =
-    (v : ℕ) (l : Level) (xs : List ℕ) (segs : List Segment) (h : Option Header) (cw : List ℕ)
-    → IsData v l xs segs h cw
-    → parse v (bits_of cw) ≡ Ok (record { header = h; segments = segs; bytes = xs })
+    (v : ℕ) (l : Level) (xs : List ℕ) (segs : List Segment) (h : Option Header) (cw : List ℕ) → IsData v l xs segs h cw →
+    parse v (bits_of cw) ≡ Ok (record { header = h; segments = segs; bytes = xs })
 
 -- A stream has the bits of its header and its segments [own].
 abbrev pub StreamsHaveTheirBits : Type 0
 StreamsHaveTheirBits =
-    (v : ℕ) (xs : List ℕ) (segs : List Segment) (h : Option Header) (stream : List Bool)
-    → IsStream v xs segs h stream
-    → length stream ≡ header_bits h + bits v segs
+    (v : ℕ) (xs : List ℕ) (segs : List Segment) (h : Option Header) (stream : List Bool) → IsStream v xs segs h stream →
+    length stream ≡ header_bits h + bits v segs
 
--- Where there is a stream that fits, there are data codewords [own].
+-- If a stream fits, it has data codewords [own].
 abbrev pub DataAreThere : Type 0
 DataAreThere =
-    (v : ℕ) (l : Level) (xs : List ℕ) (segs : List Segment) (h : Option Header) (stream : List Bool)
-    → IsStream v xs segs h stream
-    → length stream ≤ capacity_of v l
-    → (cw : List ℕ) × IsData v l xs segs h cw
+    (v : ℕ) (l : Level) (xs : List ℕ) (segs : List Segment) (h : Option Header) (stream : List Bool) → IsStream v xs segs h stream →
+    length stream ≤ capacity_of v l → (cw : List ℕ) × IsData v l xs segs h cw
 
 -- There is only one list of data codewords [own].
 abbrev pub DataAreOne : Type 0
 DataAreOne =
-    (v : ℕ) (l : Level) (xs : List ℕ) (segs : List Segment) (h : Option Header) (cw dw : List ℕ)
-    → IsData v l xs segs h cw
-    → IsData v l xs segs h dw
-    → cw ≡ dw
+    (v : ℕ) (l : Level) (xs : List ℕ) (segs : List Segment) (h : Option Header) (cw dw : List ℕ) →
+    IsData v l xs segs h cw → IsData v l xs segs h dw → cw ≡ dw
 
 -- The data codewords are as many as the symbol holds (ISO/IEC 18004:2015, 7.4.10).
 abbrev pub DataFillTheSymbol : Type 0
 DataFillTheSymbol =
-    (v : ℕ) (l : Level) (xs : List ℕ) (segs : List Segment) (h : Option Header) (cw : List ℕ)
-    → IsData v l xs segs h cw
-    → length cw ≡ data_codewords_of v l
+    (v : ℕ) (l : Level) (xs : List ℕ) (segs : List Segment) (h : Option Header) (cw : List ℕ) → IsData v l xs segs h cw →
+    length cw ≡ data_codewords_of v l
 
--- Where the bits of segments that take the bytes fit the symbol, each count fits its field [own].
+-- If the bits of segments that take the bytes fit the symbol, each count fits its field [own].
 abbrev pub CountsFitWhereBitsFit : Type 0
 CountsFitWhereBitsFit =
-    (v : ℕ) (l : Level) (xs : List ℕ) (segs : List Segment)
-    → 1 ≤ v
-    → v ≤ 40
-    → Suits xs segs
-    → bits v segs ≤ capacity_of v l
-    → CountsFit v segs
+    (v : ℕ) (l : Level) (xs : List ℕ) (segs : List Segment) → 1 ≤ v → v ≤ 40 → Suits xs segs →
+    bits v segs ≤ capacity_of v l → CountsFit v segs
 
--- Where some lettering of the bytes fits a symbol, there are at most 7,089 bytes [own].
+-- If some lettering of the bytes fits a symbol, there are at most 7,089 bytes [own].
 abbrev pub FittingInputsAreShort : Type 0
 FittingInputsAreShort =
-    (v : ℕ) (l : Level) (r : Rule) (xs : List ℕ)
-    → 1 ≤ v
-    → v ≤ 40
-    → HasFit v r xs (capacity_of v l)
-    → length xs ≤ 7089
+    (v : ℕ) (l : Level) (r : Rule) (xs : List ℕ) → 1 ≤ v → v ≤ 40 → HasFit v r xs (capacity_of v l) → length xs ≤ 7089
 
--- The least segmentation covers the bytes, and fits exactly where some lettering does [own].
+-- The least segmentation covers the bytes, and fits exactly if some lettering does [own].
 abbrev pub LeastSegmentationsFit : Type 0
 LeastSegmentationsFit =
-    (v : ℕ) (r : Rule) (xs : List ℕ) (segs : List Segment)
-    → IsLeastSegmentation v r xs segs
-    → Covers xs segs × ((n : ℕ) → HasFit v r xs n ↔ (bits v segs ≤ n))
+    (v : ℕ) (r : Rule) (xs : List ℕ) (segs : List Segment) → IsLeastSegmentation v r xs segs →
+    Covers xs segs × ((n : ℕ) → HasFit v r xs n ↔ (bits v segs ≤ n))
 
--- By a rule without kanji mode, where some lettering of a text has at most n bits, some lettering of each piece of it has [own].
+-- By a rule without kanji mode, if some lettering of a text has at most n bits, some lettering of each piece of it has [own].
 abbrev pub PiecesNeedNoMore : Type 0
 PiecesNeedNoMore =
-    (v : ℕ) (r : Rule) (xs ys zs : List ℕ) (n : ℕ)
-    → may_use r Kanji ≡ false
-    → HasFit v r (xs ++ (ys ++ zs)) n
-    → HasFit v r ys n
+    (v : ℕ) (r : Rule) (xs ys zs : List ℕ) (n : ℕ) → may_use r Kanji ≡ false → HasFit v r (xs ++ (ys ++ zs)) n → HasFit v r ys n
 
 -- Item k of the bits of codewords is bit k in closed form (ISO/IEC 18004:2015, 7.7.3).
 abbrev pub BitsAreCodewordBits : Type 0
 BitsAreCodewordBits =
-    (cw : List ℕ) (k : ℕ)
-    → k < 8 * length cw
-    → slice_index_or (bits_of cw) k false ≡ codeword_bit cw k
+    (cw : List ℕ) (k : ℕ) → k < 8 * length cw → slice_index_or (bits_of cw) k false ≡ codeword_bit cw k

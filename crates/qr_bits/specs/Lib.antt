@@ -7,4 +7,5 @@ pub mod Padding
 pub mod Parsing
 pub mod Folding
 pub mod Laws
+pub mod Examples
 pub mod Steps

@@ -25,18 +25,14 @@ count_width v Byte = if nat_le v 9 then 8 else 16
 count_width v Kanji = if nat_le v 9 then 8 else (if nat_le v 26 then 10 else 12)
 
 -- the count of n bytes: digits, characters, bytes or, two bytes each, kanji characters (ISO/IEC 18004:2015, 7.4.1)
-abbrev pub count_of : Mode → ℕ → ℕ
-count_of Numeric n = n
-count_of Alphanumeric n = n
-count_of Byte n = n
-count_of Kanji n = n / 2
+abbrev pub character_count : Mode → ℕ → ℕ
+character_count Kanji n = n / 2
+character_count _ n = n
 
 -- the bytes of so many digits, characters, bytes or kanji characters (ISO/IEC 18004:2015, 7.4.1)
-abbrev pub len_of : Mode → ℕ → ℕ
-len_of Numeric n = n
-len_of Alphanumeric n = n
-len_of Byte n = n
-len_of Kanji n = 2 * n
+abbrev pub byte_count : Mode → ℕ → ℕ
+byte_count Kanji n = 2 * n
+byte_count _ n = n
 
 -- the byte is a digit (ISO/IEC 18004:2015, 7.3.3)
 abbrev pub is_digit : ℕ → Bool

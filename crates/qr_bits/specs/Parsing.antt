@@ -1,5 +1,5 @@
 -- The parse of data codewords' bits: by cases on the bits. Public clauses cite these.
-use Rattle.std.specs.Prelude.{◌≡◌, ℕ, zero, suc, ◌+◌, ◌*◌, ◌/◌, ◌%◌, Bool, ◌&&◌, ◌||◌, ◌==◌, nat_lt, nat_le, if◌then◌else◌, List, [], ◌∷◌, ◌++◌, length, take, drop, Result, Ok, Err, Option, Some, None}
+use Rattle.std.specs.Prelude.{◌≡◌, ◌⊎◌, ℕ, zero, suc, ◌+◌, ◌*◌, ◌/◌, ◌%◌, Bool, ◌&&◌, ◌||◌, ◌==◌, nat_lt, nat_le, if◌then◌else◌, List, [], ◌∷◌, ◌++◌, length, take, drop, Result, Ok, Err, Option, Some, None}
 use Rattle.std.specs.List.{slice_index_or}
 use Rattle.qr_bits.specs.declared.modes.Mode.{Mode}
 use Rattle.qr_bits.specs.declared.modes.Mode.TheVariants.{Numeric, Alphanumeric, Byte, Kanji}
@@ -8,7 +8,7 @@ use Rattle.qr_bits.specs.declared.header.Header.{Header}
 use Rattle.qr_bits.specs.declared.fault.ParseFault.{ParseFault}
 use Rattle.qr_bits.specs.declared.fault.ParseFault.TheVariants.{Memory, BadMode, Cut, BadValue}
 use Rattle.qr_bits.specs.Bits.{value}
-use Rattle.qr_bits.specs.Modes.{characters, count_width, indicator, len_of, payload_bits, terminator}
+use Rattle.qr_bits.specs.Modes.{characters, count_width, indicator, byte_count, payload_bits, terminator}
 use Rattle.qr_bits.specs.Header.{header_indicator}
 
 infixl 10 ◌>>=◌
@@ -18,16 +18,12 @@ abbrev pub ◌>>=◌ : {A B : Type 0} → Result A ParseFault → (A → Result 
 (Err e) >>= f = Err e
 
 -- The fault is the one that reading gives, unless memory ran out [own].
-abbrev pub Fails : {A : Type 0} → ParseFault → Result A ParseFault → Type 0
-Fails Memory read = Unit {0}
-Fails BadMode read = read ≡ Err BadMode
-Fails Cut read = read ≡ Err Cut
-Fails BadValue read = read ≡ Err BadValue
+abbrev pub IsFaultOf : {A : Type 0} → ParseFault → Result A ParseFault → Type 0
+IsFaultOf e read = (e ≡ Memory) ⊎ (read ≡ Err e)
 
 -- What was returned is what reading gives, unless memory ran out [own].
-abbrev pub Gives : {A : Type 0} → Result A ParseFault → Result A ParseFault → Type 0
-Gives (Ok x) read = read ≡ Ok x
-Gives (Err e) read = Fails e read
+abbrev pub IsResultOf : {A : Type 0} → Result A ParseFault → Result A ParseFault → Type 0
+IsResultOf r read = (r ≡ Err Memory) ⊎ (read ≡ r)
 
 -- the last digit of a number, as its byte (ISO/IEC 18004:2015, 7.4.3)
 abbrev pub digit : ℕ → ℕ
@@ -102,22 +98,22 @@ unfoldable pub ends : List Bool → Bool
 ends bits = nat_lt (length bits) 4 || value (take 4 bits) == terminator
 
 -- a number in w bits and the bits after it, or Cut where they are not there (ISO/IEC 18004:2015, 7.4.1)
-unfoldable pub number_at : ℕ → List Bool → Result (ℕ × List Bool) ParseFault
-number_at w bits = if nat_lt (length bits) w then Err Cut else Ok (value (take w bits), drop w bits)
+unfoldable pub leading_number : ℕ → List Bool → Result (ℕ × List Bool) ParseFault
+leading_number w bits = if nat_lt (length bits) w then Err Cut else Ok (value (take w bits), drop w bits)
 
 -- the data of a count of n and the bits after it: Cut where they are not all there, before their values are looked at
 -- (ISO/IEC 18004:2015, 7.4.3 to 7.4.6)
 unfoldable pub payload_at : Mode → ℕ → List Bool → Result (List ℕ × List Bool) ParseFault
 payload_at m n bits =
-    if nat_lt (length bits) (payload_bits m (len_of m n)) then Err Cut else (values_of m n bits >>= λ xs. Ok (xs, drop (payload_bits m (len_of m n)) bits))
+    if nat_lt (length bits) (payload_bits m (byte_count m n)) then Err Cut else (values_of m n bits >>= λ xs. Ok (xs, drop (payload_bits m (byte_count m n)) bits))
 
 -- a segment, its bytes, and the bits after it: indicator, count, data (ISO/IEC 18004:2015, 7.4.1)
 unfoldable pub segment_at : ℕ → List Bool → Result (Segment × List ℕ × List Bool) ParseFault
 segment_at v bits =
     mode_of (value (take 4 bits)) >>= λ m.
-    number_at (count_width v m) (drop 4 bits) >>= λ n.
+    leading_number (count_width v m) (drop 4 bits) >>= λ n.
     payload_at m n.0 n.1 >>= λ p.
-    Ok (record { mode = m; len = len_of m n.0 }, p.0, p.1)
+    Ok (record { mode = m; len = byte_count m n.0 }, p.0, p.1)
 
 -- at most so many segments
 unfoldable pub segments_at : ℕ → ℕ → List Bool → Result (List Segment × List ℕ) ParseFault

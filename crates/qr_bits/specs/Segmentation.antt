@@ -1,11 +1,12 @@
 -- Segments, what they cost, and the choice of segments: a mode for each byte. Public clauses cite these.
-use Rattle.std.specs.Prelude.{◌≡◌, ℕ, ◌+◌, ◌/◌, ◌<◌, ◌≤◌, ◌⊎◌, if◌then◌else◌, ◌==◌, nat_le, List, [], ◌∷◌, length, take, drop, IsTrue}
+use Rattle.std.specs.Prelude.{◌≡◌, ℕ, ◌+◌, ◌/◌, ◌<◌, ◌≤◌, ◌⊎◌, if◌then◌else◌, ◌==◌, nat_le, List, [], ◌∷◌, length, take, All, IsTrue}
 use Rattle.std.specs.List.{list_all, sum_by}
 use Rattle.qr_bits.specs.declared.modes.Mode.{Mode}
 use Rattle.qr_bits.specs.declared.modes.Mode.TheVariants.{Numeric, Alphanumeric, Byte, Kanji}
 use Rattle.qr_bits.specs.declared.modes.Rule.{Rule}
 use Rattle.qr_bits.specs.declared.segmentation.Segment.{Segment}
-use Rattle.qr_bits.specs.Modes.{count_width, is_digit, suits, payload_bits, may_use}
+use Rattle.qr_bits.specs.Modes.{count_width, is_digit, payload_bits, may_use}
+use Rattle.qr_bits.specs.Stream.{Suits}
 
 -- the bits of a segment: mode indicator, character count indicator and data (ISO/IEC 18004:2015, 7.4.1)
 abbrev pub segment_bits : ℕ → Segment → ℕ
@@ -18,8 +19,7 @@ bits v (s ∷ ss) = segment_bits v s + bits v ss
 
 -- no segment is empty, and the segments take all of the bytes, each part suiting its mode [own]
 unfoldable pub Covers : List ℕ → List Segment → Type 0
-Covers xs [] = xs ≡ []
-Covers xs (s ∷ ss) = (0 < s.len) × (s.len ≤ length xs) × IsTrue (suits s.mode (take s.len xs)) × Covers (drop s.len xs) ss
+Covers xs segs = All (λ s. 0 < s.len) segs × Suits xs segs
 
 -- the order of the letters: Numeric, Alphanumeric, Byte, Kanji [own]
 abbrev pub rank : Mode → ℕ

@@ -5,7 +5,7 @@ use Rattle.qr_bits.specs.declared.modes.Mode.TheVariants.{Numeric, Alphanumeric,
 use Rattle.qr_bits.specs.declared.segmentation.Segment.{Segment}
 use Rattle.qr_bits.specs.declared.header.Header.{Header}
 use Rattle.qr_bits.specs.Bits.{field, bits_of}
-use Rattle.qr_bits.specs.Modes.{count_of, count_width, suits, indicator, character_value, kanji_value}
+use Rattle.qr_bits.specs.Modes.{character_count, count_width, suits, indicator, character_value, kanji_value}
 use Rattle.qr_bits.specs.Header.{header_stream, HeaderFits}
 
 -- the bits of digits: three in 10 bits, two left over in 7, one in 4 (ISO/IEC 18004:2015, 7.4.3)
@@ -36,7 +36,7 @@ payload Kanji xs = kanji_bits xs
 
 -- the bits of one segment of these bytes: mode indicator, character count indicator, data (ISO/IEC 18004:2015, 7.4.1)
 unfoldable pub segment_stream : ℕ → Mode → List ℕ → List Bool
-segment_stream v m xs = field 4 (indicator m) ++ (field (count_width v m) (count_of m (length xs)) ++ payload m xs)
+segment_stream v m xs = field 4 (indicator m) ++ (field (count_width v m) (character_count m (length xs)) ++ payload m xs)
 
 -- the bits of segments, one after the other, each of its part of the bytes (ISO/IEC 18004:2015, 7.4.1)
 unfoldable pub segments_stream : ℕ → List ℕ → List Segment → List Bool
@@ -51,7 +51,7 @@ Suits xs (s ∷ ss) = (s.len ≤ length xs) × IsTrue (suits s.mode (take s.len 
 -- each count fits its character count indicator (ISO/IEC 18004:2015, 7.4.1, Table 3)
 unfoldable pub CountsFit : ℕ → List Segment → Type 0
 CountsFit v [] = Unit {0}
-CountsFit v (s ∷ ss) = (count_of s.mode s.len < 2 ^ count_width v s.mode) × CountsFit v ss
+CountsFit v (s ∷ ss) = (character_count s.mode s.len < 2 ^ count_width v s.mode) × CountsFit v ss
 
 -- The bits are the stream of these bytes in these segments after this header: where the segments take the bytes, each
 -- part suits its mode and all numbers fit, the header's bits and then those of the segments (ISO/IEC 18004:2015, 7.4.1, 8.1).

@@ -1,22 +1,30 @@
-//! Laws of the definitions, which hold for every input.
+//! Laws of the definitions: those that hold for every input, and those that compute what the standard prints or what was
+//! worked out by hand.
 
-ghost use Rattle.std.specs.Prelude.{◌≡◌, ◌↔◌, ◌/◌, ◌%◌, ℕ, List, [], ◌∷◌, ◌++◌, true, false, length, map, codes, IsTrue};
+ghost use Rattle.std.specs.Prelude.{◌≡◌, ◌-◌, ◌/◌, ◌%◌, ℕ, List, [], ◌∷◌, ◌++◌, true, false, length, map, codes};
+ghost use Rattle.qr_layout.specs.declared.level.Level.{Level};
 ghost use Rattle.qr_bits.specs.declared.modes.Mode.TheVariants.{Alphanumeric, Byte, Kanji, Numeric};
 ghost use Rattle.qr_bits.specs.declared.modes.Rule.{Rule};
 ghost use Rattle.qr_bits.specs.declared.segmentation.Segment.{Segment};
+ghost use Rattle.qr_bits.specs.declared.header.Header.{Header};
 ghost use Rattle.qr_bits.specs.Bits.{bits_of, field};
-ghost use Rattle.qr_bits.specs.Padding.{padded};
+ghost use Rattle.qr_bits.specs.Header.{header_bits, header_stream, parity_of};
+ghost use Rattle.qr_bits.specs.Padding.{capacity_of, padded, room_of};
 ghost use Rattle.qr_bits.specs.Folding.{folded};
-ghost use Rattle.qr_bits.specs.Segmentation.{IsLeastSegmentation};
-ghost use Rattle.qr_bits.specs.Modes.{count_width, is_kanji_pair, character_value, kanji_value};
-ghost use Rattle.qr_bits.specs.Parsing.{kanji_pair};
+ghost use Rattle.qr_bits.specs.Segmentation.{IsLeastSegmentation, least_bits};
+ghost use Rattle.qr_bits.specs.Modes.{count_width, is_kanji_pair, character_value, kanji_value, may_use};
+ghost use Rattle.qr_bits.specs.Parsing.{kanji_pair, parse};
 ghost use Rattle.qr_bits.specs.Stream.{character_bits, digit_bits, segments_stream};
 ghost use Rattle.qr_bits.specs.Laws.{BitsAreCodewordBits, CountsFitWhereBitsFit, DataAreOne, DataAreParsed, DataAreThere, DataFillTheSymbol, FittingInputsAreShort, LeastSegmentationsFit, PiecesNeedNoMore, StreamsAreParsed, StreamsHaveTheirBits};
+ghost use Rattle.qr_bits.specs.Examples.{all_modes, eight_digits, eleven_characters, middle, middle_data, one, two_kanji, two_kanji_data, unreadable};
 
+pub use crate::equality::{
+    bit_fault_clones, bit_faults_are_equal, header_clones, headers_are_equal, mode_clones,
+    modes_are_equal, parse_fault_clones, parse_faults_are_equal, rule_clones, rules_are_equal,
+    segment_clones, segments_are_equal,
+};
 use crate::fault::{BitFault, ParseFault};
-use crate::header::Header;
-use crate::modes::{INPUT_MAX, Mode, Rule};
-use crate::segmentation::Segment;
+use crate::modes::INPUT_MAX;
 
 /// A parse reads streams, and only streams: any segmentation, empty segments and any padding.
 pub fn streams_are_parsed()
@@ -93,18 +101,90 @@ pub fn widths_compute()
         ≡ 8 ∷ 8 ∷ 10 ∷ 10 ∷ 12 ∷ 12 ∷ [] }
 {}
 
-/// The data bits of the standard's examples (7.4.3 to 7.4.5), the values of the last characters (Table 5), and the data
-/// codewords of eight digits in version 1 and level M.
-#[tactic(auto, unfolding(crate::specs::Modes::characters, crate::specs::Stream::digit_bits, crate::specs::Modes::character_value, crate::specs::Stream::character_bits, crate::specs::Stream::payload, crate::specs::Stream::segment_stream, crate::specs::Stream::segments_stream, crate::specs::Padding::padded, crate::specs::Padding::pads, crate::specs::Bits::field, crate::specs::Bits::bits_of))]
+/// The data bits of the standard's examples (7.4.3 to 7.4.5), one digit left over among them, and the values of the last
+/// characters (Table 5).
+#[tactic(auto, unfolding(crate::specs::Modes::characters, crate::specs::Stream::digit_bits, crate::specs::Modes::character_value, crate::specs::Stream::character_bits, crate::specs::Bits::field))]
 pub fn payloads_compute()
     ensures digits { digit_bits (codes "01234567") ≡ field 10 12 ++ (field 10 345 ++ field 7 67) }
+    ensures last_digit { digit_bits (codes "0123") ≡ field 10 12 ++ field 4 3 }
     ensures characters { character_bits (codes "AC-42")
         ≡ field 11 462 ++ (field 11 1849 ++ field 6 2) }
     ensures last { map character_value (codes " $%*+-./:")
         ≡ 36 ∷ 37 ∷ 38 ∷ 39 ∷ 40 ∷ 41 ∷ 42 ∷ 43 ∷ 44 ∷ [] }
-    ensures data { padded 16 (segments_stream 1 (codes "01234567") (record { mode = Numeric; len = 8 } ∷ []))
-        ≡ bits_of (0x10 ∷ 0x20 ∷ 0x0C ∷ 0x56 ∷ 0x61 ∷ 0x80 ∷ 0xEC ∷ 0x11 ∷ 0xEC ∷ 0x11 ∷ 0xEC ∷ 0x11 ∷ 0xEC ∷ 0x11 ∷ 0xEC ∷ 0x11 ∷ []) }
 {}
+
+/// The data codewords of a segment of each mode in version 1, and of the middle symbol of a series of three: the
+/// indicators, the counts, the order of a header's fields, the terminator and the pad codewords (7.4.1 to 7.4.10, 8.1).
+#[tactic(auto, unfolding(crate::specs::Modes::characters, crate::specs::Modes::character_value, crate::specs::Modes::kanji_value, crate::specs::Stream::digit_bits, crate::specs::Stream::character_bits, crate::specs::Stream::kanji_bits, crate::specs::Stream::payload, crate::specs::Stream::segment_stream, crate::specs::Stream::segments_stream, crate::specs::Header::header_stream, crate::specs::Padding::padded, crate::specs::Padding::pads, crate::specs::Bits::field, crate::specs::Bits::bits_of))]
+pub fn streams_compute()
+    ensures digits { padded 16 (segments_stream 1 (codes "01234567") (one Numeric 8)) ≡ bits_of eight_digits }
+    ensures characters { padded 16 (segments_stream 1 (codes "HELLO WORLD") (one Alphanumeric 11)) ≡ bits_of eleven_characters }
+    ensures kanji { padded 9 (segments_stream 1 two_kanji (one Kanji 4)) ≡ bits_of two_kanji_data }
+    ensures series { padded 9 (header_stream (Some middle) ++ segments_stream 1 (codes "FGH") (one Byte 3)) ≡ bits_of middle_data }
+{}
+
+/// A parse reads the middle symbol of a series of three, and reports each fault by its own name.
+#[tactic(auto, unfolding(crate::specs::Parsing::parse, crate::specs::Parsing::first_header, crate::specs::Parsing::begins_header, crate::specs::Parsing::header_at, crate::specs::Parsing::segments_of, crate::specs::Parsing::segments_at, crate::specs::Parsing::segment_at, crate::specs::Parsing::leading_number, crate::specs::Parsing::payload_at, crate::specs::Parsing::values_of, crate::specs::Parsing::digits_of, crate::specs::Parsing::characters_of, crate::specs::Parsing::character, crate::specs::Parsing::bytes_of, crate::specs::Parsing::pairs_of, crate::specs::Parsing::kanji_pair, crate::specs::Parsing::mode_of, crate::specs::Parsing::ends, crate::specs::Modes::characters, crate::specs::Bits::field, crate::specs::Bits::bits_of))]
+pub fn parses_compute()
+    ensures series { parse 1 (bits_of middle_data)
+        ≡ Ok (record { header = Some middle; segments = one Byte 3; bytes = codes "FGH" }) }
+    ensures faults { map (λ row. parse 1 (bits_of row.0)) unreadable ≡ map (λ row. Err row.1) unreadable }
+{}
+
+/// A header takes its bits from the room of a symbol (8.1).
+pub fn headers_take_room()
+    ensures { (v : ℕ) (l : Level) (h : Header) → room_of v l ≡ capacity_of v l - header_bits (Some h) }
+{}
+
+/// The parity of `ABCDEFGH`, of no byte, and of a byte twice and another once (8.3).
+pub fn parities_compute()
+    ensures capitals { parity_of (codes "ABCDEFGH") ≡ 0x08 }
+    ensures empty { parity_of [] ≡ 0 }
+    ensures twice { parity_of (0xA5 ∷ 0xA5 ∷ 0x3C ∷ []) ≡ 0x3C }
+{}
+
+/// The modes that each rule allows, in the order of their indicators.
+pub fn rules_compute()
+    ensures auto { map (may_use Rule.Auto) all_modes ≡ true ∷ true ∷ true ∷ false ∷ [] }
+    ensures bytes { map (may_use Rule.BytesOnly) all_modes ≡ false ∷ false ∷ true ∷ false ∷ [] }
+    ensures kanji { map (may_use Rule.WithKanji) all_modes ≡ true ∷ true ∷ true ∷ true ∷ [] }
+{}
+
+/// What folding makes of the first and last letters and of the characters beside them, under each rule; with kanji mode a
+/// pair whose second byte is a small letter stays, and half a pair at the end does.
+#[tactic(auto, unfolding(crate::specs::Folding::folded_around_pairs, crate::specs::Modes::is_kanji_pair))]
+pub fn foldings_compute()
+    ensures auto { folded Rule.Auto (codes "@AZ[`az{") ≡ codes "@AZ[`AZ{" }
+    ensures bytes { folded Rule.BytesOnly (codes "@AZ[`az{") ≡ codes "@AZ[`az{" }
+    ensures kanji { folded Rule.WithKanji (0x61 ∷ 0x93 ∷ 0x61 ∷ 0x61 ∷ 0x93 ∷ [])
+        ≡ 0x41 ∷ 0x93 ∷ 0x61 ∷ 0x41 ∷ 0x93 ∷ [] }
+{}
+
+/// The least bits of short inputs: of digits, of characters beside the digits, of the first and last capitals, of the
+/// characters after them, and of one of each.
+#[tactic(auto, unfolding(crate::specs::Segmentation::least_bits))]
+pub fn least_bits_compute()
+    ensures { map least_bits (codes "012" ∷ codes "/9:" ∷ codes "AZ" ∷ codes "[z" ∷ codes "1A[" ∷ [])
+        ≡ 10 ∷ 14 ∷ 11 ∷ 13 ∷ 15 ∷ [] }
+{}
+
+/// The numbers of the faults of segments and data codewords stay what they are.
+pub fn bit_fault_numbers(fault: BitFault) -> u8
+    ensures memory { fault ≡ BitFault.Memory → result ≡ 1 }
+    ensures too_long { fault ≡ BitFault.TooLong → result ≡ 2 }
+{
+    fault as u8
+}
+
+/// The numbers of the faults of a parse stay what they are.
+pub fn parse_fault_numbers(fault: ParseFault) -> u8
+    ensures memory { fault ≡ ParseFault.Memory → result ≡ 1 }
+    ensures bad_mode { fault ≡ ParseFault.BadMode → result ≡ 2 }
+    ensures cut { fault ≡ ParseFault.Cut → result ≡ 3 }
+    ensures bad_value { fault ≡ ParseFault.BadValue → result ≡ 4 }
+{
+    fault as u8
+}
 
 /// The values of the standard's kanji and of the last one (7.4.6), and the first and last pairs of each range.
 #[tactic(auto, unfolding(crate::specs::Modes::is_kanji_pair, crate::specs::Modes::kanji_value, crate::specs::Parsing::kanji_pair))]
@@ -121,44 +201,13 @@ pub fn kanji_compute()
         ≡ false ∷ false ∷ false ∷ false ∷ false ∷ false ∷ false ∷ [] }
 {}
 
-/// Modes are equal exactly if they are the same.
-pub fn modes_are_equal(a: Mode, b: Mode) -> bool
-    ensures { IsTrue result ↔ (a ≡ b) }
-{
-    a == b
-}
+#[cfg(test)]
+mod tests {
+    use super::*;
 
-/// Rules are equal exactly if they are the same.
-pub fn rules_are_equal(a: Rule, b: Rule) -> bool
-    ensures { IsTrue result ↔ (a ≡ b) }
-{
-    a == b
-}
-
-/// Segments are equal exactly if both fields are.
-pub fn segments_are_equal(a: Segment, b: Segment) -> bool
-    ensures { IsTrue result ↔ (a ≡ b) }
-{
-    a == b
-}
-
-/// Headers are equal exactly if all fields are.
-pub fn headers_are_equal(a: Header, b: Header) -> bool
-    ensures { IsTrue result ↔ (a ≡ b) }
-{
-    a == b
-}
-
-/// Faults are equal exactly if they are the same.
-pub fn bit_faults_are_equal(a: BitFault, b: BitFault) -> bool
-    ensures { IsTrue result ↔ (a ≡ b) }
-{
-    a == b
-}
-
-/// Faults of a parse are equal exactly if they are the same.
-pub fn parse_faults_are_equal(a: ParseFault, b: ParseFault) -> bool
-    ensures { IsTrue result ↔ (a ≡ b) }
-{
-    a == b
+    #[test]
+    fn numbers_of_faults(rt: HostRuntime) {
+        assert_eq!(rt; bit_fault_numbers(BitFault::TooLong), 2);
+        assert_eq!(rt; parse_fault_numbers(ParseFault::BadValue), 4);
+    }
 }

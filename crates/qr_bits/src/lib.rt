@@ -2,6 +2,7 @@
 #![tactic(auto)]
 
 mod bits;
+mod equality;
 mod fault;
 mod folding;
 mod header;

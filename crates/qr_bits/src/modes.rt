@@ -2,7 +2,7 @@
 //! 18004:2015, 7.3 and 7.4.1 to 7.4.6).
 
 ghost use Rattle.std.specs.Prelude.{IsTrue, ◌<◌, ◌==◌, ◌^◌, ◌≡◌, ◌≤◌};
-ghost use Rattle.qr_bits.specs.Modes.{character_value, characters, count_of, count_width, in_twos, indicator, is_alphanumeric, is_digit, is_kanji_pair, kanji_value, len_of, may_use, payload_bits, suits};
+ghost use Rattle.qr_bits.specs.Modes.{character_value, characters, character_count, count_width, in_twos, indicator, is_alphanumeric, is_digit, is_kanji_pair, kanji_value, byte_count, may_use, payload_bits, suits};
 ghost use Rattle.std.specs.List.{list_all, position};
 ghost use Rattle.qr_bits.specs.Parsing.{character, mode_of};
 
@@ -93,8 +93,8 @@ pub(crate) fn count_width(version: Version, mode: Mode) -> u8
 }
 
 // The count of the bytes of a segment (7.4.1).
-pub(crate) fn count_of(mode: Mode, len: usize) -> usize
-    ensures { result ≡ count_of mode len }
+pub(crate) fn character_count(mode: Mode, len: usize) -> usize
+    ensures { result ≡ character_count mode len }
 {
     match mode {
         Mode::Kanji => len / 2,
@@ -103,9 +103,9 @@ pub(crate) fn count_of(mode: Mode, len: usize) -> usize
 }
 
 // The bytes that a segment of this count has (7.4.1).
-pub(crate) fn len_of(mode: Mode, count: usize) -> usize
+pub(crate) fn byte_count(mode: Mode, count: usize) -> usize
     requires { count < 2 ^ 16 }
-    ensures { result ≡ len_of mode count }
+    ensures { result ≡ byte_count mode count }
 {
     match mode {
         Mode::Kanji => 2 * count,

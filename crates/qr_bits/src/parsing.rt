@@ -1,14 +1,14 @@
 //! The parse of data codewords: header, segments, and the data of each (ISO/IEC 18004:2015, 7.4.1 to 7.4.6, 8 and 12).
 
-ghost use Rattle.std.specs.Prelude.{IfErr, IfOk, List, OnOk, drop, length, ℕ, ◌%◌, ◌*◌, ◌++◌, ◌+◌, ◌<◌, ◌≡◌, ◌≤◌};
-ghost use Rattle.qr_bits.specs.Modes.{len_of, payload_bits};
+ghost use Rattle.std.specs.Prelude.{Err, IfErr, IfOk, List, OnOk, drop, length, take, ℕ, ◌%◌, ◌*◌, ◌++◌, ◌+◌, ◌<◌, ◌≡◌, ◌≤◌};
+ghost use Rattle.qr_bits.specs.Modes.{count_width, byte_count, payload_bits};
 ghost use Rattle.qr_bits.specs.Bits.{bits_of, value};
-ghost use Rattle.qr_bits.specs.Parsing.{Fails, Gives, bytes_of, character, characters_of, digits_of, first_header, header_at, kanji_pair, pairs_of, parse, segment_at, segments_of, values_of};
+ghost use Rattle.qr_bits.specs.Parsing.{IsFaultOf, IsResultOf, bytes_of, character, characters_of, digits_of, first_header, header_at, kanji_pair, mode_of, leading_number, pairs_of, parse, segment_at, segments_of, values_of};
 
 use crate::bits::BitReader;
 use crate::fault::ParseFault;
 use crate::header::Header;
-use crate::modes::{CHARACTERS, Mode, count_width, len_of, mode_of, payload_bits};
+use crate::modes::{CHARACTERS, Mode, byte_count, count_width, mode_of, payload_bits};
 use crate::segmentation::Segment;
 use qr_layout::Version;
 use std::alloc::Global;
@@ -57,7 +57,7 @@ impl Model for Parsed {
 #[tactic(auto, unfolding(crate::specs::Parsing::parse))]
 pub fn parse(alloc: Global, codewords: &[u8], version: Version) -> Result<Parsed, ParseFault>
     requires { length codewords.now ≤ 3706 }
-    ensures { Gives result (parse version (bits_of codewords.now)) }
+    ensures { IsResultOf result (parse version (bits_of codewords.now)) }
 {
     let mut reader = BitReader::new(codewords);
     let header = first_header(&mut reader)?;
@@ -69,11 +69,11 @@ pub fn parse(alloc: Global, codewords: &[u8], version: Version) -> Result<Parsed
     })
 }
 
-// Reads the header, where its indicator is the first (8.1).
+// Reads the header, where its indicator is the first (8.1). This takes no memory: a fault is that of the codewords.
 #[tactic(auto, unfolding(crate::specs::Parsing::first_header))]
 fn first_header(reader: &mut BitReader) -> Result<Option<Header>, ParseFault>
     ensures ok { IfOk result (λ h. first_header reader.old ≡ Ok (h, reader.new)) }
-    ensures err { IfErr result (λ e. Fails e (first_header reader.old)) }
+    ensures err { IfErr result (λ e. first_header reader.old ≡ Err e) }
 {
     if !reader.begins_header() {
         return Ok(None);
@@ -83,11 +83,11 @@ fn first_header(reader: &mut BitReader) -> Result<Option<Header>, ParseFault>
     Ok(Some(header))
 }
 
-// Reads a header, after its indicator (8.1).
+// Reads a header, after its indicator (8.1), and takes no memory either.
 #[tactic(auto, unfolding(crate::specs::Parsing::header_at))]
 fn header(reader: &mut BitReader) -> Result<Header, ParseFault>
     ensures ok { IfOk result (λ h. header_at reader.old ≡ Ok (h, reader.new)) }
-    ensures err { IfErr result (λ e. Fails e (header_at reader.old)) }
+    ensures err { IfErr result (λ e. header_at reader.old ≡ Err e) }
 {
     if reader.len() < 16 {
         return Err(ParseFault::Cut);
@@ -106,7 +106,7 @@ fn segments(
     version: Version,
 ) -> Result<(Vec<Segment>, Vec<u8>), ParseFault>
     ensures ok { IfOk result (λ r. segments_of version reader.entry ≡ Ok (r.0.items, r.1.items)) }
-    ensures err { IfErr result (λ e. Fails e (segments_of version reader.entry)) }
+    ensures err { IfErr result (λ e. IsFaultOf e (segments_of version reader.entry)) }
 {
     let mut segments = Vec::new(alloc);
     let mut bytes = Vec::new(alloc);
@@ -118,7 +118,7 @@ fn segments(
 }
 
 // Reads a segment, and adds its bytes to `out`.
-#[tactic(auto, unfolding(crate::specs::Parsing::segment_at, crate::specs::Parsing::number_at, crate::specs::Parsing::payload_at))]
+#[tactic(auto, unfolding(crate::specs::Parsing::segment_at, crate::specs::Parsing::payload_at))]
 fn segment(
     reader: &mut BitReader,
     version: Version,
@@ -128,20 +128,36 @@ fn segment(
     ensures ok { IfOk result (λ s. (xs : List ℕ)
         × (segment_at version reader.old ≡ Ok (s, xs, reader.new))
         × (out.new.items ≡ out.old.items ++ xs)) }
-    ensures err { IfErr result (λ e. Fails e (segment_at version reader.old)) }
+    ensures err { IfErr result (λ e. IsFaultOf e (segment_at version reader.old)) }
+{
+    let (mode, count) = segment_head(reader, version)?;
+    let count = usize::from(count);
+    values(reader, mode, count, out)?;
+    let len = byte_count(mode, count);
+    Ok(Segment { mode, len })
+}
+
+// Reads the mode and the count of a segment whose data is there in full. This takes no memory: a fault is that of the
+// codewords.
+#[tactic(auto, unfolding(crate::specs::Parsing::segment_at, crate::specs::Parsing::leading_number, crate::specs::Parsing::payload_at))]
+fn segment_head(reader: &mut BitReader, version: Version) -> Result<(Mode, u16), ParseFault>
+    requires { 4 ≤ length reader.old }
+    ensures ok { IfOk result (λ h. (mode_of (value (take 4 reader.old)) ≡ Ok h.0)
+        × (leading_number (count_width version h.0) (drop 4 reader.old) ≡ Ok (h.1, reader.new))
+        × (payload_bits h.0 (byte_count h.0 h.1) ≤ length reader.new)) }
+    ensures err { IfErr result (λ e. segment_at version reader.old ≡ Err e) }
 {
     let mode = mode_of(reader.take(4))?;
     let width = usize::from(count_width(version, mode));
     if reader.len() < width {
         return Err(ParseFault::Cut);
     }
-    let count = usize::from(reader.take(width));
-    let len = len_of(mode, count);
+    let count = reader.take(width);
+    let len = byte_count(mode, usize::from(count));
     if reader.len() < payload_bits(mode, len) {
         return Err(ParseFault::Cut);
     }
-    values(reader, mode, count, out)?;
-    Ok(Segment { mode, len })
+    Ok((mode, count))
 }
 
 // Reads the data of a segment, which is there in full, and adds its bytes to `out`. The count is
@@ -153,11 +169,11 @@ fn values(
     count: usize,
     out: &mut Vec<u8>,
 ) -> Result<(), ParseFault>
-    requires { payload_bits mode (len_of mode count) ≤ length reader.old }
+    requires { payload_bits mode (byte_count mode count) ≤ length reader.old }
     ensures ok { OnOk result ((xs : List ℕ) × (values_of mode count reader.old ≡ Ok xs)
         × (out.new.items ≡ out.old.items ++ xs)
-        × (reader.new ≡ drop (payload_bits mode (len_of mode count)) reader.old)) }
-    ensures err { IfErr result (λ e. Fails e (values_of mode count reader.old)) }
+        × (reader.new ≡ drop (payload_bits mode (byte_count mode count)) reader.old)) }
+    ensures err { IfErr result (λ e. IsFaultOf e (values_of mode count reader.old)) }
 {
     match mode {
         Mode::Numeric => digits(reader, count, out),
@@ -172,7 +188,7 @@ fn digits(reader: &mut BitReader, count: usize, out: &mut Vec<u8>) -> Result<(),
     ensures ok { OnOk result ((xs : List ℕ) × (digits_of count reader.old ≡ Ok xs)
         × (out.new.items ≡ out.old.items ++ xs)
         × (reader.new ≡ drop (payload_bits Mode.Numeric count) reader.old)) }
-    ensures err { IfErr result (λ e. Fails e (digits_of count reader.old)) }
+    ensures err { IfErr result (λ e. IsFaultOf e (digits_of count reader.old)) }
 {
     let mut left = count;
     while left >= 3 {
@@ -211,7 +227,7 @@ fn characters(reader: &mut BitReader, count: usize, out: &mut Vec<u8>) -> Result
     ensures ok { OnOk result ((xs : List ℕ) × (characters_of count reader.old ≡ Ok xs)
         × (out.new.items ≡ out.old.items ++ xs)
         × (reader.new ≡ drop (payload_bits Mode.Alphanumeric count) reader.old)) }
-    ensures err { IfErr result (λ e. Fails e (characters_of count reader.old)) }
+    ensures err { IfErr result (λ e. IsFaultOf e (characters_of count reader.old)) }
 {
     let mut left = count;
     while left >= 2 {
@@ -258,7 +274,7 @@ fn kanji(reader: &mut BitReader, count: usize, out: &mut Vec<u8>) -> Result<(), 
     ensures ok { OnOk result ((xs : List ℕ) × (pairs_of count reader.old ≡ Ok xs)
         × (out.new.items ≡ out.old.items ++ xs)
         × (reader.new ≡ drop (13 * count) reader.old)) }
-    ensures err { IfErr result (λ e. Fails e (pairs_of count reader.old)) }
+    ensures err { IfErr result (λ e. IsFaultOf e (pairs_of count reader.old)) }
 {
     let mut left = count;
     while left > 0 {

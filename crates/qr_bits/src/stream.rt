@@ -12,7 +12,7 @@ ghost use Rattle.qr_bits.specs.Stream.{character_bits, digit_bits, kanji_bits, p
 use crate::bits::BitWriter;
 use crate::header::Header;
 use crate::modes::{
-    Mode, STRUCTURED_APPEND, character_value, count_of, count_width, indicator, kanji_value,
+    Mode, STRUCTURED_APPEND, character_count, character_value, count_width, indicator, kanji_value,
 };
 use crate::segmentation::Segment;
 use qr_layout::Version;
@@ -67,7 +67,7 @@ fn put_segment(
     writer.put(4, indicator(mode))?;
     writer.put(
         count_width(version, mode),
-        count_of(mode, bytes.len()) as u16,
+        character_count(mode, bytes.len()) as u16,
     )?;
     put_payload(writer, mode, bytes)
 }

@@ -1,4 +1,4 @@
-use Rattle.std.proofs.Common.{◌≡◌, ◌+◌, ◌-◌, ◌≤◌, ◌<◌, ℕ, [], ◌∷◌, take, length, get_or, arith, subst, ⊎_elim}
+use Rattle.std.proofs.Common.{◌≡◌, ◌+◌, ◌≤◌, ◌<◌, ℕ, [], ◌∷◌, take, length, get_or, arith, subst, ⊎_elim}
 use Rattle.qr_bits.specs.declared.place.Place.{Place}
 use Rattle.std.proofs.lemmas.Bool.{cases_lt}
 use Rattle.qr_bits.specs.Segmentation.{HasFit}

@@ -1,4 +1,4 @@
-use Rattle.std.proofs.Common.{◌-◌, min, arith}
+use Rattle.std.proofs.Common.{◌-◌}
 use Rattle.qr_bits.proofs.BytesOnlyLemmas.{bytes_longest}
 use Rattle.qr_bits.proofs.segmentation.longest_fit.Goals as goal
 

@@ -1,0 +1,160 @@
+//! Equality and clones of the public types: values are equal exactly if they are the same, and a clone is the same value.
+
+ghost use Rattle.std.specs.Prelude.{◌≡◌, ◌↔◌, IsTrue, IfOk};
+
+use crate::fault::{BitFault, ParseFault};
+use crate::header::Header;
+use crate::modes::{Mode, Rule};
+use crate::segmentation::Segment;
+use std::alloc::AllocError;
+
+/// Modes are equal exactly if they are the same.
+pub fn modes_are_equal(a: Mode, b: Mode) -> bool
+    ensures { IsTrue result ↔ (a ≡ b) }
+{
+    a == b
+}
+
+/// Rules are equal exactly if they are the same.
+pub fn rules_are_equal(a: Rule, b: Rule) -> bool
+    ensures { IsTrue result ↔ (a ≡ b) }
+{
+    a == b
+}
+
+/// Segments are equal exactly if both fields are.
+pub fn segments_are_equal(a: Segment, b: Segment) -> bool
+    ensures { IsTrue result ↔ (a ≡ b) }
+{
+    a == b
+}
+
+/// Headers are equal exactly if all fields are.
+pub fn headers_are_equal(a: Header, b: Header) -> bool
+    ensures { IsTrue result ↔ (a ≡ b) }
+{
+    a == b
+}
+
+/// Faults are equal exactly if they are the same.
+pub fn bit_faults_are_equal(a: BitFault, b: BitFault) -> bool
+    ensures { IsTrue result ↔ (a ≡ b) }
+{
+    a == b
+}
+
+/// Faults of a parse are equal exactly if they are the same.
+pub fn parse_faults_are_equal(a: ParseFault, b: ParseFault) -> bool
+    ensures { IsTrue result ↔ (a ≡ b) }
+{
+    a == b
+}
+
+/// A clone of a mode is the same mode.
+pub fn mode_clones(a: Mode) -> Result<Mode, AllocError>
+    ensures { IfOk result (λ b. b ≡ a) }
+{
+    a.clone()
+}
+
+/// A clone of a rule is the same rule.
+pub fn rule_clones(a: Rule) -> Result<Rule, AllocError>
+    ensures { IfOk result (λ b. b ≡ a) }
+{
+    a.clone()
+}
+
+/// A clone of a segment is the same segment.
+pub fn segment_clones(a: Segment) -> Result<Segment, AllocError>
+    ensures { IfOk result (λ b. b ≡ a) }
+{
+    a.clone()
+}
+
+/// A clone of a header is the same header.
+pub fn header_clones(a: Header) -> Result<Header, AllocError>
+    ensures { IfOk result (λ b. b ≡ a) }
+{
+    a.clone()
+}
+
+/// A clone of a fault is the same fault.
+pub fn bit_fault_clones(a: BitFault) -> Result<BitFault, AllocError>
+    ensures { IfOk result (λ b. b ≡ a) }
+{
+    a.clone()
+}
+
+/// A clone of a fault of a parse is the same fault.
+pub fn parse_fault_clones(a: ParseFault) -> Result<ParseFault, AllocError>
+    ensures { IfOk result (λ b. b ≡ a) }
+{
+    a.clone()
+}
+
+#[cfg(test)]
+mod tests {
+    use super::*;
+    use std::test::Fail;
+
+    // Equal where each field is, and unequal where one is not.
+    #[test]
+    fn equal_and_unequal_values(rt: HostRuntime) -> Result<(), Fail> {
+        assert!(rt;
+            modes_are_equal(Mode::Byte, Mode::Byte) && !modes_are_equal(Mode::Byte, Mode::Kanji)
+        );
+        assert!(rt;
+            rules_are_equal(Rule::Auto, Rule::Auto) && !rules_are_equal(Rule::Auto, Rule::WithKanji)
+        );
+        let segment = Segment {
+            mode: Mode::Byte,
+            len: 2,
+        };
+        assert!(rt;
+            segments_are_equal(segment, segment)
+                && !segments_are_equal(segment, Segment { len: 3, ..segment })
+        );
+        let header = Header {
+            position: 0,
+            last: 1,
+            parity: 8,
+        };
+        assert!(rt;
+            headers_are_equal(header, header)
+                && !headers_are_equal(
+                    header,
+                    Header {
+                        parity: 9,
+                        ..header
+                    }
+                )
+        );
+        let (memory, too_long) = (BitFault::Memory, BitFault::TooLong);
+        assert!(rt;
+            bit_faults_are_equal(memory, memory) && !bit_faults_are_equal(memory, too_long)
+        );
+        let (cut, bad_mode) = (ParseFault::Cut, ParseFault::BadMode);
+        assert!(rt; parse_faults_are_equal(cut, cut) && !parse_faults_are_equal(cut, bad_mode));
+        Ok(())
+    }
+
+    #[test]
+    fn clones(rt: HostRuntime) -> Result<(), Fail> {
+        let segment = Segment {
+            mode: Mode::Byte,
+            len: 2,
+        };
+        let header = Header {
+            position: 0,
+            last: 1,
+            parity: 8,
+        };
+        assert_eq!(rt; mode_clones(Mode::Kanji)?, Mode::Kanji);
+        assert_eq!(rt; rule_clones(Rule::Auto)?, Rule::Auto);
+        assert_eq!(rt; segment_clones(segment)?, segment);
+        assert_eq!(rt; header_clones(header)?, header);
+        assert_eq!(rt; bit_fault_clones(BitFault::TooLong)?, BitFault::TooLong);
+        assert_eq!(rt; parse_fault_clones(ParseFault::Cut)?, ParseFault::Cut);
+        Ok(())
+    }
+}
