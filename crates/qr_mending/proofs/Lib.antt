@@ -2,4 +2,10 @@ mod SumLemmas
 mod PoolLemmas
 mod WeightLemmas
 mod SpectrumLemmas
-pub mod MendingLemmas
+pub mod BlockLemmas
+mod FormatLemmas
+mod MessageLemmas
+mod MendingLemmas
+mod UndamagedLemmas
+mod DamageLemmas
+mod DistanceLemmas

@@ -1,252 +1,189 @@
--- The errors of a damaged block: they are located by any polynomial that has solved the equations, and with them added the
--- block is the true one.
-use Rattle.std.proofs.Common.{◌≡◌, ℕ, zero, suc, ◌+◌, ◌-◌, ◌*◌, ◌<◌, ◌≤◌, List, [], ◌∷◌, ◌++◌, length, take, drop, get_or, refl, sym, ap, ◌∙◌, subst, arith, bit_xor, length-append}
-use Rattle.std.specs.List.{All}
-use Rattle.std.specs.Int.Bits.{xor_zero_r}
-use Rattle.std.proofs.lemmas.List.{length-take, length-take-le, length_push, take_more, take_at, take_rest, take-append-drop, drop_at}
-use Rattle.qr_field.specs.Galois.{product}
-use Rattle.qr_field.specs.Polynomial.{IsByte, plus, power, IsCorrection}
-use Rattle.qr_field.specs.Distance.{differences}
-use Rattle.qr_field.specs.Steps.Polynomial.{value_at}
-use Rattle.qr_field.proofs.BitLemmas.{xor-cancel}
-use Rattle.qr_field.proofs.ByteLemmas.{product-by_one}
-use Rattle.qr_field.proofs.FieldLemmas.{sum-none}
-use Rattle.qr_field.proofs.PowerLemmas.{power-round}
-use Rattle.qr_field.proofs.ListLemmas.{length-plus, bytes-plus}
-use Rattle.qr_field.proofs.ValueLemmas.{value-lt, value-plus, block-bytes, block-root}
-use Rattle.qr_field.proofs.DistanceLemmas.{weight, weight-plus, difference-same, unambiguous}
-use Rattle.qr_field.proofs.PolynomialLemmas.{correction-one}
-use Rattle.qr_mending.specs.Mending.{IsBlock, IsMended}
-use Rattle.qr_mending.specs.declared.polynomial.Polynomial.{Polynomial}
-use Rattle.qr_mending.specs.Steps.Sums.{dot_of, eval, blend, HasValues}
-use Rattle.qr_mending.specs.Steps.Polynomial.{all_of, miss_of, IsMonic}
-use Rattle.qr_mending.specs.Steps.Errors.{coefficient, low, IsLocated}
-use Rattle.qr_mending.proofs.SumLemmas.{dot-blend, blend-push}
-use Rattle.qr_mending.proofs.WeightLemmas.{blends-none, errors-root, coefficient-head, coefficient-tail}
-use Rattle.qr_mending.proofs.SpectrumLemmas.{eval-coefficient}
+-- A square with damage is read as one content, and then not refused.
+use Rattle.std.proofs.Common.{◌≡◌, ◌⊎◌, ℕ, ◌≤◌, List, refl, sym, ◌∙◌, ap, subst, inl, inr, arith}
+use Rattle.std.specs.Prelude.{Option, Result, Ok, Err, IfOk, MatchOption}
+use Rattle.qr_layout.specs.declared.level.Level.{Level}
+use Rattle.qr_layout.specs.Blocks.{blocks_of}
+use Rattle.qr_layout.proofs.Facts.{laws-of}
+use Rattle.qr_bits.specs.declared.fault.ParseFault.{ParseFault}
+use Rattle.qr_bits.specs.declared.fault.ParseFault.TheVariants as unparsed
+use Rattle.qr_bits.specs.Bits.{bits_of}
+use Rattle.qr_bits.specs.Parsing.{Content, parse, IsResultOf}
+use Rattle.qr_bits.proofs.Facts.{fault-read}
+use Rattle.qr_matrix.specs.Grid.{Grid}
+use Rattle.qr_symbol.specs.declared.fault.ReadFault.{ReadFault}
+use Rattle.qr_symbol.specs.declared.fault.ReadFault.TheVariants as fault
+use Rattle.qr_symbol.specs.Fault.{unread_for}
+use Rattle.qr_mending.specs.declared.format.FormatCopy.{FormatCopy}
+use Rattle.qr_mending.specs.declared.format.FormatCopy.TheVariants.{First, Second}
+use Rattle.qr_mending.specs.Format.{IsNearFormat}
+use Rattle.qr_mending.specs.Message.{IsMendedIn, tolerance_of}
+use Rattle.qr_mending.specs.Mending.{HasFormat, HoldsDamaged, IsBeyondMending, IsDamagedForm, IsMendedAs, IsMendedReading, IsOfNoUse, IsUnmended}
+use Rattle.qr_symbol.proofs.Facts.{read-one}
+use Rattle.qr_symbol.specs.Reading.{IsRead}
+use Rattle.qr_mending.proofs.FormatLemmas.{near-one, option-more}
+use Rattle.qr_mending.proofs.MessageLemmas.{mended-message-one}
 
--- ---- blocks
+-- codewords are a damaged form of one message
+pub mended-one : (v : ℕ) (l : Level) → 1 ≤ v → v ≤ 40 → (cw m n x y : List ℕ) → IsMendedIn v l cw m x →
+    IsMendedIn v l cw n y → (m ≡ n) × (x ≡ y)
+mended-one v l h k cw m n x y p q =
+    let w = laws-of l v h k in
+    mended-message-one (blocks_of v l) (tolerance_of v l) cw m n x y (omega arith) (omega (arith, w.len, w.ec_most)) p q
 
--- a block consists of bytes
-bytes-block : (n : ℕ) (b : List ℕ) → IsBlock n b → All IsByte b
-bytes-block n b h =
-    subst (λ (t : List ℕ). All IsByte t) (sym h.whole) (block-bytes h.message n h.correction h.corrects)
+-- under one level and mask a square holds a damaged form of one message
+damaged-one : (v : ℕ) (l : Level) (mask : ℕ) (g : Grid) (m n x y : List ℕ) → 1 ≤ v → v ≤ 40 → HoldsDamaged v l mask g m x →
+    HoldsDamaged v l mask g n y → (m ≡ n) × (x ≡ y)
+damaged-one v l mask g m n x y least most p q =
+    let same : p.codewords ≡ q.codewords = read-one v mask g p.codewords q.codewords p.held q.held in
+    mended-one v l least most q.codewords m n x y (subst (λ (z : List ℕ). IsMendedIn v l z m x) same p.mended) q.mended
 
--- its first n values are 0
-root-block : (n : ℕ) (b : List ℕ) → IsBlock n b → (i : ℕ) → i < n → value_at i b ≡ 0
-root-block n b h i l = ap (value_at i) h.whole ∙ block-root h.message n h.correction h.corrects i l
+-- one level and one mask count
+format-one : (v : ℕ) (g : Grid) (l k : Level) (m n : ℕ) (p q x y : List ℕ) → HasFormat v g l m → HasFormat v g k n →
+    HoldsDamaged v l m g p x → HoldsDamaged v k n g q y → (l ≡ k) × (m ≡ n)
+format-one v g l k m n p q x y (inl a) (inl b) h j = near-one First g l k m n a b
+format-one v g l k m n p q x y (inl a) (inr b) h j = absurd (b.1 l m a p x h)
+format-one v g l k m n p q x y (inr a) (inl b) h j = absurd (a.1 k n b q y j)
+format-one v g l k m n p q x y (inr a) (inr b) h j = near-one Second g l k m n a.0 b.0
 
--- the data codewords are all but the last n
-start-block : (n : ℕ) (b : List ℕ) → (h : IsBlock n b) → length h.message ≡ length b - n
-start-block n b h = omega (arith, length-append h.message h.correction, ap length h.whole, h.corrects.count)
+-- a square is a damaged form of one symbol
+form-one : (g : Grid) (v w : ℕ) (l k : Level) (m n : ℕ) (p q x y : List ℕ) → IsDamagedForm g v l m p x →
+    IsDamagedForm g w k n q y → (v ≡ w) × (l ≡ k) × (m ≡ n) × (p ≡ q) × (x ≡ y)
+form-one g v w l k m n p q x y h j =
+    let a = h.sized in
+    let b = j.sized in
+    let vs : v ≡ w = omega (arith, a.side, b.side) in
+    let moved : IsDamagedForm g v k n q y = subst (λ (z : ℕ). IsDamagedForm g z k n q y) (sym vs) j in
+    let f = format-one v g l k m n p q x y h.format moved.format h.damaged moved.damaged in
+    let d : HoldsDamaged v l m g q y =
+    subst (λ (z : Level). HoldsDamaged v z m g q y) (sym f.0)
+    (subst (λ (z : ℕ). HoldsDamaged v k z g q y) (sym f.1) moved.damaged) in
+    let one = damaged-one v l m g p q x y a.least a.most h.damaged d in
+    (vs, f.0, f.1, one.0, one.1)
 
--- the error correction codewords follow them
-pub block-corrects : (n : ℕ) (b : List ℕ) → IsBlock n b → IsCorrection (take (length b - n) b) n (drop (length b - n) b)
-block-corrects n b h =
-    let k = length b - n in
-    let s = start-block n b h in
-    let first : h.message ≡ take k b = sym (ap (take k) h.whole ∙ take_at h.message h.correction k s) in
-    let last : h.correction ≡ drop k b = sym (ap (drop k) h.whole ∙ drop_at h.message h.correction k s) in
-    subst (λ (t : List ℕ). IsCorrection t n (drop k b)) first
-    (subst (λ (t : List ℕ). IsCorrection h.message n t) last h.corrects)
+-- the parse of a square's mended message has one outcome
+outcome-one : (g : Grid) (v w : ℕ) (l k : Level) (m n : ℕ) (p q : Result Content ParseFault) (x y : List ℕ) →
+    IsMendedAs g v l m p x → IsMendedAs g w k n q y → (v ≡ w) × (l ≡ k) × (m ≡ n) × (p ≡ q) × (x ≡ y)
+outcome-one g v w l k m n p q x y h j =
+    let o = form-one g v w l k m n h.message j.message x y h.form j.form in
+    let same : p ≡ q =
+    sym h.parsed ∙ (ap (λ (d : List ℕ). parse v (bits_of d)) o.3 ∙ (ap (λ (z : ℕ). parse z (bits_of j.message)) o.0 ∙ j.parsed)) in
+    (o.0, o.1, o.2, same, o.4)
 
--- ---- errors
+-- a square is read with its damage mended as one content
+pub mended-reading-one : (g : Grid) (v w : ℕ) (l k : Level) (m n : ℕ) (p q : Content) (x y : List ℕ) →
+    IsMendedReading g v l m p x → IsMendedReading g w k n q y → (v ≡ w) × (l ≡ k) × (m ≡ n) × (p ≡ q) × (x ≡ y)
+mended-reading-one g v w l k m n p q x y h j =
+    let o = outcome-one g v w l k m n (Ok p) (Ok q) x y h j in
+    let same = o.3 in
+    (o.0, o.1, o.2, cc, o.4)
 
--- the sum at a place
-get_or-plus : (xs ys : List ℕ) (k : ℕ) → length xs ≡ length ys → k < length xs →
-    get_or (plus xs ys) k 0 ≡ bit_xor (get_or xs k 0) (get_or ys k 0)
-get_or-plus [] ys k e l = absurd (omega arith)
-get_or-plus (x ∷ xs) [] k e l = absurd (omega arith)
-get_or-plus (x ∷ xs) (y ∷ ys) zero e l = refl
-get_or-plus (x ∷ xs) (y ∷ ys) (suc k) e l = get_or-plus xs ys k (omega arith) (omega arith)
+-- a message that is parsed is not one that is not
+parsed-not : (g : Grid) (v w : ℕ) (l k : Level) (m n : ℕ) (p : Content) (e : ParseFault) (x y : List ℕ) →
+    IsMendedReading g v l m p x → IsMendedAs g w k n (Err e) y → ⊥
+parsed-not g v w l k m n p e x y h j =
+    let same = (outcome-one g v w l k m n (Ok p) (Err e) x y h j).3 in
+    cc
 
--- the coefficient at a place, counted from the last
-coefficient-at : (e : List ℕ) (k : ℕ) → k < length e → coefficient (length e - 1 - k) e ≡ get_or e k 0
-coefficient-at [] k l = absurd (omega arith)
-coefficient-at (c ∷ e) zero l = coefficient-head (length (c ∷ e) - 1 - zero) c e (omega arith)
-coefficient-at (c ∷ e) (suc k) l =
-    let m = length (c ∷ e) - 1 - suc k in
-    let h : m ≡ length e - 1 - k = omega arith in
-    coefficient-tail m c e (λ g. omega (arith, g)) ∙ (ap (λ t. coefficient t e) h ∙ coefficient-at e k (omega arith))
+-- a damaged form has format information near to its level and its mask
+format-there : (v : ℕ) (g : Grid) (l : Level) (m : ℕ) → HasFormat v g l m →
+    ((copy : FormatCopy) (k : Level) (n : ℕ) → IsNearFormat copy g k n → ⊥) → ⊥
+format-there v g l m (inl a) none = none First l m a
+format-there v g l m (inr b) none = none Second l m b.0
 
--- the first values of the errors are those of the damaged block
-errors-value : (n : ℕ) (damaged b : List ℕ) → IsBlock n b → length b ≡ length damaged → All IsByte damaged →
-    (i : ℕ) → i < n → value_at i (plus damaged b) ≡ value_at i damaged
-errors-value n damaged b h s a i l =
-    let v = value_at i damaged in
-    let none : i * 0 ≡ 0 = omega arith in
-    value-plus i 0 damaged b (omega (arith, s)) a (bytes-block n b h)
-    ∙ (ap (λ t. bit_xor (product v (power t)) (value_at i b)) none
-    ∙ (ap (λ t. bit_xor t (value_at i b)) (product-by_one v (value-lt i damaged a))
-    ∙ (ap (bit_xor v) (root-block n b h i l) ∙ xor_zero_r v)))
+-- a copy of the format information of a damaged form is of use
+of-use : (v : ℕ) (g : Grid) (l : Level) (m : ℕ) (p x : List ℕ) → HasFormat v g l m → HoldsDamaged v l m g p x →
+    ((any : FormatCopy) → IsOfNoUse any v g) → ⊥
+of-use v g l m p x (inl a) h useless = useless First l m a p x h
+of-use v g l m p x (inr b) h useless = useless Second l m b.0 p x h
 
--- so they are the syndromes
-pub errors-values : (n t : ℕ) (damaged b first : List ℕ) → IsMended n t damaged b → All IsByte damaged →
-    HasValues first damaged → length first ≡ n → HasValues first (plus damaged b)
-errors-values n t damaged b first m a h l = record {
-  each = λ k g. h.each k g ∙ sym (errors-value n damaged b m.block m.long a k (omega (arith, l, g)));
-}
+-- a damaged form is not beyond mending
+form-of-use : (g : Grid) (v : ℕ) (l : Level) (m : ℕ) (p x : List ℕ) → IsDamagedForm g v l m p x → IsBeyondMending g → ⊥
+form-of-use g v l m p x h u =
+    let a = h.sized in
+    let b = u.sized in
+    let vs : u.version ≡ v = omega (arith, a.side, b.side) in
+    of-use v g l m p x h.format h.damaged (subst (λ (z : ℕ). (any : FormatCopy) → IsOfNoUse any z g) vs u.useless)
 
--- the leading coefficient comes last
-all-low : (p : Polynomial) → IsMonic p → p.degree < length p.terms → all_of p ≡ take p.degree p.terms ++ 1 ∷ []
-all-low p m l = take_more p.terms p.degree 0 l ∙ ap (λ z. take p.degree p.terms ++ z ∷ []) m
+-- a square that is read is refused for lack of memory alone
+pub mended-not-refused : (g : Grid) (v : ℕ) (l : Level) (m : ℕ) (p : Content) (x : List ℕ) (e : ReadFault) →
+    IsMendedReading g v l m p x → IsUnmended g e → e ≡ fault.Memory
+mended-not-refused g v l m p x fault.Memory h u = refl
+mended-not-refused g v l m p x fault.Side h u = absurd (u v h.form.sized)
+mended-not-refused g v l m p x fault.Format h u = absurd (format-there v g l m h.form.format u.2)
+mended-not-refused g v l m p x fault.Check h u = absurd (form-of-use g v l m h.message x h.form u)
+mended-not-refused g v l m p x (fault.Segments e) h u = absurd (parsed-not g v u.1 l u.2 m u.3 p e x u.4 h u.5)
+mended-not-refused g v l m p x fault.Series h u = absurd u
 
--- a polynomial that has solved the equations of the syndromes locates the errors
-pub errors-located : (n t : ℕ) (damaged b first q : List ℕ) (p : Polynomial) → IsMended n t damaged b → 2 * t ≤ n →
-    length damaged ≤ 255 → All IsByte damaged → HasValues first damaged → length first ≡ n → p.degree ≤ t →
-    IsMonic p → p.degree < length p.terms → All IsByte q → q ≡ all_of p →
-    ((i : ℕ) → i < t → miss_of p (drop i first) ≡ 0) → IsLocated q (plus damaged b)
-errors-located n t damaged b first q p m half most a h l d monic fits bytes same solved =
-    let e = plus damaged b in
-    let w = take p.degree p.terms in
-    let count : length e ≡ length b = length-plus damaged b (omega (arith, m.long)) in
-    let le : All IsByte e = bytes-plus damaged b a (bytes-block n b m.block) in
-    let ve = errors-values n t damaged b first m a h l in
-    let small : length e ≤ 255 = omega (arith, count, m.long) in
-    let few : weight e ≤ t = omega (arith, weight-plus damaged b (sym m.long), m.near) in
-    let split : q ≡ w ++ 1 ∷ [] = same ∙ all-low p monic fits in
-    let lower : length w ≡ p.degree = length-take-le p.degree p.terms (omega (arith, fits)) in
-    let long : length q ≡ p.degree + 1 = omega (arith, ap length split, length_push w 1, lower) in
-    let below : length q - 1 ≡ length w = omega (arith, long, lower) in
-    let rest : low q ≡ w = ap (take (length q - 1)) split ∙ take_at w (1 ∷ []) (length q - 1) (sym below) in
-    let none : (i : ℕ) → i < t → blend q i e ≡ 0 =
-    λ i g.
-    sym (dot-blend q i first e ve (omega (arith, g, long, half, l, d)))
-    ∙ (ap (λ z. dot_of z (drop i first)) same ∙ solved i g) in
-    let all = blends-none t q e bytes le small few none in
-    record {
-      bytes = le;
-      most = small;
-      recurrence = λ i.
-          let joined : bit_xor (blend w i e) (value_at (i + length w) e) ≡ 0 =
-          sym (blend-push w i e le) ∙ (ap (λ z. blend z i e) (sym split) ∙ all i) in
-          ap (λ z. value_at (i + z) e) below
-          ∙ (sym (sum-none (blend w i e) (value_at (i + length w) e) joined) ∙ ap (λ z. blend z i e) (sym rest));
-      roots = errors-root t q e bytes le small few none;
-    }
+-- a square whose mended message is not parsed is refused for that, or for lack of memory
+parse-refused : (g : Grid) (v : ℕ) (l : Level) (m : ℕ) (x : ParseFault) (c : List ℕ) → IsMendedAs g v l m (Err x) c →
+    (e : ReadFault) → IsUnmended g e → (e ≡ fault.Memory) ⊎ (fault.Segments x ≡ e)
+parse-refused g v l m x c h fault.Memory u = inl refl
+parse-refused g v l m x c h fault.Side u = absurd (u v h.form.sized)
+parse-refused g v l m x c h fault.Format u = absurd (format-there v g l m h.form.format u.2)
+parse-refused g v l m x c h fault.Check u = absurd (form-of-use g v l m h.message c h.form u)
+parse-refused g v l m x c h (fault.Segments y) u =
+    let same = (outcome-one g v u.1 l u.2 m u.3 (Err x) (Err y) c u.4 h u.5).3 in
+    inr (cc)
+parse-refused g v l m x c h fault.Series u = absurd u
 
--- the codeword at a place, mended
-pub codeword-mended : (n t : ℕ) (damaged b : List ℕ) (k error : ℕ) → IsMended n t damaged b → k < length damaged →
-    error ≡ coefficient (length damaged - 1 - k) (plus damaged b) → bit_xor (get_or damaged k 0) error ≡ get_or b k 0
-codeword-mended n t damaged b k error m l h =
-    let e = plus damaged b in
-    let count : length e ≡ length damaged = length-plus damaged b (omega (arith, m.long)) ∙ m.long in
-    let place : length damaged - 1 - k ≡ length e - 1 - k = omega (arith, count) in
-    let x = get_or damaged k 0 in
-    let read : error ≡ bit_xor x (get_or b k 0) =
-    h ∙ (ap (λ z. coefficient z e) place
-    ∙ (coefficient-at e k (omega (arith, count, l)) ∙ get_or-plus damaged b k (sym m.long) l)) in
-    ap (bit_xor x) read ∙ xor-cancel x (get_or b k 0)
+-- a square is refused for one reason, or for lack of memory
+pub unmended-one : (g : Grid) (e f : ReadFault) → IsUnmended g e → IsUnmended g f →
+    (e ≡ fault.Memory) ⊎ ((f ≡ fault.Memory) ⊎ (e ≡ f))
+unmended-one g fault.Memory f a b = inl refl
+unmended-one g fault.Side f a b = inr (by_fault f b)
+  where
+    by_fault : (f : ReadFault) → IsUnmended g f → (f ≡ fault.Memory) ⊎ (fault.Side ≡ f)
+    by_fault fault.Memory b = inl refl
+    by_fault fault.Side b = inr refl
+    by_fault fault.Format b = absurd (a b.0 b.1)
+    by_fault fault.Check b = absurd (a b.version b.sized)
+    by_fault (fault.Segments x) b = let w = b.5 in absurd (a b.1 w.form.sized)
+    by_fault fault.Series b = absurd b
+unmended-one g fault.Format f a b = inr (by_fault f b)
+  where
+    by_fault : (f : ReadFault) → IsUnmended g f → (f ≡ fault.Memory) ⊎ (fault.Format ≡ f)
+    by_fault fault.Memory b = inl refl
+    by_fault fault.Side b = absurd (b a.0 a.1)
+    by_fault fault.Format b = inr refl
+    by_fault fault.Check b = absurd (a.2 b.copy b.level b.mask b.format)
+    by_fault (fault.Segments x) b = let w = b.5 in absurd (format-there b.1 g b.2 b.3 w.form.format a.2)
+    by_fault fault.Series b = absurd b
+unmended-one g fault.Check f a b = inr (by_fault f b)
+  where
+    by_fault : (f : ReadFault) → IsUnmended g f → (f ≡ fault.Memory) ⊎ (fault.Check ≡ f)
+    by_fault fault.Memory b = inl refl
+    by_fault fault.Side b = absurd (b a.version a.sized)
+    by_fault fault.Format b = absurd (b.2 a.copy a.level a.mask a.format)
+    by_fault fault.Check b = inr refl
+    by_fault (fault.Segments x) b = let w = b.5 in absurd (form-of-use g b.1 b.2 b.3 w.message b.4 w.form a)
+    by_fault fault.Series b = absurd b
+unmended-one g (fault.Segments x) f a b = inr (parse-refused g a.1 a.2 a.3 x a.4 a.5 f b)
+unmended-one g fault.Series f a b = absurd a
 
--- one codeword more
-pub mended-more : (n t : ℕ) (damaged b items new : List ℕ) (k error : ℕ) → IsMended n t damaged b →
-    k < length damaged → error ≡ coefficient (length damaged - 1 - k) (plus damaged b) → items ≡ take k b →
-    new ≡ items ++ bit_xor (get_or damaged k 0) error ∷ [] → new ≡ take (k + 1) b
-mended-more n t damaged b items new k error m l h same push =
-    push
-    ∙ (ap (λ z. z ++ bit_xor (get_or damaged k 0) error ∷ []) same
-    ∙ (ap (λ z. take k b ++ z ∷ []) (codeword-mended n t damaged b k error m l h)
-    ∙ sym (take_more b k 0 (omega (arith, l, m.long)))))
+-- a mended message that is not parsed leaves the square unmended
+pub mended-unparsed : (g : Grid) (v : ℕ) (l : Level) (mask : ℕ) (message changed : List ℕ) (e : ParseFault) →
+    IsDamagedForm g v l mask message changed → IsResultOf (Err e) (parse v (bits_of message)) → IsUnmended g (unread_for e)
+mended-unparsed g v l mask message changed unparsed.Memory h k = tt
+mended-unparsed g v l mask message changed unparsed.BadMode h k =
+    ((λ m. cc), v, l, mask, changed, record { message = message; form = h; parsed = fault-read unparsed.BadMode _ (λ m. cc) k })
+mended-unparsed g v l mask message changed unparsed.Cut h k =
+    ((λ m. cc), v, l, mask, changed, record { message = message; form = h; parsed = fault-read unparsed.Cut _ (λ m. cc) k })
+mended-unparsed g v l mask message changed unparsed.BadValue h k =
+    ((λ m. cc), v, l, mask, changed, record { message = message; form = h; parsed = fault-read unparsed.BadValue _ (λ m. cc) k })
 
--- ---- series
+-- a copy is of no use if the codewords under what it is near to are a damaged form of no message
+pub no-use : (copy : FormatCopy) (g : Grid) (v : ℕ) (l : Level) (m : ℕ) (cw : List ℕ) → IsNearFormat copy g l m →
+    IsRead v m g cw → ((message changed : List ℕ) → IsMendedIn v l cw message changed → ⊥) → IsOfNoUse copy v g
+no-use copy g v l m cw f r none = λ k n h message changed d.
+    let e = near-one copy g k l n m h f in
+    let here : HoldsDamaged v l m g message changed =
+    subst (λ (z : Level). HoldsDamaged v z m g message changed) e.0
+    (subst (λ (z : ℕ). HoldsDamaged v k z g message changed) e.1 d) in
+    let same : here.codewords ≡ cw = read-one v m g here.codewords cw here.held r in
+    none message changed (subst (λ (z : List ℕ). IsMendedIn v l z message changed) same here.mended)
 
--- the next value of located errors
-pub value-next : (p series e : List ℕ) (v : ℕ) → IsLocated p e → HasValues series e → length p ≤ length series + 1 →
-    v ≡ dot_of (low p) (take (length series - (length series - (length p - 1))) (drop (length series - (length p - 1)) series)) →
-    v ≡ value_at (length series) e
-value-next p series e v h s l d =
-    let i = length series - (length p - 1) in
-    let room : i + length (low p) ≤ length series = omega (arith, length-take (length p - 1) p) in
-    let whole : i + (length p - 1) ≡ length series = omega arith in
-    d
-    ∙ (ap (dot_of (low p)) (take_rest series i)
-    ∙ (dot-blend (low p) i series e s room ∙ (sym (h.recurrence i) ∙ ap (λ z. value_at z e) whole)))
-
--- the coefficient at a place by the inverse of its power
-pub inverse-coefficient : (place inverse v x : ℕ) (p series e : List ℕ) → IsLocated p e →
-    HasValues series e → length series ≡ 255 → place < 255 → x ≡ power inverse → v ≡ eval x series →
-    power inverse ≡ power (255 - place) → v ≡ coefficient place e
-inverse-coefficient place inverse v x p series e h s l m ex ev turn =
-    ev
-    ∙ (ap (λ z. eval z series) (ex ∙ turn) ∙ eval-coefficient place series e m h.most h.bytes l s)
-
--- the inverse of 1
-pub inverse-one : (place inverse : ℕ) → place ≡ 0 → inverse ≡ 0 → power inverse ≡ power (255 - place)
-inverse-one place inverse e f =
-    let turn : 255 - place ≡ 255 = omega arith in
-    ap power f ∙ sym (ap power turn ∙ power-round)
-
--- ---- the whole list
-
--- the mended codewords, one more
-pub candidate-more : (n t : ℕ) (damaged first q series items new : List ℕ) (p : Polynomial) (k error : ℕ) → 2 * t ≤ n →
-    length damaged ≤ 255 → All IsByte damaged → HasValues first damaged → length first ≡ n → p.degree ≤ t →
-    IsMonic p → p.degree < length p.terms → All IsByte q → q ≡ all_of p →
-    ((i : ℕ) → i < t → miss_of p (drop i first) ≡ 0) → k < length damaged →
-    ((e : List ℕ) → IsLocated q e → HasValues first e → HasValues series e) →
-    ((e : List ℕ) → IsLocated q e → HasValues series e → length damaged - 1 - k < length e →
-    error ≡ coefficient (length damaged - 1 - k) e) →
-    new ≡ items ++ bit_xor (get_or damaged k 0) error ∷ [] →
-    (b : List ℕ) → IsMended n t damaged b → items ≡ take k b → new ≡ take (k + 1) b
-candidate-more n t damaged first q series items new p k error half most a h l d monic fits bytes same solved below hs he push b m now =
-    let e = plus damaged b in
-    let located = errors-located n t damaged b first q p m half most a h l d monic fits bytes same solved in
-    let values = hs e located (errors-values n t damaged b first m a h l) in
-    let count : length e ≡ length b = length-plus damaged b (omega (arith, m.long)) in
-    mended-more n t damaged b items new k error m below
-    (he e located values (omega (arith, count, m.long, below))) now push
-
--- ---- the checks
-
--- codewords with the correction that follows from them are a block
-pub block-found : (n k : ℕ) (b correction : List ℕ) → IsCorrection (take k b) n correction → correction ≡ drop k b → IsBlock n b
-block-found n k b correction c e = record {
-  message = take k b;
-  correction = drop k b;
-  whole = sym (take-append-drop k b);
-  corrects = subst (λ (z : List ℕ). IsCorrection (take k b) n z) e c;
-}
-
--- a block ends in the correction that follows from its data codewords
-pub block-passes : (n m : ℕ) (b correction : List ℕ) → m ≡ n → IsBlock n b →
-    ((e : List ℕ) → IsCorrection (take (length b - m) b) n e → e ≡ correction) → correction ≡ drop (length b - m) b
-block-passes n m b correction e h only =
-    sym (only (drop (length b - m) b)
-    (subst (λ (z : ℕ). IsCorrection (take (length b - z) b) n (drop (length b - z) b)) (sym e) (block-corrects n b h)))
-
--- a list differs nowhere from itself
-pub differences-same : (xs : List ℕ) → differences xs xs ≡ 0
-differences-same [] = refl
-differences-same (x ∷ xs) =
-    let e = difference-same x x refl in
-    let f = differences-same xs in
-    omega (arith, e, f)
-
--- a block is mended by no change
-pub mended-same : (n t : ℕ) (b : List ℕ) → IsBlock n b → IsMended n t b b
-mended-same n t b h = record { block = h; long = refl; near = omega (arith, differences-same b) }
-
--- two blocks of one length with the same data codewords
-blocks-one : (n : ℕ) (b c : List ℕ) → (g : IsBlock n b) → (h : IsBlock n c) → g.message ≡ h.message → b ≡ c
-blocks-one n b c g h e =
-    let f : g.correction ≡ h.correction =
-    correction-one h.message n g.correction h.correction
-    (subst (λ (z : List ℕ). IsCorrection z n g.correction) e g.corrects) h.corrects in
-    g.whole ∙ (ap (λ z. z ++ g.correction) e ∙ (ap (λ z. h.message ++ z) f ∙ sym h.whole))
-
--- the law of mended blocks
-pub mended-one : (n t : ℕ) (damaged b c : List ℕ) → length damaged ≤ 255 → 2 * t ≤ n → IsMended n t damaged b →
-    IsMended n t damaged c → b ≡ c
-mended-one n t damaged b c most half g h =
-    let x = g.block in
-    let y = h.block in
-    let lx = start-block n b x in
-    let ly = start-block n c y in
-    let all = length-append x.message x.correction in
-    let e : x.message ≡ y.message =
-    unambiguous n t x.message x.correction y.message y.correction damaged x.corrects y.corrects
-    (omega (arith, lx, ly, g.long, h.long))
-    (omega (arith, all, ap length x.whole, x.corrects.count, g.long)) half
-    (subst (λ (z : List ℕ). differences damaged z ≤ t) x.whole g.near)
-    (subst (λ (z : List ℕ). differences damaged z ≤ t) y.whole h.near) in
-    blocks-one n b c x y e
+-- the second copy after a first that is of no use
+pub second-copy : {T : Type 0} (r : Result (Option T) ReadFault) (A B : Type 0) (P Q : T → Type 0) →
+    IfOk r (λ o. MatchOption o A P) → (A → B) → ((x : T) → P x → Q x) → IfOk r (λ o. MatchOption o B Q)
+second-copy (Err e) A B P Q h f g = tt
+second-copy (Ok o) A B P Q h f g = option-more o A B P Q h f g

@@ -1,2 +1,6 @@
+pub mod Block
+pub mod Distance
+pub mod Format
+pub mod Message
 pub mod Mending
 pub mod Steps

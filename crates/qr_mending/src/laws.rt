@@ -1,10 +1,108 @@
-//! The law of mended blocks (ISO/IEC 18004:2015, 7.5.1). The function does nothing: its contract is the law.
+//! The laws of mending: what is mended is one thing at most, and nothing that can be mended is refused. But for those
+//! that mend, each function does nothing: its contract is the law.
 
-ghost use Rattle.std.specs.Prelude.{◌≡◌, ℕ, ◌*◌, ◌≤◌, List, length};
-ghost use Rattle.qr_mending.specs.Mending.{IsMended};
+ghost use Rattle.std.specs.Prelude.{◌≡◌, ◌≢◌, ◌↔◌, ◌⊎◌, Err, ℕ, ◌*◌, ◌≤◌, List, length, replicate, None, MatchResult};
+ghost use Rattle.qr_layout.specs.declared.level.Level.{Level};
+ghost use Rattle.qr_bits.specs.declared.modes.Rule.{Rule};
+ghost use Rattle.qr_bits.specs.Parsing.{Content};
+ghost use Rattle.qr_matrix.specs.Grid.{Grid};
+ghost use Rattle.qr_symbol.specs.declared.fault.ReadFault.{ReadFault};
+ghost use Rattle.qr_symbol.specs.Distance.{blocks_in};
+ghost use Rattle.qr_symbol.specs.Encoding.{IsSymbol};
+ghost use Rattle.qr_symbol.specs.Reading.{IsReading};
+ghost use Rattle.qr_mending.specs.Block.{IsMended};
+ghost use Rattle.qr_mending.specs.Distance.{SymbolsLieApart};
+ghost use Rattle.qr_mending.specs.declared.format.FormatCopy.{FormatCopy};
+ghost use Rattle.qr_mending.specs.Format.{IsNearFormat};
+ghost use Rattle.qr_mending.specs.Message.{tolerance_of, IsMendedIn};
+ghost use Rattle.qr_mending.specs.Mending.{HasFormat, HoldsDamaged, IsMendedReading, IsUnmended};
+
+use crate::mending::{Mended, mend_symbol};
+use qr_bits::Rule;
+use qr_layout::{Level, Version};
+use qr_matrix::Matrix;
+use qr_symbol::ReadFault;
+use std::alloc::Global;
 
 /// Codewords are a damaged form of one block at most.
 pub fn mended_blocks_are_one()
     ensures { (n t : ℕ) (damaged b c : List ℕ) → length damaged ≤ 255 → 2 * t ≤ n
         → IsMended n t damaged b → IsMended n t damaged c → b ≡ c }
 {}
+
+/// A copy of the format information is near to one level and one mask at most.
+pub fn near_format_is_one()
+    ensures { (copy : FormatCopy) (g : Grid) (l k : Level) (m n : ℕ) → IsNearFormat copy g l m → IsNearFormat copy g k n
+        → (l ≡ k) × (m ≡ n) }
+{}
+
+/// The definition of how many codewords of a block may be changed computes the six numbers of Table 9 that are less than half
+/// of the error correction codewords, and one of the others.
+pub fn tolerances_compute()
+    ensures one { tolerance_of 1 Level.L ≡ 2 × tolerance_of 1 Level.M ≡ 4 }
+    ensures one_more { tolerance_of 1 Level.Q ≡ 6 × tolerance_of 1 Level.H ≡ 8 }
+    ensures two { tolerance_of 2 Level.L ≡ 4 }
+    ensures three { tolerance_of 3 Level.L ≡ 7 }
+    ensures forty { tolerance_of 40 Level.L ≡ 15 }
+{}
+
+/// Codewords are a damaged form of one message at most, and so is what was changed.
+pub fn mended_messages_are_one(version: Version, level: Level)
+    ensures { (cw m n x y : List ℕ) → IsMendedIn version level cw m x → IsMendedIn version level cw n y
+        → (m ≡ n) × (x ≡ y) }
+{}
+
+/// A square is read with its damage mended as one content at most, in one version, level and mask, with one list of changes.
+pub fn mended_readings_are_one()
+    ensures { (g : Grid) (v w : ℕ) (l k : Level) (m n : ℕ) (p q : Content) (x y : List ℕ)
+        → IsMendedReading g v l m p x → IsMendedReading g w k n q y
+        → (v ≡ w) × (l ≡ k) × (m ≡ n) × (p ≡ q) × (x ≡ y) }
+{}
+
+/// A square that is read without mending is read as the same content with it, and no codeword is changed.
+pub fn readings_are_mended_readings()
+    ensures { (g : Grid) (p : Content) → (h : IsReading g p)
+        → IsMendedReading g h.version h.level h.mask p (replicate (blocks_in h.version h.level) 0) }
+{}
+
+/// A square that is read with its damage mended can only be refused for lack of memory.
+pub fn mended_readings_are_not_refused()
+    ensures { (g : Grid) (v : ℕ) (l : Level) (m : ℕ) (p : Content) (x : List ℕ) (e : ReadFault)
+        → IsMendedReading g v l m p x → IsUnmended g e → e ≡ ReadFault.Memory }
+{}
+
+/// A square is refused for one fault at most, beside lack of memory.
+pub fn mending_refusals_are_one()
+    ensures { (g : Grid) (e f : ReadFault) → IsUnmended g e → IsUnmended g f
+        → (e ≡ ReadFault.Memory) ⊎ (f ≡ ReadFault.Memory) ⊎ (e ≡ f) }
+{}
+
+/// A square is refused for each fault but lack of memory exactly if the fault is its own, unless memory is refused.
+pub fn mendings_are_refused_exactly(alloc: Global, damaged: &Matrix) -> Result<Mended, ReadFault>
+    ensures { (e : ReadFault) → e ≢ ReadFault.Memory
+        → (result ≡ Err e) ↔ ((result ≢ Err ReadFault.Memory) × IsUnmended damaged.now e) }
+{
+    mend_symbol(alloc, damaged)
+}
+
+/// Two symbols of a version that say different things, or have different levels, lie far apart: in each copy of the format
+/// information they differ in seven modules or more, or in some block in more than twice as many codewords as can be mended.
+pub fn symbols_lie_apart(version: Version)
+    ensures { SymbolsLieApart version }
+{}
+
+/// A damaged symbol of an input is mended to exactly the input, unless memory is refused: any square of its side in each of
+/// whose blocks at most as many codewords are wrong as the level allows, if at most three modules of the first copy of the
+/// format information are wrong, or at most three of the second if the first is of no use. What happened to all other modules
+/// does not matter. The counts of what was changed are those of the damage.
+pub fn damaged_symbols_are_mended(alloc: Global, damaged: &Matrix) -> Result<Mended, ReadFault>
+    ensures { (smallest : ℕ) (l : Level) (rule : Rule) (x : List ℕ) (v mask : ℕ) (g : Grid) (changed : List ℕ)
+        → 1 ≤ smallest → (s : IsSymbol smallest l rule x v mask g) → damaged.now.side ≡ g.side
+        → HasFormat v damaged.now l mask → HoldsDamaged v l mask damaged.now s.made.message changed
+        → MatchResult result
+        (λ m. (m.version ≡ v) × (m.level ≡ l) × (m.mask ≡ mask)
+        × (m.parsed ≡ record { header = None; segments = s.made.segments; bytes = x })
+        × (m.changed.items ≡ changed)) (λ e. e ≡ ReadFault.Memory) }
+{
+    mend_symbol(alloc, damaged)
+}

@@ -1,12 +1,18 @@
-//! Mends a damaged block of a QR Code symbol: whatever block differs from a list of codewords in few enough places is
-//! found, and where there is none, nothing is returned (ISO/IEC 18004:2015, 7.5.1 and Annex B).
+//! Mends damaged QR Code symbols: the nearest format information is taken, and in each block the codewords that were changed
+//! are found, as far as the standard lets them be (ISO/IEC 18004:2015, 7.5.1, 7.9.1 and 12, Annexes B and C).
 #![tactic(auto)]
 
+mod block;
 mod errors;
+mod format;
 pub mod laws;
 mod locator;
 mod mending;
+mod message;
 mod polynomial;
+#[cfg(test)]
+mod samples;
 mod sums;
 
-pub use mending::mend;
+pub use block::mend;
+pub use mending::{Mended, mend_symbol};

@@ -1,134 +1,209 @@
-//! Mends damaged blocks (ISO/IEC 18004:2015, 7.5.1 and Annex B).
+//! The reading of a damaged symbol (ISO/IEC 18004:2015, 7.5.1, 7.9.1 and 12).
 
-ghost use Rattle.std.specs.Prelude.{◌≡◌, ℕ, ◌*◌, ◌≤◌, List, length, IfSome, IfNone};
-ghost use Rattle.std.specs.Bool.{Decides};
-ghost use Rattle.qr_field.specs.Distance.{differences};
-ghost use Rattle.qr_mending.specs.Mending.{IsBlock, IsMended};
+ghost use Rattle.std.specs.Prelude.{◌≡◌, length, IfErr, IfOk, MatchOption, MatchResult};
+ghost use Rattle.qr_layout.specs.Blocks.{data_codewords_of};
+ghost use Rattle.qr_layout.specs.Version.{side_of};
+ghost use Rattle.qr_symbol.specs.declared.fault.ReadFault.{ReadFault};
+ghost use Rattle.qr_mending.specs.declared.format.FormatCopy.{FormatCopy};
+ghost use Rattle.qr_mending.specs.Format.{IsNearFormat};
+ghost use Rattle.qr_mending.specs.Mending.{wrong_format_modules, HasFormat, HoldsDamaged, IsMendedReading, IsOfNoUse, IsUnmended};
 
-use crate::errors::{error, values};
-use crate::locator::locator;
-use crate::sums::syndromes;
-use arrayvec::ArrayVec;
-use qr_field::Divisor;
+use crate::format::{FormatCopy, near_format_of, near_format_of_either, wrong_format_modules};
+use crate::message::{MendedMessage, mend_message};
+use qr_bits::{Parsed, parse};
+use qr_layout::{Level, Version};
+use qr_matrix::Matrix;
+use qr_symbol::{ReadFault, read_codewords};
+use std::alloc::Global;
 
-// The block of which the codewords are a damaged form, if there is one. Otherwise some other list.
-fn candidate(n: usize, t: usize, damaged: &[u8]) -> ArrayVec<u8, 255>
-    requires most { n ≤ 30 }
-    requires half { 2 * t ≤ n }
-    requires fits { length damaged.now ≤ 255 }
-    ensures long { length result.items ≡ length damaged.now }
-    ensures mended { (mended : List ℕ) → IsMended n t damaged.now mended → result.items ≡ mended }
-{
-    let first = syndromes(damaged, n);
-    let polynomial = locator(first.as_slice(), t);
-    let coefficients = polynomial.coefficients();
-    let series = values(coefficients, first.as_slice());
-    let mut mended = ArrayVec::new();
-    for k in 0..damaged.len() {
-        let place = (damaged.len() - 1 - k) as u8;
-        mended.push(damaged[k] ^ error(coefficients, series.as_slice(), place));
-    }
-    mended
+// The message of a damaged symbol, with the level and the mask that it was mended under.
+#[derive(Drop)]
+struct MendedSquare {
+    level: Level,
+    mask: u8,
+    message: Vec<u8>,
+    changed: Vec<usize>,
 }
 
-// The number of places in which two lists of one length differ.
-fn count_differences(xs: &[u8], ys: &[u8]) -> usize
-    requires { length xs.now ≡ length ys.now }
-    ensures { result ≡ differences xs.now ys.now }
+// Mends the square under the level and the mask that a copy of its format information is near to. Returns nothing if the
+// copy is of no use.
+fn mend_by(
+    alloc: Global,
+    version: Version,
+    copy: FormatCopy,
+    matrix: &Matrix,
+) -> Result<Option<MendedSquare>, ReadFault>
+    requires { matrix.now.side ≡ side_of version }
+    ensures mended { IfOk result (λ o. MatchOption o (IsOfNoUse copy version matrix.now)
+        (λ m. IsNearFormat copy matrix.now m.level m.mask
+        × HoldsDamaged version m.level m.mask matrix.now m.message.items m.changed.items
+        × (length m.message.items ≡ data_codewords_of version m.level))) }
+    ensures fault { IfErr result (λ e. e ≡ ReadFault.Memory) }
 {
-    let mut count = 0;
-    for k in (0..xs.len()).rev() {
-        if xs[k] != ys[k] {
-            count += 1;
-        }
+    let Some((level, mask)) = near_format_of(matrix, version, copy) else {
+        return Ok(None);
+    };
+    let codewords = read_codewords(alloc, version, mask, matrix)?;
+    match mend_message(alloc, version, level, &codewords) {
+        Ok(MendedMessage { message, changed }) => Ok(Some(MendedSquare {
+            level,
+            mask,
+            message,
+            changed,
+        })),
+        Err(ReadFault::Check) => Ok(None),
+        Err(fault) => Err(fault),
     }
-    count
 }
 
-// Whether the codewords are a block.
-fn is_block(divisor: &Divisor, codewords: &[u8]) -> bool
-    requires { divisor.now ≤ length codewords.now }
-    ensures { Decides result (IsBlock divisor.now codewords.now) }
+// Mends the square by the first copy of its format information, or by the second if the first is of no use.
+fn mend_by_either(
+    alloc: Global,
+    version: Version,
+    matrix: &Matrix,
+) -> Result<Option<MendedSquare>, ReadFault>
+    requires { matrix.now.side ≡ side_of version }
+    ensures mended { IfOk result (λ o. MatchOption o ((any : FormatCopy) → IsOfNoUse any version matrix.now)
+        (λ m. HasFormat version matrix.now m.level m.mask
+        × HoldsDamaged version m.level m.mask matrix.now m.message.items m.changed.items
+        × (length m.message.items ≡ data_codewords_of version m.level))) }
+    ensures fault { IfErr result (λ e. e ≡ ReadFault.Memory) }
 {
-    let start = codewords.len() - divisor.count();
-    let correction = divisor.correction(&codewords[..start]);
-    correction.as_slice() == &codewords[start..]
+    match mend_by(alloc, version, FormatCopy::First, matrix)? {
+        Some(mended) => Ok(Some(mended)),
+        None => mend_by(alloc, version, FormatCopy::Second, matrix),
+    }
 }
 
-/// Mends a block of which at most `t` codewords have been changed, where 2t is at most the number of its error correction
-/// codewords, and returns how many those were. None if there is no such block; the codewords then stay as they are
-/// (ISO/IEC 18004:2015, 7.5.1 and Annex B).
-pub fn mend(divisor: &Divisor, t: usize, codewords: &mut [u8]) -> Option<usize>
-    requires half { 2 * t ≤ divisor.now }
-    requires least { divisor.now ≤ length codewords.old }
-    requires most { length codewords.old ≤ 255 }
-    ensures mended { IfSome result (λ changed. IsMended divisor.now t codewords.old codewords.new
-        × (changed ≡ differences codewords.old codewords.new)) }
-    ensures only { IfSome result (λ _. (mended : List ℕ) → IsMended divisor.now t codewords.old mended
-        → mended ≡ codewords.new) }
-    ensures refused { IfNone result ((mended : List ℕ) → IsMended divisor.now t codewords.old mended → ⊥) }
-    ensures same { IfNone result (codewords.new ≡ codewords.old) }
+/// What a damaged symbol says, and how much of its error correction that took.
+#[derive(Drop)]
+pub struct Mended {
+    /// The version, by the side.
+    pub version: Version,
+    /// The level of error correction.
+    pub level: Level,
+    /// The mask, from 0 to 7.
+    pub mask: u8,
+    /// What the symbol says.
+    pub parsed: Parsed,
+    /// How many of the 30 modules of format information were wrong, both copies taken together.
+    pub wrong_format_modules: u8,
+    /// How many codewords of each block were changed.
+    pub changed: Vec<usize>,
+}
+
+/// Reads a symbol and mends its damage (ISO/IEC 18004:2015, 7.5.1, 7.9.1 and 12). The version is told by the side. The level
+/// and the mask are those whose format information differs in three modules at most from the copy beside the top left finder
+/// pattern; if there are none, or if some block cannot be mended under them, they are those of the other copy. In each block
+/// as many codewords are mended as the level allows. The function patterns, the version information and the remainder bits
+/// are ignored.
+///
+/// # Errors
+///
+/// `Side` if no version has the side; `Format` if both copies of the format information have more than three wrong modules
+/// for every level and mask; `Check` if some block has more damage than can be mended; `Segments` if what was mended cannot
+/// be parsed; `Memory`.
+pub fn mend_symbol(alloc: Global, matrix: &Matrix) -> Result<Mended, ReadFault>
+    ensures mended { MatchResult result
+        (λ m. IsMendedReading matrix.now m.version m.level m.mask m.parsed m.changed.items) (IsUnmended matrix.now) }
+    ensures format { IfOk result (λ m. m.wrong_format_modules ≡ wrong_format_modules matrix.now m.level m.mask) }
 {
-    if is_block(divisor, codewords) {
-        return Some(0);
-    }
-    let mended = candidate(divisor.count(), t, codewords);
-    let changed = count_differences(codewords, mended.as_slice());
-    if changed > t || !is_block(divisor, mended.as_slice()) {
-        return None;
-    }
-    codewords.copy_from_slice(mended.as_slice());
-    Some(changed)
+    let Some(version) = Version::of_side(matrix.side()) else {
+        return Err(ReadFault::Side);
+    };
+    let Some(_) = near_format_of_either(matrix, version) else {
+        return Err(ReadFault::Format);
+    };
+    let Some(mended) = mend_by_either(alloc, version, matrix)? else {
+        return Err(ReadFault::Check);
+    };
+    let MendedSquare {
+        level,
+        mask,
+        message,
+        changed,
+    } = mended;
+    let parsed = parse(alloc, &message, version)?;
+    let wrong_format_modules = wrong_format_modules(matrix, version, level, mask);
+    Ok(Mended {
+        version,
+        level,
+        mask,
+        parsed,
+        wrong_format_modules,
+        changed,
+    })
 }
 
 #[cfg(test)]
 mod tests {
     use super::*;
-    use std::process::Abort;
+    use crate::samples::EIGHT_DIGITS;
+    use qr_symbol::build_masked;
+    use std::test::Fail;
 
-    // The block of `01234567` in version 1-M: 16 data codewords and 10 error correction codewords.
-    const EIGHT_DIGITS: [u8; 26] = [
-        0x10, 0x20, 0x0C, 0x56, 0x61, 0x80, 0xEC, 0x11, 0xEC, 0x11, 0xEC, 0x11, 0xEC, 0x11, 0xEC,
-        0x11, 0xA5, 0x24, 0xD4, 0xC1, 0xED, 0x36, 0xC7, 0x87, 0x2C, 0x55,
-    ];
-
-    // How many codewords are mended, where the block is then as it was.
-    fn is_mended(rt: &impl Abort, t: usize, damage: &[(usize, u8)]) -> Option<usize> {
-        let mut damaged = EIGHT_DIGITS;
-        for (place, codeword) in damage {
-            assert!(rt; *place < 26);
-            damaged[*place] = *codeword;
+    // Inverts some modules of the symbol of `01234567` at 1-M, and returns how many codewords were changed and how many
+    // modules of format information were wrong, or why it is not mended.
+    fn mend_inverted(
+        rt: &HostRuntime,
+        modules: &[(u8, u8)],
+    ) -> Result<Result<(usize, u8), ReadFault>, Fail> {
+        let version = Version::FIRST;
+        if version.total_codewords() != 26 {
+            return Err("26 codewords".into());
         }
-        let divisor = Divisor::new(10);
-        assert!(rt; t <= 5 && divisor.count() == 10);
-        let before = damaged;
-        match mend(&divisor, t, &mut damaged) {
-            None => assert!(rt; damaged == before),
-            Some(changed) => {
-                assert!(rt; damaged == EIGHT_DIGITS);
-                return Some(changed);
+        let mut symbol = build_masked(rt.alloc(), version, Level::M, &EIGHT_DIGITS, 0)?;
+        for (row, col) in modules {
+            if *row >= symbol.matrix.side() || *col >= symbol.matrix.side() {
+                return Err("no such module".into());
+            }
+            let dark = symbol.matrix.dark(*row, *col);
+            symbol.matrix.set(*row, *col, !dark);
+        }
+        match mend_symbol(rt.alloc(), &symbol.matrix) {
+            Err(fault) => Ok(Err(fault)),
+            Ok(mended) => {
+                if mended.parsed.bytes.as_slice() != b"01234567".as_slice() || mended.mask != 0 {
+                    return Err("something else is read".into());
+                }
+                let changed = mended.changed.first().copied().ok_or("a block")?;
+                Ok(Ok((changed, mended.wrong_format_modules)))
             }
         }
-        None
     }
 
-    // What another decoder, by the algorithm of Berlekamp and Massey, makes of the same codewords.
+    // In version 1-M four of the 26 codewords may be changed, of the ten for error correction two being kept.
     #[test]
-    fn eight_digits_damaged(rt: HostRuntime) {
-        let five = [(0, 0x41u8), (3, 0), (7, 0x22), (20, 1), (25, 0)];
-        let six = [(0, 0x41u8), (3, 0), (7, 0x22), (11, 0xFF), (20, 1), (25, 0)];
-        let rows = [
-            ("as sent", 5, &five[..0], Some(0)),
-            ("as sent, none allowed", 0, &five[..0], Some(0)),
-            ("the first codeword", 5, &five[..1], Some(1)),
-            ("the first, none allowed", 0, &five[..1], None),
-            ("three data codewords", 3, &five[..3], Some(3)),
-            ("five codewords", 5, &five[..], Some(5)),
-            ("five, four allowed", 4, &five[..], None),
-            ("six codewords", 5, &six[..], None),
+    fn eight_digits_damaged(rt: HostRuntime) -> Result<(), Fail> {
+        let first = [(0u8, 8u8), (1, 8), (2, 8), (3, 8)];
+        let both = [
+            (0u8, 8u8),
+            (1, 8),
+            (2, 8),
+            (3, 8),
+            (8, 20),
+            (8, 19),
+            (8, 18),
+            (8, 17),
         ];
-        for (name, t, damage, mended) in rows {
-            assert_eq!(rt; is_mended(&rt, t, damage), mended, "{name}");
+        let codewords = [(20u8, 20u8), (16, 20), (12, 20), (9, 18), (13, 18)];
+        let rows = [
+            ("as drawn", &first[..0], Ok((0, 0))),
+            ("three modules of the first copy", &first[..3], Ok((0, 3))),
+            ("four of the first copy", &first[..], Ok((0, 4))),
+            (
+                "four of one copy, three of the other",
+                &both[..7],
+                Ok((0, 7)),
+            ),
+            ("four of both copies", &both[..], Err(ReadFault::Format)),
+            ("one codeword", &codewords[..1], Ok((1, 0))),
+            ("four codewords", &codewords[..4], Ok((4, 0))),
+            ("five codewords", &codewords[..], Err(ReadFault::Check)),
+        ];
+        for (name, modules, wanted) in rows {
+            assert_eq!(rt; mend_inverted(&rt, modules)?, wanted, "{name}");
         }
+        Ok(())
     }
 }

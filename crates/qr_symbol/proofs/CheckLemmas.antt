@@ -7,16 +7,16 @@ use Rattle.std.specs.List.{All}
 use Rattle.qr_field.specs.Polynomial.{IsCorrection}
 use Rattle.qr_layout.specs.declared.blocks.Blocks.{Blocks}
 use Rattle.qr_symbol.specs.declared.interleaving.Cut.{Cut}
-use Rattle.qr_symbol.specs.Interleaving.{count_of, len_of, start_of, IsTag, codeword_at, data_cut, correction_cut, block_of, check_at, IsFinalMessage}
+use Rattle.qr_symbol.specs.Interleaving.{block_count, block_len, start_of, IsTag, codeword_at, data_cut, correction_cut, block_of, check_at, IsFinalMessage}
 use Rattle.qr_symbol.specs.Steps.Interleaving.{IsSent, IsChecks}
 use Rattle.qr_symbol.proofs.TagLemmas.{start-next, start-most}
 
 -- a block's error correction codewords are as many as those of any other
-pub check-len : (b : Blocks) (k : ℕ) → k < count_of (data_cut b) → len_of (correction_cut b) k ≡ b.ec_len
+pub check-len : (b : Blocks) (k : ℕ) → k < block_count (data_cut b) → block_len (correction_cut b) k ≡ b.ec_len
 check-len b k l = grind (arith, nat_tests)
 
 -- one block more
-pub checks-push : (b : Blocks) (d xs ys es : List ℕ) (k : ℕ) → k < count_of (data_cut b) → IsChecks b d k xs → IsCorrection (block_of b d k) b.ec_len es → ys ≡ xs ++ es → IsChecks b d (k + 1) ys
+pub checks-push : (b : Blocks) (d xs ys es : List ℕ) (k : ℕ) → k < block_count (data_cut b) → IsChecks b d k xs → IsCorrection (block_of b d k) b.ec_len es → ys ≡ xs ++ es → IsChecks b d (k + 1) ys
 checks-push b d xs ys es k l h c e =
     let next = start-next (correction_cut b) k in
     let one = check-len b k l in
@@ -61,7 +61,7 @@ map-each P f g [] a e = refl
 map-each P f g (x ∷ xs) a e = let h = e x (a 0 x (omega arith)) in let t = map-each P f g xs (λ k d l. a (suc k) d (omega arith)) e in λ i. h i ∷ t i
 
 -- the data codewords and then the error correction codewords were sent
-both-sent : (b : Blocks) (d es first second : List ℕ) → IsChecks b d (count_of (data_cut b)) es → IsSent (data_cut b) d [] first → IsSent (correction_cut b) es first second → IsFinalMessage b d second
+both-sent : (b : Blocks) (d es first second : List ℕ) → IsChecks b d (block_count (data_cut b)) es → IsSent (data_cut b) d [] first → IsSent (correction_cut b) es first second → IsFinalMessage b d second
 both-sent b d es first second h s t = record {
   data_tags = s.tags;
   data_order = s.order;
@@ -74,27 +74,27 @@ both-sent b d es first second h s t = record {
 }
 
 -- the data codewords and then the error correction codewords, each sent by rising tags, are the final message
-pub sent-both : (b : Blocks) (d es bytes before first second : List ℕ) (c1 c2 : Cut) → IsChecks b d (count_of (data_cut b)) es → before ≡ [] → c1 ≡ data_cut b → c2 ≡ correction_cut b → bytes ≡ es → IsSent c1 d before first → IsSent c2 bytes first second → IsFinalMessage b d second
+pub sent-both : (b : Blocks) (d es bytes before first second : List ℕ) (c1 c2 : Cut) → IsChecks b d (block_count (data_cut b)) es → before ≡ [] → c1 ≡ data_cut b → c2 ≡ correction_cut b → bytes ≡ es → IsSent c1 d before first → IsSent c2 bytes first second → IsFinalMessage b d second
 sent-both b d es bytes before first second c1 c2 h e k l m s t =
     both-sent b d es first second h
     (subst (λ (c : Cut). IsSent c d [] first) k (subst (λ (xs : List ℕ). IsSent c1 d xs first) e s))
     (subst (λ (c : Cut). IsSent c es first second) l (subst (λ (xs : List ℕ). IsSent c2 xs first second) m t))
 
 -- a block lies in the message
-pub slice-in : (c e : Cut) (n s l k : ℕ) → c ≡ e → n ≡ start_of e (count_of e) → k < count_of c → s ≡ start_of c k → l ≡ len_of c k → s + l ≤ n
+pub slice-in : (c e : Cut) (n s l k : ℕ) → c ≡ e → n ≡ start_of e (block_count e) → k < block_count c → s ≡ start_of c k → l ≡ block_len c k → s + l ≤ n
 slice-in c e n s l k a o m f g =
     let p = start-next c k in
-    let q = start-most c (k + 1) (count_of c) (omega arith) in
-    let z = ap (λ (x : Cut). start_of x (count_of x)) a in
+    let q = start-most c (k + 1) (block_count c) (omega arith) in
+    let z = ap (λ (x : Cut). start_of x (block_count x)) a in
     omega arith
 
 -- one block more, by the steps of the loop
-pub push-checks : (b : Blocks) (d xs ys es : List ℕ) (c : Cut) (k s l n : ℕ) → c ≡ data_cut b → k < count_of c → s ≡ start_of c k → l ≡ len_of c k → n ≡ b.ec_len → IsCorrection (take l (drop s d)) n es → IsChecks b d k xs → ys ≡ xs ++ es → IsChecks b d (k + 1) ys
+pub push-checks : (b : Blocks) (d xs ys es : List ℕ) (c : Cut) (k s l n : ℕ) → c ≡ data_cut b → k < block_count c → s ≡ start_of c k → l ≡ block_len c k → n ≡ b.ec_len → IsCorrection (take l (drop s d)) n es → IsChecks b d k xs → ys ≡ xs ++ es → IsChecks b d (k + 1) ys
 push-checks b d xs ys es c k s l n a m f g o e h q =
-    let mm : k < count_of (data_cut b) = subst (λ (x : Cut). k < count_of x) a m in
+    let mm : k < block_count (data_cut b) = subst (λ (x : Cut). k < block_count x) a m in
     let ff = f ∙ ap (λ (x : Cut). start_of x k) a in
-    let gg = g ∙ ap (λ (x : Cut). len_of x k) a in
+    let gg = g ∙ ap (λ (x : Cut). block_len x k) a in
     let c1 = subst (λ (z : ℕ). IsCorrection (take l (drop s d)) z es) o e in
     let c2 = subst (λ (z : ℕ). IsCorrection (take z (drop s d)) b.ec_len es) gg c1 in
-    let c3 = subst (λ (z : ℕ). IsCorrection (take (len_of (data_cut b) k) (drop z d)) b.ec_len es) ff c2 in
+    let c3 = subst (λ (z : ℕ). IsCorrection (take (block_len (data_cut b) k) (drop z d)) b.ec_len es) ff c2 in
     checks-push b d xs ys es k mm h c3 q

@@ -10,7 +10,7 @@ use Rattle.qr_layout.specs.Blocks.{blocks_of}
 use Rattle.qr_layout.proofs.Facts.{laws-of}
 use Rattle.qr_matrix.specs.Grid.{Grid}
 use Rattle.qr_symbol.specs.declared.interleaving.Cut.{Cut}
-use Rattle.qr_symbol.specs.Interleaving.{count_of, len_of, start_of, cut_len, data_cut, block_of}
+use Rattle.qr_symbol.specs.Interleaving.{block_count, block_len, start_of, cut_len, data_cut, block_of}
 use Rattle.qr_symbol.specs.Reading.{IsMessage}
 use Rattle.qr_symbol.specs.Distance.{blocks_in, held_block, MessagesLieApart, DamagedMessagesAreOne}
 use Rattle.qr_symbol.proofs.MessageLemmas.{data-cut-whole}
@@ -18,7 +18,7 @@ use Rattle.qr_symbol.proofs.TagLemmas.{start-none, start-next, len-most}
 
 -- a block of codewords that stand block after block
 abbrev pub part : Cut → List ℕ → ℕ → List ℕ
-part c d i = take (len_of c i) (drop (start_of c i) d)
+part c d i = take (block_len c i) (drop (start_of c i) d)
 
 -- codewords with the same first blocks have the same codewords there
 fronts-same : (c : Cut) (d e : List ℕ) (i : ℕ) → ((j : ℕ) → j < i → part c d j ≡ part c e j) →
@@ -29,22 +29,22 @@ fronts-same c d e (suc i) h =
     let more : suc i ≡ i + 1 = omega arith in
     let n = ap (start_of c) more ∙ start-next c i in
     let a : take (start_of c (suc i)) d ≡ take (start_of c i) d ++ part c d i =
-    ap (λ k. take k d) n ∙ take-add (start_of c i) (len_of c i) d in
+    ap (λ k. take k d) n ∙ take-add (start_of c i) (block_len c i) d in
     let b : take (start_of c (suc i)) e ≡ take (start_of c i) e ++ part c e i =
-    ap (λ k. take k e) n ∙ take-add (start_of c i) (len_of c i) e in
+    ap (λ k. take k e) n ∙ take-add (start_of c i) (block_len c i) e in
     a ∙ (ap (λ xs. xs ++ part c d i) f ∙ (ap (λ xs. take (start_of c i) e ++ xs) (h i (omega arith)) ∙ sym b))
 
 -- codewords with the same blocks are the same
 pub parts-same : (c : Cut) (d e : List ℕ) → length d ≡ cut_len c → length e ≡ cut_len c →
-    ((j : ℕ) → j < count_of c → part c d j ≡ part c e j) → d ≡ e
+    ((j : ℕ) → j < block_count c → part c d j ≡ part c e j) → d ≡ e
 parts-same c d e n m h =
-    sym (take-length d) ∙ (ap (λ k. take k d) n ∙ (fronts-same c d e (count_of c) h ∙ (ap (λ k. take k e) (sym m) ∙ take-length e)))
+    sym (take-length d) ∙ (ap (λ k. take k d) n ∙ (fronts-same c d e (block_count c) h ∙ (ap (λ k. take k e) (sym m) ∙ take-length e)))
 
 -- blocks of one cut are of one length
 part-length : (c : Cut) (d e : List ℕ) (i : ℕ) → length d ≡ length e → length (part c d i) ≡ length (part c e i)
 part-length c d e i h =
-    let a = length-take (len_of c i) (drop (start_of c i) d) in
-    let b = length-take (len_of c i) (drop (start_of c i) e) in
+    let a = length-take (block_len c i) (drop (start_of c i) d) in
+    let b = length-take (block_len c i) (drop (start_of c i) e) in
     let f = length-drop (start_of c i) d in
     let g = length-drop (start_of c i) e in
     omega (arith, a, b, f, g, h)
@@ -58,7 +58,7 @@ part-short v l d i h k =
     let w = laws-of l v h k in
     let few = w.len in
     let ec = w.ec_most in
-    let a = length-take (len_of c i) (drop (start_of c i) d) in
+    let a = length-take (block_len c i) (drop (start_of c i) d) in
     let m = len-most c i in
     omega (arith, a, m, few, ec)
 

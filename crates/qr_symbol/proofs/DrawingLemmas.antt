@@ -25,9 +25,9 @@ use Rattle.qr_symbol.proofs.KeptPlaceLemmas.{kept-in, kept-out, kept-push-in, ke
 abbrev pub at : ℕ → ℕ → Module
 at r c = record { row = r; col = c }
 
--- each place that is not in the list has its colour
-abbrev pub Done : ℕ → List ℕ → Grid → List Module → Grid → Type 0
-Done v cw g0 rest g = (r c : ℕ) → r < side_of v → c < side_of v → (Mem (at r c) rest → ⊥) → colour g r c ≡ placed_colour v cw (colour g0) r c
+-- each place of a square that is not in the list has the colour that it is to have
+abbrev pub Done : ℕ → (ℕ → ℕ → Bool) → List Module → Grid → Type 0
+Done s want rest g = (r c : ℕ) → r < s → c < s → (Mem (at r c) rest → ⊥) → colour g r c ≡ want r c
 
 -- outside the encoding region the other colour stays
 outside : (v : ℕ) (cw : List ℕ) (f : ℕ → ℕ → Bool) (r c : ℕ) → is_in_region v r c ≡ false → f r c ≡ placed_colour v cw f r c
@@ -40,41 +40,41 @@ unfolding placed_colour
 inside v cw f r c e = rw e refl
 
 -- by cases on a test
-by_test : (b : Bool) (A : Type 0) → (b ≡ true → A) → (b ≡ false → A) → A
+pub by_test : (b : Bool) (A : Type 0) → (b ≡ true → A) → (b ≡ false → A) → A
 by_test true A f g = f refl
 by_test false A f g = g refl
 
 -- before the walk, what is not to come is outside the region
-pub done-start : (v : ℕ) (cw : List ℕ) (g : Grid) (ms : List Module) → IsOrder v ms → Done v cw g ms g
-done-start v cw g ms o r c l m n =
-    outside v cw (colour g) r c (by_test (is_in_region v r c) (is_in_region v r c ≡ false) (λ t. absurd (n (order-has v ms o (at r c) t))) (λ e. e))
+pub done-start : (v : ℕ) (want : ℕ → ℕ → Bool) (g : Grid) (ms : List Module) → IsOrder v ms → ((r c : ℕ) → is_in_region v r c ≡ false → colour g r c ≡ want r c) → Done (side_of v) want ms g
+done-start v want g ms o f r c l m n =
+    f r c (by_test (is_in_region v r c) (is_in_region v r c ≡ false) (λ t. absurd (n (order-has v ms o (at r c) t))) (λ e. e))
 
 -- what stands in the middle is a member
 pub Mem-mid : {X : Type 0} (x : X) (front back : List X) → Mem x (front ++ x ∷ back)
 Mem-mid x [] back = inl refl
 Mem-mid x (y ∷ ys) back = inr (Mem-mid x ys back)
 
+-- the next module of the walk is in the region, and its number is how many came before it
+pub next-number : (v : ℕ) (front later : List Module) (x : Module) (number : ℕ) → IsOrder v (front ++ x ∷ later) → number ≡ length front → (is_in_region v x.row x.col ≡ true) × (number_of v x ≡ number)
+next-number v front later x number o k = (order-mem v (front ++ x ∷ later) o x (Mem-mid x front later), number-at v front later x o ∙ sym k)
+
 -- one module of the walk is drawn
-pub done-step : (v : ℕ) (cw : List ℕ) (g0 g : Grid) (front later : List Module) (x : Module) (number : ℕ) (d : Bool)
-    → IsOrder v (front ++ x ∷ later) → number ≡ length front → g.side ≡ side_of v → d ≡ codeword_bit cw number
-    → Done v cw g0 (x ∷ later) g → Done v cw g0 later (painted g x.row x.col d)
-done-step v cw g0 g front later x number d o k s e h r c l m n =
+pub done-step : (s : ℕ) (want : ℕ → ℕ → Bool) (g : Grid) (later : List Module) (x : Module) (d : Bool)
+    → g.side ≡ s → d ≡ want x.row x.col → Done s want (x ∷ later) g → Done s want later (painted g x.row x.col d)
+done-step s want g later x d k e h r c l m n =
     elim (same-place x.row x.col r c) [
       | inl w ↦
           let a : x.row ≡ r = sym w.0.0 in
           let b : x.col ≡ c = sym w.0.1 in
-          let t = order-mem v (front ++ x ∷ later) o x (Mem-mid x front later) in
-          let i = inside v cw (colour g0) x.row x.col t in
-          let j : number_of v x ≡ number = number-at v front later x o ∙ sym k in
-          let here = colour-painted-here g x.row x.col d (omega arith) (omega arith) ∙ (e ∙ sym (i ∙ ap (codeword_bit cw) j)) in
-          ap (λ (y : ℕ). colour (painted g x.row x.col d) y c) w.0.0 ∙ (ap (λ (y : ℕ). colour (painted g x.row x.col d) x.row y) w.0.1 ∙ (here ∙ (ap (λ (y : ℕ). placed_colour v cw (colour g0) y x.col) a ∙ ap (λ (y : ℕ). placed_colour v cw (colour g0) r y) b)))
+          let here = colour-painted-here g x.row x.col d (omega arith) (omega arith) ∙ e in
+          ap (λ (y : ℕ). colour (painted g x.row x.col d) y c) w.0.0 ∙ (ap (λ (y : ℕ). colour (painted g x.row x.col d) x.row y) w.0.1 ∙ (here ∙ (ap (λ (y : ℕ). want y x.col) a ∙ ap (want r) b)))
       | inr w ↦
           colour-painted-there g x.row x.col r c d (omega arith) (omega arith) w.0 ∙ h r c l m (λ q. elim q [ inl e ↦ w.0 (ap (λ (z : Module). z.row) (sym e), ap (λ (z : Module). z.col) (sym e)) | inr q ↦ n q ])
     ]
 
 -- after the walk, every place has its colour
-pub done-end : (v : ℕ) (cw : List ℕ) (g0 g : Grid) → IsSquare (side_of v) g → Done v cw g0 [] g → g ≡ square (side_of v) (placed_colour v cw (colour g0))
-done-end v cw g0 g e h = e ∙ square-same (side_of v) (colour g) (placed_colour v cw (colour g0)) (λ r c l m. h r c l m (λ q. q))
+pub done-end : (s : ℕ) (want : ℕ → ℕ → Bool) (g : Grid) → IsSquare s g → Done s want [] g → g ≡ square s want
+done-end s want g e h = e ∙ square-same s (colour g) want (λ r c l m. h r c l m (λ q. q))
 
 -- a square is made of its own colours
 square-again : (k : ℕ) (f : ℕ → ℕ → Bool) → square k f ≡ square k (colour (square k f))
@@ -177,11 +177,11 @@ pub record IsPlaced (v : ℕ) (cw : List ℕ) (g0 : Grid) (before later : List M
   pub whole : IsOrder v (in_region_of v before ++ in_region_of v later)
   pub next : number ≡ length (in_region_of v before)
   pub square : IsSquare (side_of v) g
-  pub done : Done v cw g0 (in_region_of v later) g
+  pub done : Done (side_of v) (placed_colour v cw (colour g0)) (in_region_of v later) g
 
 -- at first
 pub placed-start : (v : ℕ) (cw : List ℕ) (g : Grid) (ms : List Module) → IsSquare (side_of v) g → IsOrder v (in_region_of v ms) → IsPlaced v cw g [] ms 0 g
-placed-start v cw g ms s o = record { whole = o; next = refl; square = s; done = done-start v cw g (in_region_of v ms) o }
+placed-start v cw g ms s o = record { whole = o; next = refl; square = s; done = done-start v (placed_colour v cw (colour g)) g (in_region_of v ms) o (outside v cw (colour g)) }
 
 -- one place
 pub placed-step : (v : ℕ) (cw : List ℕ) (g0 g : Grid) (before later : List Module) (x : Module) (number : ℕ) (t : Bool) → t ≡ is_in_region v x.row x.col → IsPlaced v cw g0 before (x ∷ later) number g
@@ -191,11 +191,12 @@ placed-step v cw g0 g before later x number true e p =
     let then = kept-push-in v before x (sym e) in
     let o : IsOrder v (in_region_of v before ++ x ∷ in_region_of v later) = subst (λ (ms : List Module). IsOrder v (in_region_of v before ++ ms)) now p.whole in
     let s = ap (λ (h : Grid). h.side) p.square in
+    let n = next-number v (in_region_of v before) (in_region_of v later) x number o p.next in
     record {
       whole = rw then (whole-push v (in_region_of v before) (in_region_of v later) x o);
       next = rw then (let l = length-append (in_region_of v before) (x ∷ []) in let n = p.next in omega arith);
       square = painted-square (side_of v) g x.row x.col (codeword_bit cw number) s;
-      done = done-step v cw g0 g (in_region_of v before) (in_region_of v later) x number (codeword_bit cw number) o p.next s refl (subst (λ (ms : List Module). Done v cw g0 ms g) now p.done);
+      done = done-step (side_of v) (placed_colour v cw (colour g0)) g (in_region_of v later) x (codeword_bit cw number) s (sym (inside v cw (colour g0) x.row x.col n.0 ∙ ap (codeword_bit cw) n.1)) (subst (λ (ms : List Module). Done (side_of v) (placed_colour v cw (colour g0)) ms g) now p.done);
     }
 placed-step v cw g0 g before later x number false e p =
     let now = kept-out v x later (sym e) in
@@ -204,7 +205,7 @@ placed-step v cw g0 g before later x number false e p =
       whole = rw then (subst (λ (ms : List Module). IsOrder v (in_region_of v before ++ ms)) now p.whole);
       next = rw then p.next;
       square = p.square;
-      done = subst (λ (ms : List Module). Done v cw g0 ms g) now p.done;
+      done = subst (λ (ms : List Module). Done (side_of v) (placed_colour v cw (colour g0)) ms g) now p.done;
     }
 
 -- many places
@@ -252,4 +253,4 @@ placed-small v cw g0 g before later number k l p =
 
 -- at the end
 pub placed-end : (v : ℕ) (cw : List ℕ) (g0 g : Grid) (before : List Module) (number : ℕ) → IsPlaced v cw g0 before [] number g → g ≡ square (side_of v) (placed_colour v cw (colour g0))
-placed-end v cw g0 g before number p = done-end v cw g0 g p.square p.done
+placed-end v cw g0 g before number p = done-end (side_of v) (placed_colour v cw (colour g0)) g p.square p.done

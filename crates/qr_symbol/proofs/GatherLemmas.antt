@@ -4,8 +4,7 @@ use Rattle.std.proofs.lemmas.List.{take_more, get_or-set_same, get_or-set_other,
 use Rattle.qr_layout.proofs.Facts.{Mem}
 use Rattle.qr_layout.specs.declared.blocks.Blocks.{Blocks}
 use Rattle.qr_symbol.specs.declared.interleaving.Cut.{Cut}
-use Rattle.qr_symbol.specs.Interleaving.{Tag, IsBefore, count_of, start_of, cut_len, IsTag, codeword_at, data_cut, check_at, IsFinalMessage}
-use Rattle.qr_symbol.specs.Steps.Interleaving.{IsGathered}
+use Rattle.qr_symbol.specs.Interleaving.{Tag, IsSentBefore, block_count, start_of, cut_len, IsTag, codeword_at, data_cut, check_at, IsFinalMessage, IsGathered}
 use Rattle.qr_symbol.proofs.TagLemmas.{tag, TagsBefore, tags-push, tags-pass, tags-row, tags-end, tag-in}
 use Rattle.qr_symbol.proofs.RankLemmas.{tag-one, rank_of, rank-push, rank-pass, rank-row, rank-end, rank-in, tags-one, tag-of, map-at, Mem-of-Contains}
 use Rattle.qr_symbol.proofs.MessageLemmas.{final-one}
@@ -26,7 +25,7 @@ map-mem f g [] e = refl
 map-mem f g (x ∷ xs) e = let h = e x (inl refl) in let t = map-mem f g xs (λ y m. e y (inr m)) in λ i. h i ∷ t i
 
 -- no tag comes before itself
-irrefl : (t : Tag) (p b : ℕ) → IsBefore t (tag p b) → t.place ≡ p → t.block ≡ b → ⊥
+irrefl : (t : Tag) (p b : ℕ) → IsSentBefore t (tag p b) → t.place ≡ p → t.block ≡ b → ⊥
 irrefl t p b (inl l) e f = absurd (omega arith)
 irrefl t p b (inr w) e f = absurd (let l = w.1 in omega arith)
 
@@ -54,11 +53,11 @@ gather-push c sent xs ys p b next i l h t e k =
     }
 
 -- a block that has no such place
-pub gather-pass : (c : Cut) (sent xs : List ℕ) (p b next : ℕ) → p ≤ c.short_len → b < count_of c → GatheredBefore c sent p b xs next → (IsTag c (tag p b) → ⊥) → GatheredBefore c sent p (b + 1) xs next
+pub gather-pass : (c : Cut) (sent xs : List ℕ) (p b next : ℕ) → p ≤ c.short_len → b < block_count c → GatheredBefore c sent p b xs next → (IsTag c (tag p b) → ⊥) → GatheredBefore c sent p (b + 1) xs next
 gather-pass c sent xs p b next l m h n = record { long = h.long; tags = h.tags; order = tags-pass c p b h.tags n h.order; rank = h.rank ∙ sym (rank-pass c p b l m n); same = h.same }
 
 -- on to the next place
-pub gather-row : (c : Cut) (sent xs : List ℕ) (p b next : ℕ) → p ≤ c.short_len → b ≡ count_of c → GatheredBefore c sent p b xs next → GatheredBefore c sent (p + 1) 0 xs next
+pub gather-row : (c : Cut) (sent xs : List ℕ) (p b next : ℕ) → p ≤ c.short_len → b ≡ block_count c → GatheredBefore c sent p b xs next → GatheredBefore c sent (p + 1) 0 xs next
 gather-row c sent xs p b next l e h = record { long = h.long; tags = h.tags; order = tags-row c p h.tags (subst (λ (k : ℕ). TagsBefore c p k h.tags) e h.order); rank = h.rank ∙ (ap (rank_of c p) e ∙ rank-row c p l); same = h.same }
 
 -- all codewords were put back
@@ -92,7 +91,7 @@ gathered-one b sent xs d g n h =
     ap (take (cut_len c)) (h.whole ∙ ap (λ (ts : List Tag). map (codeword_at c d) ts ++ map (check_at h.corrections) h.check_tags) one)
     ∙ take-front (cut_len c) (map (codeword_at c d) g.tags) (map (check_at h.corrections) h.check_tags) (length-map g.tags (codeword_at c d) ∙ g.many) in
     ext_get_or 0 xs d (g.long ∙ sym n) (λ j l.
-    let w = tag-of c (count_of c) j (omega arith) (let z = g.long in omega arith) in
+    let w = tag-of c (block_count c) j (omega arith) (let z = g.long in omega arith) in
     let q = map-at (codeword_at c xs) (codeword_at c d) g.tags w.0 (g.same ∙ first) (Mem-of-Contains g.tags w.0 (g.order.complete w.0 w.1)) in
     ap (λ (k : ℕ). get_or xs k 0) (sym w.2) ∙ (q ∙ ap (λ (k : ℕ). get_or d k 0) w.2))
 

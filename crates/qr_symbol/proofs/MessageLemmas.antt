@@ -9,7 +9,7 @@ use Rattle.qr_layout.specs.declared.level.Level.{Level}
 use Rattle.qr_layout.specs.Version.{total_codewords_of}
 use Rattle.qr_layout.specs.Blocks.{data_codewords_of, blocks_of}
 use Rattle.qr_layout.proofs.Facts.{blocks-sound}
-use Rattle.qr_symbol.specs.Interleaving.{Tag, count_of, start_of, cut_len, codeword_at, data_cut, correction_cut, block_of, check_at, IsFinalMessage}
+use Rattle.qr_symbol.specs.Interleaving.{Tag, block_count, start_of, cut_len, codeword_at, data_cut, correction_cut, block_of, check_at, IsFinalMessage}
 use Rattle.qr_symbol.proofs.RankLemmas.{tags-one, tags-many, tag-of, map-at, Mem-of-Contains}
 
 -- ---- one final message
@@ -27,7 +27,7 @@ pub final-one : (b : Blocks) (d xs ys : List ℕ) → IsFinalMessage b d xs → 
 final-one b d xs ys h k =
     let t = tags-one (data_cut b) h.data_tags k.data_tags h.data_order k.data_order in
     let u = tags-one (correction_cut b) h.check_tags k.check_tags h.check_order k.check_order in
-    let e = checks-one b d (count_of (data_cut b)) h.corrections k.corrections h.count k.count h.each k.each in
+    let e = checks-one b d (block_count (data_cut b)) h.corrections k.corrections h.count k.count h.each k.each in
     h.whole
     ∙ (ap (λ (ts : List Tag). map (codeword_at (data_cut b) d) ts ++ map (check_at h.corrections) h.check_tags) t
     ∙ (ap (λ (ts : List Tag). map (codeword_at (data_cut b) d) k.data_tags ++ map (check_at h.corrections) ts) u
@@ -53,7 +53,7 @@ data-one b d e cw n m h k =
     sym h.whole ∙ (k.whole ∙ ap (λ (ts : List Tag). map (codeword_at c e) ts ++ map (check_at k.corrections) k.check_tags) one) in
     let w = append-front (map (codeword_at c d) h.data_tags) (map (codeword_at c e) h.data_tags) (map (check_at h.corrections) h.check_tags) (map (check_at k.corrections) k.check_tags) (length-map h.data_tags (codeword_at c d) ∙ sym (length-map h.data_tags (codeword_at c e))) both in
     ext_get_or 0 d e (n ∙ sym m) (λ j l.
-    let t = tag-of c (count_of c) j (omega arith) (omega arith) in
+    let t = tag-of c (block_count c) j (omega arith) (omega arith) in
     let q = map-at (codeword_at c d) (codeword_at c e) h.data_tags t.0 w.0 (Mem-of-Contains h.data_tags t.0 (h.data_order.complete t.0 t.1)) in
     same-place d e (start_of c t.0.block + t.0.place) j t.2 q)
   where

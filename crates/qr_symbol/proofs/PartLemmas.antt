@@ -11,13 +11,13 @@ use Rattle.std.proofs.Math.Seq.{drop-cons, drop-nil, drop-append-add, take-appen
 use Rattle.qr_layout.specs.declared.level.Level.{Level}
 use Rattle.qr_bits.specs.declared.modes.Rule.{Rule}
 use Rattle.qr_bits.specs.declared.modes.Mode.TheVariants.{Byte, Kanji}
-use Rattle.qr_bits.specs.Segmentation.{runs_of, Covers, HasFit, IsLongestFit}
+use Rattle.qr_bits.specs.Segmentation.{runs_of, HasFit, IsLongestFit}
 use Rattle.qr_bits.specs.Modes.{may_use, count_width}
 use Rattle.qr_bits.specs.Padding.{room_of}
 use Rattle.qr_layout.specs.Version.{total_codewords_of}
 use Rattle.qr_layout.specs.Blocks.{block_count_of, correction_len_of, data_codewords_of}
 use Rattle.qr_layout.proofs.Facts.{every, every-at}
-use Rattle.qr_bits.proofs.Facts.{count_width_bound, capacity_least, fitting_short, byte_used, piece_fits}
+use Rattle.qr_bits.proofs.Facts.{CoversInTurn, from_turn, count_width_bound, capacity_least, fitting_short, byte_used, piece_fits}
 use Rattle.qr_symbol.specs.declared.symbol.Symbol.{Symbol}
 use Rattle.qr_symbol.specs.Series.{AreParts, FitParts, NeedsParts, IsSymbolOf, AreSymbolsFrom}
 use Rattle.qr_symbol.specs.Steps.Series.{AreLengths, parts_of}
@@ -26,8 +26,8 @@ use Rattle.qr_symbol.specs.Steps.Series.{AreLengths, parts_of}
 
 -- one byte has no more than 28 bits
 one-fits : (v : ℕ) (b : Rule) (x n : ℕ) → 28 ≤ n → HasFit v b (x ∷ []) n
-unfolding runs_of Covers
-one-fits v b x n h = (Byte ∷ [], (and_from (may_use b Byte) true (byte_used b) refl, (omega arith, omega arith, refl, refl)), omega (arith, count_width_bound v Byte))
+unfolding runs_of CoversInTurn
+one-fits v b x n h = (Byte ∷ [], (and_from (may_use b Byte) true (byte_used b) refl, from_turn (x ∷ []) (runs_of (Byte ∷ [])) (omega arith, omega arith, refl, refl)), omega (arith, count_width_bound v Byte))
 
 -- so the longest prefix that fits is not empty
 pub longest-some : (v : ℕ) (l : Level) (b : Rule) (xs : List ℕ) (n : ℕ) → 1 ≤ v → v ≤ 40 → 0 < length xs → IsLongestFit v b xs (room_of v l) n → 0 < n
@@ -48,23 +48,23 @@ five-all = refl
 
 -- so from one to five bytes fit after a header
 few-fit : (v : ℕ) (l : Level) (b : Rule) (xs : List ℕ) → 1 ≤ v → v ≤ 40 → 0 < length xs → length xs ≤ 5 → HasFit v b xs (room_of v l)
-unfolding runs_of Covers
+unfolding runs_of CoversInTurn
 few-fit v l b [] p q some few = absurd (omega arith)
 few-fit v l b (x ∷ []) p q some few =
     let five = leb-true _ _ (every-at (λ l v. leb (4 + count_width v Byte + 40) (room_of v l)) five-all l v p q) in
-    (Byte ∷ [], (bytes-used b 1, (omega arith, omega arith, refl, refl)), omega (arith, five))
+    (Byte ∷ [], (bytes-used b 1, from_turn (x ∷ []) (runs_of (Byte ∷ [])) (omega arith, omega arith, refl, refl)), omega (arith, five))
 few-fit v l b (x ∷ y ∷ []) p q some few =
     let five = leb-true _ _ (every-at (λ l v. leb (4 + count_width v Byte + 40) (room_of v l)) five-all l v p q) in
-    (Byte ∷ Byte ∷ [], (bytes-used b 2, (omega arith, omega arith, refl, refl)), omega (arith, five))
+    (Byte ∷ Byte ∷ [], (bytes-used b 2, from_turn (x ∷ y ∷ []) (runs_of (Byte ∷ Byte ∷ [])) (omega arith, omega arith, refl, refl)), omega (arith, five))
 few-fit v l b (x ∷ y ∷ z ∷ []) p q some few =
     let five = leb-true _ _ (every-at (λ l v. leb (4 + count_width v Byte + 40) (room_of v l)) five-all l v p q) in
-    (Byte ∷ Byte ∷ Byte ∷ [], (bytes-used b 3, (omega arith, omega arith, refl, refl)), omega (arith, five))
+    (Byte ∷ Byte ∷ Byte ∷ [], (bytes-used b 3, from_turn (x ∷ y ∷ z ∷ []) (runs_of (Byte ∷ Byte ∷ Byte ∷ [])) (omega arith, omega arith, refl, refl)), omega (arith, five))
 few-fit v l b (x ∷ y ∷ z ∷ w ∷ []) p q some few =
     let five = leb-true _ _ (every-at (λ l v. leb (4 + count_width v Byte + 40) (room_of v l)) five-all l v p q) in
-    (Byte ∷ Byte ∷ Byte ∷ Byte ∷ [], (bytes-used b 4, (omega arith, omega arith, refl, refl)), omega (arith, five))
+    (Byte ∷ Byte ∷ Byte ∷ Byte ∷ [], (bytes-used b 4, from_turn (x ∷ y ∷ z ∷ w ∷ []) (runs_of (Byte ∷ Byte ∷ Byte ∷ Byte ∷ [])) (omega arith, omega arith, refl, refl)), omega (arith, five))
 few-fit v l b (x ∷ y ∷ z ∷ w ∷ u ∷ []) p q some few =
     let five = leb-true _ _ (every-at (λ l v. leb (4 + count_width v Byte + 40) (room_of v l)) five-all l v p q) in
-    (Byte ∷ Byte ∷ Byte ∷ Byte ∷ Byte ∷ [], (bytes-used b 5, (omega arith, omega arith, refl, refl)), omega (arith, five))
+    (Byte ∷ Byte ∷ Byte ∷ Byte ∷ Byte ∷ [], (bytes-used b 5, from_turn (x ∷ y ∷ z ∷ w ∷ u ∷ []) (runs_of (Byte ∷ Byte ∷ Byte ∷ Byte ∷ Byte ∷ [])) (omega arith, omega arith, refl, refl)), omega (arith, five))
 few-fit v l b (x ∷ y ∷ z ∷ w ∷ u ∷ t ∷ xs) p q some few = absurd (omega arith)
 
 -- so a part has at least five bytes, or all that is left

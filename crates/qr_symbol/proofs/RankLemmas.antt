@@ -6,7 +6,7 @@ use Rattle.std.proofs.Math.Nat.{mul-suc, mul-le-mul_left, mul_comm}
 use Rattle.std.specs.List.{All, AllByRecursion, Contains}
 use Rattle.qr_layout.proofs.Facts.{Mem, Mem-at, Rises-of-pairs, one_rising}
 use Rattle.qr_symbol.specs.declared.interleaving.Cut.{Cut}
-use Rattle.qr_symbol.specs.Interleaving.{Tag, IsBefore, count_of, len_of, start_of, cut_len, IsTag, IsTagOrder}
+use Rattle.qr_symbol.specs.Interleaving.{Tag, IsSentBefore, block_count, block_len, start_of, cut_len, IsTag, IsTagOrder}
 use Rattle.qr_symbol.proofs.TagLemmas.{tag, TagsBefore, tags-start, tags-push, tags-pass, tags-row, tags-end, start-next, start-most}
 
 -- two tags never have one place
@@ -28,7 +28,7 @@ tag-one c t u i j e =
 
 -- the number of tags before one, in closed form
 abbrev pub rank_of : Cut → ℕ → ℕ → ℕ
-rank_of c p b = cond (ltb p c.short_len) (count_of c * p + b) (cond (eqb p c.short_len) (c.short_len * count_of c + (b - c.short)) (cut_len c))
+rank_of c p b = cond (ltb p c.short_len) (block_count c * p + b) (cond (eqb p c.short_len) (c.short_len * block_count c + (b - c.short)) (cut_len c))
 
 -- a tag is in the part that all blocks have, or at the end of a long one
 tag-cases : (c : Cut) (p b : ℕ) → (IsTag c (tag p b)) → (p < c.short_len) ⊎ ((p ≡ c.short_len) × (c.short ≤ b))
@@ -42,17 +42,17 @@ rank-push c p b i = let w = tag-cases c p b i in grind (arith, nat_tests)
 pub rank-in : (c : Cut) (p b : ℕ) → IsTag c (tag p b) → rank_of c p b < cut_len c
 rank-in c p b i = elim (tag-cases c p b i) [
   | inl l ↦
-      let m : count_of c * (p + 1) ≤ count_of c * c.short_len = mul-le-mul_left (count_of c) (omega arith) in
-      let e = mul_comm (count_of c) c.short_len in
+      let m : block_count c * (p + 1) ≤ block_count c * c.short_len = mul-le-mul_left (block_count c) (omega arith) in
+      let e = mul_comm (block_count c) c.short_len in
       let k = i.0 in
-      let f : count_of c * (p + 1) ≡ count_of c * p + count_of c = more (count_of c) p in
-      let g : rank_of c p b ≡ count_of c * p + b = grind (arith, nat_tests) in
+      let f : block_count c * (p + 1) ≡ block_count c * p + block_count c = more (block_count c) p in
+      let g : rank_of c p b ≡ block_count c * p + b = grind (arith, nat_tests) in
       omega arith
   | inr w ↦
       let e = w.0 in
       let l = w.1 in
       let k = i.0 in
-      let g : rank_of c p b ≡ c.short_len * count_of c + (b - c.short) = grind (arith, nat_tests) in
+      let g : rank_of c p b ≡ c.short_len * block_count c + (b - c.short) = grind (arith, nat_tests) in
       omega arith
 ]
   where
@@ -60,24 +60,24 @@ rank-in c p b i = elim (tag-cases c p b i) [
     more n p = let o : p + 1 ≡ suc p = omega arith in rw o (mul-suc n p)
 
 -- a block that has no such place
-pub rank-pass : (c : Cut) (p b : ℕ) → p ≤ c.short_len → b < count_of c → (IsTag c (tag p b) → ⊥) → rank_of c p (b + 1) ≡ rank_of c p b
-rank-pass c p b l m n = elim (cases_lt p (len_of c b)) [
+pub rank-pass : (c : Cut) (p b : ℕ) → p ≤ c.short_len → b < block_count c → (IsTag c (tag p b) → ⊥) → rank_of c p (b + 1) ≡ rank_of c p b
+rank-pass c p b l m n = elim (cases_lt p (block_len c b)) [
   | inl k ↦ absurd (n (m, k))
   | inr k ↦ grind (arith, nat_tests)
 ]
 
 -- on to the next place
-pub rank-row : (c : Cut) (p : ℕ) → p ≤ c.short_len → rank_of c p (count_of c) ≡ rank_of c (p + 1) 0
+pub rank-row : (c : Cut) (p : ℕ) → p ≤ c.short_len → rank_of c p (block_count c) ≡ rank_of c (p + 1) 0
 rank-row c p l = elim (cases_lt p c.short_len) [
   | inl k ↦
       let o : p + 1 ≡ suc p = omega arith in
-      let f : count_of c * (p + 1) ≡ count_of c * p + count_of c = rw o (mul-suc (count_of c) p) in
-      let e = mul_comm (count_of c) c.short_len in
+      let f : block_count c * (p + 1) ≡ block_count c * p + block_count c = rw o (mul-suc (block_count c) p) in
+      let e = mul_comm (block_count c) c.short_len in
       elim (cases_lt (p + 1) c.short_len) [
         | inl j ↦ grind (arith, nat_tests)
         | inr j ↦
             let h : p + 1 ≡ c.short_len = omega arith in
-            let q = ap (λ (z : ℕ). count_of c * z) h in
+            let q = ap (λ (z : ℕ). block_count c * z) h in
             grind (arith, nat_tests)
       ]
   | inr k ↦ let h : p ≡ c.short_len = omega arith in grind (arith, nat_tests)
@@ -105,7 +105,7 @@ All-rec P [] h = tt
 All-rec P (x ∷ xs) h = (h 0 x (omega arith), All-rec P xs (λ k d l. h (suc k) d (omega arith)))
 
 -- two tags do not come before each other
-asym : (t u : Tag) → IsBefore t u → IsBefore u t → ⊥
+asym : (t u : Tag) → IsSentBefore t u → IsSentBefore u t → ⊥
 asym t u (inl h) (inl k) = absurd (omega arith)
 asym t u (inl h) (inr k) = absurd (let e = k.0 in omega arith)
 asym t u (inr h) (inl k) = absurd (let e = h.0 in omega arith)
@@ -113,12 +113,12 @@ asym t u (inr h) (inr k) = absurd (let a = h.1 in let b = k.1 in omega arith)
 
 -- there is one order of tags
 pub tags-one : (c : Cut) (ts us : List Tag) → IsTagOrder c ts → IsTagOrder c us → ts ≡ us
-tags-one c ts us h k = one_rising IsBefore asym ts us (Rises-of-pairs IsBefore ts h.rising) (Rises-of-pairs IsBefore us k.rising)
+tags-one c ts us h k = one_rising IsSentBefore asym ts us (Rises-of-pairs IsSentBefore ts h.rising) (Rises-of-pairs IsSentBefore us k.rising)
     (λ t m. Mem-of-Contains us t (k.complete t (Mem-at (IsTag c) ts t (All-rec (IsTag c) ts h.in_blocks) m)))
     (λ t m. Mem-of-Contains ts t (h.complete t (Mem-at (IsTag c) us t (All-rec (IsTag c) us k.in_blocks) m)))
 
 -- each place of a message has its tag
-pub tag-of : (c : Cut) (k j : ℕ) → k ≤ count_of c → j < start_of c k → (t : Tag) × IsTag c t × (start_of c t.block + t.place ≡ j)
+pub tag-of : (c : Cut) (k j : ℕ) → k ≤ block_count c → j < start_of c k → (t : Tag) × IsTag c t × (start_of c t.block + t.place ≡ j)
 tag-of c zero j l m = absurd (no_start c.short_len)
   where
     no_start : (n : ℕ) → ⊥
@@ -147,8 +147,8 @@ record Listed (c : Cut) (p b : ℕ) : Type 0 where
   pub many : length tags ≡ rank_of c p b
 
 -- one block more
-listed-next : (c : Cut) (p b : ℕ) → p ≤ c.short_len → b < count_of c → Listed c p b → Listed c p (b + 1)
-listed-next c p b l m h = elim (cases_lt p (len_of c b)) [
+listed-next : (c : Cut) (p b : ℕ) → p ≤ c.short_len → b < block_count c → Listed c p b → Listed c p (b + 1)
+listed-next c p b l m h = elim (cases_lt p (block_len c b)) [
   | inl k ↦ record { tags = h.tags ++ tag p b ∷ []; order = tags-push c p b h.tags (m, k) h.order; many = let r = rank-push c p b (m, k) in let n = h.many in let a = length-append h.tags (tag p b ∷ []) in omega arith }
   | inr k ↦
       let n : IsTag c (tag p b) → ⊥ = λ t. let q = t.1 in absurd (omega arith) in
@@ -156,7 +156,7 @@ listed-next c p b l m h = elim (cases_lt p (len_of c b)) [
 ]
 
 -- all blocks of a place
-listed-across : (c : Cut) (p b : ℕ) → p ≤ c.short_len → b ≤ count_of c → Listed c p 0 → Listed c p b
+listed-across : (c : Cut) (p b : ℕ) → p ≤ c.short_len → b ≤ block_count c → Listed c p 0 → Listed c p b
 listed-across c p zero l m h = h
 listed-across c p (suc b) l m h = let e : b + 1 ≡ suc b = omega arith in subst (Listed c p) e (listed-next c p b l (omega arith) (listed-across c p b l (omega arith) h))
 
@@ -164,7 +164,7 @@ listed-across c p (suc b) l m h = let e : b + 1 ≡ suc b = omega arith in subst
 listed-down : (c : Cut) (p : ℕ) → p ≤ c.short_len + 1 → Listed c p 0
 listed-down c zero l = record { tags = []; order = tags-start c; many = rank-start c }
 listed-down c (suc p) l =
-    let h = listed-across c p (count_of c) (omega arith) (omega arith) (listed-down c p (omega arith)) in
+    let h = listed-across c p (block_count c) (omega arith) (omega arith) (listed-down c p (omega arith)) in
     let e : p + 1 ≡ suc p = omega arith in
     subst (λ (k : ℕ). Listed c k 0) e (record { tags = h.tags; order = tags-row c p h.tags h.order; many = h.many ∙ rank-row c p (omega arith) })
 

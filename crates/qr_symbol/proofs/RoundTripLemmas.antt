@@ -46,9 +46,7 @@ symbol-read v l b x h mask g p q s =
       level = l;
       mask = mask;
       message = s.message;
-      least = p;
-      most = q;
-      side = ap (λ (z : Grid). z.side) s.drawn;
+      sized = record { least = p; most = q; side = ap (λ (z : Grid). z.side) s.drawn };
       format = subst (λ (z : Grid). IsFormat z l mask) (sym s.drawn) (format-read v l mask s.codewords p q s.best.in_range);
       holds = subst (λ (z : Grid). IsMessage v l mask z s.message) (sym s.drawn) (message-read v l mask s.message s.codewords p q many bytes (length-data v l x s.segments h s.message s.written) s.sent);
       parsed = data_again v l x s.segments h s.message s.written;
@@ -57,13 +55,13 @@ symbol-read v l b x h mask g p q s =
 -- a square is read as one content at most
 pub reading-one : (g : Grid) (p q : Content) → IsReading g p → IsReading g q → p ≡ q
 reading-one g p q h k =
-    let a = h.side in
-    let b = k.side in
+    let a = h.sized.side in
+    let b = k.sized.side in
     let vs : k.version ≡ h.version = omega arith in
     let w = format-one g k.level h.level k.mask h.mask k.format h.format in
     let m1 = subst (λ (v : ℕ). IsMessage v k.level k.mask g k.message) vs k.holds in
     let m2 = subst (λ (l : Level). IsMessage h.version l k.mask g k.message) w.0 m1 in
     let m3 = subst (λ (m : ℕ). IsMessage h.version h.level m g k.message) w.1 m2 in
-    let same = message-one h.version h.level h.mask g h.message k.message h.least h.most h.holds m3 in
+    let same = message-one h.version h.level h.mask g h.message k.message h.sized.least h.sized.most h.holds m3 in
     let e = sym h.parsed ∙ (ap (λ (d : List ℕ). parse h.version (bits_of d)) same ∙ (ap (λ (v : ℕ). parse v (bits_of k.message)) (sym vs) ∙ k.parsed)) in
     cc

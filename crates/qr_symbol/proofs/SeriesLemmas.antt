@@ -112,7 +112,7 @@ lone-joined x l b v ss i j h =
     subst (λ (ts : List Symbol). IsJoined (squares_of ts) x) (sym h.alone) (record {
       contents = content ∷ [];
       read = (symbol-read v l b x None s.mask s.matrix i j made, tt);
-      together = inl refl;
+      together = inl (content, refl, refl);
       joined = sym (append-nil x);
     })
 

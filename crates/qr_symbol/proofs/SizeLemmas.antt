@@ -6,7 +6,7 @@ use Rattle.qr_layout.specs.declared.level.Level.{Level}
 use Rattle.qr_layout.specs.Version.{side_of}
 use Rattle.qr_bits.specs.declared.modes.Mode.TheVariants.{Kanji}
 use Rattle.qr_bits.specs.declared.modes.Rule.{Rule}
-use Rattle.qr_bits.specs.Segmentation.{HasFit, Covers, runs_of}
+use Rattle.qr_bits.proofs.Facts.{empty_fits}
 use Rattle.qr_bits.specs.Modes.{may_use}
 use Rattle.qr_bits.specs.Padding.{capacity_of}
 use Rattle.qr_symbol.specs.declared.symbol.Symbol.{Symbol}
@@ -14,11 +14,6 @@ use Rattle.qr_matrix.specs.Grid.{Grid}
 use Rattle.qr_symbol.specs.VersionChoice.{FitsVersion}
 use Rattle.qr_symbol.specs.Series.{squares_of, AreParts, NeedsParts, AreSymbolsFrom, IsSeries}
 use Rattle.qr_symbol.proofs.PartLemmas.{needs-some, needs-parts}
-
--- no bytes need no bits
-empty-fits : (v : ℕ) (rule : Rule) (n : ℕ) → HasFit v rule [] n
-unfolding runs_of Covers
-empty-fits v rule n = ([], (refl, refl), omega arith)
 
 -- as many symbols as parts
 pub symbols-many : (v : ℕ) (l : Level) (b : Rule) (last parity k : ℕ) (ps : List (List ℕ)) (ss : List Symbol) → AreSymbolsFrom v l b last parity k ps ss → length ss ≡ length ps
@@ -40,7 +35,7 @@ symbols-side v l b last parity k (p ∷ ps) (s ∷ ss) h =
 -- bytes that do not fit have a part
 parts-some : (x : List ℕ) (l : Level) (b : Rule) (v : ℕ) (ps : List (List ℕ)) → (FitsVersion v l b x → ⊥) → AreParts v l b x ps → 0 < length ps
 unfolding AreParts
-parts-some x l b v [] long none = absurd (long (subst (λ (y : List ℕ). FitsVersion v l b y) (sym none) (empty-fits v b (capacity_of v l))))
+parts-some x l b v [] long none = absurd (long (subst (λ (y : List ℕ). FitsVersion v l b y) (sym none) (empty_fits v b (capacity_of v l))))
 parts-some x l b v (p ∷ ps) long h = omega arith
 
 -- a series has a symbol

@@ -11,8 +11,9 @@ use Rattle.qr_layout.specs.Version.{total_codewords_of, remainder_bits_of}
 use Rattle.qr_layout.specs.Order.{IsOrder}
 use Rattle.qr_layout.proofs.Facts.{order-length, below, below-at}
 use Rattle.qr_bits.specs.Bits.{field, bits_of}
-use Rattle.qr_bits.proofs.Facts.{length-field, length-bits_of}
-use Rattle.qr_bits.specs.Parsing.{parse, Fails}
+use Rattle.qr_bits.proofs.Facts.{fault-read, length-field, length-bits_of}
+use Rattle.std.specs.Prelude.{Err}
+use Rattle.qr_bits.specs.Parsing.{parse, IsResultOf}
 use Rattle.qr_bits.specs.declared.fault.ParseFault.{ParseFault}
 use Rattle.qr_bits.specs.declared.fault.ParseFault.TheVariants as unparsed
 use Rattle.qr_symbol.specs.Fault.{unread_for}
@@ -84,8 +85,11 @@ not-checked g v l mask cw e s f r (inr k) none =
 
 -- a message that is not parsed leaves the square unread
 pub not-parsed : (g : Grid) (v : ℕ) (l : Level) (mask : ℕ) (d : List ℕ) (e : ParseFault) → IsOfVersion g v → IsFormat g l mask
-    → IsMessage v l mask g d → Fails e (parse v (bits_of d)) → IsUnread g (unread_for e)
+    → IsMessage v l mask g d → IsResultOf (Err e) (parse v (bits_of d)) → IsUnread g (unread_for e)
 not-parsed g v l mask d unparsed.Memory s f h k = tt
-not-parsed g v l mask d unparsed.BadMode s f h k = record { version = v; level = l; mask = mask; message = d; sized = s; format = f; holds = h; parsed = k }
-not-parsed g v l mask d unparsed.Cut s f h k = record { version = v; level = l; mask = mask; message = d; sized = s; format = f; holds = h; parsed = k }
-not-parsed g v l mask d unparsed.BadValue s f h k = record { version = v; level = l; mask = mask; message = d; sized = s; format = f; holds = h; parsed = k }
+not-parsed g v l mask d unparsed.BadMode s f h k =
+    ((λ m. cc), record { version = v; level = l; mask = mask; message = d; sized = s; format = f; holds = h; parsed = fault-read unparsed.BadMode _ (λ m. cc) k })
+not-parsed g v l mask d unparsed.Cut s f h k =
+    ((λ m. cc), record { version = v; level = l; mask = mask; message = d; sized = s; format = f; holds = h; parsed = fault-read unparsed.Cut _ (λ m. cc) k })
+not-parsed g v l mask d unparsed.BadValue s f h k =
+    ((λ m. cc), record { version = v; level = l; mask = mask; message = d; sized = s; format = f; holds = h; parsed = fault-read unparsed.BadValue _ (λ m. cc) k })

@@ -8,7 +8,7 @@ use Rattle.std.proofs.Math.Nat.{mul-suc, mul-le-mul_left}
 use Rattle.std.specs.List.{All, AllPairs, AllByRecursion, Contains}
 use Rattle.qr_layout.proofs.Facts.{Mem, Rises, All-of-Mem}
 use Rattle.qr_symbol.specs.declared.interleaving.Cut.{Cut}
-use Rattle.qr_symbol.specs.Interleaving.{Tag, IsBefore, count_of, len_of, start_of, IsTag, IsTagOrder, cut_len, codeword_at}
+use Rattle.qr_symbol.specs.Interleaving.{Tag, IsSentBefore, block_count, block_len, start_of, IsTag, IsTagOrder, cut_len, codeword_at}
 use Rattle.qr_symbol.specs.Steps.Interleaving.{IsSent}
 
 -- the tag of a place and a block
@@ -17,9 +17,9 @@ tag p b = record { place = p; block = b }
 
 -- just the tags before one
 pub record TagsBefore (c : Cut) (p b : ℕ) (ts : List Tag) : Type 0 where
-  pub sound : (t : Tag) → Mem t ts → IsTag c t × IsBefore t (tag p b)
-  pub full : (t : Tag) → IsTag c t → IsBefore t (tag p b) → Mem t ts
-  pub rises : Rises IsBefore ts
+  pub sound : (t : Tag) → Mem t ts → IsTag c t × IsSentBefore t (tag p b)
+  pub full : (t : Tag) → IsTag c t → IsSentBefore t (tag p b) → Mem t ts
+  pub rises : Rises IsSentBefore ts
 
 -- a member of a list with one more item
 Mem-push : {X : Type 0} (x y : X) (xs : List X) → Mem x (xs ++ y ∷ []) → Mem x xs ⊎ (y ≡ x)
@@ -60,12 +60,12 @@ tags-start c = record {
 }
 
 -- what comes before a tag comes before the next
-before-more : (t : Tag) (p b : ℕ) → IsBefore t (tag p b) → IsBefore t (tag p (b + 1))
+before-more : (t : Tag) (p b : ℕ) → IsSentBefore t (tag p b) → IsSentBefore t (tag p (b + 1))
 before-more t p b (inl l) = inl l
 before-more t p b (inr w) = inr (w.0, let l = w.1 in omega arith)
 
 -- what comes before the next tag
-before-cases : (t : Tag) (p b : ℕ) → IsBefore t (tag p (b + 1)) → IsBefore t (tag p b) ⊎ (tag p b ≡ t)
+before-cases : (t : Tag) (p b : ℕ) → IsSentBefore t (tag p (b + 1)) → IsSentBefore t (tag p b) ⊎ (tag p b ≡ t)
 before-cases t p b (inl l) = inl (inl l)
 before-cases t p b (inr w) = elim (cases_lt t.block b) [
   | inl l ↦ inl (inr (w.0, l))
@@ -77,10 +77,10 @@ pub tags-push : (c : Cut) (p b : ℕ) (ts : List Tag) → IsTag c (tag p b) → 
 tags-push c p b ts i h = record {
   sound = λ t m. elim (Mem-push t (tag p b) ts m) [
     | inl k ↦ let w = h.sound t k in (w.0, before-more t p b w.1)
-    | inr e ↦ subst (λ (u : Tag). IsTag c u × IsBefore u (tag p (b + 1))) e (i, inr (refl, omega arith))
+    | inr e ↦ subst (λ (u : Tag). IsTag c u × IsSentBefore u (tag p (b + 1))) e (i, inr (refl, omega arith))
   ];
   full = λ t j k. elim (before-cases t p b k) [ inl k ↦ Mem-old t (tag p b) ts (h.full t j k) | inr e ↦ Mem-new t (tag p b) ts e ];
-  rises = Rises-push IsBefore ts (tag p b) h.rises (λ t m. (h.sound t m).1);
+  rises = Rises-push IsSentBefore ts (tag p b) h.rises (λ t m. (h.sound t m).1);
 }
 
 -- a block that has no such place
@@ -92,7 +92,7 @@ tags-pass c p b ts n h = record {
 }
 
 -- on to the next place
-pub tags-row : (c : Cut) (p : ℕ) (ts : List Tag) → TagsBefore c p (count_of c) ts → TagsBefore c (p + 1) 0 ts
+pub tags-row : (c : Cut) (p : ℕ) (ts : List Tag) → TagsBefore c p (block_count c) ts → TagsBefore c (p + 1) 0 ts
 tags-row c p ts h = record {
   sound = λ t m. let w = h.sound t m in (w.0, elim w.1 [ inl l ↦ inl (omega arith) | inr k ↦ inl (let e = k.0 in omega arith) ]);
   full = λ t j k. h.full t j (elim k [
@@ -120,7 +120,7 @@ pairs-of-Rises R [] h = λ i j d l m. absurd (omega arith)
 pairs-of-Rises R (x ∷ xs) h = AllPairs-cons R x xs (All-of-rec (R x) xs h.0) (pairs-of-Rises R xs h.1)
 
 -- no block is longer than a long one
-pub len-most : (c : Cut) (i : ℕ) → len_of c i ≤ c.short_len + 1
+pub len-most : (c : Cut) (i : ℕ) → block_len c i ≤ c.short_len + 1
 len-most c i = grind (arith, nat_tests)
 
 -- past the last place all tags have come
@@ -128,7 +128,7 @@ pub tags-end : (c : Cut) (ts : List Tag) → TagsBefore c (c.short_len + 1) 0 ts
 tags-end c ts h = record {
   in_blocks = All-of-rec (IsTag c) ts (All-of-Mem (IsTag c) ts (λ t m. (h.sound t m).0));
   complete = λ t i. Contains-of-Mem ts t (h.full t i (inl (let l = len-most c t.block in let k = i.1 in omega arith)));
-  rising = pairs-of-Rises IsBefore ts h.rises;
+  rising = pairs-of-Rises IsSentBefore ts h.rises;
 }
 
 -- ---- what was sent so far
@@ -152,7 +152,7 @@ pub sent-pass : (c : Cut) (d : List ℕ) (p b : ℕ) (before now : List ℕ) →
 sent-pass c d p b before now h n = record { tags = h.tags; order = tags-pass c p b h.tags n h.order; sent = h.sent }
 
 -- on to the next place
-pub sent-row : (c : Cut) (d : List ℕ) (p b : ℕ) (before now : List ℕ) → b ≡ count_of c → SentBefore c d p b before now → SentBefore c d (p + 1) 0 before now
+pub sent-row : (c : Cut) (d : List ℕ) (p b : ℕ) (before now : List ℕ) → b ≡ block_count c → SentBefore c d p b before now → SentBefore c d (p + 1) 0 before now
 sent-row c d p b before now e h = record { tags = h.tags; order = tags-row c p h.tags (subst (λ (k : ℕ). TagsBefore c p k h.tags) e h.order); sent = h.sent }
 
 -- all codewords were sent
@@ -166,7 +166,7 @@ pub start-none : (c : Cut) → start_of c 0 ≡ 0
 start-none c = omega arith
 
 -- each block begins where the one before ends
-pub start-next : (c : Cut) (i : ℕ) → start_of c (i + 1) ≡ start_of c i + len_of c i
+pub start-next : (c : Cut) (i : ℕ) → start_of c (i + 1) ≡ start_of c i + block_len c i
 start-next c i = let e = mul-suc c.short_len i in let o : i + 1 ≡ suc i = omega arith in rw (o, e) (grind (arith, nat_tests))
 
 -- before the first block there is no codeword
@@ -179,4 +179,4 @@ start-most c i j l = let m = mul-le-mul_left c.short_len l in omega arith
 
 -- a tag's codeword is in the message
 pub tag-in : (c : Cut) (p b : ℕ) → IsTag c (tag p b) → start_of c b + p < cut_len c
-tag-in c p b i = let e = start-next c b in let m = start-most c (b + 1) (count_of c) (let l = i.0 in omega arith) in let l = i.1 in omega arith
+tag-in c p b i = let e = start-next c b in let m = start-most c (b + 1) (block_count c) (let l = i.0 in omega arith) in let l = i.1 in omega arith

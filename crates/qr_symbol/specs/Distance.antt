@@ -4,12 +4,12 @@ use Rattle.qr_field.specs.Distance.{differences, erasures, errors}
 use Rattle.qr_layout.specs.declared.level.Level.{Level}
 use Rattle.qr_layout.specs.Blocks.{blocks_of}
 use Rattle.qr_matrix.specs.Grid.{Grid}
-use Rattle.qr_symbol.specs.Interleaving.{count_of, data_cut, block_of}
+use Rattle.qr_symbol.specs.Interleaving.{block_count, data_cut, block_of}
 use Rattle.qr_symbol.specs.Reading.{IsMessage}
 
 -- how many blocks a symbol has (ISO/IEC 18004:2015, 7.5.1, Table 9)
 abbrev pub blocks_in : ℕ → Level → ℕ
-blocks_in v l = count_of (data_cut (blocks_of v l))
+blocks_in v l = block_count (data_cut (blocks_of v l))
 
 -- block i of the message that a square holds: its data codewords, and then its error correction codewords
 -- (ISO/IEC 18004:2015, 7.5.1)

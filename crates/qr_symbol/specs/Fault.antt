@@ -27,6 +27,4 @@ read_fault_number unread.Series = 6
 -- the same cause; lack of memory is one of its own [own]
 abbrev pub unread_for : ParseFault → ReadFault
 unread_for unparsed.Memory = unread.Memory
-unread_for unparsed.BadMode = unread.Segments unparsed.BadMode
-unread_for unparsed.Cut = unread.Segments unparsed.Cut
-unread_for unparsed.BadValue = unread.Segments unparsed.BadValue
+unread_for e = unread.Segments e

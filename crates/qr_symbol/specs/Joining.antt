@@ -1,6 +1,6 @@
 -- What the symbols of a series are joined to, from what each is read as. Public clauses cite this file.
 use Rattle.std.specs.Prelude.{◌≡◌, ◌⊎◌, ℕ, ◌+◌, ◌-◌, ◌<◌, List, [], ◌∷◌, length, None, Some}
-use Rattle.std.specs.List.{flat_map}
+use Rattle.std.specs.List.{AllZip, flat_map}
 use Rattle.qr_bits.specs.Parsing.{Content}
 use Rattle.qr_bits.specs.Header.{parity_of}
 use Rattle.qr_symbol.specs.declared.fault.ReadFault.{ReadFault}
@@ -10,10 +10,7 @@ use Rattle.qr_symbol.specs.Reading.{IsReading, IsUnread}
 
 -- the squares are read as these contents, one by one (ISO/IEC 18004:2015, 12)
 unfoldable pub AreReadings : List Grid → List Content → Type 0
-AreReadings [] [] = Unit {0}
-AreReadings [] (c ∷ cs) = ⊥
-AreReadings (g ∷ gs) [] = ⊥
-AreReadings (g ∷ gs) (c ∷ cs) = IsReading g c × AreReadings gs cs
+AreReadings squares contents = AllZip IsReading squares contents
 
 -- the bytes of contents, one after the other [own]
 abbrev pub bytes_of_all : List Content → List ℕ
@@ -21,9 +18,7 @@ bytes_of_all contents = flat_map (λ c. c.bytes) contents
 
 -- it is one content, without a header [own]
 abbrev pub IsPlain : List Content → Type 0
-IsPlain [] = ⊥
-IsPlain (c ∷ []) = c.header ≡ None
-IsPlain (c ∷ d ∷ cs) = ⊥
+IsPlain contents = (c : Content) × (contents ≡ c ∷ []) × (c.header ≡ None)
 
 -- the contents from position k on have headers with their positions, this number of symbols less 1 and this parity
 -- (ISO/IEC 18004:2015, 8.1 to 8.3)
@@ -65,8 +60,5 @@ pub record IsNoSeries (squares : List Grid) : Type 0 where
 -- Memory may be refused for any squares [own]
 abbrev pub IsUnjoined : List Grid → ReadFault → Type 0
 IsUnjoined squares unread.Memory = Unit {0}
-IsUnjoined squares unread.Side = IsFirstUnread squares unread.Side
-IsUnjoined squares unread.Format = IsFirstUnread squares unread.Format
-IsUnjoined squares unread.Check = IsFirstUnread squares unread.Check
-IsUnjoined squares (unread.Segments e) = IsFirstUnread squares (unread.Segments e)
 IsUnjoined squares unread.Series = IsNoSeries squares
+IsUnjoined squares e = IsFirstUnread squares e

@@ -11,4 +11,3 @@ pub mod Fault
 pub mod Interleaving
 pub mod Distance
 pub mod Steps
-pub mod Mending

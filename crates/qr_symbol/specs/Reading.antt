@@ -1,6 +1,6 @@
 -- The reading of a symbol, from the layout of its version, its blocks and the order of its modules. Public clauses cite
 -- this file.
-use Rattle.std.specs.Prelude.{◌≡◌, ℕ, ◌-◌, ◌*◌, ◌<◌, ◌≤◌, Bool, false, List, ◌++◌, map, take, length, replicate, Ok, Err, None}
+use Rattle.std.specs.Prelude.{◌≡◌, ◌≢◌, ℕ, ◌-◌, ◌*◌, ◌<◌, ◌≤◌, Bool, false, List, ◌++◌, map, take, length, replicate, Result, Ok, Err, None}
 use Rattle.std.specs.List.{All}
 use Rattle.qr_layout.specs.declared.level.Level.{Level}
 use Rattle.qr_layout.specs.declared.region.Module.{Module}
@@ -46,31 +46,15 @@ pub record IsMessage (v : ℕ) (l : Level) (mask : ℕ) (g : Grid) (d : List ℕ
   pub many : length d ≡ data_codewords_of v l
   pub sent : IsInterleaved v l d codewords
 
+-- bit i of the format information beside the top left finder pattern (ISO/IEC 18004:2015, 7.9.1)
+abbrev pub format_bit : Grid → ℕ → Bool
+format_bit g i = colour g (first_place i).row (first_place i).col
+
 -- the format information beside the top left finder pattern is that of the level and the mask
 -- (ISO/IEC 18004:2015, 7.9.1, 12)
 pub record IsFormat (g : Grid) (l : Level) (mask : ℕ) : Type 0 where
   pub in_range : mask < 8
-  pub bits : (i : ℕ) → i < 15 → colour g (first_place i).row (first_place i).col ≡ word_bit (format_word_of l mask) i
-
--- the square is read as this content: its side is that of a version, its format information that of a level and a mask,
--- and the data codewords that it holds say so (ISO/IEC 18004:2015, 12)
-pub record IsReading (g : Grid) (content : Content) : Type 0 where
-  pub version : ℕ
-  pub level : Level
-  pub mask : ℕ
-  pub message : List ℕ
-  pub least : 1 ≤ version
-  pub most : version ≤ 40
-  pub side : g.side ≡ side_of version
-  pub format : IsFormat g level mask
-  pub holds : IsMessage version level mask g message
-  pub parsed : parse version (bits_of message) ≡ Ok content
-
--- the square is read as the input, in segments of least bits for the version and without a header
--- (ISO/IEC 18004:2015, 12)
-abbrev pub IsReadBack : ℕ → Rule → List ℕ → Grid → Type 0
-IsReadBack v rule x g = (segments : List Segment) × IsLeastSegmentation v rule x segments
-    × IsReading g (record { header = None; segments = segments; bytes = x })
+  pub bits : (i : ℕ) → i < 15 → format_bit g i ≡ word_bit (format_word_of l mask) i
 
 -- the side of the square is that of the version (ISO/IEC 18004:2015, 6.3.2, 12)
 pub record IsOfVersion (g : Grid) (v : ℕ) : Type 0 where
@@ -78,8 +62,9 @@ pub record IsOfVersion (g : Grid) (v : ℕ) : Type 0 where
   pub most : v ≤ 40
   pub side : g.side ≡ side_of v
 
--- the square holds a message that cannot be parsed, with this fault (ISO/IEC 18004:2015, 12)
-pub record IsNotParsed (g : Grid) (e : ParseFault) : Type 0 where
+-- the parse of what the square holds has this outcome: its side is that of a version, its format information that of a level
+-- and a mask, and the data codewords that it holds are parsed with it (ISO/IEC 18004:2015, 12)
+pub record IsParsedAs (g : Grid) (outcome : Result Content ParseFault) : Type 0 where
   pub version : ℕ
   pub level : Level
   pub mask : ℕ
@@ -87,7 +72,17 @@ pub record IsNotParsed (g : Grid) (e : ParseFault) : Type 0 where
   pub sized : IsOfVersion g version
   pub format : IsFormat g level mask
   pub holds : IsMessage version level mask g message
-  pub parsed : parse version (bits_of message) ≡ Err e
+  pub parsed : parse version (bits_of message) ≡ outcome
+
+-- the square is read as this content (ISO/IEC 18004:2015, 12)
+abbrev pub IsReading : Grid → Content → Type 0
+IsReading g content = IsParsedAs g (Ok content)
+
+-- the square is read as the input, in segments of least bits for the version and without a header
+-- (ISO/IEC 18004:2015, 12)
+abbrev pub IsReadBack : ℕ → Rule → List ℕ → Grid → Type 0
+IsReadBack v rule x g = (segments : List Segment) × IsLeastSegmentation v rule x segments
+    × IsReading g (record { header = None; segments = segments; bytes = x })
 
 -- the square is not read, for this fault: no version has its side; one has, but no level and mask have its format
 -- information; they have, but it holds no message; it holds one that cannot be parsed. Memory may be refused
@@ -97,8 +92,5 @@ IsUnread g unread.Memory = Unit {0}
 IsUnread g unread.Side = (v : ℕ) → IsOfVersion g v → ⊥
 IsUnread g unread.Format = (v : ℕ) × IsOfVersion g v × ((l : Level) (mask : ℕ) → IsFormat g l mask → ⊥)
 IsUnread g unread.Check = (v : ℕ) × IsOfVersion g v × (l : Level) × (mask : ℕ) × IsFormat g l mask × ((d : List ℕ) → IsMessage v l mask g d → ⊥)
-IsUnread g (unread.Segments unparsed.Memory) = ⊥
-IsUnread g (unread.Segments unparsed.BadMode) = IsNotParsed g unparsed.BadMode
-IsUnread g (unread.Segments unparsed.Cut) = IsNotParsed g unparsed.Cut
-IsUnread g (unread.Segments unparsed.BadValue) = IsNotParsed g unparsed.BadValue
+IsUnread g (unread.Segments e) = (e ≢ unparsed.Memory) × IsParsedAs g (Err e)
 IsUnread g unread.Series = ⊥

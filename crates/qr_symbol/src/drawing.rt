@@ -1,23 +1,25 @@
 //! How the modules of a symbol get their colours: the function patterns with the format and version information, and
-//! the codewords' bits, strip by strip in the order of the walk (ISO/IEC 18004:2015, 7.7.2 and 7.7.3).
+//! the codewords' bits, strip by strip in the order of the walk or plainly along it (ISO/IEC 18004:2015, 7.7.2 and 7.7.3).
 
 ghost use Rattle.std.specs.Prelude.{◌≡◌, ℕ, List, ◌+◌, ◌-◌, ◌<◌, ◌≤◌, ◌==◌, ◌&&◌, if◌then◌else◌, nat_le, nat_lt, false, slice_index};
 ghost use Rattle.std.specs.List.{list_any};
 ghost use Rattle.qr_layout.specs.Version.{side_of};
 ghost use Rattle.qr_layout.specs.Alignment.{alignment_places, centres_of};
-ghost use Rattle.qr_layout.specs.Region.{corner_rectangles, is_alignment, is_in_rectangle, timing_lines, version_rectangles};
-ghost use Rattle.qr_layout.specs.Role.{is_alignment_light, ring_of, role_of};
+ghost use Rattle.qr_layout.specs.Region.{is_alignment, ring_of};
+ghost use Rattle.qr_layout.specs.Steps.Rectangles.{corner_rectangles, is_in_rectangle, timing_lines, version_rectangles};
+ghost use Rattle.qr_layout.specs.Role.{is_alignment_light, role_of};
 ghost use Rattle.qr_layout.specs.Strips.{both_of, rows_from};
 ghost use Rattle.qr_layout.specs.Format.{version_word_of};
 ghost use Rattle.qr_bits.specs.Bits.{codeword_bit};
 ghost use Rattle.qr_matrix.specs.Grid.{square, colour, light, IsSquare};
 ghost use Rattle.qr_matrix.specs.Line.{has_bit};
 ghost use Rattle.qr_symbol.specs.Symbol.{word_bit};
-ghost use Rattle.qr_symbol.specs.Steps.Drawing.{fixed_colour, paint_of, placed_colour, placed_if, number_after, number_along, placed_along, IsWindow, format_or, region_grid};
+ghost use Rattle.qr_symbol.specs.Steps.Drawing.{fixed_colour, paint_of, placed_colour, placed_if, number_after, number_along, placed_along, walked_colour, IsWindow, format_or, region_grid};
 
+use crate::mask::inverts;
 use qr_layout::{
     Module, Role, Strip, Version, alignment_centres, all_strips, cell, format_place,
-    second_format_place,
+    second_format_place, walk,
 };
 use qr_matrix::Matrix;
 
@@ -388,6 +390,29 @@ pub(crate) fn draw_codewords(matrix: &mut Matrix, v: Version, region: &Matrix, c
     let mut number = 0;
     for strip in all_strips(v) {
         number = draw_strip(matrix, v, region, codewords, number, strip);
+    }
+}
+
+// Bit `number` of the codewords, the highest bit of a codeword first; 0 past their end.
+fn bit_at(codewords: &[u8], number: usize) -> bool
+    ensures { result ≡ codeword_bit codewords.now number }
+{
+    let codeword = codeword_at(codewords, number / 8);
+    is_bit_set(u32::from(codeword), 7 - (number % 8) as u8)
+}
+
+// Gives each module of the encoding region the colour of its bit under a mask, in one pass along the walk. The remainder bits
+// are 0 before they are masked, so the mask inverts them too.
+pub(crate) fn draw_along_walk(matrix: &mut Matrix, v: Version, codewords: &[u8], mask: u8)
+    requires { IsSquare (side_of v) matrix.old }
+    ensures { matrix.new ≡ square (side_of v) (walked_colour v codewords.now mask (colour matrix.old)) }
+{
+    let mut number = 0;
+    for module in walk(v) {
+        let Module { row, col } = module;
+        let bit = bit_at(codewords, number);
+        matrix.set(row, col, bit != inverts(mask, row, col));
+        number += 1;
     }
 }
 

@@ -5,25 +5,29 @@ ghost use Rattle.std.specs.Prelude.{◌≡◌, ◌≢◌, ◌↔◌, ℕ, ◌+�
 ghost use Rattle.qr_layout.specs.Blocks.{data_codewords_of};
 ghost use Rattle.qr_layout.specs.Version.{total_codewords_of};
 ghost use Rattle.qr_symbol.specs.declared.fault.ReadFault.{ReadFault};
-ghost use Rattle.qr_symbol.specs.Interleaving.{count_of, len_of, start_of, cut_len, data_cut, correction_cut, IsFinalMessage, IsInterleaved};
-ghost use Rattle.qr_symbol.specs.Mending.{part_of};
-ghost use Rattle.qr_symbol.specs.Steps.Interleaving.{IsSent, IsChecks, IsGathered};
+ghost use Rattle.qr_symbol.specs.Interleaving.{block_count, block_len, start_of, cut_len, data_cut, correction_cut, IsFinalMessage, IsGathered, IsInterleaved, part_of};
+ghost use Rattle.qr_symbol.specs.Steps.Interleaving.{IsSent, IsChecks};
 
 use crate::fault::ReadFault;
 use qr_field::Divisor;
 use qr_layout::{Blocks, Level, Version};
 use std::alloc::{AllocError, Global};
 
-// Codewords block after block: `short` blocks of `short_len` codewords, and then `long` blocks of one more.
+/// How codewords are cut into blocks, one after another: `short` blocks of `short_len` codewords, and then `long` blocks of
+/// one more (ISO/IEC 18004:2015, 7.5.1).
 #[derive(Clone, Copy)]
-pub(crate) struct Cut {
-    pub(crate) short: u16,
-    pub(crate) short_len: u8,
-    pub(crate) long: u8,
+pub struct Cut {
+    /// How many short blocks there are.
+    pub short: u16,
+    /// How many codewords a short block has.
+    pub short_len: u8,
+    /// How many long blocks there are.
+    pub long: u8,
 }
 
 impl Cut {
-    pub(crate) fn of_data(blocks: Blocks) -> Cut
+    /// The cut of the data codewords.
+    pub fn of_data(blocks: Blocks) -> Cut
         ensures { result ≡ data_cut blocks }
     {
         Cut {
@@ -33,7 +37,8 @@ impl Cut {
         }
     }
 
-    pub(crate) fn of_corrections(blocks: Blocks) -> Cut
+    /// The cut of the error correction codewords, whose blocks all have one length.
+    pub fn of_corrections(blocks: Blocks) -> Cut
         ensures { result ≡ correction_cut blocks }
     {
         Cut {
@@ -43,14 +48,15 @@ impl Cut {
         }
     }
 
-    pub(crate) fn count(self) -> usize
-        ensures { result ≡ count_of self }
+    /// How many blocks there are.
+    pub fn count(self) -> usize
+        ensures { result ≡ block_count self }
     {
         usize::from(self.short) + usize::from(self.long)
     }
 
     fn len(self, block: usize) -> usize
-        ensures value { result ≡ len_of self block }
+        ensures value { result ≡ block_len self block }
         ensures most { result ≤ self.short_len + 1 }
     {
         if block < usize::from(self.short) {
@@ -60,22 +66,33 @@ impl Cut {
         }
     }
 
-    pub(crate) fn start(self, block: usize) -> usize
-        requires { block ≤ count_of self }
+    fn start(self, block: usize) -> usize
+        requires { block ≤ block_count self }
         ensures { result ≡ start_of self block }
     {
         usize::from(self.short_len) * block + block.saturating_sub(usize::from(self.short))
     }
 
-    // A block of codewords that stand block after block.
-    pub(crate) fn part(self, codewords: &[u8], block: usize) -> &[u8]
-        requires within { block < count_of self }
+    /// A block of codewords that stand block after block.
+    pub fn part(self, codewords: &[u8], block: usize) -> &[u8]
+        requires within { block < block_count self }
         requires whole { length codewords.now ≡ cut_len self }
         ensures value { result.now ≡ part_of self codewords.now block }
-        ensures len { length result.now ≡ len_of self block }
+        ensures len { length result.now ≡ block_len self block }
     {
         let start = self.start(block);
         &codewords[start..start + self.len(block)]
+    }
+
+    /// The codewords of the blocks, block after block, from codewords that were sent interleaved: the first of each block,
+    /// then the second of each, and so on (ISO/IEC 18004:2015, 7.6). What comes after them is ignored.
+    pub fn gather(self, alloc: Global, codewords: &[u8]) -> Result<Vec<u8>, AllocError>
+        requires { cut_len self ≤ length codewords.now }
+        ensures { IfOk result (λ d. IsGathered self codewords.now d.items) }
+    {
+        let mut gathered = vec![in alloc; 0u8; self.start(self.count())]?;
+        deinterleave_into(&mut gathered, self, codewords);
+        Ok(gathered)
     }
 }
 
@@ -103,7 +120,7 @@ fn corrections(alloc: Global, blocks: Blocks, message: &[u8]) -> Result<Vec<u8>,
     requires whole { length message.now ≡ cut_len (data_cut blocks) }
     requires least { 1 ≤ blocks.ec_len }
     requires most { blocks.ec_len ≤ 30 }
-    ensures { IfOk result (λ e. IsChecks blocks message.now (count_of (data_cut blocks)) e.items) }
+    ensures { IfOk result (λ e. IsChecks blocks message.now (block_count (data_cut blocks)) e.items) }
 {
     let cut = Cut::of_data(blocks);
     let ec_len = usize::from(blocks.ec_len);
@@ -160,16 +177,6 @@ fn deinterleave_into(message: &mut Vec<u8>, cut: Cut, codewords: &[u8])
             }
         }
     }
-}
-
-// The codewords of blocks, block after block, from codewords that were sent by rising tags.
-pub(crate) fn gather(alloc: Global, cut: Cut, codewords: &[u8]) -> Result<Vec<u8>, AllocError>
-    requires { cut_len cut ≤ length codewords.now }
-    ensures { IfOk result (λ d. IsGathered cut codewords.now d.items) }
-{
-    let mut gathered = vec![in alloc; 0u8; cut.start(cut.count())]?;
-    deinterleave_into(&mut gathered, cut, codewords);
-    Ok(gathered)
 }
 
 // The data codewords of a final sequence, if it is one.

@@ -1,49 +1,85 @@
-//! The laws of masks, of interleaving, of reading and of series. But for those that compare and clone, each function does
-//! nothing: its contract is the law.
+//! The laws of masks, of interleaving, of reading and of series. But for those that build, read, compare and clone, each
+//! function does nothing: its contract is the law.
 
-ghost use Rattle.std.specs.Prelude.{◌≡◌, ◌<◌, ◌≤◌, ◌+◌, ◌⊎◌, ℕ, false, List, length, map, replicate, None, ◌↔◌, ◌∷◌, IsTrue, IfOk};
+ghost use Rattle.std.specs.Prelude.{◌≡◌, ◌<◌, ◌≤◌, ◌+◌, ◌%◌, ◌⊎◌, ℕ, false, List, length, map, None, ◌∷◌, IfOk, IfErr, ◌≢◌, ◌↔◌, Err};
 ghost use Rattle.std.specs.List.{All};
 ghost use Rattle.qr_layout.specs.declared.level.Level.{Level};
 ghost use Rattle.qr_layout.specs.declared.region.Module.{Module};
+ghost use Rattle.qr_layout.specs.declared.role.Role.TheVariants.{FormatBit, VersionBit};
 ghost use Rattle.qr_layout.specs.Order.{IsOrder};
+ghost use Rattle.qr_bits.specs.declared.fault.ParseFault.{ParseFault};
 ghost use Rattle.qr_bits.specs.declared.modes.Mode.{Mode};
 ghost use Rattle.qr_bits.specs.Bits.{bits_of};
 ghost use Rattle.qr_bits.specs.Modes.{may_use};
 ghost use Rattle.qr_bits.specs.Parsing.{Content};
+ghost use Rattle.qr_symbol.specs.declared.fault.EncodeFault.{EncodeFault};
 ghost use Rattle.qr_symbol.specs.declared.fault.ReadFault.{ReadFault};
 ghost use Rattle.qr_symbol.specs.declared.symbol.Symbol.{Symbol};
 ghost use Rattle.qr_matrix.specs.Grid.{Grid};
-ghost use Rattle.qr_symbol.specs.Symbol.{grid_of};
-ghost use Rattle.qr_symbol.specs.Mending.{tolerance_of, IsNearFormat, IsMendedIn, IsMendedReading, IsUnmended};
+ghost use Rattle.qr_symbol.specs.Choice.{mask_penalty, IsMask};
+ghost use Rattle.qr_symbol.specs.Fault.{read_fault_number};
+ghost use Rattle.qr_symbol.specs.Mask.{inverts};
+ghost use Rattle.qr_symbol.specs.Symbol.{colour_by, grid_of};
 ghost use Rattle.qr_symbol.specs.Reading.{read_bits, IsRead, IsMessage, IsFormat, IsReading, IsUnread};
 ghost use Rattle.qr_symbol.specs.Encoding.{IsSymbol, SymbolsAreOne};
-ghost use Rattle.qr_symbol.specs.VersionChoice.{HasNoVersion};
+ghost use Rattle.qr_symbol.specs.VersionChoice.{FitsVersion, HasNoVersion, IsVersion};
 ghost use Rattle.qr_symbol.specs.Series.{squares_of, AreParts, FitParts, NeedsParts, IsSeries, HasNoSeries};
 ghost use Rattle.qr_symbol.specs.Joining.{IsJoined, IsUnjoined};
 ghost use Rattle.qr_layout.specs.Version.{side_of, total_codewords_of};
 ghost use Rattle.qr_layout.specs.Blocks.{data_codewords_of, blocks_of};
 ghost use Rattle.qr_bits.specs.declared.modes.Rule.{Rule};
-ghost use Rattle.qr_symbol.specs.Interleaving.{count_of, len_of, start_of, cut_len, data_cut, IsInterleaved};
-ghost use Rattle.qr_symbol.specs.Distance.{blocks_in, MessagesLieApart, DamagedMessagesAreOne};
-ghost use Rattle.qr_symbol.specs.Laws.{all_masks, first_rows, computed_rows};
+ghost use Rattle.qr_symbol.specs.Interleaving.{block_count, block_len, start_of, cut_len, data_cut, IsInterleaved};
+ghost use Rattle.qr_symbol.specs.Distance.{MessagesLieApart, DamagedMessagesAreOne};
+ghost use Rattle.qr_symbol.specs.Laws.{all_masks, bits_down, computed_rows, first_rows};
 
+use crate::choice::build;
+pub use crate::equality::{
+    encode_fault_clones, encode_faults_are_equal, read_fault_clones, read_faults_are_equal,
+};
 use crate::fault::{EncodeFault, ReadFault};
-use qr_bits::INPUT_MAX;
+use crate::joining::read_series;
+use crate::reading::read_symbol;
+use crate::symbol::{Symbol, build_masked};
+use qr_bits::{INPUT_MAX, Parsed};
 use qr_layout::{Level, Version};
-use std::alloc::AllocError;
+use qr_matrix::Matrix;
+use std::alloc::Global;
 
-/// The definition of the masks computes the first places of each mask pattern.
+/// Each mask repeats after twelve rows and six columns, and its first twelve rows of six columns are those that were worked
+/// out from Table 10.
 pub fn masks_compute()
-    ensures { map first_rows all_masks ≡ computed_rows }
+    ensures repeated { (mask r c : ℕ) → mask < 8 → inverts mask r c ≡ inverts mask (r % 12) (c % 6) }
+    ensures rows { map first_rows all_masks ≡ computed_rows }
 {}
+
+/// The plain form and the fast one give one symbol: what `build_masked` gives with the mask that `build` chose is in all its
+/// fields what `build` gives.
+pub fn plain_and_fast_symbols_are_one(
+    alloc: Global,
+    version: Version,
+    level: Level,
+    codewords: &[u8],
+) -> Result<(Symbol, Symbol), EncodeFault>
+    requires whole { length codewords.now ≡ total_codewords_of version }
+    ensures version { IfOk result (λ s. s.0.version ≡ s.1.version) }
+    ensures level { IfOk result (λ s. s.0.level ≡ s.1.level) }
+    ensures mask { IfOk result (λ s. s.0.mask ≡ s.1.mask) }
+    ensures matrix { IfOk result (λ s. s.0.matrix ≡ s.1.matrix) }
+    ensures best { IfOk result (λ s. IsMask version level codewords.now s.1.mask) }
+    ensures fault { IfErr result (λ e. e ≡ EncodeFault.Memory) }
+{
+    let fast = build(alloc, version, level, codewords)?;
+    let plain = build_masked(alloc, version, level, codewords, fast.mask)?;
+    Ok((plain, fast))
+}
 
 /// The blocks of the data codewords stand one after another, from the first codeword to the last.
 pub fn blocks_are_cut_exactly(version: Version, level: Level)
     ensures first { start_of (data_cut (blocks_of version level)) 0 ≡ 0 }
-    ensures next { (i : ℕ) → i < count_of (data_cut (blocks_of version level))
+    ensures next { (i : ℕ) → i < block_count (data_cut (blocks_of version level))
         → start_of (data_cut (blocks_of version level)) (i + 1)
         ≡ start_of (data_cut (blocks_of version level)) i
-        + len_of (data_cut (blocks_of version level)) i }
+        + block_len (data_cut (blocks_of version level)) i }
     ensures whole { cut_len (data_cut (blocks_of version level)) ≡ data_codewords_of version level }
 {}
 
@@ -93,46 +129,6 @@ pub fn format_is_one()
         → (l ≡ k) × (m ≡ n) }
 {}
 
-/// The format information of a square is nearly that of one level and one mask at most.
-pub fn near_format_is_one()
-    ensures { (g : Grid) (l k : Level) (m n : ℕ) → IsNearFormat g l m → IsNearFormat g k n
-        → (l ≡ k) × (m ≡ n) }
-{}
-
-/// The definition of how many codewords of a block may be changed computes the six numbers of Table 9 that are less than half
-/// of the error correction codewords, and one of the others.
-pub fn tolerances_compute()
-    ensures one { tolerance_of 1 Level.L ≡ 2 × tolerance_of 1 Level.M ≡ 4 }
-    ensures one_more { tolerance_of 1 Level.Q ≡ 6 × tolerance_of 1 Level.H ≡ 8 }
-    ensures two { tolerance_of 2 Level.L ≡ 4 }
-    ensures three { tolerance_of 3 Level.L ≡ 7 }
-    ensures forty { tolerance_of 40 Level.L ≡ 15 }
-{}
-
-/// Codewords are a damaged form of one message at most, and so is what was changed.
-pub fn mended_messages_are_one(version: Version, level: Level)
-    ensures { (cw m n x y : List ℕ) → IsMendedIn version level cw m x → IsMendedIn version level cw n y
-        → (m ≡ n) × (x ≡ y) }
-{}
-
-/// A square is read with its damage mended as one content at most.
-pub fn mended_readings_are_one()
-    ensures { (g : Grid) (p q : Content) (x y : List ℕ) → IsMendedReading g p x → IsMendedReading g q y
-        → (p ≡ q) × (x ≡ y) }
-{}
-
-/// A square that is read without mending is read as the same content with it, and no codeword is changed.
-pub fn readings_are_mended_readings()
-    ensures { (g : Grid) (p : Content) → (h : IsReading g p)
-        → IsMendedReading g p (replicate (blocks_in h.version h.level) 0) }
-{}
-
-/// A square that is read with its damage mended can only be refused for lack of memory.
-pub fn mended_readings_are_not_refused()
-    ensures { (g : Grid) (p : Content) (x : List ℕ) (e : ReadFault) → IsMendedReading g p x → IsUnmended g e
-        → e ≡ ReadFault.Memory }
-{}
-
 /// A square is read as one content at most.
 pub fn contents_are_one()
     ensures { (g : Grid) (p q : Content) → IsReading g p → IsReading g q → p ≡ q }
@@ -147,6 +143,14 @@ pub fn refusals_are_one()
         → (e ≡ ReadFault.Memory) ⊎ (f ≡ ReadFault.Memory) ⊎ (e ≡ f) }
 {}
 
+/// A square is refused for each fault but lack of memory exactly if the fault is its own, unless memory is refused.
+pub fn readings_are_refused_exactly(alloc: Global, matrix: &Matrix) -> Result<Parsed, ReadFault>
+    ensures { (e : ReadFault) → e ≢ ReadFault.Memory
+        → (result ≡ Err e) ↔ ((result ≢ Err ReadFault.Memory) × IsUnread matrix.now e) }
+{
+    read_symbol(alloc, matrix)
+}
+
 /// Squares are joined to one list of bytes at most.
 pub fn joinings_are_one()
     ensures { (gs : List Grid) (x y : List ℕ) → IsJoined gs x → IsJoined gs y → x ≡ y }
@@ -160,6 +164,14 @@ pub fn joining_refusals_are_one()
     ensures one { (gs : List Grid) (e f : ReadFault) → IsUnjoined gs e → IsUnjoined gs f
         → (e ≡ ReadFault.Memory) ⊎ (f ≡ ReadFault.Memory) ⊎ (e ≡ f) }
 {}
+
+/// Symbols are refused for each fault but lack of memory exactly if the fault is theirs, unless memory is refused.
+pub fn joinings_are_refused_exactly(alloc: Global, symbols: &[Symbol]) -> Result<Vec<u8>, ReadFault>
+    ensures { (e : ReadFault) → e ≢ ReadFault.Memory
+        → (result ≡ Err e) ↔ ((result ≢ Err ReadFault.Memory) × IsUnjoined (squares_of symbols.now) e) }
+{
+    read_series(alloc, symbols)
+}
 
 /// An input has only one symbol of a level, from a version on.
 pub fn symbols_are_one()
@@ -188,6 +200,11 @@ pub fn series_are_shortest()
     ensures series { (x : List ℕ) (l : Level) (rule : Rule) (v : ℕ) (ss : List Symbol)
         → may_use rule Mode.Kanji ≡ false → 0 < length x
         → IsSeries v l rule x ss → NeedsParts v l rule x (length ss) }
+{}
+
+/// Every input has parts: in any symbol a byte fits after a header.
+pub fn parts_are_there(version: Version, level: Level)
+    ensures { (rule : Rule) (x : List ℕ) → (parts : List (List ℕ)) × AreParts version level rule x parts }
 {}
 
 /// The first part of what is left of an input has at least five bytes, or it is all that is left.
@@ -221,53 +238,79 @@ pub fn long_inputs_have_none(version: Version)
         → HasNoSeries version l rule x }
 {}
 
-/// Two faults of encoding compare as equal exactly where they are the same.
-pub fn encode_faults_are_equal(a: EncodeFault, b: EncodeFault) -> bool
-    ensures { IsTrue result ↔ (a ≡ b) }
-{
-    a == b
-}
+/// The bits of the format information and the version information are drawn as the standard's examples print them, from the
+/// highest bit to the lowest: level M with mask 101, and version 7.
+#[tactic(auto, unfolding(qr_layout::specs::Format::format_word_of, qr_layout::specs::Format::version_word_of, qr_layout::specs::Format::remainder_of))]
+pub fn drawn_bits_compute()
+    ensures format { (v r c : ℕ) (cw : List ℕ) → bits_down 15 (λ i. colour_by v Level.M 5 cw r c (FormatBit i))
+        ≡ 0b100000011001110 }
+    ensures version { (l : Level) (mask r c : ℕ) (cw : List ℕ)
+        → bits_down 18 (λ i. colour_by 7 l mask cw r c (VersionBit i)) ≡ 0b000111110010010100 }
+{}
 
-/// Two faults of reading compare as equal exactly where they are the same.
-pub fn read_faults_are_equal(a: ReadFault, b: ReadFault) -> bool
-    ensures { IsTrue result ↔ (a ≡ b) }
-{
-    a == b
-}
+/// Among masks of equal penalty the one of the smallest number is chosen.
+pub fn ties_go_to_the_smallest()
+    ensures { (v : ℕ) (l : Level) (cw : List ℕ) (mask other : ℕ) → IsMask v l cw mask → other < 8
+        → mask_penalty v l cw other ≡ mask_penalty v l cw mask → mask ≤ other }
+{}
 
-/// A clone of a fault of encoding is the same fault.
-pub fn encode_fault_clones(a: EncodeFault) -> Result<EncodeFault, AllocError>
-    ensures { IfOk result (λ b. b ≡ a) }
-{
-    a.clone()
-}
+/// The last version is 40: no larger one is chosen, and an input that fits it is not refused.
+pub fn the_last_version_is_40(smallest: Version)
+    ensures chosen { (l : Level) (rule : Rule) (x : List ℕ) (v : ℕ) → IsVersion smallest l rule x v → v ≤ 40 }
+    ensures tried { (l : Level) (rule : Rule) (x : List ℕ) → HasNoVersion smallest l rule x
+        → FitsVersion 40 l rule x → ⊥ }
+{}
 
-/// A clone of a fault of reading is the same fault.
-pub fn read_fault_clones(a: ReadFault) -> Result<ReadFault, AllocError>
-    ensures { IfOk result (λ b. b ≡ a) }
-{
-    a.clone()
-}
+/// An input is not refused a series whose parts are 16 or fewer.
+pub fn sixteen_parts_are_a_series()
+    ensures { (v : ℕ) (l : Level) (rule : Rule) (x : List ℕ) (parts : List (List ℕ))
+        → AreParts v l rule x parts → length parts ≤ 16 → HasNoSeries v l rule x → ⊥ }
+{}
+
+/// The faults of reading have the numbers from 1 to 6, in their order.
+pub fn read_faults_are_numbered()
+    ensures memory { read_fault_number ReadFault.Memory ≡ 1 }
+    ensures side { read_fault_number ReadFault.Side ≡ 2 }
+    ensures format { read_fault_number ReadFault.Format ≡ 3 }
+    ensures check { read_fault_number ReadFault.Check ≡ 4 }
+    ensures segments { (why : ParseFault) → read_fault_number (ReadFault.Segments why) ≡ 5 }
+    ensures series { read_fault_number ReadFault.Series ≡ 6 }
+{}
 
 #[cfg(test)]
 mod tests {
     use super::*;
-    use qr_bits::ParseFault;
     use std::test::Fail;
 
+    // Versions with no remainder bits and with three, four and seven of them; version 7 has version information too.
     #[test]
-    fn equal_and_unequal_faults(rt: HostRuntime) -> Result<(), Fail> {
-        let (cut, bad_mode) = (
-            ReadFault::Segments(ParseFault::Cut),
-            ReadFault::Segments(ParseFault::BadMode),
-        );
-        assert!(rt; read_faults_are_equal(cut, cut) && !read_faults_are_equal(cut, bad_mode));
-        assert!(rt; !read_faults_are_equal(cut, ReadFault::Check));
-        let (empty, too_long) = (EncodeFault::Empty, EncodeFault::TooLong);
-        assert!(rt; encode_faults_are_equal(empty, empty));
-        assert!(rt; !encode_faults_are_equal(empty, too_long));
-        assert_eq!(rt; read_fault_clones(cut)?, cut);
-        assert_eq!(rt; encode_fault_clones(too_long)?, too_long);
+    fn plain_and_fast_symbols(rt: HostRuntime) -> Result<(), Fail> {
+        for number in [1, 2, 7, 14, 21, 40] {
+            let version = Version::new(number).ok_or("no such version")?;
+            let mut codewords = Vec::new(rt.alloc());
+            for place in 0..version.total_codewords() {
+                codewords.push((place % 251) as u8)?;
+            }
+            assert!(rt; codewords.len() == usize::from(version.total_codewords()));
+            let (plain, fast) = plain_and_fast_symbols_are_one(
+                rt.alloc(),
+                version,
+                Level::Q,
+                &codewords,
+            )?;
+            let side = version.side();
+            assert!(rt; plain.matrix.side() == side && fast.matrix.side() == side);
+            for row in 0..side {
+                for col in 0..side {
+                    assert!(rt; row < plain.matrix.side() && col < plain.matrix.side());
+                    assert!(rt; row < fast.matrix.side() && col < fast.matrix.side());
+                    assert!(rt;
+                        plain.matrix.dark(row, col) == fast.matrix.dark(row, col),
+                        "version {number}, row {row}, column {col}"
+                    );
+                }
+            }
+        }
         Ok(())
     }
 }

@@ -17,18 +17,6 @@ use qr_layout::{Level, Version, format_place, format_word, walk};
 use qr_matrix::Matrix;
 use std::alloc::{AllocError, Global};
 
-// The version whose symbols have this side.
-pub(crate) fn version_of_side(side: u8) -> Option<Version>
-    ensures { MatchOption result
-        ((v : ℕ) → 1 ≤ v → v ≤ 40 → side ≡ side_of v → ⊥)
-        (λ v. (1 ≤ v) × (v ≤ 40) × (side ≡ side_of v)) }
-{
-    if side < 21 || (side - 17) % 4 != 0 {
-        return None;
-    }
-    Version::new((side - 17) / 4)
-}
-
 // Whether the format information beside the top left finder pattern is that of the level and the mask.
 fn has_format(matrix: &Matrix, level: Level, mask: u8) -> bool
     requires side { 21 ≤ matrix.now.side }
@@ -75,8 +63,9 @@ fn format_of(matrix: &Matrix) -> Option<(Level, u8)>
     None
 }
 
-// The codewords that the modules of the encoding region hold under a mask; the remainder bits are left aside.
-pub(crate) fn read_codewords(
+/// The codewords that the modules of the encoding region hold under a mask, read in the order of the walk; the remainder
+/// bits are ignored (ISO/IEC 18004:2015, 7.7.3 and 12).
+pub fn read_codewords(
     alloc: Global,
     version: Version,
     mask: u8,
@@ -111,7 +100,7 @@ pub fn read_symbol(alloc: Global, matrix: &Matrix) -> Result<Parsed, ReadFault>
     ensures side { IsUnread matrix.now ReadFault.Side → result ≡ Err ReadFault.Side }
     ensures format { IsUnread matrix.now ReadFault.Format → result ≡ Err ReadFault.Format }
 {
-    let Some(version) = version_of_side(matrix.side()) else {
+    let Some(version) = Version::of_side(matrix.side()) else {
         return Err(ReadFault::Side);
     };
     let Some((level, mask)) = format_of(matrix) else {

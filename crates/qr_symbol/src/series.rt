@@ -274,4 +274,24 @@ mod tests {
         }
         Ok(())
     }
+
+    // The longest inputs of 16 symbols: each part is as long as a symbol of version 1-H holds after a header.
+    #[test]
+    fn sixteen_full_parts_at_1_h(rt: HostRuntime) -> Result<(), Fail> {
+        let (letters, digits) = ([b'a'; 80], [b'7'; 176]);
+        let rows = [
+            ("80 letters", &letters[..], Rule::BytesOnly, 5),
+            ("176 digits", &digits[..], Rule::Auto, 11),
+        ];
+        for (name, input, rule, len) in rows {
+            assert!(rt; input.len() <= INPUT_MAX);
+            let symbols = encode_series(rt.alloc(), input, Version::FIRST, Level::H, rule)?;
+            assert_eq!(rt; symbols.len(), 16, "{name}");
+            for symbol in symbols.iter() {
+                let part = read_symbol(rt.alloc(), &symbol.matrix)?;
+                assert_eq!(rt; part.bytes.len(), len, "{name}");
+            }
+        }
+        Ok(())
+    }
 }

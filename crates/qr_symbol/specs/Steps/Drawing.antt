@@ -35,6 +35,11 @@ unfoldable pub placed_colour : ℕ → List ℕ → (ℕ → ℕ → Bool) → �
 placed_colour v cw other r c =
     if is_in_region v r c then codeword_bit cw (number_of v (record { row = r; col = c })) else other r c
 
+-- in the encoding region the bit of the codewords under a mask, elsewhere the other colour
+unfoldable pub walked_colour : ℕ → List ℕ → ℕ → (ℕ → ℕ → Bool) → ℕ → ℕ → Bool
+walked_colour v cw mask other r c =
+    if is_in_region v r c then inverted (inverts mask r c) (codeword_bit cw (number_of v (record { row = r; col = c }))) else other r c
+
 -- a square with a bit of the codewords at a module, if it is one of the region
 abbrev pub placed_if : Bool → List ℕ → ℕ → Grid → ℕ → ℕ → Grid
 placed_if is_in cw number g row col = if is_in then painted g row col (codeword_bit cw number) else g

@@ -1,5 +1,5 @@
 use Rattle.std.proofs.Common.{◌≡◌, ℕ, ◌+◌, ◌-◌, Bool, false, ◌&&◌, ◌||◌, eqb, leb, ltb, refl, ap, ◌∙◌}
-use Rattle.qr_layout.specs.Role.{ring_of}
+use Rattle.qr_layout.specs.Region.{ring_of}
 use Rattle.qr_matrix.specs.Grid.{Grid, colour}
 use Rattle.qr_symbol.proofs.PaintLemmas.{over, over-twice, over-rectangle, ring-sides}
 use Rattle.qr_symbol.proofs.drawing.clear_ring.Goals as goal

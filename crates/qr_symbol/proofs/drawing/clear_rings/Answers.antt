@@ -3,7 +3,8 @@ use Rattle.std.specs.List.{list_any}
 use Rattle.std.proofs.lemmas.List.{take_all}
 use Rattle.qr_layout.specs.declared.region.Module.{Module}
 use Rattle.qr_layout.specs.Version.{side_of}
-use Rattle.qr_layout.specs.Role.{ring_of, is_alignment_light}
+use Rattle.qr_layout.specs.Region.{ring_of}
+use Rattle.qr_layout.specs.Role.{is_alignment_light}
 use Rattle.qr_matrix.specs.Grid.{Grid, colour}
 use Rattle.qr_symbol.proofs.PaintLemmas.{over, over-item, over-same, inside-at}
 use Rattle.qr_symbol.proofs.drawing.clear_rings.Goals as goal

@@ -1,5 +1,4 @@
-use Rattle.std.proofs.Common.{◌≡◌, ℕ, ◌+◌, ◌-◌, ◌/◌, ◌%◌, ◌^◌, ◌<◌, nat_eq, refl, ap, ◌∙◌, arith}
-use Rattle.qr_bits.specs.Bits.{codeword_bit}
+use Rattle.std.proofs.Common.{◌≡◌, ℕ, ◌-◌, ◌/◌, ◌%◌, ◌^◌, ◌<◌, nat_eq, refl, ap, ◌∙◌, arith}
 use Rattle.qr_matrix.specs.Grid.{painted}
 use Rattle.qr_matrix.specs.Line.{has_bit}
 use Rattle.qr_symbol.proofs.drawing.draw_part.Goals as goal

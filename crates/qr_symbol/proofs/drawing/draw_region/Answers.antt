@@ -3,7 +3,8 @@ use Rattle.std.specs.Prelude.{None}
 use Rattle.std.specs.List.{list_any}
 use Rattle.std.proofs.lemmas.Bool.Decides.{nat_tests}
 use Rattle.qr_layout.specs.Version.{side_of}
-use Rattle.qr_layout.specs.Region.{is_alignment, is_in_rectangle, is_in_region, corner_rectangles, timing_lines, version_rectangles}
+use Rattle.qr_layout.specs.Region.{is_alignment, is_in_region}
+use Rattle.qr_layout.specs.Steps.Rectangles.{is_in_rectangle, corner_rectangles, timing_lines, version_rectangles}
 use Rattle.qr_layout.proofs.Facts.{region_in}
 use Rattle.qr_matrix.specs.Grid.{Grid, colour}
 use Rattle.qr_matrix.proofs.Facts.{square-same}

@@ -4,8 +4,9 @@ use Rattle.std.proofs.lemmas.List.{take_all}
 use Rattle.qr_layout.specs.declared.region.Module.{Module}
 use Rattle.qr_layout.specs.Version.{side_of}
 use Rattle.qr_layout.specs.Alignment.{alignment_places, centres_of}
-use Rattle.qr_layout.specs.Region.{is_alignment, is_in_rectangle, square_round}
-use Rattle.qr_layout.proofs.Facts.{list_any-map}
+use Rattle.qr_layout.specs.Region.{is_alignment}
+use Rattle.qr_layout.specs.Steps.Rectangles.{is_in_rectangle, square_round}
+use Rattle.qr_layout.proofs.Facts.{alignment-squares}
 use Rattle.qr_matrix.specs.Grid.{Grid, colour}
 use Rattle.qr_symbol.proofs.PaintLemmas.{over-rectangle, over-item, over-same, inside-at}
 use Rattle.qr_symbol.proofs.drawing.fill_alignment.Goals as goal
@@ -56,4 +57,4 @@ returns c =
     let ms = c.args.centres.now in
     let n = c.loop-centre.centre-index in
     over-same s (λ r k. list_any (λ m. is_in_rectangle r k (square_round m)) (take n ms)) (is_alignment c.args.v) (λ _ _. c.args.dark) (colour c.args.matrix.now) c.loop-centre.matrix c.loop-centre.invariant.so_far (λ r k _ _.
-    ap (list_any (λ m. is_in_rectangle r k (square_round m))) (take_all n ms (omega arith) ∙ c.requires.centres) ∙ sym (list_any-map (is_in_rectangle r k) square_round (alignment_places s (centres_of c.args.v))))
+    ap (list_any (λ m. is_in_rectangle r k (square_round m))) (take_all n ms (omega arith) ∙ c.requires.centres) ∙ alignment-squares r k (alignment_places s (centres_of c.args.v)))

@@ -2,8 +2,7 @@ use Rattle.std.proofs.Common.{ℕ, List, ◌∙◌, subst}
 use Rattle.std.proofs.lemmas.Bool.Decides.{Decides-eqb}
 use Rattle.std.proofs.lemmas.Slice.Eq.{slice_eq-Decides}
 use Rattle.qr_symbol.specs.declared.interleaving.Cut.{Cut}
-use Rattle.qr_symbol.specs.Interleaving.{data_cut, IsFinalMessage}
-use Rattle.qr_symbol.specs.Steps.Interleaving.{IsGathered}
+use Rattle.qr_symbol.specs.Interleaving.{data_cut, IsFinalMessage, IsGathered}
 use Rattle.qr_symbol.proofs.GatherLemmas.{none-fits}
 use Rattle.qr_symbol.proofs.interleaving.deinterleave_blocks.Goals as goal
 

@@ -1,5 +1,5 @@
 use Rattle.std.proofs.Common.{ℕ, ◌+◌, [], ◌∷◌, ◌++◌, get_or, Vec, Global, refl, sym, ◌∙◌, ap, subst, arith}
-use Rattle.qr_symbol.specs.Interleaving.{IsTag, codeword_at, count_of}
+use Rattle.qr_symbol.specs.Interleaving.{IsTag, codeword_at, block_count}
 use Rattle.qr_symbol.proofs.TagLemmas.{SentBefore, start-first, start-most, start-next, tag, tag-in, sent-push, sent-pass, sent-row, sent-end}
 use Rattle.qr_symbol.proofs.interleaving.interleave_into.Goals as goal
 use Rattle.qr_symbol.proofs.interleaving.interleave_into.Goals.{then-place-len+in_ok-push, else-place-len}
@@ -14,7 +14,7 @@ bounds-codewords-at c =
 pub overflow_add-at : goal.overflow_add-at
 overflow_add-at c =
     let b = c.loop-block.invariant.blocks in
-    let m = start-most c.args.cut c.loop-block.block (count_of c.args.cut) (omega arith) in
+    let m = start-most c.args.cut c.loop-block.block (block_count c.args.cut) (omega arith) in
     omega (arith, m, c.loop-block.invariant.at, c.len-len.ensures.most)
 
 pub loop-block-init : goal.loop-block-init

@@ -1,7 +1,11 @@
 use Rattle.std.proofs.Common.{refl}
 use Rattle.qr_symbol.specs.Mask.{inverts}
+use Rattle.qr_symbol.proofs.PatternLemmas.{inverts-repeats}
 use Rattle.qr_symbol.proofs.laws.masks_compute.Goals as goal
 
-pub returns : goal.returns
+pub returns-clause-repeated : goal.returns-clause-repeated
+returns-clause-repeated c = inverts-repeats
+
+pub returns-clause-rows : goal.returns-clause-rows
 unfolding inverts
-returns c = refl
+returns-clause-rows c = refl

@@ -1,0 +1,252 @@
+-- The errors of a damaged block: they are located by any polynomial that has solved the equations, and with them added the
+-- block is the true one.
+use Rattle.std.proofs.Common.{◌≡◌, ℕ, zero, suc, ◌+◌, ◌-◌, ◌*◌, ◌<◌, ◌≤◌, List, [], ◌∷◌, ◌++◌, length, take, drop, get_or, refl, sym, ap, ◌∙◌, subst, arith, bit_xor, length-append}
+use Rattle.std.specs.List.{All}
+use Rattle.std.specs.Int.Bits.{xor_zero_r}
+use Rattle.std.proofs.lemmas.List.{length-take, length-take-le, length_push, take_more, take_at, take_rest, take-append-drop, drop_at}
+use Rattle.qr_field.specs.Galois.{product}
+use Rattle.qr_field.specs.Polynomial.{IsByte, plus, power, IsCorrection}
+use Rattle.qr_field.specs.Distance.{differences}
+use Rattle.qr_field.specs.Steps.Polynomial.{value_at}
+use Rattle.qr_field.proofs.BitLemmas.{xor-cancel}
+use Rattle.qr_field.proofs.ByteLemmas.{product-by_one}
+use Rattle.qr_field.proofs.FieldLemmas.{sum-none}
+use Rattle.qr_field.proofs.PowerLemmas.{power-round}
+use Rattle.qr_field.proofs.ListLemmas.{length-plus, bytes-plus}
+use Rattle.qr_field.proofs.ValueLemmas.{value-lt, value-plus, block-bytes, block-root}
+use Rattle.qr_field.proofs.DistanceLemmas.{weight, weight-plus, difference-same, unambiguous}
+use Rattle.qr_field.proofs.PolynomialLemmas.{correction-one}
+use Rattle.qr_mending.specs.Block.{IsBlock, IsMended}
+use Rattle.qr_mending.specs.declared.polynomial.Polynomial.{Polynomial}
+use Rattle.qr_mending.specs.Steps.Sums.{dot_of, eval, blend, HasValues}
+use Rattle.qr_mending.specs.Steps.Polynomial.{all_of, miss_of, IsMonic}
+use Rattle.qr_mending.specs.Steps.Errors.{coefficient, low, IsLocated}
+use Rattle.qr_mending.proofs.SumLemmas.{dot-blend, blend-push}
+use Rattle.qr_mending.proofs.WeightLemmas.{blends-none, errors-root, coefficient-head, coefficient-tail}
+use Rattle.qr_mending.proofs.SpectrumLemmas.{eval-coefficient}
+
+-- ---- blocks
+
+-- a block consists of bytes
+bytes-block : (n : ℕ) (b : List ℕ) → IsBlock n b → All IsByte b
+bytes-block n b h =
+    subst (λ (t : List ℕ). All IsByte t) (sym h.whole) (block-bytes h.message n h.correction h.corrects)
+
+-- its first n values are 0
+root-block : (n : ℕ) (b : List ℕ) → IsBlock n b → (i : ℕ) → i < n → value_at i b ≡ 0
+root-block n b h i l = ap (value_at i) h.whole ∙ block-root h.message n h.correction h.corrects i l
+
+-- the data codewords are all but the last n
+start-block : (n : ℕ) (b : List ℕ) → (h : IsBlock n b) → length h.message ≡ length b - n
+start-block n b h = omega (arith, length-append h.message h.correction, ap length h.whole, h.corrects.count)
+
+-- the error correction codewords follow them
+pub block-corrects : (n : ℕ) (b : List ℕ) → IsBlock n b → IsCorrection (take (length b - n) b) n (drop (length b - n) b)
+block-corrects n b h =
+    let k = length b - n in
+    let s = start-block n b h in
+    let first : h.message ≡ take k b = sym (ap (take k) h.whole ∙ take_at h.message h.correction k s) in
+    let last : h.correction ≡ drop k b = sym (ap (drop k) h.whole ∙ drop_at h.message h.correction k s) in
+    subst (λ (t : List ℕ). IsCorrection t n (drop k b)) first
+    (subst (λ (t : List ℕ). IsCorrection h.message n t) last h.corrects)
+
+-- ---- errors
+
+-- the sum at a place
+get_or-plus : (xs ys : List ℕ) (k : ℕ) → length xs ≡ length ys → k < length xs →
+    get_or (plus xs ys) k 0 ≡ bit_xor (get_or xs k 0) (get_or ys k 0)
+get_or-plus [] ys k e l = absurd (omega arith)
+get_or-plus (x ∷ xs) [] k e l = absurd (omega arith)
+get_or-plus (x ∷ xs) (y ∷ ys) zero e l = refl
+get_or-plus (x ∷ xs) (y ∷ ys) (suc k) e l = get_or-plus xs ys k (omega arith) (omega arith)
+
+-- the coefficient at a place, counted from the last
+coefficient-at : (e : List ℕ) (k : ℕ) → k < length e → coefficient (length e - 1 - k) e ≡ get_or e k 0
+coefficient-at [] k l = absurd (omega arith)
+coefficient-at (c ∷ e) zero l = coefficient-head (length (c ∷ e) - 1 - zero) c e (omega arith)
+coefficient-at (c ∷ e) (suc k) l =
+    let m = length (c ∷ e) - 1 - suc k in
+    let h : m ≡ length e - 1 - k = omega arith in
+    coefficient-tail m c e (λ g. omega (arith, g)) ∙ (ap (λ t. coefficient t e) h ∙ coefficient-at e k (omega arith))
+
+-- the first values of the errors are those of the damaged block
+errors-value : (n : ℕ) (damaged b : List ℕ) → IsBlock n b → length b ≡ length damaged → All IsByte damaged →
+    (i : ℕ) → i < n → value_at i (plus damaged b) ≡ value_at i damaged
+errors-value n damaged b h s a i l =
+    let v = value_at i damaged in
+    let none : i * 0 ≡ 0 = omega arith in
+    value-plus i 0 damaged b (omega (arith, s)) a (bytes-block n b h)
+    ∙ (ap (λ t. bit_xor (product v (power t)) (value_at i b)) none
+    ∙ (ap (λ t. bit_xor t (value_at i b)) (product-by_one v (value-lt i damaged a))
+    ∙ (ap (bit_xor v) (root-block n b h i l) ∙ xor_zero_r v)))
+
+-- so they are the syndromes
+pub errors-values : (n t : ℕ) (damaged b first : List ℕ) → IsMended n t damaged b → All IsByte damaged →
+    HasValues first damaged → length first ≡ n → HasValues first (plus damaged b)
+errors-values n t damaged b first m a h l = record {
+  each = λ k g. h.each k g ∙ sym (errors-value n damaged b m.block m.long a k (omega (arith, l, g)));
+}
+
+-- the leading coefficient comes last
+all-low : (p : Polynomial) → IsMonic p → p.degree < length p.terms → all_of p ≡ take p.degree p.terms ++ 1 ∷ []
+all-low p m l = take_more p.terms p.degree 0 l ∙ ap (λ z. take p.degree p.terms ++ z ∷ []) m
+
+-- a polynomial that has solved the equations of the syndromes locates the errors
+pub errors-located : (n t : ℕ) (damaged b first q : List ℕ) (p : Polynomial) → IsMended n t damaged b → 2 * t ≤ n →
+    length damaged ≤ 255 → All IsByte damaged → HasValues first damaged → length first ≡ n → p.degree ≤ t →
+    IsMonic p → p.degree < length p.terms → All IsByte q → q ≡ all_of p →
+    ((i : ℕ) → i < t → miss_of p (drop i first) ≡ 0) → IsLocated q (plus damaged b)
+errors-located n t damaged b first q p m half most a h l d monic fits bytes same solved =
+    let e = plus damaged b in
+    let w = take p.degree p.terms in
+    let count : length e ≡ length b = length-plus damaged b (omega (arith, m.long)) in
+    let le : All IsByte e = bytes-plus damaged b a (bytes-block n b m.block) in
+    let ve = errors-values n t damaged b first m a h l in
+    let small : length e ≤ 255 = omega (arith, count, m.long) in
+    let few : weight e ≤ t = omega (arith, weight-plus damaged b (sym m.long), m.near) in
+    let split : q ≡ w ++ 1 ∷ [] = same ∙ all-low p monic fits in
+    let lower : length w ≡ p.degree = length-take-le p.degree p.terms (omega (arith, fits)) in
+    let long : length q ≡ p.degree + 1 = omega (arith, ap length split, length_push w 1, lower) in
+    let below : length q - 1 ≡ length w = omega (arith, long, lower) in
+    let rest : low q ≡ w = ap (take (length q - 1)) split ∙ take_at w (1 ∷ []) (length q - 1) (sym below) in
+    let none : (i : ℕ) → i < t → blend q i e ≡ 0 =
+    λ i g.
+    sym (dot-blend q i first e ve (omega (arith, g, long, half, l, d)))
+    ∙ (ap (λ z. dot_of z (drop i first)) same ∙ solved i g) in
+    let all = blends-none t q e bytes le small few none in
+    record {
+      bytes = le;
+      most = small;
+      recurrence = λ i.
+          let joined : bit_xor (blend w i e) (value_at (i + length w) e) ≡ 0 =
+          sym (blend-push w i e le) ∙ (ap (λ z. blend z i e) (sym split) ∙ all i) in
+          ap (λ z. value_at (i + z) e) below
+          ∙ (sym (sum-none (blend w i e) (value_at (i + length w) e) joined) ∙ ap (λ z. blend z i e) (sym rest));
+      roots = errors-root t q e bytes le small few none;
+    }
+
+-- the codeword at a place, mended
+pub codeword-mended : (n t : ℕ) (damaged b : List ℕ) (k error : ℕ) → IsMended n t damaged b → k < length damaged →
+    error ≡ coefficient (length damaged - 1 - k) (plus damaged b) → bit_xor (get_or damaged k 0) error ≡ get_or b k 0
+codeword-mended n t damaged b k error m l h =
+    let e = plus damaged b in
+    let count : length e ≡ length damaged = length-plus damaged b (omega (arith, m.long)) ∙ m.long in
+    let place : length damaged - 1 - k ≡ length e - 1 - k = omega (arith, count) in
+    let x = get_or damaged k 0 in
+    let read : error ≡ bit_xor x (get_or b k 0) =
+    h ∙ (ap (λ z. coefficient z e) place
+    ∙ (coefficient-at e k (omega (arith, count, l)) ∙ get_or-plus damaged b k (sym m.long) l)) in
+    ap (bit_xor x) read ∙ xor-cancel x (get_or b k 0)
+
+-- one codeword more
+pub mended-more : (n t : ℕ) (damaged b items new : List ℕ) (k error : ℕ) → IsMended n t damaged b →
+    k < length damaged → error ≡ coefficient (length damaged - 1 - k) (plus damaged b) → items ≡ take k b →
+    new ≡ items ++ bit_xor (get_or damaged k 0) error ∷ [] → new ≡ take (k + 1) b
+mended-more n t damaged b items new k error m l h same push =
+    push
+    ∙ (ap (λ z. z ++ bit_xor (get_or damaged k 0) error ∷ []) same
+    ∙ (ap (λ z. take k b ++ z ∷ []) (codeword-mended n t damaged b k error m l h)
+    ∙ sym (take_more b k 0 (omega (arith, l, m.long)))))
+
+-- ---- series
+
+-- the next value of located errors
+pub value-next : (p series e : List ℕ) (v : ℕ) → IsLocated p e → HasValues series e → length p ≤ length series + 1 →
+    v ≡ dot_of (low p) (take (length series - (length series - (length p - 1))) (drop (length series - (length p - 1)) series)) →
+    v ≡ value_at (length series) e
+value-next p series e v h s l d =
+    let i = length series - (length p - 1) in
+    let room : i + length (low p) ≤ length series = omega (arith, length-take (length p - 1) p) in
+    let whole : i + (length p - 1) ≡ length series = omega arith in
+    d
+    ∙ (ap (dot_of (low p)) (take_rest series i)
+    ∙ (dot-blend (low p) i series e s room ∙ (sym (h.recurrence i) ∙ ap (λ z. value_at z e) whole)))
+
+-- the coefficient at a place by the inverse of its power
+pub inverse-coefficient : (place inverse v x : ℕ) (p series e : List ℕ) → IsLocated p e →
+    HasValues series e → length series ≡ 255 → place < 255 → x ≡ power inverse → v ≡ eval x series →
+    power inverse ≡ power (255 - place) → v ≡ coefficient place e
+inverse-coefficient place inverse v x p series e h s l m ex ev turn =
+    ev
+    ∙ (ap (λ z. eval z series) (ex ∙ turn) ∙ eval-coefficient place series e m h.most h.bytes l s)
+
+-- the inverse of 1
+pub inverse-one : (place inverse : ℕ) → place ≡ 0 → inverse ≡ 0 → power inverse ≡ power (255 - place)
+inverse-one place inverse e f =
+    let turn : 255 - place ≡ 255 = omega arith in
+    ap power f ∙ sym (ap power turn ∙ power-round)
+
+-- ---- the whole list
+
+-- the mended codewords, one more
+pub candidate-more : (n t : ℕ) (damaged first q series items new : List ℕ) (p : Polynomial) (k error : ℕ) → 2 * t ≤ n →
+    length damaged ≤ 255 → All IsByte damaged → HasValues first damaged → length first ≡ n → p.degree ≤ t →
+    IsMonic p → p.degree < length p.terms → All IsByte q → q ≡ all_of p →
+    ((i : ℕ) → i < t → miss_of p (drop i first) ≡ 0) → k < length damaged →
+    ((e : List ℕ) → IsLocated q e → HasValues first e → HasValues series e) →
+    ((e : List ℕ) → IsLocated q e → HasValues series e → length damaged - 1 - k < length e →
+    error ≡ coefficient (length damaged - 1 - k) e) →
+    new ≡ items ++ bit_xor (get_or damaged k 0) error ∷ [] →
+    (b : List ℕ) → IsMended n t damaged b → items ≡ take k b → new ≡ take (k + 1) b
+candidate-more n t damaged first q series items new p k error half most a h l d monic fits bytes same solved below hs he push b m now =
+    let e = plus damaged b in
+    let located = errors-located n t damaged b first q p m half most a h l d monic fits bytes same solved in
+    let values = hs e located (errors-values n t damaged b first m a h l) in
+    let count : length e ≡ length b = length-plus damaged b (omega (arith, m.long)) in
+    mended-more n t damaged b items new k error m below
+    (he e located values (omega (arith, count, m.long, below))) now push
+
+-- ---- the checks
+
+-- codewords with the correction that follows from them are a block
+pub block-found : (n k : ℕ) (b correction : List ℕ) → IsCorrection (take k b) n correction → correction ≡ drop k b → IsBlock n b
+block-found n k b correction c e = record {
+  message = take k b;
+  correction = drop k b;
+  whole = sym (take-append-drop k b);
+  corrects = subst (λ (z : List ℕ). IsCorrection (take k b) n z) e c;
+}
+
+-- a block ends in the correction that follows from its data codewords
+pub block-passes : (n m : ℕ) (b correction : List ℕ) → m ≡ n → IsBlock n b →
+    ((e : List ℕ) → IsCorrection (take (length b - m) b) n e → e ≡ correction) → correction ≡ drop (length b - m) b
+block-passes n m b correction e h only =
+    sym (only (drop (length b - m) b)
+    (subst (λ (z : ℕ). IsCorrection (take (length b - z) b) n (drop (length b - z) b)) (sym e) (block-corrects n b h)))
+
+-- a list differs nowhere from itself
+pub differences-same : (xs : List ℕ) → differences xs xs ≡ 0
+differences-same [] = refl
+differences-same (x ∷ xs) =
+    let e = difference-same x x refl in
+    let f = differences-same xs in
+    omega (arith, e, f)
+
+-- a block is mended by no change
+pub mended-same : (n t : ℕ) (b : List ℕ) → IsBlock n b → IsMended n t b b
+mended-same n t b h = record { block = h; long = refl; near = omega (arith, differences-same b) }
+
+-- two blocks of one length with the same data codewords
+blocks-one : (n : ℕ) (b c : List ℕ) → (g : IsBlock n b) → (h : IsBlock n c) → g.message ≡ h.message → b ≡ c
+blocks-one n b c g h e =
+    let f : g.correction ≡ h.correction =
+    correction-one h.message n g.correction h.correction
+    (subst (λ (z : List ℕ). IsCorrection z n g.correction) e g.corrects) h.corrects in
+    g.whole ∙ (ap (λ z. z ++ g.correction) e ∙ (ap (λ z. h.message ++ z) f ∙ sym h.whole))
+
+-- the law of mended blocks
+pub mended-one : (n t : ℕ) (damaged b c : List ℕ) → length damaged ≤ 255 → 2 * t ≤ n → IsMended n t damaged b →
+    IsMended n t damaged c → b ≡ c
+mended-one n t damaged b c most half g h =
+    let x = g.block in
+    let y = h.block in
+    let lx = start-block n b x in
+    let ly = start-block n c y in
+    let all = length-append x.message x.correction in
+    let e : x.message ≡ y.message =
+    unambiguous n t x.message x.correction y.message y.correction damaged x.corrects y.corrects
+    (omega (arith, lx, ly, g.long, h.long))
+    (omega (arith, all, ap length x.whole, x.corrects.count, g.long)) half
+    (subst (λ (z : List ℕ). differences damaged z ≤ t) x.whole g.near)
+    (subst (λ (z : List ℕ). differences damaged z ≤ t) y.whole h.near) in
+    blocks-one n b c x y e

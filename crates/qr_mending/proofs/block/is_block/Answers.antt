@@ -1,0 +1,20 @@
+use Rattle.std.proofs.Common.{◌-◌, length, sym, ◌∙◌}
+use Rattle.std.proofs.lemmas.Bool.Decides.{Decides-eqb}
+use Rattle.std.proofs.lemmas.List.{take_rest}
+use Rattle.std.proofs.lemmas.Slice.Eq.{slice_eq-Decides}
+use Rattle.qr_mending.proofs.BlockLemmas.{block-found, block-passes}
+use Rattle.qr_mending.proofs.block.is_block.Goals as goal
+
+pub returns : goal.returns
+returns c =
+    let n = c.args.divisor.now in
+    let b = c.args.codewords.now in
+    let m = c.count.result in
+    let k = length b - m in
+    let correction = c.correction-correction.result.items in
+    let test = slice_eq-Decides Decides-eqb _ _ _ c.eq.ensures in (
+      λ h. block-found n k b correction c.correction-correction.ensures.definition
+          (sym c.as_slice.ensures.value ∙ (test.0 h ∙ take_rest b k)),
+      λ h. test.1 (c.as_slice.ensures.value
+          ∙ (block-passes n m b correction c.count.ensures.is h c.correction-correction.ensures.only ∙ sym (take_rest b k))),
+    )

@@ -1,0 +1,30 @@
+use Rattle.std.proofs.Common.{◌≡◌, ℕ, ◌<◌, [], ◌∷◌, get_or, inl, inr, subst, arith}
+use Rattle.std.proofs.lemmas.Bool.{cases_lt}
+use Rattle.qr_layout.specs.declared.level.Level.{Level}
+use Rattle.qr_layout.specs.declared.level.Level.TheVariants.{L, M, Q, H}
+use Rattle.qr_matrix.specs.Grid.{Grid}
+use Rattle.qr_mending.specs.declared.format.FormatCopy.{FormatCopy}
+use Rattle.qr_mending.specs.Format.{IsNearFormat}
+use Rattle.qr_mending.proofs.format.near_format_of.Goals as goal
+
+-- the level number k
+abbrev level : ℕ → Level
+level k = get_or (L ∷ M ∷ Q ∷ H ∷ []) k L
+
+-- what holds of four levels holds of each
+every : (copy : FormatCopy) (g : Grid) → ((k : ℕ) → k < 4 → (mask : ℕ) → IsNearFormat copy g (level k) mask → ⊥) →
+    (l : Level) (mask : ℕ) → IsNearFormat copy g l mask → ⊥
+every copy g none L = none 0 (omega arith)
+every copy g none M = none 1 (omega arith)
+every copy g none Q = none 2 (omega arith)
+every copy g none H = none 3 (omega arith)
+
+pub loop-level-preserved : goal.loop-level-preserved
+loop-level-preserved c = λ k less mask f.
+    elim (cases_lt k c.loop-level.level-index) [
+      | inl l ↦ c.loop-level.invariant k l mask f
+      | inr l ↦ let e : k ≡ c.loop-level.level-index = omega arith in c.in_default.ensures mask (subst (λ (i : ℕ). IsNearFormat c.args.copy c.args.matrix.now (level i) mask) e f)
+    ]
+
+pub returns : goal.returns
+returns c = every c.args.copy c.args.matrix.now (λ k l. c.loop-level.invariant k (omega (arith, c.loop-level-test.false)))

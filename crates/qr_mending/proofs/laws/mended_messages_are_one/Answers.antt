@@ -1,0 +1,6 @@
+use Rattle.std.proofs.Common.{arith}
+use Rattle.qr_mending.proofs.MendingLemmas.{mended-one}
+use Rattle.qr_mending.proofs.laws.mended_messages_are_one.Goals as goal
+
+pub returns : goal.returns
+returns c = mended-one c.args.version c.args.level (omega arith) (omega arith)

@@ -1,0 +1,10 @@
+use Rattle.qr_mending.specs.Mending.{IsMendedReading, IsUnmended}
+use Rattle.qr_symbol.proofs.Facts.{exactly}
+use Rattle.qr_mending.proofs.MendingLemmas.{mended-not-refused, unmended-one}
+use Rattle.qr_mending.proofs.laws.mendings_are_refused_exactly.Goals as goal
+
+pub returns : goal.returns
+returns c =
+    let g = c.args.damaged.now in
+    exactly (λ m. IsMendedReading g m.version m.level m.mask m.parsed m.changed.items) (IsUnmended g) c.mend_symbol.result
+    c.mend_symbol.ensures.mended (λ m e. mended-not-refused g m.version m.level m.mask m.parsed m.changed.items e) (unmended-one g)

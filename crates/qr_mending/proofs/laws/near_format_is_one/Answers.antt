@@ -1,0 +1,5 @@
+use Rattle.qr_mending.proofs.FormatLemmas.{near-one}
+use Rattle.qr_mending.proofs.laws.near_format_is_one.Goals as goal
+
+pub returns : goal.returns
+returns c = near-one

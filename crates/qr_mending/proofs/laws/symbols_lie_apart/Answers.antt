@@ -1,0 +1,6 @@
+use Rattle.std.proofs.Common.{arith}
+use Rattle.qr_mending.proofs.DistanceLemmas.{symbols-apart}
+use Rattle.qr_mending.proofs.laws.symbols_lie_apart.Goals as goal
+
+pub returns : goal.returns
+returns c = symbols-apart c.args.version (omega arith) (omega arith)

@@ -1,6 +1,0 @@
-use Rattle.std.proofs.Common.{◌≡◌, ◌+◌, ◌≤◌, drop, length}
-use Rattle.qr_field.specs.Distance.{differences}
-use Rattle.qr_mending.proofs.mending.count_differences.Given as goal
-
-abbrev pub invariant-loop-k : goal.invariant-loop-k
-invariant-loop-k l = (l.count + l.k ≤ length l.xs) × (l.count ≡ differences (drop l.k l.xs) (drop l.k l.ys))

@@ -1,0 +1,53 @@
+use Rattle.std.proofs.Common.{◌≡◌, ◌≤◌, ◌+◌, ◌-◌, ◌/◌, ℕ, ◌∙◌, length, sym, ap, subst, arith}
+use Rattle.qr_layout.specs.declared.blocks.Blocks.{Blocks}
+use Rattle.qr_layout.specs.Blocks.{blocks_of, data_codewords_of}
+use Rattle.qr_layout.proofs.Facts.{blocks-sound, laws-of}
+use Rattle.qr_symbol.specs.Interleaving.{cut_len, data_cut, correction_cut}
+use Rattle.qr_mending.specs.Message.{protection_of, tolerance_of, IsMendedMessage}
+use Rattle.qr_symbol.proofs.Facts.{data-cut-whole, cuts-whole, ok-also}
+use Rattle.qr_mending.proofs.message.mend_message.Goals as goal
+
+pub mend_blocks-requires-clause-whole : goal.mend_blocks-requires-clause-whole
+mend_blocks-requires-clause-whole c =
+    c.requires ∙ (sym (cuts-whole c.args.version c.args.level (omega arith) (omega arith)) ∙ ap (λ (b : Blocks). cut_len (data_cut b) + cut_len (correction_cut b)) (sym c.blocks-blocks.ensures))
+
+pub mend_blocks-requires-clause-least : goal.mend_blocks-requires-clause-least
+mend_blocks-requires-clause-least c =
+    let w = (blocks-sound c.args.level c.args.version (omega arith) (omega arith)).correction_least in
+    subst (λ (b : Blocks). 1 ≤ b.ec_len) (sym c.blocks-blocks.ensures) w
+
+pub mend_blocks-requires-clause-most : goal.mend_blocks-requires-clause-most
+mend_blocks-requires-clause-most c =
+    let w = (blocks-sound c.args.level c.args.version (omega arith) (omega arith)).correction_most in
+    subst (λ (b : Blocks). b.ec_len ≤ 30) (sym c.blocks-blocks.ensures) w
+
+pub mend_blocks-requires-clause-few : goal.mend_blocks-requires-clause-few
+mend_blocks-requires-clause-few c =
+    let w = laws-of c.args.level c.args.version (omega arith) (omega arith) in
+    subst (λ (b : Blocks). b.short_len + 1 + b.ec_len ≤ 255) (sym c.blocks-blocks.ensures) (omega (arith, w.len, w.ec_most))
+
+pub returns-clause-many : goal.returns-clause-many
+returns-clause-many c =
+    let b = c.blocks-blocks.result in
+    let whole : cut_len (data_cut b) ≡ data_codewords_of c.args.version c.args.level =
+    ap (λ (z : Blocks). cut_len (data_cut z)) c.blocks-blocks.ensures
+    ∙ data-cut-whole c.args.version c.args.level (omega arith) (omega arith) in
+    ok-also (λ m. IsMendedMessage b (c.saturating_sub-spare.result / 2) c.args.codewords.now m.message.items m.changed.items)
+    (λ m. length m.message.items ≡ data_codewords_of c.args.version c.args.level) c.mend_blocks.result
+    c.mend_blocks.ensures.mended (λ m h. h.mended.long ∙ whole)
+
+pub returns-clause-refused : goal.returns-clause-refused
+returns-clause-refused c =
+    let v = c.args.version in
+    let l = c.args.level in
+    let b = c.blocks-blocks.result in
+    let same : b ≡ blocks_of v l = c.blocks-blocks.ensures in
+    let t : c.saturating_sub-spare.result / 2 ≡ tolerance_of v l =
+    ap (λ z. z / 2)
+    (c.saturating_sub-spare.ensures
+    ∙ (ap (λ z. z - c.protection.result) c.from.ensures
+    ∙ (ap (λ z. b.ec_len - z) c.protection.ensures ∙ ap (λ (z : Blocks). z.ec_len - protection_of v l) same))) in
+    λ e message changed h.
+    c.mend_blocks.ensures.refused e message changed
+    (subst (λ (z : Blocks). IsMendedMessage z (c.saturating_sub-spare.result / 2) c.args.codewords.now message changed) (sym same)
+    (subst (λ (z : ℕ). IsMendedMessage (blocks_of v l) z c.args.codewords.now message changed) (sym t) h))

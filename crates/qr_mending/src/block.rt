@@ -1,0 +1,129 @@
+//! Mends damaged blocks (ISO/IEC 18004:2015, 7.5.1 and Annex B).
+
+ghost use Rattle.std.specs.Prelude.{◌≡◌, ℕ, ◌*◌, ◌≤◌, List, length, IfSome, IfNone};
+ghost use Rattle.std.specs.Bool.{Decides};
+ghost use Rattle.qr_field.specs.Distance.{differences};
+ghost use Rattle.qr_mending.specs.Block.{IsBlock, IsMended};
+
+use crate::errors::{error, values};
+use crate::locator::locator;
+use crate::sums::syndromes;
+use arrayvec::ArrayVec;
+use qr_field::Divisor;
+
+// The block of which the codewords are a damaged form, if there is one. Otherwise some other list.
+fn candidate(n: usize, t: usize, damaged: &[u8]) -> ArrayVec<u8, 255>
+    requires most { n ≤ 30 }
+    requires half { 2 * t ≤ n }
+    requires fits { length damaged.now ≤ 255 }
+    ensures long { length result.items ≡ length damaged.now }
+    ensures mended { (mended : List ℕ) → IsMended n t damaged.now mended → result.items ≡ mended }
+{
+    let first = syndromes(damaged, n);
+    let polynomial = locator(first.as_slice(), t);
+    let coefficients = polynomial.coefficients();
+    let series = values(coefficients, first.as_slice());
+    let mut mended = ArrayVec::new();
+    for k in 0..damaged.len() {
+        let place = (damaged.len() - 1 - k) as u8;
+        mended.push(damaged[k] ^ error(coefficients, series.as_slice(), place));
+    }
+    mended
+}
+
+// The number of places in which two lists of one length differ.
+fn count_differences(xs: &[u8], ys: &[u8]) -> usize
+    requires { length xs.now ≡ length ys.now }
+    ensures { result ≡ differences xs.now ys.now }
+{
+    let mut count = 0;
+    for k in (0..xs.len()).rev() {
+        if xs[k] != ys[k] {
+            count += 1;
+        }
+    }
+    count
+}
+
+// Whether the codewords are a block.
+fn is_block(divisor: &Divisor, codewords: &[u8]) -> bool
+    requires { divisor.now ≤ length codewords.now }
+    ensures { Decides result (IsBlock divisor.now codewords.now) }
+{
+    let start = codewords.len() - divisor.count();
+    let correction = divisor.correction(&codewords[..start]);
+    correction.as_slice() == &codewords[start..]
+}
+
+/// Mends a block of which at most `t` codewords have been changed, where 2t is at most the number of its error correction
+/// codewords, and returns how many those were. None if there is no such block; the codewords then stay as they are
+/// (ISO/IEC 18004:2015, 7.5.1 and Annex B).
+pub fn mend(divisor: &Divisor, t: usize, codewords: &mut [u8]) -> Option<usize>
+    requires half { 2 * t ≤ divisor.now }
+    requires least { divisor.now ≤ length codewords.old }
+    requires most { length codewords.old ≤ 255 }
+    ensures mended { IfSome result (λ changed. IsMended divisor.now t codewords.old codewords.new
+        × (changed ≡ differences codewords.old codewords.new)) }
+    ensures only { IfSome result (λ _. (mended : List ℕ) → IsMended divisor.now t codewords.old mended
+        → mended ≡ codewords.new) }
+    ensures refused { IfNone result ((mended : List ℕ) → IsMended divisor.now t codewords.old mended → ⊥) }
+    ensures same { IfNone result (codewords.new ≡ codewords.old) }
+{
+    if is_block(divisor, codewords) {
+        return Some(0);
+    }
+    let mended = candidate(divisor.count(), t, codewords);
+    let changed = count_differences(codewords, mended.as_slice());
+    if changed > t || !is_block(divisor, mended.as_slice()) {
+        return None;
+    }
+    codewords.copy_from_slice(mended.as_slice());
+    Some(changed)
+}
+
+#[cfg(test)]
+mod tests {
+    use super::*;
+    use crate::samples::EIGHT_DIGITS;
+    use std::process::Abort;
+
+    // How many codewords are mended, where the block is then as it was.
+    fn is_mended(rt: &impl Abort, t: usize, damage: &[(usize, u8)]) -> Option<usize> {
+        let mut damaged = EIGHT_DIGITS;
+        for (place, codeword) in damage {
+            assert!(rt; *place < 26);
+            damaged[*place] = *codeword;
+        }
+        let divisor = Divisor::new(10);
+        assert!(rt; t <= 5 && divisor.count() == 10);
+        let before = damaged;
+        match mend(&divisor, t, &mut damaged) {
+            None => assert!(rt; damaged == before),
+            Some(changed) => {
+                assert!(rt; damaged == EIGHT_DIGITS);
+                return Some(changed);
+            }
+        }
+        None
+    }
+
+    // What another decoder, by the algorithm of Berlekamp and Massey, makes of the same codewords.
+    #[test]
+    fn eight_digits_damaged(rt: HostRuntime) {
+        let five = [(0, 0x41u8), (3, 0), (7, 0x22), (20, 1), (25, 0)];
+        let six = [(0, 0x41u8), (3, 0), (7, 0x22), (11, 0xFF), (20, 1), (25, 0)];
+        let rows = [
+            ("as sent", 5, &five[..0], Some(0)),
+            ("as sent, none allowed", 0, &five[..0], Some(0)),
+            ("the first codeword", 5, &five[..1], Some(1)),
+            ("the first, none allowed", 0, &five[..1], None),
+            ("three data codewords", 3, &five[..3], Some(3)),
+            ("five codewords", 5, &five[..], Some(5)),
+            ("five, four allowed", 4, &five[..], None),
+            ("six codewords", 5, &six[..], None),
+        ];
+        for (name, t, damage, mended) in rows {
+            assert_eq!(rt; is_mended(&rt, t, damage), mended, "{name}");
+        }
+    }
+}

@@ -1,0 +1,127 @@
+//! The format information of a damaged symbol: the level and the mask that a copy of it is near to (ISO/IEC 18004:2015, 7.9.1
+//! and Annex C).
+
+ghost use Rattle.std.specs.Prelude.{◌≡◌, ℕ, ◌+◌, ◌<◌, ◌≤◌, MatchOption};
+ghost use Rattle.qr_layout.specs.declared.level.Level.{Level};
+ghost use Rattle.qr_layout.specs.Format.{format_word_of};
+ghost use Rattle.qr_layout.specs.Version.{side_of};
+ghost use Rattle.qr_symbol.specs.Symbol.{word_bit};
+ghost use Rattle.qr_mending.specs.declared.format.FormatCopy.{FormatCopy};
+ghost use Rattle.qr_mending.specs.Format.{bit_differences, copy_place, format_bit, wrong_bits, IsNearFormat};
+ghost use Rattle.qr_mending.specs.Mending.{wrong_format_modules};
+
+use qr_layout::{Level, Module, Version, format_place, format_word, second_format_place};
+use qr_matrix::Matrix;
+
+// How many bits the format information has.
+const FORMAT_BITS: u8 = 15;
+
+// How many modules of a copy may be wrong: any two words of the format information differ in seven bits at least.
+const FORMAT_ERRORS: u8 = 3;
+
+/// The format information stands twice in a symbol.
+#[derive(Clone, Copy)]
+pub(crate) enum FormatCopy {
+    /// Beside the top left finder pattern.
+    First,
+    /// Beside the other two finder patterns.
+    Second,
+}
+
+impl FormatCopy {
+    // Returns where a bit of the copy stands.
+    fn place(self, version: Version, bit: u8) -> Module
+        requires { bit < 15 }
+        ensures place { result ≡ copy_place self (side_of version) bit }
+        ensures row_in { result.row < side_of version }
+        ensures col_in { result.col < side_of version }
+    {
+        match self {
+            FormatCopy::First => format_place(bit),
+            FormatCopy::Second => second_format_place(version, bit),
+        }
+    }
+}
+
+// Tests bit `i` of a word, bit 0 being the lowest.
+fn is_bit_set(word: u32, i: u8) -> bool
+    requires { i < 32 }
+    ensures { result ≡ word_bit word i }
+{
+    word >> i & 1 == 1
+}
+
+// Counts the modules of a copy that are not those of a word.
+fn wrong_bits(matrix: &Matrix, version: Version, copy: FormatCopy, word: u32) -> u8
+    requires { matrix.now.side ≡ side_of version }
+    ensures value { result ≡ bit_differences 15 (format_bit copy matrix.now) (word_bit word) }
+    ensures most { result ≤ 15 }
+{
+    let mut wrong = 0u8;
+    for i in 0..FORMAT_BITS {
+        let place = copy.place(version, i);
+        if matrix.dark(place.row, place.col) != is_bit_set(word, i) {
+            wrong += 1;
+        }
+    }
+    wrong
+}
+
+// Counts the modules of both copies that are not those of the level and the mask.
+pub(crate) fn wrong_format_modules(matrix: &Matrix, version: Version, level: Level, mask: u8) -> u8
+    requires side { matrix.now.side ≡ side_of version }
+    requires mask_in { mask < 8 }
+    ensures { result ≡ wrong_format_modules matrix.now level mask }
+{
+    let word = u32::from(format_word(level, mask));
+    wrong_bits(matrix, version, FormatCopy::First, word)
+        + wrong_bits(matrix, version, FormatCopy::Second, word)
+}
+
+// Returns the mask that a copy is near to beside this level.
+fn near_mask_of(matrix: &Matrix, version: Version, copy: FormatCopy, level: Level) -> Option<u8>
+    requires { matrix.now.side ≡ side_of version }
+    ensures { MatchOption result
+        ((mask : ℕ) → IsNearFormat copy matrix.now level mask → ⊥)
+        (λ mask. IsNearFormat copy matrix.now level mask) }
+{
+    for mask in 0..8 {
+        let word = u32::from(format_word(level, mask));
+        if wrong_bits(matrix, version, copy, word) <= FORMAT_ERRORS {
+            return Some(mask);
+        }
+    }
+    None
+}
+
+// Returns the level and the mask that a copy is near to. There is one at most.
+pub(crate) fn near_format_of(
+    matrix: &Matrix,
+    version: Version,
+    copy: FormatCopy,
+) -> Option<(Level, u8)>
+    requires { matrix.now.side ≡ side_of version }
+    ensures { MatchOption result
+        ((l : Level) (mask : ℕ) → IsNearFormat copy matrix.now l mask → ⊥)
+        (λ f. IsNearFormat copy matrix.now f.0 f.1) }
+{
+    for level in [Level::L, Level::M, Level::Q, Level::H] {
+        if let Some(mask) = near_mask_of(matrix, version, copy, level) {
+            return Some((level, mask));
+        }
+    }
+    None
+}
+
+// Returns the level and the mask that the first copy is near to, or else those that the second is.
+pub(crate) fn near_format_of_either(matrix: &Matrix, version: Version) -> Option<(Level, u8)>
+    requires { matrix.now.side ≡ side_of version }
+    ensures { MatchOption result
+        ((copy : FormatCopy) (l : Level) (mask : ℕ) → IsNearFormat copy matrix.now l mask → ⊥)
+        (λ f. (copy : FormatCopy) × IsNearFormat copy matrix.now f.0 f.1) }
+{
+    match near_format_of(matrix, version, FormatCopy::First) {
+        Some(format) => Some(format),
+        None => near_format_of(matrix, version, FormatCopy::Second),
+    }
+}

@@ -1,0 +1,151 @@
+//! The message of a damaged symbol, each of whose blocks is mended (ISO/IEC 18004:2015, 7.5.1 and 7.6).
+
+ghost use Rattle.std.specs.Prelude.{◌≡◌, ℕ, ◌+◌, ◌*◌, ◌≤◌, ◌⊎◌, ◌++◌, List, length, Err, IfOk, IfErr};
+ghost use Rattle.qr_field.specs.Polynomial.{IsCorrection};
+ghost use Rattle.qr_field.specs.Distance.{differences};
+ghost use Rattle.qr_layout.specs.Blocks.{data_codewords_of};
+ghost use Rattle.qr_layout.specs.Version.{total_codewords_of};
+ghost use Rattle.qr_symbol.specs.declared.fault.ReadFault.{ReadFault};
+ghost use Rattle.qr_symbol.specs.Interleaving.{block_count, cut_len, data_cut, correction_cut};
+ghost use Rattle.qr_mending.specs.Message.{protection_of, AreMended, IsMendedIn, IsMendedMessage};
+
+use crate::block::mend;
+use qr_field::Divisor;
+use qr_layout::{Blocks, Level, Version};
+use qr_symbol::{Cut, ReadFault};
+use std::alloc::Global;
+
+// The data codewords of a mended block, and how many codewords of the block were changed.
+#[derive(Drop)]
+struct MendedBlock {
+    message: Vec<u8>,
+    changed: usize,
+}
+
+// Mends a block of which at most `t` codewords have been changed.
+fn mend_block(
+    alloc: Global,
+    divisor: &Divisor,
+    t: usize,
+    message: &[u8],
+    checks: &[u8],
+) -> Result<MendedBlock, ReadFault>
+    requires count { length checks.now ≡ divisor.now }
+    requires half { 2 * t ≤ divisor.now }
+    requires most { length message.now + length checks.now ≤ 255 }
+    ensures long { IfOk result (λ m. length m.message.items ≡ length message.now) }
+    ensures near { IfOk result (λ m. m.changed ≤ t) }
+    ensures mended { IfOk result (λ m. (e : List ℕ) × IsCorrection m.message.items divisor.now e
+        × (m.changed ≡ differences (message.now ++ checks.now) (m.message.items ++ e))) }
+    ensures refused { result ≡ Err ReadFault.Check → (d e : List ℕ) → length d ≡ length message.now
+        → IsCorrection d divisor.now e → differences (message.now ++ checks.now) (d ++ e) ≤ t → ⊥ }
+    ensures fault { IfErr result (λ e. (e ≡ ReadFault.Memory) ⊎ (e ≡ ReadFault.Check)) }
+{
+    let mut codewords = Vec::with_capacity(alloc, message.len() + checks.len())?;
+    codewords.extend_from_slice(message)?;
+    codewords.extend_from_slice(checks)?;
+    let Some(changed) = mend(divisor, t, codewords.as_mut_slice()) else {
+        return Err(ReadFault::Check);
+    };
+    codewords.truncate(message.len());
+    Ok(MendedBlock {
+        message: codewords,
+        changed,
+    })
+}
+
+// Data codewords whose blocks have been mended, and how many codewords of each block were changed.
+#[derive(Drop)]
+pub(crate) struct MendedMessage {
+    pub message: Vec<u8>,
+    pub changed: Vec<usize>,
+}
+
+// Mends blocks that stand one after another.
+fn mend_parts(
+    alloc: Global,
+    blocks: Blocks,
+    t: usize,
+    codewords: &[u8],
+    checks: &[u8],
+) -> Result<MendedMessage, ReadFault>
+    requires codewords { length codewords.now ≡ cut_len (data_cut blocks) }
+    requires checks { length checks.now ≡ cut_len (correction_cut blocks) }
+    requires least { 1 ≤ blocks.ec_len }
+    requires most { blocks.ec_len ≤ 30 }
+    requires few { blocks.short_len + 1 + blocks.ec_len ≤ 255 }
+    requires half { 2 * t ≤ blocks.ec_len }
+    ensures mended { IfOk result (λ m. AreMended blocks t codewords.now checks.now (block_count (data_cut blocks))
+        m.message.items m.changed.items) }
+    ensures refused { result ≡ Err ReadFault.Check → (message changed : List ℕ)
+        → AreMended blocks t codewords.now checks.now (block_count (data_cut blocks)) message changed → ⊥ }
+    ensures fault { IfErr result (λ e. (e ≡ ReadFault.Memory) ⊎ (e ≡ ReadFault.Check)) }
+{
+    let cut = Cut::of_data(blocks);
+    let check_cut = Cut::of_corrections(blocks);
+    let divisor = Divisor::new(usize::from(blocks.ec_len));
+    let mut message = Vec::with_capacity(alloc, codewords.len())?;
+    let mut changed = Vec::with_capacity(alloc, cut.count())?;
+    for block in 0..cut.count() {
+        let received = cut.part(codewords, block);
+        let mended = mend_block(alloc, &divisor, t, received, check_cut.part(checks, block))?;
+        message.extend_from_slice(&mended.message)?;
+        changed.push(mended.changed)?;
+    }
+    Ok(MendedMessage { message, changed })
+}
+
+// The message of which the codewords are the final sequence, but for at most `t` codewords in each block.
+fn mend_blocks(
+    alloc: Global,
+    blocks: Blocks,
+    t: usize,
+    codewords: &[u8],
+) -> Result<MendedMessage, ReadFault>
+    requires whole { length codewords.now
+        ≡ cut_len (data_cut blocks) + cut_len (correction_cut blocks) }
+    requires least { 1 ≤ blocks.ec_len }
+    requires most { blocks.ec_len ≤ 30 }
+    requires few { blocks.short_len + 1 + blocks.ec_len ≤ 255 }
+    requires half { 2 * t ≤ blocks.ec_len }
+    ensures mended { IfOk result (λ m. IsMendedMessage blocks t codewords.now m.message.items m.changed.items) }
+    ensures refused { result ≡ Err ReadFault.Check → (message changed : List ℕ)
+        → IsMendedMessage blocks t codewords.now message changed → ⊥ }
+    ensures fault { IfErr result (λ e. (e ≡ ReadFault.Memory) ⊎ (e ≡ ReadFault.Check)) }
+{
+    let cut = Cut::of_data(blocks);
+    let received = cut.gather(alloc, codewords)?;
+    let checks = Cut::of_corrections(blocks).gather(alloc, &codewords[received.len()..])?;
+    mend_parts(alloc, blocks, t, &received, &checks)
+}
+
+// How many error correction codewords of a block guard against mending to another block.
+fn protection(version: Version, level: Level) -> usize
+    ensures { result ≡ protection_of version level }
+{
+    match (level, version.number()) {
+        (Level::L, 1) => 3,
+        (Level::L, 2) | (Level::M, 1) => 2,
+        (Level::L, 3) | (Level::Q | Level::H, 1) => 1,
+        _ => 0,
+    }
+}
+
+// The message of which the codewords are a damaged form, in the blocks of a version and a level.
+pub(crate) fn mend_message(
+    alloc: Global,
+    version: Version,
+    level: Level,
+    codewords: &[u8],
+) -> Result<MendedMessage, ReadFault>
+    requires { length codewords.now ≡ total_codewords_of version }
+    ensures mended { IfOk result (λ m. IsMendedIn version level codewords.now m.message.items m.changed.items) }
+    ensures many { IfOk result (λ m. length m.message.items ≡ data_codewords_of version level) }
+    ensures refused { result ≡ Err ReadFault.Check → (message changed : List ℕ)
+        → IsMendedIn version level codewords.now message changed → ⊥ }
+    ensures fault { IfErr result (λ e. (e ≡ ReadFault.Memory) ⊎ (e ≡ ReadFault.Check)) }
+{
+    let blocks = version.blocks(level);
+    let spare = usize::from(blocks.ec_len).saturating_sub(protection(version, level));
+    mend_blocks(alloc, blocks, spare / 2, codewords)
+}

@@ -1,0 +1,164 @@
+-- Every input has parts: whether a prefix fits is decided, so one is the longest.
+use Rattle.std.proofs.Common.{◌≡◌, ℕ, zero, suc, ◌+◌, ◌<◌, ◌≤◌, ◌⊎◌, Bool, true, false, ◌&&◌, nat_eq, cond, List, [], ◌∷◌, length, take, drop, refl, sym, subst, inl, inr, length-drop, arith}
+use Rattle.std.specs.Prelude.{IsTrue}
+use Rattle.std.specs.List.{list_all, sum_by}
+use Rattle.std.proofs.lemmas.Bool.{cases_lt}
+use Rattle.std.proofs.lemmas.List.Sums.{sum_by-cons}
+use Rattle.qr_layout.specs.declared.level.Level.{Level}
+use Rattle.qr_bits.specs.declared.modes.Mode.{Mode}
+use Rattle.qr_bits.specs.declared.modes.Mode.TheVariants.{Numeric, Alphanumeric, Byte, Kanji}
+use Rattle.qr_bits.specs.declared.modes.Rule.{Rule}
+use Rattle.qr_bits.specs.declared.segmentation.Segment.{Segment}
+use Rattle.qr_bits.specs.Modes.{may_use, suits}
+use Rattle.qr_bits.specs.Segmentation.{bits, rank, with_front, runs_of, Covers, IsLettering, HasFit, IsLongestFit}
+use Rattle.qr_bits.specs.Padding.{room_of}
+use Rattle.qr_bits.proofs.Facts.{CoversInTurn, byte_used, capacity_least, count_width_bound, covers_all, empty_fits, from_turn, in_turn}
+use Rattle.qr_symbol.specs.Series.{AreParts}
+
+-- a fact holds or not
+abbrev Decided : Type 0 → Type 0
+Decided A = A ⊎ (A → ⊥)
+
+-- of two facts
+both : (A B : Type 0) → Decided A → Decided B → Decided (A × B)
+both A B (inl a) (inl b) = inl (a, b)
+both A B (inl a) (inr b) = inr (λ w. b w.1)
+both A B (inr a) d = inr (λ w. a w.0)
+
+-- a test is true or not
+true-or-not : (b : Bool) → Decided (IsTrue b)
+true-or-not true = inl refl
+true-or-not false = inr (λ h. cc)
+
+-- one number is below another or not
+below-or-not : (m n : ℕ) → Decided (m < n)
+below-or-not m n = elim (cases_lt m n) [ inl l ↦ inl l | inr l ↦ inr (λ h. omega arith) ]
+
+-- and at most another or not
+most-or-not : (m n : ℕ) → Decided (m ≤ n)
+most-or-not m n = elim (cases_lt n m) [ inl l ↦ inr (λ h. omega arith) | inr l ↦ inl l ]
+
+-- segments take all of the bytes, one after the other, or not
+in-turn-or-not : (xs : List ℕ) (segs : List Segment) → Decided (CoversInTurn xs segs)
+unfolding CoversInTurn
+in-turn-or-not [] [] = inl refl
+in-turn-or-not (x ∷ xs) [] = inr (λ e. cc)
+in-turn-or-not xs (s ∷ ss) =
+    elim (both (0 < s.len) (s.len ≤ length xs) (below-or-not 0 s.len) (most-or-not s.len (length xs))) [
+      | inl a ↦ elim (both (IsTrue (suits s.mode (take s.len xs))) (CoversInTurn (drop s.len xs) ss) (true-or-not (suits s.mode (take s.len xs))) (in-turn-or-not (drop s.len xs) ss)) [
+        | inl b ↦ inl (a.0, a.1, b.0, b.1)
+        | inr n ↦ inr (λ w. n (w.2, w.3))
+      ]
+      | inr n ↦ inr (λ w. n (w.0, w.1))
+    ]
+
+-- segments cover the bytes or not
+covers-or-not : (xs : List ℕ) (segs : List Segment) → Decided (Covers xs segs)
+covers-or-not xs segs =
+    elim (in-turn-or-not xs segs) [ inl h ↦ inl (from_turn xs segs h) | inr n ↦ inr (λ w. n (in_turn xs segs w)) ]
+
+-- some list of n modes passes a test, or none does
+some-modes : (n : ℕ) (P : List Mode → Type 0) → ((ms : List Mode) → Decided (P ms)) → ((ms : List Mode) × P ms) ⊎ ((ms : List Mode) → length ms ≡ n → P ms → ⊥)
+some-modes zero P d = elim (d []) [ inl p ↦ inl ([], p) | inr q ↦ inr (empty q) ]
+  where
+    empty : (P [] → ⊥) → (ms : List Mode) → length ms ≡ 0 → P ms → ⊥
+    empty q [] e p = q p
+    empty q (m ∷ ms) e p = absurd (omega arith)
+some-modes (suc n) P d =
+    elim (some-modes n (λ ks. P (Numeric ∷ ks)) (λ ks. d (Numeric ∷ ks))) [
+      | inl p ↦ inl (Numeric ∷ p.0, p.1)
+      | inr a ↦ elim (some-modes n (λ ks. P (Alphanumeric ∷ ks)) (λ ks. d (Alphanumeric ∷ ks))) [
+        | inl p ↦ inl (Alphanumeric ∷ p.0, p.1)
+        | inr b ↦ elim (some-modes n (λ ks. P (Byte ∷ ks)) (λ ks. d (Byte ∷ ks))) [
+          | inl p ↦ inl (Byte ∷ p.0, p.1)
+          | inr e ↦ elim (some-modes n (λ ks. P (Kanji ∷ ks)) (λ ks. d (Kanji ∷ ks))) [
+            | inl p ↦ inl (Kanji ∷ p.0, p.1)
+            | inr f ↦ inr (none a b e f)
+          ]
+        ]
+      ]
+    ]
+  where
+    none : ((ks : List Mode) → length ks ≡ n → P (Numeric ∷ ks) → ⊥) → ((ks : List Mode) → length ks ≡ n → P (Alphanumeric ∷ ks) → ⊥)
+        → ((ks : List Mode) → length ks ≡ n → P (Byte ∷ ks) → ⊥) → ((ks : List Mode) → length ks ≡ n → P (Kanji ∷ ks) → ⊥)
+        → (ms : List Mode) → length ms ≡ suc n → P ms → ⊥
+    none a b e f [] l p = absurd (omega arith)
+    none a b e f (Numeric ∷ ks) l p = a ks (omega arith) p
+    none a b e f (Alphanumeric ∷ ks) l p = b ks (omega arith) p
+    none a b e f (Byte ∷ ks) l p = e ks (omega arith) p
+    none a b e f (Kanji ∷ ks) l p = f ks (omega arith) p
+
+-- runs are as long as the modes that they are made of
+runs-long : (ms : List Mode) → sum_by (λ s. s.len) (runs_of ms) ≡ length ms
+unfolding runs_of
+runs-long [] = refl
+runs-long (m ∷ ms) = front (runs_of ms) (runs-long ms)
+  where
+    front : (ss : List Segment) → sum_by (λ s. s.len) ss ≡ length ms → sum_by (λ s. s.len) (with_front m ss) ≡ length (m ∷ ms)
+    front [] e = omega arith
+    front (s ∷ ss) e = by_rank (nat_eq (rank m) (rank s.mode))
+      where
+        by_rank : (b : Bool) → sum_by (λ s. s.len) (cond b (record { mode = m; len = 1 + s.len } ∷ ss) (record { mode = m; len = 1 } ∷ s ∷ ss)) ≡ length (m ∷ ms)
+        by_rank true = omega (arith, e, sum_by-cons (λ (t : Segment). t.len) (record { mode = m; len = 1 + s.len }) ss, sum_by-cons (λ (t : Segment). t.len) s ss)
+        by_rank false = omega (arith, e, sum_by-cons (λ (t : Segment). t.len) (record { mode = m; len = 1 }) (s ∷ ss))
+
+-- bytes fit or not
+fits-or-not : (v : ℕ) (r : Rule) (xs : List ℕ) (n : ℕ) → Decided (HasFit v r xs n)
+fits-or-not v r xs n =
+    elim (some-modes (length xs) (λ ms. IsLettering r xs ms × (bits v (runs_of ms) ≤ n)) (λ ms. both (IsLettering r xs ms) (bits v (runs_of ms) ≤ n)
+    (both (IsTrue (list_all (may_use r) ms)) (Covers xs (runs_of ms)) (true-or-not (list_all (may_use r) ms)) (covers-or-not xs (runs_of ms)))
+    (most-or-not (bits v (runs_of ms)) n))) [
+      | inl p ↦ inl (p.0, p.1.0, p.1.1)
+      | inr q ↦ inr (λ h. q h.0 (let a = runs-long h.0 in let b = (covers_all xs (runs_of h.0) h.1.1).1 in omega arith) (h.1, h.2))
+    ]
+
+-- of the prefixes up to one, where no longer one fits, the longest that fits
+longest-to : (v : ℕ) (r : Rule) (xs : List ℕ) (room k : ℕ) → k ≤ length xs → ((j : ℕ) → k < j → j ≤ length xs → HasFit v r (take j xs) room → ⊥) → (n : ℕ) × IsLongestFit v r xs room n
+longest-to v r xs room zero l none = (
+  0,
+  record {
+    inside = omega arith;
+    fits = empty_fits v r room;
+    longest = λ j i h. elim (cases_lt 0 j) [ inl p ↦ absurd (none j p i h) | inr p ↦ p ];
+  },
+)
+longest-to v r xs room (suc k) l none = elim (fits-or-not v r (take (suc k) xs) room) [
+  | inl h ↦ (
+    suc k,
+    record {
+      inside = l;
+      fits = h;
+      longest = λ j i g. elim (cases_lt (suc k) j) [ inl p ↦ absurd (none j p i g) | inr p ↦ p ];
+    },
+  )
+  | inr q ↦ longest-to v r xs room k (omega arith) (λ j p i g. elim (cases_lt (suc k) j) [
+    | inl s ↦ none j s i g
+    | inr s ↦ let e : j ≡ suc k = omega arith in q (subst (λ (z : ℕ). HasFit v r (take z xs) room) e g)
+  ])
+]
+
+-- one byte fits in byte mode
+byte-fits : (v : ℕ) (r : Rule) (b room : ℕ) → 28 ≤ room → HasFit v r (b ∷ []) room
+unfolding runs_of CoversInTurn
+byte-fits v r b room l =
+    let w = count_width_bound v Byte in
+    let covered : Covers (b ∷ []) (runs_of (Byte ∷ [])) =
+    from_turn (b ∷ []) (runs_of (Byte ∷ [])) (omega arith, omega arith, refl, refl) in
+    (Byte ∷ [], (subst (λ (t : Bool). IsTrue (t && true)) (sym (byte_used r)) refl, covered), omega arith)
+
+-- bytes have parts
+parts-to : (most v : ℕ) (l : Level) (r : Rule) (x : List ℕ) → 1 ≤ v → v ≤ 40 → length x ≤ most → (parts : List (List ℕ)) × AreParts v l r x parts
+unfolding AreParts
+parts-to most v l r [] p q h = ([], refl)
+parts-to zero v l r (b ∷ bs) p q h = absurd (omega arith)
+parts-to (suc most) v l r (b ∷ bs) p q h =
+    let x = b ∷ bs in
+    let c = capacity_least v l p q in
+    let found = longest-to v r x (room_of v l) (length x) (omega arith) (λ j a d g. absurd (omega arith)) in
+    let n = found.0 in
+    let some : 1 ≤ n = found.1.longest 1 (omega arith) (byte-fits v r b (room_of v l) (omega arith)) in
+    let rest = parts-to most v l r (drop n x) p q (let d = length-drop n x in omega arith) in
+    (take n x ∷ rest.0, (n, some, found.1, refl, rest.1))
+
+pub parts-there : (v : ℕ) (l : Level) (r : Rule) (x : List ℕ) → 1 ≤ v → v ≤ 40 → (parts : List (List ℕ)) × AreParts v l r x parts
+parts-there v l r x p q = parts-to (length x) v l r x p q (omega arith)
