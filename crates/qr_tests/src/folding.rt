@@ -44,6 +44,16 @@ fn kanji_by_an_option(rt: HostRuntime) -> Result<(), Fail> {
         "pairs are not folded"
     );
     assert!(rt; draw_alike(&rt, &in_bytes, &draw, pairs)?, "in byte mode");
+    // The second byte of the pair is that of the letter a, which follows it.
+    let (small, large) = (b"\x93\x61a", b"\x93\x61A");
+    for words in [&kanji[..], &folded[..]] {
+        let a = run_with(rt.alloc(), &folded, small, Devices::WELL)?;
+        let b = run_with(rt.alloc(), words, large, Devices::WELL)?;
+        assert!(rt;
+            a.status == 0 && a.out.bytes() == b.out.bytes(),
+            "a pair and a letter"
+        );
+    }
     Ok(())
 }
 

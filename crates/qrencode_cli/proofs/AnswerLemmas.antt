@@ -1,19 +1,22 @@
 -- Why the words and the input have one answer.
-use Rattle.std.proofs.Common.{◌≡◌, ◌≤◌, ◌∙◌, ◌&&◌, inl, inr, ℕ, Bool, true, false, cond, leb, List, [], ◌∷◌, length, Option, Some, None, unwrap_or, codes, Result, Ok, Err, refl, ap, sym, subst, arith}
-use Rattle.std.specs.Option.{is_none}
+use Rattle.std.proofs.Common.{◌≡◌, ◌≤◌, ◌∙◌, ◌&&◌, ◌==◌, inl, inr, ℕ, Bool, true, false, cond, leb, List, [], length, Option, Some, None, unwrap_or, codes, Result, Ok, Err, refl, ap, sym, subst, arith}
+use Rattle.std.specs.Option.{is_none, option_map_or}
+use Rattle.std.specs.Prelude.{option_and_then}
 use borrow.Author.Tests.{leb-true}
-use Rattle.clap.specs.Words.{Kinds, first_of, one_of}
+use Rattle.clap.specs.Words.{first_of, one_of}
 use Rattle.clap.specs.Walk.{Row, Text}
 use Rattle.qr_layout.specs.declared.level.Level.{Level}
+use Rattle.qr_layout.specs.declared.level.Level.TheVariants as level
 use Rattle.qr_bits.proofs.Facts.{empty_fits}
 use Rattle.qr_matrix.specs.Grid.{Grid}
 use Rattle.qr_symbol.specs.Series.{HasNoSeries, IsSeries, squares_of}
 use Rattle.qr_symbol.specs.VersionChoice.{FitsVersion}
 use Rattle.qr_symbol.proofs.Facts.{series-one, symbol-one}
-use Rattle.qrencode_cli.specs.Command.{AnswersAreOne, IsDrawing, IsRefusal, Refuses, RefusalsAreOne, RefusalsExcludeDrawings, held, input_for}
+use Rattle.qrencode_cli.specs.Command.{IsDrawing, IsRefusal, Refuses, held, input_for}
+use Rattle.qrencode_cli.specs.Laws.{AnswersAreOne, RefusalsAreOne, RefusalsExcludeDrawings}
 use Rattle.qrencode_cli.specs.Arguments.{faults_for, rows_for}
 use Rattle.qrencode_cli.specs.Drawing.{drawn}
-use Rattle.qrencode_cli.specs.Settings.{Reason, SettingsView, checked_level, drawing_at, level_at, needs_version, no_matches, number_at, rule_for, settings_for, settings_with, taken_settings, unknown_level, unknown_type, version_numbered}
+use Rattle.qrencode_cli.specs.Settings.{Reason, SettingsView, checked_series, drawing_named, level_named, needs_version, no_matches, number_or, rule_for, settings_for, settings_of, settings_with, unknown_level, unknown_type}
 use Rattle.qrencode_cli.specs.declared.drawing.Drawing.{Drawing}
 use Rattle.qrencode_cli.specs.declared.fault.Refusal.{Refusal}
 use Rattle.qrencode_cli.specs.Picture.{AreSquares, AreSymbols, IsTooLong, IsTooMany, smallest_of}
@@ -39,7 +42,7 @@ drawing-one s input d e a b =
 pub answers-one : AnswersAreOne
 answers-one words given d e a b =
     let same = settings-one words a.settings b.settings a.taken b.taken in
-    drawing-one b.settings (held b.settings (input_for b.settings given)) d e (subst (λ (s : SettingsView). IsDrawing s (held s (input_for s given)) d) same a.is_drawing) b.is_drawing
+    drawing-one b.settings (held b.settings (input_for b.settings given)) d e (subst (λ (s : SettingsView). IsDrawing s (held s (input_for s given)) d) same a.holds) b.holds
 
 -- an input that has a symbol is not too long
 not-too-long : (s : SettingsView) (input : List ℕ) (squares : List Grid) → AreSymbols s input squares → IsTooLong s input → ⊥
@@ -62,16 +65,16 @@ not-too-many s input squares h many =
 pub refusals-exclude : RefusalsExcludeDrawings
 refusals-exclude words given d refusal.Empty a h =
     let same = settings-one words h.settings a.settings h.taken a.taken in
-    let none : held a.settings (input_for a.settings given) ≡ [] = subst (λ (s : SettingsView). held s (input_for s given) ≡ []) same h.because in
-    let some = a.is_drawing.some in
+    let none : held a.settings (input_for a.settings given) ≡ [] = subst (λ (s : SettingsView). held s (input_for s given) ≡ []) same h.holds in
+    let some = a.holds.some in
     let len = ap length none in
     omega arith
 refusals-exclude words given d refusal.TooLong a h =
     let same = settings-one words h.settings a.settings h.taken a.taken in
-    not-too-long a.settings (held a.settings (input_for a.settings given)) a.is_drawing.squares a.is_drawing.symbols (subst (λ (s : SettingsView). IsTooLong s (held s (input_for s given))) same h.because)
+    not-too-long a.settings (held a.settings (input_for a.settings given)) a.holds.squares a.holds.symbols (subst (λ (s : SettingsView). IsTooLong s (held s (input_for s given))) same h.holds)
 refusals-exclude words given d refusal.TooMany a h =
     let same = settings-one words h.settings a.settings h.taken a.taken in
-    not-too-many a.settings (held a.settings (input_for a.settings given)) a.is_drawing.squares a.is_drawing.symbols (subst (λ (s : SettingsView). IsTooMany s (held s (input_for s given))) same h.because)
+    not-too-many a.settings (held a.settings (input_for a.settings given)) a.holds.squares a.holds.symbols (subst (λ (s : SettingsView). IsTooMany s (held s (input_for s given))) same h.holds)
 refusals-exclude words given d (refusal.Words text) a h = let e : Ok a.settings ≡ Err _ = sym a.taken ∙ h in cc
 refusals-exclude words given d refusal.Level a h = let e : Ok a.settings ≡ Err _ = sym a.taken ∙ h in cc
 refusals-exclude words given d refusal.Kind a h = let e : Ok a.settings ≡ Err _ = sym a.taken ∙ h in cc
@@ -90,19 +93,19 @@ series-checked false t s e = cc
 
 -- what all settings of a level and a type have, the checked ones have
 checked-have : (P : SettingsView → Type 0) (l : Option Level) (k : Option Drawing) (f : Level → Drawing → SettingsView) → ((l : Level) (k : Drawing) → P (f l k))
-    → (s : SettingsView) → checked_level l k f ≡ Ok s → P s
+    → (s : SettingsView) → option_map_or (λ l. option_map_or (λ k. checked_series (f l k)) k (Err unknown_type)) l (Err unknown_level) ≡ Ok s → P s
 checked-have P None k f h s e = absurd (err-ok unknown_level s e)
 checked-have P (Some l) None f h s e = absurd (err-ok unknown_type s e)
 checked-have P (Some l) (Some k) f h s e = subst P (series-checked ((f l k).structured && is_none (f l k).smallest) (f l k) s e) (h l k)
 
 -- what all settings of matches have, those that are taken have
-taken-have : (P : SettingsView → Type 0) (kinds : Kinds) (rows : List Row) → ((l : Level) (k : Drawing) → P (settings_with rows l k))
-    → (s : SettingsView) → taken_settings kinds rows ≡ Ok s → P s
-taken-have P [] rows h s e = checked-have P (level_at (first_of (codes "level") rows)) (drawing_at (first_of (codes "type") rows)) (settings_with rows) h s e
-taken-have P (k ∷ kinds) rows h s e = absurd (err-ok no_matches s e)
+taken-have : (P : SettingsView → Type 0) (well : Bool) (rows : List Row) → ((l : Level) (k : Drawing) → P (settings_with rows l k))
+    → (s : SettingsView) → cond well (settings_of rows) (Err no_matches) ≡ Ok s → P s
+taken-have P true rows h s e = checked-have P (option_map_or level_named (first_of (codes "level") rows) (Some level.L)) (option_and_then drawing_named (first_of (codes "type") rows)) (settings_with rows) h s e
+taken-have P false rows h s e = absurd (err-ok no_matches s e)
 
 -- a version that is asked for is one of forty
-version-most : (n : ℕ) → unwrap_or (version_numbered n) 1 ≤ 40
+version-most : (n : ℕ) → unwrap_or (cond (leb 1 n && leb n 40) (Some n) None) 1 ≤ 40
 version-most n = by-test (leb 1 n) (leb n 40) (leb-true n 40)
   where
     by-test : (a b : Bool) → (b ≡ true → n ≤ 40) → unwrap_or (cond (a && b) (Some n) None) 1 ≤ 40
@@ -113,7 +116,7 @@ version-most n = by-test (leb 1 n) (leb n 40) (leb-true n 40)
 -- the smallest version of settings is at most 40
 smallest-most : (words : List Text) (s : SettingsView) → settings_for words ≡ Ok s → smallest_of s ≤ 40
 smallest-most words s e =
-    taken-have (λ s. smallest_of s ≤ 40) (faults_for words) (rows_for words) (λ l k. version-most (number_at 0 (one_of (codes "version") (rows_for words)))) s e
+    taken-have (λ s. smallest_of s ≤ 40) (length (faults_for words) == 0) (rows_for words) (λ l k. version-most (number_or 0 (one_of (codes "version") (rows_for words)))) s e
 
 -- an empty input fits each version
 empty-not-long : (words : List Text) (s : SettingsView) (input : List ℕ) → settings_for words ≡ Ok s → input ≡ [] → IsTooLong s input → ⊥
@@ -160,7 +163,7 @@ class-is words given refusal.TooMany h = ap class_of h.taken
 because-one : (words : List Text) (given : List ℕ) (P Q : SettingsView → List ℕ → Type 0) → Refuses words given P → Refuses words given Q
     → (s : SettingsView) × (settings_for words ≡ Ok s) × P s (held s (input_for s given)) × Q s (held s (input_for s given))
 because-one words given P Q h k =
-    (k.settings, k.taken, subst (λ (s : SettingsView). P s (held s (input_for s given))) (settings-one words h.settings k.settings h.taken k.taken) h.because, k.because)
+    (k.settings, k.taken, subst (λ (s : SettingsView). P s (held s (input_for s given))) (settings-one words h.settings k.settings h.taken k.taken) h.holds, k.holds)
 
 -- words and an input are refused for one reason at most
 pub refusals-one : RefusalsAreOne

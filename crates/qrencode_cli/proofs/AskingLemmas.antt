@@ -18,9 +18,9 @@ use Rattle.qr_symbol.specs.Joining.{AreReadings, IsJoined}
 use Rattle.qr_symbol.specs.Reading.{IsReadBack}
 use Rattle.qr_symbol.specs.Series.{IsSeries, squares_of}
 use Rattle.qr_symbol.proofs.Facts.{long-has-no-series, series-few, series-side, series-some}
-use Rattle.qrencode_cli.specs.Command.{Asks, Gives, IsDrawing, IsFault, Reads, ReadsFor, held, input_for}
+use Rattle.qrencode_cli.specs.Command.{Asks, GivesInput, IsDrawing, IsFault, Reads, ReadsFor, held, input_for}
 use Rattle.qrencode_cli.specs.Device.{Reader}
-use Rattle.qrencode_cli.specs.Fault.{fault_of_input, fault_of_words}
+use Rattle.qrencode_cli.specs.Steps.Fault.{fault_of_input, fault_of_words}
 use Rattle.qrencode_cli.specs.Input.{IsInputOf}
 use Rattle.qrencode_cli.specs.Settings.{IsUsageFault, Reason, SettingsView, rule_for, settings_for}
 use Rattle.qrencode_cli.specs.Steps.Command.{AreDrawnFor, IsEarly, IsInputFault, Prepares, drawing_of}
@@ -67,7 +67,7 @@ unfolding AreReadings
 joined-one input v b g h = record {
   contents = record { header = None; segments = h.0; bytes = input } ∷ [];
   read = (h.2, tt);
-  together = inl refl;
+  together = inl (record { header = None; segments = h.0; bytes = input }, refl, refl);
   joined = sym (append-nil input);
 }
 
@@ -162,10 +162,10 @@ module _ (words : List Text) (s : SettingsView) (taken : settings_for words ≡ 
   answer-for : (given input : List ℕ) (r : Result Picture Fault) → input_for s given ≡ input
       → MatchResult r (λ p. IsDrawing s (held s input) (drawing_of p)) (IsInputFault s (held s input))
       → MatchResult r (λ p. Asks words given (drawing_of p)) (λ f. IsFault words given f × IsEarly f)
-  answer-for given input (Ok p) e h = record { settings = s; taken = taken; is_drawing = rw e h }
-  answer-for given input (Err (fault.Refused refusal.Empty)) e h = (record { settings = s; taken = taken; because = rw e h }, tt)
-  answer-for given input (Err (fault.Refused refusal.TooLong)) e h = (record { settings = s; taken = taken; because = rw e h }, tt)
-  answer-for given input (Err (fault.Refused refusal.TooMany)) e h = (record { settings = s; taken = taken; because = rw e h }, tt)
+  answer-for given input (Ok p) e h = record { settings = s; taken = taken; holds = rw e h }
+  answer-for given input (Err (fault.Refused refusal.Empty)) e h = (record { settings = s; taken = taken; holds = rw e h }, tt)
+  answer-for given input (Err (fault.Refused refusal.TooLong)) e h = (record { settings = s; taken = taken; holds = rw e h }, tt)
+  answer-for given input (Err (fault.Refused refusal.TooMany)) e h = (record { settings = s; taken = taken; holds = rw e h }, tt)
   answer-for given input (Err fault.Memory) e h = (tt, tt)
   answer-for given input (Err _) e h = absurd h
 
@@ -186,7 +186,7 @@ module _ (words : List Text) (s : SettingsView) (taken : settings_for words ≡ 
 
   -- the input is what the reader gave
   pub prepares-reader : (in0 in1 : Reader) (bytes buf : List ℕ) (r : Result Picture Fault) → s.string ≡ None → buf ≡ bytes
-      → IsInputOf in0.remaining bytes → Gives in0 in1 bytes
+      → IsInputOf in0.remaining bytes → GivesInput in0 in1 bytes
       → MatchResult r (λ p. IsDrawing s (held s buf) (drawing_of p)) (IsInputFault s (held s buf))
       → Prepares words in0 in1 r
   prepares-reader in0 in1 bytes buf r string is input gives h = record {
@@ -210,7 +210,7 @@ module _ (words : List Text) (s : SettingsView) (taken : settings_for words ≡ 
     given = i.0;
     is_input = i.1;
     reads = reads-taken in0 in1 i.0 (Err fault.Read) (rw string tt);
-    answer = (record { settings = s; taken = taken; no_string = string }, tt);
+    answer = (record { settings = s; taken = taken; holds = string }, tt);
   }
   prepares-unread in0 in1 fault.Memory string only = let i = any_input in0.remaining in record {
     given = i.0;

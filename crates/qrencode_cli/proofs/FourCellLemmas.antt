@@ -6,7 +6,8 @@ use Rattle.qr_matrix.specs.Line.{has_bit}
 use Rattle.qr_matrix.specs.Penalty.{is_same, all_below}
 use Rattle.qr_matrix.proofs.Facts.{below-at, same-same}
 use Rattle.qrencode_cli.specs.Device.{Writer}
-use Rattle.qrencode_cli.specs.Text.{AreDark, ascii_module, cell_of, cells_from, four_modules}
+use Rattle.qrencode_cli.specs.Text.{ascii_module, cell_of}
+use Rattle.qrencode_cli.specs.Steps.Text.{AreDark, cells_from, four_modules}
 use Rattle.qrencode_cli.specs.Raster.{is_dark_at, texts_below}
 use Rattle.qrencode_cli.specs.Steps.Writing.{Stops, Writes}
 use Rattle.qrencode_cli.specs.declared.text.Cells.{Cells}

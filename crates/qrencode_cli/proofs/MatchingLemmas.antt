@@ -1,13 +1,15 @@
 -- From what clap states to the matches of this command.
-use Rattle.std.proofs.Common.{◌≡◌, ◌∙◌, List, [], ◌∷◌, Err, true, refl, ap, inl, inr}
+use Rattle.std.proofs.Common.{◌≡◌, ◌==◌, ◌∙◌, cond, length, Bool, false, List, [], Err, true, refl, ap, inl, inr}
+use Rattle.std.proofs.lemmas.Bool.{eqb-true}
+use Rattle.std.proofs.lemmas.List.{nil_from_length}
 use Rattle.clap.specs.Words.{HasKind, IsAmong, Kinds, fault_of, found_of, is_simple_and_free, kind_of}
-use Rattle.clap.specs.Walk.{Row, Text, rows_of}
+use Rattle.clap.specs.Walk.{Text, rows_of}
 use Rattle.clap.specs.Simple.{App, HasMatchesOf, is_simple, matches_of}
 use Rattle.clap.specs.declared.error.Error.{Error}
 use Rattle.clap.specs.declared.error.kind.ErrorKind.TheVariants as kind
 use Rattle.clap.specs.declared.parser.matches.ArgMatches.{ArgMatches}
 use Rattle.qrencode_cli.specs.Arguments.{command, faults_for, rows_for}
-use Rattle.qrencode_cli.specs.Settings.{no_matches, settings_for, taken_settings}
+use Rattle.qrencode_cli.specs.Settings.{no_matches, settings_for, settings_of}
 
 pub is_simple-command : is_simple command ≡ true
 unfolding command
@@ -30,8 +32,8 @@ kinds_not_empty kinds e other h none = elim h [ inl memory ↦ other memory | in
 
 -- words for which clap states a fault have no settings
 pub refused_words : (words : List Text) → (faults_for words ≡ [] → ⊥) → settings_for words ≡ Err no_matches
-refused_words words some = refused (faults_for words) (rows_for words) some
+refused_words words some = go (length (faults_for words) == 0) refl
   where
-    refused : (kinds : Kinds) (rows : List Row) → (kinds ≡ [] → ⊥) → taken_settings kinds rows ≡ Err no_matches
-    refused [] rows some = absurd (some refl)
-    refused (k ∷ kinds) rows some = refl
+    go : (b : Bool) → (length (faults_for words) == 0) ≡ b → cond b (settings_of (rows_for words)) (Err no_matches) ≡ Err no_matches
+    go true e = absurd (some (nil_from_length (faults_for words) (eqb-true (length (faults_for words)) 0 e)))
+    go false e = refl

@@ -4,7 +4,7 @@ use Rattle.std.specs.Str.Parse.{ParsesUnsigned}
 use Rattle.clap.specs.Matches.{TriesOne}
 use Rattle.clap.specs.Walk.{Text}
 use Rattle.clap.proofs.WalkLemmas.{byte_read}
-use Rattle.qrencode_cli.specs.Settings.{number_at}
+use Rattle.qrencode_cli.specs.Settings.{number_or}
 
 module _ {E : Type 0} (gives : Text → Result ℕ E → Type 0)
     (reads : (t : Text) (r : Result ℕ E) → gives t r → ParsesUnsigned 8 10 t r)
@@ -12,18 +12,18 @@ module _ {E : Type 0} (gives : Text → Result ℕ E → Type 0)
   where
     -- a number was read
     pub number_some : (o : Option Text) (r : Result (Option ℕ) E) → (o ≡ None → r ≡ Ok None) → ((t : Text) → o ≡ Some t → TriesOne gives t r)
-        → (n : ℕ) → r ≡ Ok (Some n) → n ≡ number_at otherwise o
+        → (n : ℕ) → r ≡ Ok (Some n) → n ≡ number_or otherwise o
     number_some None r none some n e = let bad : r ≡ Ok None = none refl in cc
     number_some (Some t) r none some n e = byte_read {E = E} t (Ok n) (reads t (Ok n) (rw e at (some t refl)))
 
     -- no number stands
     pub number_none : (o : Option Text) (r : Result (Option ℕ) E) → (o ≡ None → r ≡ Ok None) → ((t : Text) → o ≡ Some t → TriesOne gives t r)
-        → r ≡ Ok None → otherwise ≡ number_at otherwise o
+        → r ≡ Ok None → otherwise ≡ number_or otherwise o
     number_none None r none some e = refl
     number_none (Some t) r none some e = absurd (rw e at (some t refl))
 
     -- what stands is no number
     pub number_err : (o : Option Text) (r : Result (Option ℕ) E) → (o ≡ None → r ≡ Ok None) → ((t : Text) → o ≡ Some t → TriesOne gives t r)
-        → (x : E) → r ≡ Err x → 0 ≡ number_at otherwise o
+        → (x : E) → r ≡ Err x → 0 ≡ number_or otherwise o
     number_err None r none some x e = let bad : r ≡ Ok None = none refl in cc
     number_err (Some t) r none some x e = byte_read {E = E} t (Err x) (reads t (Err x) (rw e at (some t refl)))

@@ -15,6 +15,7 @@ pub record IsCounted (c : ReadCounts) (len interrupted : ℕ) : Type 0 where
   pub calls : c.calls ≤ len + interrupted
   pub given : c.given ≡ len
   pub ends : c.ends ≡ 0
+  pub past_end : c.past_end ≡ 0
 
 -- where the reading of the input stands
 pub record IsReading (old new : Option (List ℕ)) (before now : ReadCounts) (bytes : List ℕ) (interrupted : ℕ) : Type 0 where

@@ -2,7 +2,7 @@
 use Rattle.std.proofs.Common.{◌≤◌, arith, ◌≡◌, ◌∙◌, ℕ, List, [], Option, Result, Ok, Err, MatchOption, OnOk, OnErr, None, Some, IfErr, is_err, true, false, refl, sym, append-nil, length}
 use Rattle.std.specs.Io.KnownBytes.{Appends}
 use Rattle.clap.specs.Walk.{Text}
-use Rattle.qrencode_cli.specs.Command.{Breaks, Draws, Reads, ReadsFor, Shows, Tells}
+use Rattle.qrencode_cli.specs.Command.{Breaks, Draws, IsTold, Reads, ReadsFor, Shows}
 use Rattle.qrencode_cli.specs.Device.{AppendsBeginning, Reader, Writer, counted, is_write_fault, no_writes}
 use Rattle.qrencode_cli.specs.Fault.{fault_line}
 use Rattle.qrencode_cli.specs.Settings.{Reason, SettingsView, settings_for}
@@ -85,6 +85,6 @@ pub tells-fault : (old new : Writer) (f : Fault) (slice : List ℕ) → slice �
     → (old.counts ≡ no_writes → is_write_fault new.counts ≡ is_err r)
     → (old.counts ≡ no_writes → OnOk r (new.counts.taken ≡ counted (length slice)))
     → (old.counts ≡ no_writes → OnErr r (new.counts.taken ≤ counted (length slice))) → new.counts.flushes ≡ old.counts.flushes
-    → Tells old new {T = Unit {0}} (Err f)
+    → IsTold old new (fault_line f)
 tells-fault old new f slice is (Ok t) ok err well many most flushes = rw (← is) (begins-all old.taken new.taken slice ok, λ z. let m = many z in omega arith, λ z w. ok, λ z w. many z, flushes)
 tells-fault old new f slice is (Err e) ok err well many most flushes = rw (← is) (err, λ z. most z, λ z w. let bad : true ≡ false = sym (well z) ∙ w in cc, λ z w. let bad : true ≡ false = sym (well z) ∙ w in cc, flushes)

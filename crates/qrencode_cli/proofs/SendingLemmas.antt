@@ -5,7 +5,7 @@ use Rattle.std.proofs.lemmas.Bool.Decides.{nat_tests}
 use Rattle.std.proofs.Math.Seq.{take-add}
 use Rattle.std.proofs.KnownBytes.{Appends-trans, Appends-kept}
 use Rattle.std.specs.Io.KnownBytes.{Appends, Keeps}
-use Rattle.qrencode_cli.specs.Device.{IsWrittenWithin, counted, is_write_fault, write_counted, writer}
+use Rattle.qrencode_cli.specs.Device.{IsWrittenWithin, counted, is_write_fault, write_counted}
 use Rattle.qrencode_cli.specs.Steps.Writing.{IsWell, Stops}
 use Rattle.qrencode_cli.specs.declared.device.Trouble.{Trouble}
 use Rattle.qrencode_cli.specs.declared.device.Trouble.TheVariants.{Interrupted, Failed}
@@ -94,7 +94,7 @@ most-zero u v w len n at all zero e low m fits = let g = m fits in rw e (omega a
 pub stops : (a b c : Option (List ℕ)) (bytes : List ℕ) (at : ℕ) (u v w : WriteCounts) (tried tries : ℕ)
     → Appends a b (take at bytes) → Keeps b c → (u.taken < 2 ^ 64 → w.taken ≤ counted (u.taken + length bytes)) → (IsWell u tried → IsWell v tries)
     → (IsWell v tries → is_write_fault w ≡ true) → (IsWell v tries → IsWrittenWithin w)
-    → w.offered ≤ max u.offered 1200 → w.flushes ≡ u.flushes → Stops (writer a u) (writer c w) tried bytes
+    → w.offered ≤ max u.offered 1200 → w.flushes ≡ u.flushes → Stops (record { taken = a; counts = u }) (record { taken = c; counts = w }) tried bytes
 stops a b c bytes at u v w tried tries p k most well fault within offered flushes = record {
   most = most;
   front = (take at bytes, (drop at bytes, take-append-drop at bytes), Appends-kept a b c _ p k);

@@ -1,5 +1,5 @@
 -- What a call of a device does to its counts, and when the counts tell of a fault. Public clauses cite this file.
-use Rattle.std.specs.Prelude.{◌≡◌, ◌+◌, ◌-◌, ◌^◌, ◌≤◌, ◌++◌, ◌==◌, ◌||◌, ◌&&◌, ℕ, Bool, true, false, nat_lt, nat_le, min, max, List, Option, Result, Ok, Err, if◌then◌else◌}
+use Rattle.std.specs.Prelude.{◌≡◌, ◌+◌, ◌-◌, ◌^◌, ◌≤◌, ◌++◌, ◌==◌, ◌||◌, ◌&&◌, ℕ, Bool, false, nat_lt, nat_le, min, max, List, Option, Result, Ok, Err, is_ok, if◌then◌else◌}
 use Rattle.std.specs.Io.KnownBytes.{Appends}
 use Rattle.qr_bits.specs.declared.modes.TheConstants.{INPUT_MAX}
 use Rattle.qrencode_cli.specs.declared.device.TheConstants.{INTERRUPTIONS_MAX}
@@ -14,18 +14,21 @@ counted n = min n (2 ^ 64 - 1)
 
 -- the counts of a device that was not read yet [own]
 abbrev pub no_reads : ReadCounts
-no_reads = record { calls = 0; failed = 0; interrupted = 0; given = 0; ends = 0 }
+no_reads = record { calls = 0; failed = 0; interrupted = 0; given = 0; ends = 0; past_end = 0 }
 
--- the counts after a read into so many bytes [own]
+-- what a read into so many bytes returned is counted [own]
+abbrev pub read_returned : ℕ → Result ℕ Trouble → ReadCounts → ReadCounts
+read_returned room (Ok n) c =
+    record c { given = counted (c.given + n); ends = if n == 0 && nat_lt 0 room then counted (c.ends + 1) else c.ends }
+read_returned room (Err Interrupted) c = record c { interrupted = counted (c.interrupted + 1) }
+read_returned room (Err Failed) c = record c { failed = counted (c.failed + 1) }
+
+-- the counts after a read into so many bytes: one more call, past the end if the end was met before [own]
 abbrev pub read_counted : ℕ → Result ℕ Trouble → ReadCounts → ReadCounts
-read_counted room (Ok n) c = record c {
+read_counted room returned c = read_returned room returned (record c {
   calls = counted (c.calls + 1);
-  given = counted (c.given + n);
-  ends = if n == 0 && nat_lt 0 room then counted (c.ends + 1) else c.ends;
-}
-read_counted room (Err Interrupted) c =
-    record c { calls = counted (c.calls + 1); interrupted = counted (c.interrupted + 1) }
-read_counted room (Err Failed) c = record c { calls = counted (c.calls + 1); failed = counted (c.failed + 1) }
+  past_end = if nat_lt 0 c.ends then counted (c.past_end + 1) else c.past_end;
+})
 
 -- the counts of a device that was not written to yet [own]
 abbrev pub no_writes : WriteCounts
@@ -40,36 +43,25 @@ no_writes = record {
   settled = false;
 }
 
+-- what a write of so many bytes returned is counted [own]
+abbrev pub write_returned : ℕ → Result ℕ Trouble → WriteCounts → WriteCounts
+write_returned len (Ok n) c =
+    record c { taken = counted (c.taken + n); zeros = if n == 0 && nat_lt 0 len then counted (c.zeros + 1) else c.zeros }
+write_returned len (Err Interrupted) c = record c { interrupted = counted (c.interrupted + 1) }
+write_returned len (Err Failed) c = record c { failed = counted (c.failed + 1) }
+
 -- the counts after a write of so many bytes [own]
 abbrev pub write_counted : ℕ → Result ℕ Trouble → WriteCounts → WriteCounts
-write_counted len (Ok n) c = record c {
-  calls = counted (c.calls + 1);
-  zeros = if n == 0 && nat_lt 0 len then counted (c.zeros + 1) else c.zeros;
-  taken = counted (c.taken + n);
-  offered = max c.offered len;
-  settled = false;
-}
-write_counted len (Err Interrupted) c = record c {
-  calls = counted (c.calls + 1);
-  interrupted = counted (c.interrupted + 1);
-  offered = max c.offered len;
-  settled = false;
-}
-write_counted len (Err Failed) c = record c {
-  calls = counted (c.calls + 1);
-  failed = counted (c.failed + 1);
-  offered = max c.offered len;
-  settled = false;
-}
+write_counted len returned c =
+    write_returned len returned (record c { calls = counted (c.calls + 1); offered = max c.offered len; settled = false })
 
 -- the counts after a flush; an interrupted one counts as failed alone [own]
 abbrev pub flush_counted : {T : Type 0} → Result T Trouble → WriteCounts → WriteCounts
-flush_counted (Ok t) c = record c { calls = counted (c.calls + 1); flushes = counted (c.flushes + 1); settled = true }
-flush_counted (Err e) c = record c {
+flush_counted returned c = record c {
   calls = counted (c.calls + 1);
-  failed = counted (c.failed + 1);
+  failed = if is_ok returned then c.failed else counted (c.failed + 1);
   flushes = counted (c.flushes + 1);
-  settled = false;
+  settled = is_ok returned;
 }
 
 -- a text is a beginning of another [own]
@@ -88,12 +80,13 @@ is_read_fault c = nat_lt 0 c.failed || nat_le 1000 c.interrupted
 abbrev pub is_write_fault : WriteCounts → Bool
 is_write_fault c = nat_lt 0 c.failed || (nat_lt 0 c.zeros || nat_le 1000 c.interrupted)
 
--- how far a reader may be read: in at most 114,424 calls, never past its end or past 113,425 bytes, and no further after
--- a read that failed or was interrupted for the 1,000th time [own]
+-- how far a reader may be read: in at most 114,424 calls, never past 113,425 bytes, and no further after its end, after a
+-- read that failed, or after one that was interrupted for the 1,000th time [own]
 pub record IsReadWithin (c : ReadCounts) : Type 0 where
   pub calls : c.calls ≤ INPUT_MAX + INTERRUPTIONS_MAX
   pub given : c.given ≤ INPUT_MAX
   pub ends : c.ends ≤ 1
+  pub past_end : c.past_end ≡ 0
   pub failed : c.failed ≤ 1
   pub interrupted : c.interrupted ≤ INTERRUPTIONS_MAX + 1
 
@@ -112,11 +105,3 @@ pub record Reader : Type 0 where
 pub record Writer : Type 0 where
   pub taken : Option (List ℕ)
   pub counts : WriteCounts
-
--- the reader of these bytes and counts [own]
-abbrev pub reader : Option (List ℕ) → ReadCounts → Reader
-reader remaining counts = record { remaining = remaining; counts = counts }
-
--- the writer of these bytes and counts [own]
-abbrev pub writer : Option (List ℕ) → WriteCounts → Writer
-writer taken counts = record { taken = taken; counts = counts }

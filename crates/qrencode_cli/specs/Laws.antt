@@ -1,9 +1,22 @@
--- What some command lines ask for. A public law cites this file.
-use Rattle.std.specs.Prelude.{◌≡◌, List, [], ◌∷◌, codes, Some, None, Ok, Err, true, false}
+-- What some command lines ask for, and what holds of settings, faults and characters. Public laws cite this file.
+use Rattle.std.specs.Prelude.{◌≡◌, ℕ, List, [], ◌∷◌, codes, Some, None, Result, Ok, Err, MatchResult, String, true, false}
+use Rattle.std.specs.Global.{Global}
 use Rattle.clap.specs.Walk.{Text}
 use Rattle.qr_layout.specs.declared.level.Level.TheVariants.{H, L, M, Q}
-use Rattle.qrencode_cli.specs.Settings.{Reason, SettingsView, needs_version, no_matches, settings_for, unknown_level, unknown_type}
+use Rattle.qr_bits.specs.declared.modes.Rule.TheVariants.{Auto, BytesOnly, WithKanji}
+use Rattle.qr_bits.specs.Folding.{folded}
+use Rattle.qrencode_cli.specs.Command.{Asks, IsRefusal, Runs, held}
+use Rattle.qrencode_cli.specs.Device.{Reader, Writer}
+use Rattle.qrencode_cli.specs.Fault.{fault_line}
+use Rattle.qrencode_cli.specs.Settings.{Reason, SettingsView, needs_version, no_matches, rule_for, settings_for, unknown_level, unknown_type, usage_fault_number}
+use Rattle.qrencode_cli.specs.Text.{ascii_module, half_blocks, line_count}
 use Rattle.qrencode_cli.specs.declared.drawing.Drawing.TheVariants.{Ascii, AsciiInverse, Svg, Utf8}
+use Rattle.qrencode_cli.specs.declared.fault.Fault.{Fault}
+use Rattle.qrencode_cli.specs.declared.fault.Fault.TheVariants as fault
+use Rattle.qrencode_cli.specs.declared.fault.Refusal.{Refusal}
+use Rattle.qrencode_cli.specs.declared.fault.Refusal.TheVariants as refusal
+use Rattle.qrencode_cli.specs.declared.settings.UsageFault.TheVariants as usage
+use Rattle.qrencode_cli.specs.declared.text.Cells.TheVariants.{HalfBlocks}
 
 -- the settings of words that ask for an ASCII drawing and for nothing else [own]
 abbrev pub by_default : SettingsView
@@ -43,17 +56,7 @@ pub record RowsOfWords : Type 0 where
       (record by_default { level = H; kind = Utf8; string = Some (codes "A") })
   pub in_a_series : IsTaken (codes "-l" ∷ codes "Q" ∷ codes "-v" ∷ codes "2" ∷ codes "-m" ∷ codes "0" ∷ codes "-8" ∷ codes "-S"
       ∷ codes "-t" ∷ codes "svg" ∷ codes "A" ∷ [])
-      (record {
-        level = Q;
-        smallest = Some 2;
-        kind = Svg;
-        margin = 0;
-        bytes_only = true;
-        kanji = false;
-        fold = false;
-        structured = true;
-        string = Some (codes "A");
-      })
+      (record by_default { level = Q; smallest = Some 2; kind = Svg; margin = 0; bytes_only = true; structured = true; string = Some (codes "A") })
   pub inverse : IsTaken (codes "-l" ∷ codes "m" ∷ codes "-t" ∷ codes "asciiI" ∷ [])
       (record by_default { level = M; kind = AsciiInverse })
   pub string_first : IsTaken (codes "A" ∷ codes "-t" ∷ codes "ASCII" ∷ []) (record by_default { string = Some (codes "A") })
@@ -94,3 +97,70 @@ pub record RowsOfWords : Type 0 where
   pub empty_version : IsRefused (codes "-v" ∷ codes "" ∷ codes "-t" ∷ codes "ASCII" ∷ []) no_matches
   pub type_without_a_value : IsRefused (codes "-t" ∷ []) no_matches
   pub two_strings_after_dashes : IsRefused (codes "-t" ∷ codes "ASCII" ∷ codes "--" ∷ codes "A" ∷ codes "B" ∷ []) no_matches
+
+-- The words and the input ask for one drawing at most [own].
+abbrev pub AnswersAreOne : Type 0
+AnswersAreOne = (words : List Text) (given d e : List ℕ) → Asks words given d → Asks words given e → d ≡ e
+
+-- Words and an input that ask for a drawing are not refused [own].
+abbrev pub RefusalsExcludeDrawings : Type 0
+RefusalsExcludeDrawings = (words : List Text) (given d : List ℕ) (r : Refusal) → Asks words given d → IsRefusal words given r → ⊥
+
+-- the two refusals are one, clap's text left aside [own]
+abbrev pub AreAlike : Refusal → Refusal → Type 0
+AreAlike (refusal.Words text) (refusal.Words other) = Unit {0}
+AreAlike r q = r ≡ q
+
+-- Words and an input are refused for one reason at most [own].
+abbrev pub RefusalsAreOne : Type 0
+RefusalsAreOne = (words : List Text) (given : List ℕ) (r q : Refusal) → IsRefusal words given r → IsRefusal words given q → AreAlike r q
+
+-- -8 allows byte mode alone, also beside -k; without it -k allows kanji mode too [own]
+pub record RulesOfModes : Type 0 where
+  pub bytes : (s : SettingsView) → s.bytes_only ≡ true → rule_for s ≡ BytesOnly
+  pub kanji : (s : SettingsView) → s.bytes_only ≡ false → s.kanji ≡ true → rule_for s ≡ WithKanji
+  pub neither : (s : SettingsView) → s.bytes_only ≡ false → s.kanji ≡ false → rule_for s ≡ Auto
+
+-- Under -i the input is folded by the rule of modes, and without it stays. Under -k the second byte of a pair stays, though
+-- it is the byte of a small letter [own].
+pub record FoldingFollowsTheRule : Type 0 where
+  pub folds : (s : SettingsView) (input : List ℕ) → s.fold ≡ true → held s input ≡ folded (rule_for s) input
+  pub keeps : (s : SettingsView) (input : List ℕ) → s.fold ≡ false → held s input ≡ input
+  pub pairs : held (record by_default { kanji = true; fold = true }) (0x93 ∷ 0x61 ∷ 0x61 ∷ []) ≡ 0x93 ∷ 0x61 ∷ 0x41 ∷ []
+  pub letters : held (record by_default { fold = true }) (0x93 ∷ 0x61 ∷ 0x61 ∷ []) ≡ 0x93 ∷ 0x41 ∷ 0x41 ∷ []
+
+-- A run returns 0 if it drew, and 1 for each fault [own].
+abbrev pub StatusesAreTwo : Type 0
+StatusesAreTwo = (words : List Text) (in0 in1 : Reader) (out0 out1 err0 err1 : Writer) (outcome : Result (Unit {0}) Fault) (status : ℕ)
+    → Runs words in0 in1 out0 out1 err0 err1 outcome status → MatchResult outcome (λ _. status ≡ 0) (λ _. status ≡ 1)
+
+-- The line of each fault but of the words that clap refuses [own].
+pub record LinesOfFaults : Type 0 where
+  pub level : fault_line (fault.Refused refusal.Level) ≡ codes "qrencode: unknown level\n"
+  pub type : fault_line (fault.Refused refusal.Kind) ≡ codes "qrencode: unknown type\n"
+  pub version : fault_line (fault.Refused refusal.NeedsVersion) ≡ codes "qrencode: -S needs -v\n"
+  pub empty : fault_line (fault.Refused refusal.Empty) ≡ codes "qrencode: input is empty\n"
+  pub too_long : fault_line (fault.Refused refusal.TooLong) ≡ codes "qrencode: input does not fit\n"
+  pub too_many : fault_line (fault.Refused refusal.TooMany) ≡ codes "qrencode: more than 16 symbols\n"
+  pub read : fault_line fault.Read ≡ codes "qrencode: read error\n"
+  pub memory : fault_line fault.Memory ≡ codes "qrencode: out of memory\n"
+  pub write : fault_line fault.Write ≡ codes "qrencode: write error\n"
+
+-- The characters of a dark and a light module; those of two modules, one above the other: the space, U+2584, U+2580 and
+-- U+2588 in UTF-8; and how many lines of the latter 29 rows make [own].
+pub record CharactersOfModules : Type 0 where
+  pub dark : ascii_module true ≡ codes "##"
+  pub light : ascii_module false ≡ codes "  "
+  pub both_dark : half_blocks true true ≡ codes " "
+  pub lower_light : half_blocks true false ≡ 0xE2 ∷ 0x96 ∷ 0x84 ∷ []
+  pub upper_light : half_blocks false true ≡ 0xE2 ∷ 0x96 ∷ 0x80 ∷ []
+  pub both_light : half_blocks false false ≡ 0xE2 ∷ 0x96 ∷ 0x88 ∷ []
+  pub odd_rows : line_count HalfBlocks 29 ≡ 15
+
+-- The number of each fault of words [own].
+pub record NumbersOfUsageFaults : Type 0 where
+  pub words : (text : String Global) → usage_fault_number (usage.Words text) ≡ 1
+  pub level : usage_fault_number usage.Level ≡ 2
+  pub type : usage_fault_number usage.Kind ≡ 3
+  pub version : usage_fault_number usage.NeedsVersion ≡ 4
+  pub memory : usage_fault_number usage.Memory ≡ 5

@@ -1,8 +1,8 @@
 -- What the words ask for. Public clauses cite this file.
-use Rattle.std.specs.Prelude.{◌≡◌, ◌&&◌, ℕ, Bool, false, nat_le, List, [], ◌∷◌, Option, Some, None, Result, Ok, Err, codes, if◌then◌else◌}
+use Rattle.std.specs.Prelude.{◌≡◌, ◌==◌, ◌&&◌, ℕ, Bool, false, nat_le, List, length, Option, Some, None, option_and_then, Result, Ok, Err, codes, if◌then◌else◌}
 use Rattle.std.specs.Option.{is_none, option_map_or}
 use Rattle.std.specs.Str.{bytes_eq, str_eq_ignore_ascii_case}
-use Rattle.clap.specs.Words.{Kinds, first_of, one_of}
+use Rattle.clap.specs.Words.{first_of, one_of}
 use Rattle.clap.specs.Walk.{Row, Text, byte_or_zero}
 use Rattle.qr_bits.specs.declared.modes.Rule.{Rule}
 use Rattle.qr_bits.specs.declared.modes.Rule.TheVariants.{Auto, BytesOnly, WithKanji}
@@ -45,11 +45,6 @@ level_named t =
     (if str_eq_ignore_ascii_case t (codes "q") then Some level.Q else
     (if str_eq_ignore_ascii_case t (codes "h") then Some level.H else None)))
 
--- the level that is asked for, L where none is [own]
-abbrev pub level_at : Option Text → Option Level
-level_at None = Some level.L
-level_at (Some t) = level_named t
-
 -- the type of drawing that a word names, in either case of its ASCII letters [own]
 abbrev pub drawing_named : Text → Option Drawing
 drawing_named t =
@@ -58,22 +53,13 @@ drawing_named t =
     (if str_eq_ignore_ascii_case t (codes "utf8") then Some drawing.Utf8 else
     (if str_eq_ignore_ascii_case t (codes "svg") then Some drawing.Svg else None)))
 
--- the type of drawing that is asked for [own]
-abbrev pub drawing_at : Option Text → Option Drawing
-drawing_at None = None
-drawing_at (Some t) = drawing_named t
-
 -- the number that is asked for, or another where none stands [own]
-abbrev pub number_at : ℕ → Option Text → ℕ
-number_at otherwise o = option_map_or byte_or_zero o otherwise
+abbrev pub number_or : ℕ → Option Text → ℕ
+number_or otherwise o = option_map_or byte_or_zero o otherwise
 
--- the version of a number, none for 0 [own]
-abbrev pub version_numbered : ℕ → Option ℕ
-version_numbered n = if nat_le 1 n && nat_le n 40 then Some n else None
-
--- the version that is asked for [own]
+-- the version that is asked for, none for 0 [own]
 abbrev pub version_at : Option Text → Option ℕ
-version_at o = version_numbered (number_at 0 o)
+version_at o = let n = number_or 0 o in if nat_le 1 n && nat_le n 40 then Some n else None
 
 -- the flag stands [own]
 abbrev pub flag_at : Option Text → Bool
@@ -86,7 +72,7 @@ settings_with rows level kind = record {
   level = level;
   smallest = version_at (one_of (codes "version") rows);
   kind = kind;
-  margin = number_at 4 (one_of (codes "margin") rows);
+  margin = number_or 4 (one_of (codes "margin") rows);
   bytes_only = flag_at (first_of (codes "bytes-only") rows);
   kanji = flag_at (first_of (codes "kanji") rows);
   fold = flag_at (first_of (codes "fold") rows);
@@ -94,33 +80,21 @@ settings_with rows level kind = record {
   string = first_of (codes "string") rows;
 }
 
--- a series needs a version, which is looked at last [own]
+-- a series needs a version [own]
 abbrev pub checked_series : SettingsView → Result SettingsView Reason
 checked_series s = if s.structured && is_none s.smallest then Err needs_version else Ok s
 
--- the type is looked at before that [own]
-abbrev pub checked_kind : Option Drawing → (Drawing → SettingsView) → Result SettingsView Reason
-checked_kind None settings = Err unknown_type
-checked_kind (Some kind) settings = checked_series (settings kind)
-
--- the level is looked at before the type [own]
-abbrev pub checked_level : Option Level → Option Drawing → (Level → Drawing → SettingsView) → Result SettingsView Reason
-checked_level None kind settings = Err unknown_level
-checked_level (Some level) kind settings = checked_kind kind (settings level)
-
--- the settings that the matches give [own]
+-- the settings that the matches give: the level is checked first, L if none is asked for, then the type, and the version
+-- of a series last [own]
 abbrev pub settings_of : List Row → Result SettingsView Reason
 settings_of rows =
-    checked_level (level_at (first_of (codes "level") rows)) (drawing_at (first_of (codes "type") rows)) (settings_with rows)
-
--- the settings of the matches, where clap states no fault [own]
-abbrev pub taken_settings : Kinds → List Row → Result SettingsView Reason
-taken_settings [] rows = settings_of rows
-taken_settings (k ∷ kinds) rows = Err no_matches
+    option_map_or (λ l. option_map_or (λ kind. checked_series (settings_with rows l kind))
+    (option_and_then drawing_named (first_of (codes "type") rows)) (Err unknown_type))
+    (option_map_or level_named (first_of (codes "level") rows) (Some level.L)) (Err unknown_level)
 
 -- the settings that the words give: those of the matches that clap states for them, where it states no fault [own]
 abbrev pub settings_for : List Text → Result SettingsView Reason
-settings_for words = taken_settings (faults_for words) (rows_for words)
+settings_for words = if length (faults_for words) == 0 then settings_of (rows_for words) else Err no_matches
 
 -- the fault is that of the words; lack of memory may always come instead [own]
 abbrev pub IsUsageFault : Result SettingsView Reason → UsageFault → Type 0

@@ -2,3 +2,5 @@
 pub mod Pen
 pub mod Command
 pub mod Writing
+pub mod Fault
+pub mod Text

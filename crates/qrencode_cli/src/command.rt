@@ -1,11 +1,10 @@
 //! The whole command: words, input, symbol, drawing, and the line of a fault.
 
-ghost use Rattle.std.specs.Prelude.{◌≡◌, ◌≤◌, ◌<◌, Err, OnOk, IfErr, max, length, map};
+ghost use Rattle.std.specs.Prelude.{◌≡◌, ◌≤◌, ◌<◌, ◌↔◌, Err, OnOk, IfErr, IsErrOf, IsTrue, max, length, map};
 ghost use Rattle.std.specs.Prelude.{MatchResult, Result};
 ghost use Rattle.std.specs.String.{string_bytes};
 ghost use Rattle.qrencode_cli.specs.Command.{Breaks, Draws, IsDrawing, RunsTo, held};
 ghost use Rattle.qrencode_cli.specs.Device.{IsReadWithin, IsWrittenWithin, is_read_fault, is_write_fault, no_reads, no_writes};
-ghost use Rattle.qrencode_cli.specs.Fault.{is_read, is_write};
 ghost use Rattle.qrencode_cli.specs.Steps.Command.{AreDrawnFor, Attempts, IsInputFault, Prepares, drawing_of};
 ghost use Rattle.qrencode_cli.specs.declared.fault.Fault.{Fault};
 
@@ -69,7 +68,7 @@ fn picture_for<R: Source>(alloc: Global, words: &[String], input: &mut R) -> Res
     ensures prepares { Prepares (map string_bytes words.now) (R.device input.old)
         (R.device input.new) result }
     ensures within { (R.device input.old).counts ≡ no_reads → IsReadWithin (R.device input.new).counts }
-    ensures read_fault { (R.device input.old).counts ≡ no_reads → is_read_fault (R.device input.new).counts ≡ is_read result }
+    ensures read_fault { (R.device input.old).counts ≡ no_reads → IsErrOf result Fault.Read ↔ IsTrue (is_read_fault (R.device input.new).counts) }
 {
     let settings = options(alloc, words)?;
     match &settings.string {
@@ -91,7 +90,7 @@ fn write_picture<W: Sink>(picture: &Picture, out: &mut W) -> Result<(), Fault>
     ensures err { IfErr result (λ f. (f ≡ Fault.Write)
         × Breaks (W.device out.old) (W.device out.new)
         (drawing_of picture.now)) }
-    ensures fault { (W.device out.old).counts ≡ no_writes → is_write_fault (W.device out.new).counts ≡ is_write result }
+    ensures fault { (W.device out.old).counts ≡ no_writes → IsErrOf result Fault.Write ↔ IsTrue (is_write_fault (W.device out.new).counts) }
     ensures within { (W.device out.old).counts ≡ no_writes → IsWrittenWithin (W.device out.new).counts }
     ensures offered { (W.device out.new).counts.offered ≤ max (W.device out.old).counts.offered WRITE_MAX }
 {
@@ -110,8 +109,8 @@ fn run_to_result<R: Source, W: Sink>(
         (R.device input.new) (W.device out.old)
         (W.device out.new) result }
     ensures input_within { (R.device input.old).counts ≡ no_reads → IsReadWithin (R.device input.new).counts }
-    ensures read_fault { (R.device input.old).counts ≡ no_reads → is_read_fault (R.device input.new).counts ≡ is_read result }
-    ensures write_fault { (W.device out.old).counts ≡ no_writes → is_write_fault (W.device out.new).counts ≡ is_write result }
+    ensures read_fault { (R.device input.old).counts ≡ no_reads → IsErrOf result Fault.Read ↔ IsTrue (is_read_fault (R.device input.new).counts) }
+    ensures write_fault { (W.device out.old).counts ≡ no_writes → IsErrOf result Fault.Write ↔ IsTrue (is_write_fault (W.device out.new).counts) }
     ensures within { (W.device out.old).counts ≡ no_writes → IsWrittenWithin (W.device out.new).counts }
     ensures offered { (W.device out.new).counts.offered ≤ max (W.device out.old).counts.offered WRITE_MAX }
 {

@@ -44,9 +44,7 @@ impl<T> Counted<T> {
 }
 
 impl<R: Read> Source for Counted<R> {
-    ghost use Rattle.qrencode_cli.specs.Device.{reader};
-
-    ghost device = { λ c. reader (R.remaining c.inner) c.reads };
+    ghost device = { λ c. record { remaining = R.remaining c.inner; counts = c.reads } };
 
     fn read(&mut self, buf: &mut [u8]) -> Result<usize, Trouble> {
         let answer = self.inner.read(buf).map_err(trouble_of);
@@ -56,9 +54,7 @@ impl<R: Read> Source for Counted<R> {
 }
 
 impl<W: Write> Sink for Counted<W> {
-    ghost use Rattle.qrencode_cli.specs.Device.{writer};
-
-    ghost device = { λ c. writer (W.contents c.inner) c.writes };
+    ghost device = { λ c. record { taken = W.contents c.inner; counts = c.writes } };
 
     fn write(&mut self, buf: &[u8]) -> Result<usize, Trouble> {
         let answer = self.inner.write(buf).map_err(trouble_of);

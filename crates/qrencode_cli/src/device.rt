@@ -34,6 +34,8 @@ pub struct ReadCounts {
     pub given: u64,
     /// The reads into some bytes that gave none.
     pub ends: u64,
+    /// The reads after one of those, into some bytes or into none.
+    pub past_end: u64,
 }
 
 impl ReadCounts {
@@ -44,6 +46,7 @@ impl ReadCounts {
         interrupted: 0,
         given: 0,
         ends: 0,
+        past_end: 0,
     };
 
     /// Counts a read into `room` bytes.
@@ -51,6 +54,9 @@ impl ReadCounts {
         ensures { self.new ≡ read_counted room answer self.old }
     {
         self.calls = self.calls.saturating_add(1);
+        if self.ends > 0 {
+            self.past_end = self.past_end.saturating_add(1);
+        }
         match answer {
             Ok(given) => {
                 self.given = self.given.saturating_add(given as u64);

@@ -62,7 +62,7 @@ impl Fault {
 
 impl From<UsageFault> for Fault {
     ghost use Rattle.std.specs.Prelude.{◌≡◌};
-    ghost use Rattle.qrencode_cli.specs.Fault.{fault_of_words};
+    ghost use Rattle.qrencode_cli.specs.Steps.Fault.{fault_of_words};
 
     ghost from_gives = { λ e f. f ≡ fault_of_words e };
 
@@ -79,7 +79,7 @@ impl From<UsageFault> for Fault {
 
 impl From<EncodeFault> for Fault {
     ghost use Rattle.std.specs.Prelude.{◌≡◌};
-    ghost use Rattle.qrencode_cli.specs.Fault.{fault_of_input};
+    ghost use Rattle.qrencode_cli.specs.Steps.Fault.{fault_of_input};
 
     ghost from_gives = { λ e f. f ≡ fault_of_input e };
 

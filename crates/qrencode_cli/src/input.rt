@@ -28,7 +28,7 @@ pub(crate) fn read_input<R: Source>(alloc: Global, input: &mut R) -> Result<Vec<
     // It was read to its end, or as far as it may be, also where its bytes are unknown.
     ensures ended { (R.device input.old).counts ≡ no_reads
         → IfOk result (λ bytes. ((R.device input.new).counts.ends ≡ 1) ⊎ (length bytes.items ≡ INPUT_MAX)) }
-    // No read comes after the end of the input, after `INPUT_MAX` bytes or after a fault.
+    // No read of any kind comes after the end of the input, after `INPUT_MAX` bytes or after a fault.
     ensures within { (R.device input.old).counts ≡ no_reads → IsReadWithin (R.device input.new).counts }
 {
     let mut bytes = Vec::new(alloc);

@@ -5,8 +5,7 @@ ghost use Rattle.std.specs.Prelude.{◌≡◌, ◌-◌, ◌^◌, ◌↔◌, fals
 ghost use Rattle.qr_bits.specs.declared.modes.TheConstants.{INPUT_MAX};
 ghost use Rattle.qrencode_cli.specs.declared.device.TheConstants.{INTERRUPTIONS_MAX};
 ghost use Rattle.qrencode_cli.specs.declared.pen.TheConstants.{WRITE_MAX};
-ghost use Rattle.qrencode_cli.specs.Command.{AnswersAreOne, RefusalsAreOne, RefusalsExcludeDrawings};
-ghost use Rattle.qrencode_cli.specs.Laws.{RowsOfWords};
+ghost use Rattle.qrencode_cli.specs.Laws.{AnswersAreOne, CharactersOfModules, FoldingFollowsTheRule, LinesOfFaults, NumbersOfUsageFaults, RefusalsAreOne, RefusalsExcludeDrawings, RowsOfWords, RulesOfModes, StatusesAreTwo};
 
 use crate::device::{ReadCounts, Trouble, WriteCounts};
 use crate::drawing::Drawing;
@@ -44,6 +43,37 @@ pub fn answers_are_one()
     ensures drawing { AnswersAreOne }
     ensures refusal { RefusalsExcludeDrawings }
     ensures reason { RefusalsAreOne }
+{}
+
+/// Which modes `-8` and `-k` allow.
+pub fn rules_of_modes()
+    ensures { RulesOfModes }
+{}
+
+/// An input is folded under `-i` alone, and by the rule of modes: kanji pairs stay under `-k`.
+#[tactic(auto, unfolding(qr_bits::specs::Folding::folded_around_pairs, qr_bits::specs::Modes::is_kanji_pair))]
+pub fn folding_follows_the_rule()
+    ensures { FoldingFollowsTheRule }
+{}
+
+/// A run returns 0 if it drew, and 1 for each fault.
+pub fn statuses_are_two()
+    ensures { StatusesAreTwo }
+{}
+
+/// The line of each fault.
+pub fn lines_of_faults()
+    ensures { LinesOfFaults }
+{}
+
+/// The characters of a module and of two modules, and the last line of an odd number of rows.
+pub fn characters_of_modules()
+    ensures { CharactersOfModules }
+{}
+
+/// The number of each fault of words.
+pub fn numbers_of_usage_faults()
+    ensures { NumbersOfUsageFaults }
 {}
 
 /// Two troubles of a device compare as equal exactly where they are the same.

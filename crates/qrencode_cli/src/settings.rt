@@ -1,10 +1,14 @@
 //! What the words ask for.
 
-ghost use Rattle.std.specs.Prelude.{◌≡◌, Ok, IfOk, MatchResult, map, codes, option_map};
+ghost use Rattle.std.specs.Prelude.{◌≡◌, ◌≢◌, ◌↔◌, String, Err, Ok, Some, IfOk, MatchResult, map, codes, option_and_then, option_map};
+ghost use Rattle.std.specs.Option.{option_map_or};
+ghost use Rattle.qr_layout.specs.declared.level.Level.{Level};
 ghost use Rattle.std.specs.String.{string_bytes};
 ghost use Rattle.clap.specs.Words.{first_of, found_of, one_of};
 ghost use Rattle.clap.specs.Walk.{rows_of};
-ghost use Rattle.qrencode_cli.specs.Settings.{IsUsageFault, drawing_at, drawing_named, flag_at, level_at, level_named, number_at, rule_for, settings_for, settings_of, version_at};
+ghost use Rattle.qrencode_cli.specs.Settings.{IsUsageFault, drawing_named, flag_at, level_named, needs_version, no_matches, number_or, rule_for, settings_for, settings_of, unknown_level, unknown_type, version_at};
+ghost use Rattle.qrencode_cli.specs.declared.settings.UsageFault.{UsageFault};
+ghost use Rattle.std.specs.Global.{Global};
 
 use crate::arguments::matches;
 use crate::drawing::Drawing;
@@ -150,7 +154,7 @@ fn drawing_named(name: &str) -> Option<Drawing>
 
 // The level that is asked for, L where none is.
 fn level_in(matches: &ArgMatches<'_>) -> Option<Level>
-    ensures { result ≡ level_at (first_of (codes "level") (rows_of (found_of matches.now))) }
+    ensures { result ≡ option_map_or level_named (first_of (codes "level") (rows_of (found_of matches.now))) (Some Level.L) }
 {
     text_in(matches, "level").map_or(Some(Level::L), level_named)
 }
@@ -174,7 +178,7 @@ fn level_named(name: &str) -> Option<Level>
 
 // The type of drawing that is asked for.
 fn drawing_in(matches: &ArgMatches<'_>) -> Option<Drawing>
-    ensures { result ≡ drawing_at (first_of (codes "type") (rows_of (found_of matches.now))) }
+    ensures { result ≡ option_and_then drawing_named (first_of (codes "type") (rows_of (found_of matches.now))) }
 {
     text_in(matches, "type").and_then(drawing_named)
 }
@@ -188,7 +192,7 @@ fn flag_in(matches: &ArgMatches<'_>, id: &str) -> bool
 
 // The number of an argument, or another where it is not given.
 fn number_in(matches: &ArgMatches<'_>, id: &str, otherwise: u8) -> u8
-    ensures { result ≡ number_at otherwise (one_of id.now (rows_of (found_of matches.now))) }
+    ensures { result ≡ number_or otherwise (one_of id.now (rows_of (found_of matches.now))) }
 {
     match matches.try_get_one::<u8>(id) {
         Ok(Some(number)) => number,
@@ -245,9 +249,21 @@ fn settings_in(alloc: Global, matches: &ArgMatches<'_>) -> Result<Settings, Usag
 }
 
 /// Reads the words of a command line, of which the first is the program's name.
+///
+/// # Errors
+///
+/// The first that holds: `Words` if clap refuses the words, `Level`, `Kind`, and `NeedsVersion`; or `Memory`.
 pub fn options(alloc: Global, words: &[String]) -> Result<Settings, UsageFault>
-    ensures { MatchResult result (λ s. settings_for (map string_bytes words.now) ≡ Ok s)
+    ensures settings { MatchResult result (λ s. settings_for (map string_bytes words.now) ≡ Ok s)
         (IsUsageFault (settings_for (map string_bytes words.now))) }
+    ensures words { ((text : String Global) × (result ≡ Err (UsageFault.Words text)))
+        ↔ ((result ≢ Err UsageFault.Memory) × (settings_for (map string_bytes words.now) ≡ Err no_matches)) }
+    ensures level { (result ≡ Err UsageFault.Level) ↔ ((result ≢ Err UsageFault.Memory)
+        × (settings_for (map string_bytes words.now) ≡ Err unknown_level)) }
+    ensures kind { (result ≡ Err UsageFault.Kind) ↔ ((result ≢ Err UsageFault.Memory)
+        × (settings_for (map string_bytes words.now) ≡ Err unknown_type)) }
+    ensures version { (result ≡ Err UsageFault.NeedsVersion) ↔ ((result ≢ Err UsageFault.Memory)
+        × (settings_for (map string_bytes words.now) ≡ Err needs_version)) }
 {
     let matches = matches(alloc, words)?;
     settings_in(alloc, &matches)

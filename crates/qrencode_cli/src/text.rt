@@ -5,7 +5,8 @@ ghost use Rattle.std.specs.Prelude.{◌≡◌, ◌≢◌, ℕ, true, ◌≤◌, 
 ghost use Rattle.std.specs.List.{flat_map};
 ghost use Rattle.arrayvec.specs.ArrayVec.{array_vec_len};
 ghost use Rattle.qr_symbol.specs.Series.{squares_of};
-ghost use Rattle.qrencode_cli.specs.Text.{AreDark, ascii_module, cell_of, cells_from, four_halves, four_modules, fours_of, half_blocks, line_count, line_of, text_drawing};
+ghost use Rattle.qrencode_cli.specs.Text.{ascii_module, cell_of, half_blocks, line_count, cells_of_line, text_drawing};
+ghost use Rattle.qrencode_cli.specs.Steps.Text.{AreDark, cells_from, four_halves, four_modules, fours_of};
 ghost use Rattle.qrencode_cli.specs.Steps.Pen.{Puts};
 ghost use Rattle.qrencode_cli.specs.declared.text.Cells.TheVariants.{HalfBlocks};
 ghost use Rattle.qrencode_cli.specs.Raster.{raster_width};
@@ -263,7 +264,7 @@ fn put_cells<W: Sink>(
 ) -> Result<(), DrawFault>
     requires { y < 1000 }
     ensures { Puts (W.device out.old) (W.device out.new)
-        pen.old pen.new (line_of cells margin matrix.now y) result }
+        pen.old pen.new (cells_of_line cells margin matrix.now y) result }
 {
     let width = raster_width(matrix, margin);
     let first = u16::from(margin);
@@ -311,7 +312,7 @@ fn put_line<W: Sink>(
 ) -> Result<(), DrawFault>
     requires { y < 1000 }
     ensures { Puts (W.device out.old) (W.device out.new)
-        pen.old pen.new (line_of cells margin matrix.now y ++ 10 ∷ []) result }
+        pen.old pen.new (cells_of_line cells margin matrix.now y ++ 10 ∷ []) result }
 {
     put_cells(pen, out, cells, matrix, margin, y)?;
     pen.put(out, b'\n')

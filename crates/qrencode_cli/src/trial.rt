@@ -137,10 +137,10 @@ impl Trial {
 impl Source for Trial {
     ghost use Rattle.std.specs.Prelude.{◌≡◌, ◌≤◌, IfOk, Some, length, min};
     ghost use Rattle.std.specs.Io.KnownBytes.{ReadConsumes};
-    ghost use Rattle.qrencode_cli.specs.Device.{reader, read_counted};
+    ghost use Rattle.qrencode_cli.specs.Device.{read_counted};
     ghost use Rattle.qrencode_cli.specs.Trial.{bytes_left, moved};
 
-    ghost device = { λ t. reader (Some (bytes_left t)) t.reads };
+    ghost device = { λ t. record { remaining = Some (bytes_left t); counts = t.reads } };
 
     fn read(&mut self, buf: &mut [u8]) -> Result<usize, Trouble>
         ensures bound { IfOk result (λ n. n ≤ length buf.new) }
@@ -165,10 +165,10 @@ impl Source for Trial {
 impl Sink for Trial {
     ghost use Rattle.std.specs.Prelude.{◌≡◌, ◌≤◌, IfOk, Ok, Err, if◌then◌else◌, length, min, Some};
     ghost use Rattle.std.specs.Io.KnownBytes.{Keeps, WriteAppends};
-    ghost use Rattle.qrencode_cli.specs.Device.{writer, flush_counted, write_counted};
+    ghost use Rattle.qrencode_cli.specs.Device.{flush_counted, write_counted};
     ghost use Rattle.qrencode_cli.specs.Trial.{bytes_held, free_of, moved};
 
-    ghost device = { λ t. writer (Some (bytes_held t)) t.writes };
+    ghost device = { λ t. record { taken = Some (bytes_held t); counts = t.writes } };
 
     fn write(&mut self, buf: &[u8]) -> Result<usize, Trouble>
         ensures bound { IfOk result (λ n. n ≤ length buf.now) }

@@ -1,5 +1,5 @@
 use Rattle.std.proofs.Common.{sym, ap, ◌∙◌}
-use Rattle.qrencode_cli.specs.Text.{cells_from}
+use Rattle.qrencode_cli.specs.Steps.Text.{cells_from}
 use Rattle.qrencode_cli.proofs.FourCellLemmas.{four-plain, four-inverse}
 use Rattle.qrencode_cli.proofs.text.four_cells.Goals as goal
 

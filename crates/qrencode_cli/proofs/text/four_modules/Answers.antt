@@ -1,6 +1,6 @@
 use Rattle.std.proofs.Common.{◌≡◌, sym, ap, arith}
 use Rattle.qr_matrix.specs.Line.{has_bit}
-use Rattle.qrencode_cli.specs.Text.{four_modules}
+use Rattle.qrencode_cli.specs.Steps.Text.{four_modules}
 use Rattle.qrencode_cli.proofs.text.four_modules.Goals as goal
 
 pub returns-in-0 : goal.returns-in-0

@@ -1,5 +1,5 @@
 use Rattle.std.proofs.Common.{◌+◌, inl, inr, sym, ap, ◌∙◌}
-use Rattle.qrencode_cli.specs.Text.{cells_from}
+use Rattle.qrencode_cli.specs.Steps.Text.{cells_from}
 use Rattle.qrencode_cli.proofs.FourCellLemmas.{four-inverse, four-plain, four-row}
 use Rattle.qrencode_cli.proofs.text.four_of_row.Goals as goal
 

@@ -1,4 +1,4 @@
-use Rattle.std.proofs.Common.{◌≡◌, ◌≤◌, ◌<◌, ◌+◌, ◌-◌, ◌*◌, ◌/◌, ◌%◌, ◌++◌}
+use Rattle.std.proofs.Common.{◌≡◌, ◌≤◌, ◌+◌, ◌-◌, ◌*◌, ◌/◌, ◌%◌, ◌++◌}
 use Rattle.qrencode_cli.specs.Text.{cell_of}
 use Rattle.qrencode_cli.specs.Raster.{texts_below}
 use Rattle.qrencode_cli.specs.Steps.Writing.{Writes}

@@ -1,0 +1,67 @@
+use Rattle.std.proofs.Common.{◌≡◌, ◌≢◌, ◌↔◌, Result, Ok, Err, String, MatchResult, map, refl, rules}
+use Rattle.std.specs.Global.{Global}
+use Rattle.std.specs.String.{string_bytes}
+use Rattle.qrencode_cli.specs.Settings.{IsUsageFault, Reason, SettingsView, needs_version, no_matches, settings_for, unknown_level, unknown_type}
+use Rattle.qrencode_cli.specs.declared.settings.UsageFault.{UsageFault}
+use Rattle.qrencode_cli.specs.declared.settings.UsageFault.TheVariants as usage
+use Rattle.qrencode_cli.proofs.settings.options.Goals as goal
+
+-- each fault comes exactly for its reason, unless memory is refused
+record ComeExactly (o : Result SettingsView Reason) (r : Result SettingsView UsageFault) : Type 0 where
+  words : ((text : String Global) × (r ≡ Err (usage.Words text))) ↔ ((r ≢ Err usage.Memory) × (o ≡ Err no_matches))
+  level : (r ≡ Err usage.Level) ↔ ((r ≢ Err usage.Memory) × (o ≡ Err unknown_level))
+  kind : (r ≡ Err usage.Kind) ↔ ((r ≢ Err usage.Memory) × (o ≡ Err unknown_type))
+  version : (r ≡ Err usage.NeedsVersion) ↔ ((r ≢ Err usage.Memory) × (o ≡ Err needs_version))
+
+come-exactly : (o : Result SettingsView Reason) (r : Result SettingsView UsageFault) → MatchResult r (λ s. o ≡ Ok s) (IsUsageFault o) → ComeExactly o r
+come-exactly o (Ok s) h = record {
+  words = (λ (t, e). cc, λ (n, e). cc);
+  level = (λ e. cc, λ (n, e). cc);
+  kind = (λ e. cc, λ (n, e). cc);
+  version = (λ e. cc, λ (n, e). cc);
+}
+come-exactly o (Err usage.Memory) h = record {
+  words = (λ (t, e). cc, λ (n, e). absurd (n refl));
+  level = (λ e. cc, λ (n, e). absurd (n refl));
+  kind = (λ e. cc, λ (n, e). absurd (n refl));
+  version = (λ e. cc, λ (n, e). absurd (n refl));
+}
+come-exactly o (Err (usage.Words text)) h = record {
+  words = (λ _. (λ m. cc, h), λ (n, e). (text, refl));
+  level = (λ e. cc, λ (n, e). cc);
+  kind = (λ e. cc, λ (n, e). cc);
+  version = (λ e. cc, λ (n, e). cc);
+}
+come-exactly o (Err usage.Level) h = record {
+  words = (λ (t, e). cc, λ (n, e). cc);
+  level = (λ _. (λ m. cc, h), λ (n, e). refl);
+  kind = (λ e. cc, λ (n, e). cc);
+  version = (λ e. cc, λ (n, e). cc);
+}
+come-exactly o (Err usage.Kind) h = record {
+  words = (λ (t, e). cc, λ (n, e). cc);
+  level = (λ e. cc, λ (n, e). cc);
+  kind = (λ _. (λ m. cc, h), λ (n, e). refl);
+  version = (λ e. cc, λ (n, e). cc);
+}
+come-exactly o (Err usage.NeedsVersion) h = record {
+  words = (λ (t, e). cc, λ (n, e). cc);
+  level = (λ e. cc, λ (n, e). cc);
+  kind = (λ e. cc, λ (n, e). cc);
+  version = (λ _. (λ m. cc, h), λ (n, e). refl);
+}
+
+pub returns-clause-words : goal.returns-clause-words
+returns-clause-words c = (come-exactly (settings_for (map string_bytes c.args.words.now)) c.settings_in.result (search rules)).words
+
+pub returns-clause-level : goal.returns-clause-level
+returns-clause-level c = (come-exactly (settings_for (map string_bytes c.args.words.now)) c.settings_in.result (search rules)).level
+
+pub returns-clause-kind : goal.returns-clause-kind
+returns-clause-kind c = (come-exactly (settings_for (map string_bytes c.args.words.now)) c.settings_in.result (search rules)).kind
+
+pub returns-clause-version : goal.returns-clause-version
+returns-clause-version c = (come-exactly (settings_for (map string_bytes c.args.words.now)) c.settings_in.result (search rules)).version
+
+pub returns-in_err-matches-clause-words : goal.returns-in_err-matches-clause-words
+returns-in_err-matches-clause-words c = (come-exactly (settings_for (map string_bytes c.args.words.now)) c.from_residual.result (search rules)).words
