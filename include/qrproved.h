@@ -86,9 +86,19 @@ struct qrproved_content {
 #endif
 QRPROVED_HOLDS(sizeof(size_t) == 8);
 QRPROVED_HOLDS(sizeof(struct qrproved_symbol) == 3);
+QRPROVED_HOLDS(offsetof(struct qrproved_symbol, version) == 0);
+QRPROVED_HOLDS(offsetof(struct qrproved_symbol, side) == 1);
+QRPROVED_HOLDS(offsetof(struct qrproved_symbol, mask) == 2);
 QRPROVED_HOLDS(sizeof(struct qrproved_series) == 2);
+QRPROVED_HOLDS(offsetof(struct qrproved_series, count) == 0);
+QRPROVED_HOLDS(offsetof(struct qrproved_series, side) == 1);
 QRPROVED_HOLDS(sizeof(struct qrproved_content) == 16);
+QRPROVED_HOLDS(offsetof(struct qrproved_content, len) == 0);
 QRPROVED_HOLDS(offsetof(struct qrproved_content, version) == 8);
+QRPROVED_HOLDS(offsetof(struct qrproved_content, has_header) == 9);
+QRPROVED_HOLDS(offsetof(struct qrproved_content, position) == 10);
+QRPROVED_HOLDS(offsetof(struct qrproved_content, last) == 11);
+QRPROVED_HOLDS(offsetof(struct qrproved_content, parity) == 12);
 #undef QRPROVED_HOLDS
 
 /* Writes the symbol of the input: modules[row * side + column] is 1 where that module is dark, and 0 where it is light.

@@ -11,8 +11,8 @@ abbrev pub character_of : Bool → ℕ
 character_of dark = if dark then 35 else 32
 
 -- the line of a row: a character for each module, and a line feed [own]
-abbrev pub line_of : Grid → ℕ → List ℕ
-line_of g row = map (λ col. character_of (colour g row col)) (range_with_len 0 g.side) ++ 10 ∷ []
+abbrev pub line_of_row : Grid → ℕ → List ℕ
+line_of_row g row = map (λ col. character_of (colour g row col)) (range_with_len 0 g.side) ++ 10 ∷ []
 
 -- the text is a label of the words: the lines of their symbol, and the words in a line of their own [own]
 pub record IsLabel (words : List ℕ) (level : Level) (smallest : ℕ) (text : List ℕ) : Type 0 where
@@ -20,4 +20,4 @@ pub record IsLabel (words : List ℕ) (level : Level) (smallest : ℕ) (text : L
   pub mask : ℕ
   pub square : Grid
   pub symbol : IsSymbol smallest level Auto words version mask square
-  pub drawn : text ≡ flat_map (line_of square) (range_with_len 0 square.side) ++ (words ++ 10 ∷ [])
+  pub drawn : text ≡ flat_map (line_of_row square) (range_with_len 0 square.side) ++ (words ++ 10 ∷ [])

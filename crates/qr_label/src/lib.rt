@@ -2,9 +2,11 @@
 //! it. The contract of `label` says what it draws, down to the last character.
 #![tactic(auto)]
 
-ghost use Rattle.std.specs.Prelude.{◌≡◌, ◌<◌, ◌≤◌, ◌++◌, [], length, Err, IfOk, IsOk};
+ghost use Rattle.std.specs.Prelude.{◌≡◌, ◌≢◌, ◌<◌, ◌≤◌, ◌↔◌, ◌⊎◌, ◌++◌, [], length, Err, IfErr, IfOk, IsOk};
+ghost use Rattle.qr_bits.specs.declared.modes.Rule.{Rule};
 ghost use Rattle.qr_symbol.specs.declared.fault.EncodeFault.{EncodeFault};
-ghost use Rattle.qr_label.specs.Label.{IsLabel, character_of, line_of};
+ghost use Rattle.qr_symbol.specs.VersionChoice.{HasNoVersion};
+ghost use Rattle.qr_label.specs.Label.{IsLabel, character_of, line_of_row};
 
 use qr_bits::{INPUT_MAX, Rule};
 use qr_layout::{Level, Version};
@@ -14,7 +16,9 @@ use std::alloc::{AllocError, Global};
 /// The label of some words: the lines of their symbol of this level, in the least version from `smallest` on, and then the
 /// words in a line of their own. There is no quiet zone, so the paper around it has to be light.
 ///
-/// `Empty` if there are no words, and `TooLong` if they fit no version.
+/// # Errors
+///
+/// `Empty` if there are no words, `TooLong` if they fit no version from `smallest` on, and `Memory`.
 pub fn label(
     alloc: Global,
     words: &[u8],
@@ -23,8 +27,12 @@ pub fn label(
 ) -> Result<Vec<u8>, EncodeFault>
     requires { length words.now ≤ INPUT_MAX }
     ensures label { IfOk result (λ text. IsLabel words.now level smallest text.items) }
-    ensures empty { words.now ≡ [] → result ≡ Err EncodeFault.Empty }
+    ensures empty { (result ≡ Err EncodeFault.Empty) ↔ (words.now ≡ []) }
+    ensures too_long { (result ≡ Err EncodeFault.TooLong)
+        ↔ ((result ≢ Err EncodeFault.Memory) × HasNoVersion smallest level Rule.Auto words.now) }
     ensures long { 7089 < length words.now → result ≡ Err EncodeFault.TooLong }
+    ensures fault { IfErr result (λ e. (e ≡ EncodeFault.Empty) ⊎ (e ≡ EncodeFault.TooLong)
+        ⊎ (e ≡ EncodeFault.Memory)) }
 {
     let symbol = encode(alloc, words, level, smallest, Rule::Auto)?;
     let mut text = Vec::new(alloc);
@@ -39,7 +47,7 @@ pub fn label(
 // Adds the line of a row.
 fn push_line(text: &mut Vec<u8>, matrix: &Matrix, row: u8) -> Result<(), AllocError>
     requires { row < matrix.now.side }
-    ensures { IsOk result → text.new.items ≡ text.old.items ++ line_of matrix.now row }
+    ensures { IsOk result → text.new.items ≡ text.old.items ++ line_of_row matrix.now row }
 {
     for col in 0..matrix.side() {
         text.push(character_of(matrix.dark(row, col)))?;
@@ -68,6 +76,16 @@ mod tests {
         assert_eq!(rt; text.len(), 21 * 22 + 2);
         assert_eq!(rt; text.get(..7), Some(&b"#######"[..]));
         assert_eq!(rt; text.get(21 * 22..), Some(&b"A\n"[..]));
+        Ok(())
+    }
+
+    // Version 40-L holds 2,953 bytes (Table 7).
+    #[test]
+    fn refusals(rt: HostRuntime) -> Result<(), Fail> {
+        let fault = label(rt.alloc(), b"", Level::L, Version::FIRST);
+        assert!(rt; matches!(fault, Err(EncodeFault::Empty)), "no words");
+        let fault = label(rt.alloc(), &[b'a'; 2954], Level::L, Version::FIRST);
+        assert!(rt; matches!(fault, Err(EncodeFault::TooLong)), "2,954 bytes");
         Ok(())
     }
 }

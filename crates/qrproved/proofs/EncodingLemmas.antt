@@ -6,7 +6,7 @@ use Rattle.qr_bits.specs.declared.modes.Rule.{Rule}
 use Rattle.qr_symbol.specs.declared.fault.EncodeFault.{EncodeFault}
 use Rattle.qr_symbol.specs.declared.fault.EncodeFault.TheVariants as fault
 use Rattle.qr_symbol.specs.VersionChoice.{IsVersion}
-use Rattle.qrproved.specs.Status.{encode_status}
+use Rattle.qrproved.specs.Steps.Status.{encode_status}
 
 -- bytes have one least version
 pub least-one : (x : List ℕ) (l : Level) (smallest : ℕ) (r : Rule) (v w : ℕ) → IsVersion smallest l r x v → IsVersion smallest l r x w → v ≡ w

@@ -7,7 +7,8 @@ use Rattle.qr_matrix.specs.Grid.{Grid, colour, light}
 use Rattle.qr_matrix.specs.Line.{has_bit}
 use Rattle.qr_symbol.specs.declared.symbol.Symbol.{Symbol}
 use Rattle.qr_symbol.specs.Series.{squares_of}
-use Rattle.qrproved.specs.Modules.{HoldsSquares, byte_of, four_bytes}
+use Rattle.qrproved.specs.Modules.{HoldsSquares, byte_of}
+use Rattle.qrproved.specs.Steps.Modules.{four_bytes}
 
 -- a block ends before the later ones begin
 pub block-end : (s k n : ℕ) → k < n → k * s + s ≤ n * s

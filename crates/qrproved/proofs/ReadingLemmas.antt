@@ -6,7 +6,7 @@ use Rattle.qr_symbol.specs.declared.fault.ReadFault.{ReadFault}
 use Rattle.qr_symbol.specs.declared.fault.ReadFault.TheVariants as unread
 use Rattle.qr_matrix.specs.Grid.{Grid}
 use Rattle.qr_symbol.specs.Reading.{IsReading, IsUnread}
-use Rattle.qrproved.specs.Status.{read_status}
+use Rattle.qrproved.specs.Steps.Status.{read_status}
 
 -- a square has one fault but for lack of memory
 abbrev pub FaultsAreOne : Type 0

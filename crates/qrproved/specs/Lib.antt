@@ -1,6 +1,7 @@
-pub mod Status
+pub mod Steps
 pub mod Settings
 pub mod Modules
 pub mod Encoding
 pub mod Series
 pub mod Reading
+pub mod Laws

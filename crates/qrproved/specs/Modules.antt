@@ -1,15 +1,10 @@
 -- The modules of squares as bytes. Public clauses cite this file.
-use Rattle.std.specs.Prelude.{◌≡◌, ℕ, ◌+◌, ◌*◌, ◌<◌, ◌≤◌, ◌==◌, Bool, not, if◌then◌else◌, List, [], ◌∷◌, length, slice_index_or}
+use Rattle.std.specs.Prelude.{◌≡◌, ℕ, ◌+◌, ◌*◌, ◌<◌, ◌≤◌, ◌==◌, Bool, not, if◌then◌else◌, List, length, slice_index_or}
 use Rattle.qr_matrix.specs.Grid.{Grid, square, colour, light}
-use Rattle.qr_matrix.specs.Line.{has_bit}
 
 -- the byte of a module: 1 where it is dark, 0 where it is light [own]
 abbrev pub byte_of : Bool → ℕ
 byte_of dark = if dark then 1 else 0
-
--- the bytes of four modules, by four bits, the lowest first [own]
-abbrev pub four_bytes : ℕ → List ℕ
-four_bytes bits = byte_of (has_bit bits 0) ∷ byte_of (has_bit bits 1) ∷ byte_of (has_bit bits 2) ∷ byte_of (has_bit bits 3) ∷ []
 
 -- the bytes begin with the squares of this side, one after the other and each row by row, and those past the last module
 -- are as they were [own]
@@ -20,5 +15,5 @@ pub record HoldsSquares (side : ℕ) (squares : List Grid) (before after : List 
   pub others : (i : ℕ) → length squares * (side * side) ≤ i → slice_index_or after i 0 ≡ slice_index_or before i 0
 
 -- the square of this side whose modules are dark where their bytes are not 0, row by row [own]
-abbrev pub square_at : ℕ → List ℕ → Grid
-square_at side bytes = square side (λ row col. not (slice_index_or bytes (row * side + col) 0 == 0))
+abbrev pub square_of_bytes : ℕ → List ℕ → Grid
+square_of_bytes side bytes = square side (λ row col. not (slice_index_or bytes (row * side + col) 0 == 0))

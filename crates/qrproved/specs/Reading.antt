@@ -6,7 +6,7 @@ use Rattle.qr_bits.specs.Parsing.{Content}
 use Rattle.qr_symbol.specs.declared.fault.ReadFault.{ReadFault}
 use Rattle.qr_symbol.specs.Reading.{IsReading, IsUnread}
 use Rattle.qrproved.specs.declared.reading.QrprovedContent.{QrprovedContent}
-use Rattle.qrproved.specs.Modules.{square_at}
+use Rattle.qrproved.specs.Modules.{square_of_bytes}
 
 -- the side is that of a version (ISO/IEC 18004:2015, 6.3.2)
 abbrev pub IsSide : ℕ → Type 0
@@ -22,7 +22,7 @@ TellsHeader (Some h) c = (c.has_header ≡ 1) × (c.position ≡ h.position) × 
 pub record IsGiven (modules : List ℕ) (side : ℕ) (before after : List ℕ) (c : QrprovedContent) : Type 0 where
   pub whole : side * side ≤ length modules
   pub content : Content
-  pub read : IsReading (square_at side modules) content
+  pub read : IsReading (square_of_bytes side modules) content
   pub room : length content.bytes ≤ length before
   pub holds : after ≡ content.bytes ++ drop (length content.bytes) before
   pub len : c.len ≡ length content.bytes
@@ -33,9 +33,9 @@ pub record IsGiven (modules : List ℕ) (side : ℕ) (before after : List ℕ) (
 pub record HasMoreBytes (modules : List ℕ) (side : ℕ) (buffer : List ℕ) : Type 0 where
   pub whole : side * side ≤ length modules
   pub content : Content
-  pub read : IsReading (square_at side modules) content
+  pub read : IsReading (square_of_bytes side modules) content
   pub room : length buffer < length content.bytes
 
 -- the square of the modules is not read, for this fault [own]
 abbrev pub IsUnreadAt : List ℕ → ℕ → ReadFault → Type 0
-IsUnreadAt modules side fault = (side * side ≤ length modules) × IsUnread (square_at side modules) fault
+IsUnreadAt modules side fault = (side * side ≤ length modules) × IsUnread (square_of_bytes side modules) fault

@@ -5,7 +5,8 @@ ghost use Rattle.std.specs.Prelude.{◌≡◌, ℕ, ◌+◌, ◌*◌, ◌<◌, �
 ghost use Rattle.std.specs.List.{All};
 ghost use Rattle.qr_matrix.specs.Grid.{colour};
 ghost use Rattle.qr_symbol.specs.Series.{squares_of};
-ghost use Rattle.qrproved.specs.Modules.{HoldsSquares, byte_of, four_bytes, square_at};
+ghost use Rattle.qrproved.specs.Modules.{HoldsSquares, byte_of, square_of_bytes};
+ghost use Rattle.qrproved.specs.Steps.Modules.{four_bytes};
 
 use qr_symbol::{Matrix, Symbol};
 use std::alloc::{AllocError, Global};
@@ -101,7 +102,7 @@ pub(crate) fn matrix_of(alloc: Global, modules: &[u8], side: u8) -> Result<Matri
     requires least { 1 ≤ side }
     requires most { side ≤ 177 }
     requires room { side * side ≤ length modules.now }
-    ensures { IfOk result (λ m. m ≡ square_at side modules.now) }
+    ensures { IfOk result (λ m. m ≡ square_of_bytes side modules.now) }
 {
     let mut matrix = Matrix::new(alloc, side)?;
     let mut start = 0;

@@ -1,7 +1,7 @@
 //! The status that a call returns: a number has the same meaning for all calls.
 
 ghost use Rattle.std.specs.Prelude.{◌≡◌};
-ghost use Rattle.qrproved.specs.Status.{encode_status, read_status};
+ghost use Rattle.qrproved.specs.Steps.Status.{encode_status, read_status};
 
 use qr_symbol::{EncodeFault, ReadFault};
 

@@ -1,8 +1,8 @@
 use Rattle.std.proofs.Common.{◌≡◌}
 use Rattle.std.specs.List.{flat_map, range_with_len}
-use Rattle.qr_label.specs.Label.{line_of}
+use Rattle.qr_label.specs.Label.{line_of_row}
 use Rattle.qr_label.proofs.label.Given as goal
 
 -- the lines as far as they were added
 abbrev pub invariant-loop-row : goal.invariant-loop-row
-invariant-loop-row l = l.text.items ≡ flat_map (line_of l.symbol.matrix) (range_with_len 0 l.row)
+invariant-loop-row l = l.text.items ≡ flat_map (line_of_row l.symbol.matrix) (range_with_len 0 l.row)

@@ -1,6 +1,6 @@
 use Rattle.std.proofs.Common.{◌≡◌, sym, ap, arith}
 use Rattle.qr_matrix.specs.Line.{has_bit}
-use Rattle.qrproved.specs.Modules.{four_bytes}
+use Rattle.qrproved.specs.Steps.Modules.{four_bytes}
 use Rattle.qrproved.proofs.modules.four_bytes.Goals as goal
 
 pub returns-in-0 : goal.returns-in-0

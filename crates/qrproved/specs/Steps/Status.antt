@@ -1,18 +1,18 @@
--- The statuses of faults, as the header numbers them.
+-- The statuses of faults, as the header numbers them. Only private clauses cite this file.
 use Rattle.std.specs.Prelude.{ℕ}
 use Rattle.qr_symbol.specs.declared.fault.EncodeFault.{EncodeFault}
 use Rattle.qr_symbol.specs.declared.fault.EncodeFault.TheVariants as fault
 use Rattle.qr_symbol.specs.declared.fault.ReadFault.{ReadFault}
 use Rattle.qr_symbol.specs.declared.fault.ReadFault.TheVariants as unread
 
--- the status of an input that is not encoded [own]
+-- the status of an input that is not encoded
 abbrev pub encode_status : EncodeFault → ℕ
 encode_status fault.Empty = 1
 encode_status fault.TooLong = 2
 encode_status fault.TooMany = 3
 encode_status fault.Memory = 4
 
--- the status of a symbol that is not read; no single symbol is a wrong series [own]
+-- the status of a symbol that is not read; no single symbol is a wrong series
 abbrev pub read_status : ReadFault → ℕ
 read_status unread.Memory = 4
 read_status unread.Side = 7
