@@ -1,0 +1,101 @@
+"""What the scripts beside this one read of the sources: the definitions of crates/*/specs, the functions of
+crates/*/src with their contracts, and the wrong bodies of crates/*/must-fail."""
+import pathlib
+import re
+
+TOP = pathlib.Path(__file__).resolve().parent.parent
+CRATES = TOP / "crates"
+SECTIONS = re.compile(r" ?\(ISO/IEC 18004:2015, (.*?)\)")
+DEFINITION = re.compile(r"^(?:(?:abbrev|unfoldable) )?pub (?:record |data )?(\w+)\b", re.M)
+ITEM = re.compile(r"^( *)(pub(?:\(crate\))? )?(?:const )?(?:extern \"C\" )?(fn|static|const) (\w+)")
+OWNER = re.compile(r"^(?:pub(?:\(crate\))? )?(?:impl(?:<[^>]*>)?(?: \S+ for)?|trait|struct) (\w+)")
+IMPORT = re.compile(r"use Rattle\.(\w+)\.specs\.([\w.]+)\.\{([^}]*)\}")
+
+
+def imported(text):
+    return {word: (crate, file, word) for crate, file, words in IMPORT.findall(text) for word in re.findall(r"\w+", words)}
+
+
+def cited(text, names):
+    return {names[word] for word in re.findall(r"\w+", text) if word in names}
+
+
+def read_definitions(crate, path, definitions):
+    """Adds a file's definitions: the rule, its sections ("" for [own], None for a private step), and what it cites."""
+    file, text = ".".join(path.relative_to(CRATES / crate / "specs").with_suffix("").parts), path.read_text("utf-8")
+    names = {**imported(text), **{word: (crate, file, word) for word in DEFINITION.findall(text)}}
+    for paragraph in re.split(r"\n\s*\n", text):
+        comment = " ".join(line[2:].strip() for line in paragraph.split("\n") if line.startswith("--"))
+        body = "\n".join(line for line in paragraph.split("\n") if not line.startswith("--"))
+        found = DEFINITION.match(body)
+        if found:
+            sections, key = SECTIONS.search(comment), (crate, file, found.group(1))
+            own = "" if re.search(r"\[own\]\.?$", comment) else None
+            where = sections.group(1).replace("[own]", "own") if sections else own
+            rule = SECTIONS.sub("", comment).replace(" [own]", "").replace("|", "\\|").strip()
+            file_shown, cites = path.relative_to(CRATES), cited(body, names) - {key}
+            lines = sum(1 for line in body.split("\n") if line.strip() and not line.startswith("use "))
+            definitions[key] = {"rule": rule, "where": where, "file": file_shown, "cites": cites, "lines": lines}
+
+
+def read_functions(crate, path, functions):
+    """Adds a file's functions, and its types with ghost members: what they cite, and what they promise by it."""
+    text = path.read_text("utf-8").split("#[cfg(test)]")[0]
+    names, lines, owner, ghost = imported(text), text.split("\n"), None, {}
+
+    def add(name, public, contract, body):
+        kept = re.sub(r"\brequires\b.*?(?=\bensures\b|$)", "", contract, flags=re.S)
+        hidden = 0 if public == "pub " else 1 if public else 2
+        functions.append({"crate": crate, "path": path, "name": name, "hidden": hidden, "law": path.stem == "laws",
+                          "cites": cited(contract, names), "keeps": cited(kept, names), "body": body})
+
+    for i, line in enumerate(lines):
+        owner = OWNER.match(line).group(1) if OWNER.match(line) else None if line == "}" else owner
+        if owner and re.match(r"    ghost (?!use)\w+(?: =|:)", line):
+            end = next(j for j in range(i, len(lines)) if lines[j].endswith((";", ",")))
+            ghost[owner] = ghost.get(owner, "") + "\n".join(lines[i:end + 1])
+        item = ITEM.match(line)
+        if item and item.group(3) == "fn":
+            indent, public, _, name = item.groups()
+            opens = next(j for j in range(i, len(lines)) if re.search(rf"( {{}}?|;|^{indent}{{}}?)$", lines[j]))
+            closes = lines.index(indent + "}", opens) if lines[opens].endswith("{") else opens
+            contract, body = "\n".join(lines[i:opens]), "\n".join(lines[opens:closes])
+            add(f"{owner}::{name}" if owner else name, public, contract, body)
+    for name, members in ghost.items():
+        add(name, "pub " if f"pub struct {name}" in text else "", members, "")
+
+
+def read_edits(crate, edits):
+    """Adds a crate's must-fail edits: the name, the file, and the item that the first change is made in."""
+    for edit in sorted((CRATES / crate / "must-fail").glob("*.edit")):
+        path = CRATES / crate / re.search(r"^file: *(\S+)", edit.read_text("utf-8"), re.M).group(1)
+        source, old = path.read_text("utf-8"), re.search(r"^old: ?(.*)", edit.read_text("utf-8"), re.M).group(1)
+        upto = source[:source.find(old)] + old
+        items = [found.group(4) for found in map(ITEM.match, upto.split("\n")) if found]
+        edits.append({"name": edit.stem, "path": path, "item": items[-1] if items else ""})
+
+
+def crates():
+    """Returns the names of the crates, in the order of crates.txt."""
+    return re.findall(r"^(\w+)(?: staticlib)?:", (TOP / "crates.txt").read_text("utf-8"), re.M)
+
+
+def read_definitions_of(crate, definitions):
+    for path in sorted((CRATES / crate / "specs").rglob("*.antt")):
+        read_definitions(crate, path, definitions)
+
+
+def read_functions_of(crate, functions):
+    for path in sorted((CRATES / crate / "src").rglob("*.rt")):
+        read_functions(crate, path, functions)
+
+
+def needed(cites, definitions):
+    """Returns these definitions and all that they name, directly or through others."""
+    keys, left = set(), [key for key in cites if key in definitions]
+    while left:
+        key = left.pop()
+        if key not in keys:
+            keys.add(key)
+            left += [it for it in definitions[key]["cites"] if it in definitions]
+    return keys
