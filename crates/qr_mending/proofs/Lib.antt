@@ -8,4 +8,5 @@ mod MessageLemmas
 mod MendingLemmas
 mod UndamagedLemmas
 mod DamageLemmas
+mod SeriesLemmas
 mod DistanceLemmas

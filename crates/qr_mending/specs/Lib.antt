@@ -3,4 +3,5 @@ pub mod Distance
 pub mod Format
 pub mod Message
 pub mod Mending
+pub mod Series
 pub mod Steps

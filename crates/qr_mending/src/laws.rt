@@ -9,15 +9,20 @@ ghost use Rattle.qr_matrix.specs.Grid.{Grid};
 ghost use Rattle.qr_symbol.specs.declared.fault.ReadFault.{ReadFault};
 ghost use Rattle.qr_symbol.specs.Distance.{blocks_in};
 ghost use Rattle.qr_symbol.specs.Encoding.{IsSymbol};
+ghost use Rattle.qr_symbol.specs.declared.symbol.Symbol.{Symbol};
+ghost use Rattle.qr_symbol.specs.Joining.{IsJoined};
 ghost use Rattle.qr_symbol.specs.Reading.{IsReading};
+ghost use Rattle.qr_symbol.specs.Series.{squares_of, IsSeries};
 ghost use Rattle.qr_mending.specs.Block.{IsMended};
 ghost use Rattle.qr_mending.specs.Distance.{SymbolsLieApart};
 ghost use Rattle.qr_mending.specs.declared.format.FormatCopy.{FormatCopy};
 ghost use Rattle.qr_mending.specs.Format.{IsNearFormat};
 ghost use Rattle.qr_mending.specs.Message.{tolerance_of, IsMendedIn};
 ghost use Rattle.qr_mending.specs.Mending.{HasFormat, HoldsDamaged, IsMendedReading, IsUnmended};
+ghost use Rattle.qr_mending.specs.Series.{AreDamagedSquares, IsUnmendedSeries};
 
 use crate::mending::{Mended, mend_symbol};
+use crate::series::mend_series;
 use qr_bits::Rule;
 use qr_layout::{Level, Version};
 use qr_matrix::Matrix;
@@ -105,4 +110,27 @@ pub fn damaged_symbols_are_mended(alloc: Global, damaged: &Matrix) -> Result<Men
         × (m.changed.items ≡ changed)) (λ e. e ≡ ReadFault.Memory) }
 {
     mend_symbol(alloc, damaged)
+}
+
+/// Damaged symbols are refused for each fault but lack of memory exactly if the fault is theirs, unless memory is refused.
+pub fn series_mendings_are_refused_exactly(
+    alloc: Global,
+    damaged: &[Matrix],
+) -> Result<Vec<u8>, ReadFault>
+    ensures { (e : ReadFault) → e ≢ ReadFault.Memory
+        → (result ≡ Err e) ↔ ((result ≢ Err ReadFault.Memory) × IsUnmendedSeries damaged.now e) }
+{
+    mend_series(alloc, damaged)
+}
+
+/// A damaged series of an input is mended to exactly the input, unless memory is refused; and so is what the undamaged
+/// squares are joined to, whoever drew them.
+pub fn damaged_series_are_mended(alloc: Global, damaged: &[Matrix]) -> Result<Vec<u8>, ReadFault>
+    ensures series { (v : ℕ) (l : Level) (rule : Rule) (x : List ℕ) (ss : List Symbol) → 1 ≤ v → v ≤ 40
+        → IsSeries v l rule x ss → AreDamagedSquares damaged.now (squares_of ss)
+        → MatchResult result (λ bytes. bytes.items ≡ x) (λ e. e ≡ ReadFault.Memory) }
+    ensures joined { (whole : List Grid) (x : List ℕ) → IsJoined whole x → AreDamagedSquares damaged.now whole
+        → MatchResult result (λ bytes. bytes.items ≡ x) (λ e. e ≡ ReadFault.Memory) }
+{
+    mend_series(alloc, damaged)
 }

@@ -12,7 +12,9 @@ mod message;
 mod polynomial;
 #[cfg(test)]
 mod samples;
+mod series;
 mod sums;
 
 pub use block::mend;
 pub use mending::{Mended, mend_symbol};
+pub use series::mend_series;

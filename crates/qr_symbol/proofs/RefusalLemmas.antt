@@ -13,7 +13,7 @@ use Rattle.qr_symbol.proofs.ReadLemmas.{message-one}
 use Rattle.qr_symbol.proofs.FormatLemmas.{format-one}
 
 -- what it holds, it holds under any version, level and mask that it shows
-moved : (g : Grid) (v w : ℕ) (l k : Level) (m n : ℕ) (d : List ℕ) → IsOfVersion g v → IsOfVersion g w → IsFormat g l m → IsFormat g k n → IsMessage v l m g d → (v ≡ w) × IsMessage w k n g d
+pub moved : (g : Grid) (v w : ℕ) (l k : Level) (m n : ℕ) (d : List ℕ) → IsOfVersion g v → IsOfVersion g w → IsFormat g l m → IsFormat g k n → IsMessage v l m g d → (v ≡ w) × IsMessage w k n g d
 moved g v w l k m n d s t f h i =
     let a = s.side in
     let b = t.side in

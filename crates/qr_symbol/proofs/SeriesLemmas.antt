@@ -12,7 +12,7 @@ use Rattle.qr_matrix.specs.Grid.{Grid}
 use Rattle.qr_symbol.specs.VersionChoice.{FitsVersion, HasNoVersion}
 use Rattle.qr_symbol.specs.Series.{squares_of, AreParts, IsSymbolOf, AreSymbolsFrom, IsSplit, IsPlainSymbol, IsSeries}
 use Rattle.qr_symbol.specs.Steps.Series.{AreLengths, parts_of}
-use Rattle.qr_symbol.specs.Joining.{AreReadings, bytes_of_all, HaveHeaders, IsJoined}
+use Rattle.qr_symbol.specs.Joining.{AreReadBy, AreReadings, bytes_of_all, HaveHeaders, IsJoined}
 use Rattle.qr_symbol.proofs.SymbolLemmas.{symbol-at-one}
 use Rattle.qr_symbol.proofs.RoundTripLemmas.{symbol-read}
 use Rattle.qr_symbol.proofs.SymbolMakingLemmas.{symbol-fits}
@@ -86,7 +86,7 @@ record AreRead (x : List ℕ) (last parity k count : ℕ) (squares : List Grid) 
 -- the symbols of parts are read as the parts, in their order
 symbols-read : (v : ℕ) (l : Level) (b : Rule) (last parity k : ℕ) (x : List ℕ) (ps : List (List ℕ)) (ss : List Symbol) → 1 ≤ v → v ≤ 40 → AreParts v l b x ps → AreSymbolsFrom v l b last parity k ps ss
     → AreRead x last parity k (length ps) (squares_of ss)
-unfolding AreParts AreSymbolsFrom AreReadings HaveHeaders
+unfolding AreParts AreSymbolsFrom AreReadBy HaveHeaders
 symbols-read v l b last parity k x [] [] i j cut h = record { contents = []; read = tt; headers = tt; many = refl; bytes = sym cut }
 symbols-read v l b last parity k x [] (s ∷ ss) i j cut h = absurd h
 symbols-read v l b last parity k x (p ∷ ps) [] i j cut h = absurd h
@@ -104,7 +104,7 @@ symbols-read v l b last parity k x (p ∷ ps) (s ∷ ss) i j cut h =
 
 -- a plain symbol is joined to its bytes
 lone-joined : (x : List ℕ) (l : Level) (b : Rule) (v : ℕ) (ss : List Symbol) → 1 ≤ v → v ≤ 40 → IsPlainSymbol v l b x ss → IsJoined (squares_of ss) x
-unfolding AreReadings
+unfolding AreReadBy
 lone-joined x l b v ss i j h =
     let s = h.symbol in
     let made = h.made.made in

@@ -8,9 +8,14 @@ use Rattle.qr_symbol.specs.declared.fault.ReadFault.TheVariants as unread
 use Rattle.qr_matrix.specs.Grid.{Grid}
 use Rattle.qr_symbol.specs.Reading.{IsReading, IsUnread}
 
--- the squares are read as these contents, one by one (ISO/IEC 18004:2015, 12)
-unfoldable pub AreReadings : List Grid → List Content → Type 0
-AreReadings squares contents = AllZip IsReading squares contents
+-- the squares are read as these contents, one by one; `reads` says what it means that a square is read as a content
+-- (ISO/IEC 18004:2015, 12)
+unfoldable pub AreReadBy : (Grid → Content → Type 0) → List Grid → List Content → Type 0
+AreReadBy reads squares contents = AllZip reads squares contents
+
+-- the squares are read as these contents, one by one, without mending (ISO/IEC 18004:2015, 12)
+abbrev pub AreReadings : List Grid → List Content → Type 0
+AreReadings squares contents = AreReadBy IsReading squares contents
 
 -- the bytes of contents, one after the other [own]
 abbrev pub bytes_of_all : List Content → List ℕ
@@ -39,26 +44,35 @@ BelongTogether contents = IsPlain contents ⊎ AreInSeries contents
 
 -- the squares are joined to these bytes: those of what they are read as, which belongs together
 -- (ISO/IEC 18004:2015, 8.1 to 8.3, 12)
-pub record IsJoined (squares : List Grid) (bytes : List ℕ) : Type 0 where
+pub record IsJoinedBy (reads : Grid → Content → Type 0) (squares : List Grid) (bytes : List ℕ) : Type 0 where
   pub contents : List Content
-  pub read : AreReadings squares contents
+  pub read : AreReadBy reads squares contents
   pub together : BelongTogether contents
   pub joined : bytes ≡ bytes_of_all contents
 
--- the first square that is not read is refused for this fault (ISO/IEC 18004:2015, 12)
-unfoldable pub IsFirstUnread : List Grid → ReadFault → Type 0
-IsFirstUnread [] e = ⊥
-IsFirstUnread (g ∷ gs) e = IsUnread g e ⊎ ((c : Content) × IsReading g c × IsFirstUnread gs e)
+-- the first square that is not read is refused for this fault; `refuses` says what it means that a square is refused for a
+-- fault (ISO/IEC 18004:2015, 12)
+unfoldable pub IsFirstRefused : (Grid → Content → Type 0) → (Grid → ReadFault → Type 0) → List Grid → ReadFault → Type 0
+IsFirstRefused reads refuses [] e = ⊥
+IsFirstRefused reads refuses (g ∷ gs) e = refuses g e ⊎ ((c : Content) × reads g c × IsFirstRefused reads refuses gs e)
 
 -- all squares are read, but what they say does not belong together [own]
-pub record IsNoSeries (squares : List Grid) : Type 0 where
+pub record IsNoSeries (reads : Grid → Content → Type 0) (squares : List Grid) : Type 0 where
   pub contents : List Content
-  pub read : AreReadings squares contents
+  pub read : AreReadBy reads squares contents
   pub apart : BelongTogether contents → ⊥
 
 -- the squares are not joined, for this fault: that of the first square that is not read, or that they are no series.
 -- Memory may be refused for any squares [own]
+abbrev pub IsUnjoinedBy : (Grid → Content → Type 0) → (Grid → ReadFault → Type 0) → List Grid → ReadFault → Type 0
+IsUnjoinedBy reads refuses squares unread.Memory = Unit {0}
+IsUnjoinedBy reads refuses squares unread.Series = IsNoSeries reads squares
+IsUnjoinedBy reads refuses squares e = IsFirstRefused reads refuses squares e
+
+-- the squares are joined to these bytes, and are read without mending (ISO/IEC 18004:2015, 8.1 to 8.3, 12)
+abbrev pub IsJoined : List Grid → List ℕ → Type 0
+IsJoined squares bytes = IsJoinedBy IsReading squares bytes
+
+-- the squares are not joined, for this fault, where they are read without mending (ISO/IEC 18004:2015, 12)
 abbrev pub IsUnjoined : List Grid → ReadFault → Type 0
-IsUnjoined squares unread.Memory = Unit {0}
-IsUnjoined squares unread.Series = IsNoSeries squares
-IsUnjoined squares e = IsFirstUnread squares e
+IsUnjoined squares e = IsUnjoinedBy IsReading IsUnread squares e

@@ -1,9 +1,9 @@
 //! The reading of symbols together: those of a series are joined in their order (ISO/IEC 18004:2015, 8).
 
-ghost use Rattle.std.specs.Prelude.{◌≡◌, ◌-◌, ◌<◌, length, Some, IfOk, MatchResult};
+ghost use Rattle.std.specs.Prelude.{◌≡◌, ◌⊎◌, ◌-◌, ◌<◌, length, Some, IfOk, MatchResult};
 ghost use Rattle.std.specs.Bool.{Decides};
 ghost use Rattle.qr_symbol.specs.Series.{squares_of};
-ghost use Rattle.qr_symbol.specs.Joining.{bytes_of_all, AreReadings, HaveHeaders, IsJoined, IsPlain, IsUnjoined};
+ghost use Rattle.qr_symbol.specs.Joining.{bytes_of_all, AreReadings, BelongTogether, HaveHeaders, IsJoined, IsPlain, IsUnjoined};
 
 use crate::fault::ReadFault;
 use crate::reading::read_symbol;
@@ -77,6 +77,26 @@ fn are_in_series(contents: &[Parsed], parity: u8) -> bool
     true
 }
 
+/// Joins what symbols say, in their order (ISO/IEC 18004:2015, 8): the bytes of one content without a header, or those of a
+/// series, whose headers must tell their positions from 0, how many they are, and the parity of all bytes.
+///
+/// # Errors
+///
+/// `Series` if the contents do not belong together, `Memory`. No content at all is no series.
+pub fn join(alloc: Global, contents: &[Parsed]) -> Result<Vec<u8>, ReadFault>
+    ensures { MatchResult result
+        (λ bytes. BelongTogether contents.now × (bytes.items ≡ bytes_of_all contents.now))
+        (λ e. (e ≡ ReadFault.Memory)
+        ⊎ ((e ≡ ReadFault.Series) × (BelongTogether contents.now → ⊥))) }
+{
+    let bytes = joined_bytes(alloc, contents)?;
+    if is_plain(contents) || are_in_series(contents, parity(&bytes)) {
+        Ok(bytes)
+    } else {
+        Err(ReadFault::Series)
+    }
+}
+
 /// The bytes of symbols, joined in their order (ISO/IEC 18004:2015, 8): those of one symbol without a header, or those of
 /// a series, whose headers must tell their positions from 0, how many they are, and the parity of all bytes. Of each
 /// symbol only its matrix is looked at.
@@ -89,12 +109,7 @@ pub fn read_series(alloc: Global, symbols: &[Symbol]) -> Result<Vec<u8>, ReadFau
         (IsUnjoined (squares_of symbols.now)) }
 {
     let contents = read_all(alloc, symbols)?;
-    let bytes = joined_bytes(alloc, &contents)?;
-    if is_plain(&contents) || are_in_series(&contents, parity(&bytes)) {
-        Ok(bytes)
-    } else {
-        Err(ReadFault::Series)
-    }
+    join(alloc, &contents)
 }
 
 #[cfg(test)]

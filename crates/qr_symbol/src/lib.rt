@@ -23,7 +23,7 @@ pub use choice::build;
 pub use encoding::encode;
 pub use fault::{EncodeFault, ReadFault};
 pub use interleaving::{Cut, deinterleave, interleave};
-pub use joining::read_series;
+pub use joining::{join, read_series};
 pub use qr_matrix::{Matrix, penalty};
 pub use reading::{read_codewords, read_symbol};
 pub use series::encode_series;

@@ -1,5 +1,11 @@
+use Rattle.qr_symbol.specs.Reading.{IsReading, IsUnread}
 use Rattle.qr_symbol.proofs.JoiningLemmas.{joined-refused, unjoined-one}
+use Rattle.qr_symbol.proofs.RefusalLemmas.{read-refused, refused-one}
+use Rattle.qr_symbol.proofs.RoundTripLemmas.{reading-one}
 use Rattle.qr_symbol.proofs.laws.joining_refusals_are_one.Goals as goal
 
 pub returns : goal.returns
-returns c = record { joined = joined-refused; one = unjoined-one }
+returns c = record {
+  joined = joined-refused IsReading IsUnread reading-one read-refused;
+  one = unjoined-one IsReading IsUnread read-refused refused-one;
+}

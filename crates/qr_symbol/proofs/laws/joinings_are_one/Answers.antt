@@ -1,5 +1,7 @@
+use Rattle.qr_symbol.specs.Reading.{IsReading}
 use Rattle.qr_symbol.proofs.JoiningLemmas.{joining-one}
+use Rattle.qr_symbol.proofs.RoundTripLemmas.{reading-one}
 use Rattle.qr_symbol.proofs.laws.joinings_are_one.Goals as goal
 
 pub returns : goal.returns
-returns c = joining-one
+returns c = joining-one IsReading reading-one

@@ -1,11 +1,14 @@
 use Rattle.qr_symbol.specs.Joining.{IsJoined, IsUnjoined}
+use Rattle.qr_symbol.specs.Reading.{IsReading, IsUnread}
 use Rattle.qr_symbol.specs.Series.{squares_of}
 use Rattle.qr_symbol.proofs.JoiningLemmas.{joined-refused, unjoined-one}
-use Rattle.qr_symbol.proofs.RefusalLemmas.{exactly}
+use Rattle.qr_symbol.proofs.RefusalLemmas.{exactly, read-refused, refused-one}
+use Rattle.qr_symbol.proofs.RoundTripLemmas.{reading-one}
 use Rattle.qr_symbol.proofs.laws.joinings_are_refused_exactly.Goals as goal
 
 pub returns : goal.returns
 returns c =
     let gs = squares_of c.args.symbols.now in
     exactly (λ bytes. IsJoined gs bytes.items) (IsUnjoined gs) c.read_series.result c.read_series.ensures
-    (λ bytes e. joined-refused gs bytes.items e) (unjoined-one gs)
+    (λ bytes e. joined-refused IsReading IsUnread reading-one read-refused gs bytes.items e)
+    (unjoined-one IsReading IsUnread read-refused refused-one gs)

@@ -1,0 +1,12 @@
+use Rattle.qr_symbol.specs.Series.{squares_of}
+use Rattle.qr_symbol.proofs.Facts.{series-joined}
+use Rattle.qr_mending.proofs.SeriesLemmas.{damaged-joined, mended-to}
+use Rattle.qr_mending.proofs.laws.damaged_series_are_mended.Goals as goal
+
+pub returns : goal.returns
+returns c =
+    let ds = c.args.damaged.now in
+    record {
+      series = λ v l rule x ss least most s near. mended-to (λ b. b.items) ds x c.mend_series.result (damaged-joined ds (squares_of ss) x near (series-joined x l rule v ss least most s)) c.mend_series.ensures;
+      joined = λ whole x s near. mended-to (λ b. b.items) ds x c.mend_series.result (damaged-joined ds whole x near s) c.mend_series.ensures;
+    }

@@ -1,0 +1,13 @@
+use Rattle.qr_symbol.proofs.Facts.{exactly, joined-refused, unjoined-one}
+use Rattle.qr_mending.specs.Mending.{IsUnmended}
+use Rattle.qr_mending.specs.Series.{IsMendedContent, IsMendedSeries, IsUnmendedSeries}
+use Rattle.qr_mending.proofs.MendingLemmas.{unmended-one}
+use Rattle.qr_mending.proofs.SeriesLemmas.{content-one, content-refused}
+use Rattle.qr_mending.proofs.laws.series_mendings_are_refused_exactly.Goals as goal
+
+pub returns : goal.returns
+returns c =
+    let gs = c.args.damaged.now in
+    exactly (λ bytes. IsMendedSeries gs bytes.items) (IsUnmendedSeries gs) c.mend_series.result c.mend_series.ensures
+    (λ bytes e. joined-refused IsMendedContent IsUnmended content-one content-refused gs bytes.items e)
+    (unjoined-one IsMendedContent IsUnmended content-refused unmended-one gs)

@@ -1,0 +1,39 @@
+-- The reading of damaged symbols together: those of a series are joined in their order.
+use Rattle.std.specs.Prelude.{ℕ, List}
+use Rattle.std.specs.List.{AllZip}
+use Rattle.qr_layout.specs.declared.level.Level.{Level}
+use Rattle.qr_bits.specs.Parsing.{Content}
+use Rattle.qr_matrix.specs.Grid.{Grid}
+use Rattle.qr_symbol.specs.declared.fault.ReadFault.{ReadFault}
+use Rattle.qr_symbol.specs.Reading.{IsFormat, IsMessage, IsOfVersion}
+use Rattle.qr_symbol.specs.Joining.{IsJoinedBy, IsUnjoinedBy}
+use Rattle.qr_mending.specs.Mending.{IsDamagedForm, IsMendedReading, IsUnmended}
+
+-- the square, read with its damage mended, is this content, whatever its version, its level, its mask and its damage
+-- (ISO/IEC 18004:2015, 12)
+abbrev pub IsMendedContent : Grid → Content → Type 0
+IsMendedContent g content = (v : ℕ) × (l : Level) × (mask : ℕ) × (changed : List ℕ) × IsMendedReading g v l mask content changed
+
+-- the squares, read with their damage mended, are joined to these bytes (ISO/IEC 18004:2015, 8.1 to 8.3, 12)
+abbrev pub IsMendedSeries : List Grid → List ℕ → Type 0
+IsMendedSeries squares bytes = IsJoinedBy IsMendedContent squares bytes
+
+-- the squares are not joined, for this fault, where their damage is mended (ISO/IEC 18004:2015, 12)
+abbrev pub IsUnmendedSeries : List Grid → ReadFault → Type 0
+IsUnmendedSeries squares e = IsUnjoinedBy IsMendedContent IsUnmended squares e
+
+-- a square is a damaged form of another one, which can be read without mending (ISO/IEC 18004:2015, 7.5.1, 7.9.1, 12)
+pub record IsDamagedSquare (damaged whole : Grid) : Type 0 where
+  pub version : ℕ
+  pub level : Level
+  pub mask : ℕ
+  pub message : List ℕ
+  pub changed : List ℕ
+  pub sized : IsOfVersion whole version
+  pub format : IsFormat whole level mask
+  pub holds : IsMessage version level mask whole message
+  pub form : IsDamagedForm damaged version level mask message changed
+
+-- each square is a damaged form of the one at its place [own]
+unfoldable pub AreDamagedSquares : List Grid → List Grid → Type 0
+AreDamagedSquares damaged whole = AllZip IsDamagedSquare damaged whole

@@ -1,0 +1,101 @@
+//! The reading of damaged symbols together: those of a series are joined in their order (ISO/IEC 18004:2015, 8).
+
+ghost use Rattle.std.specs.Prelude.{MatchResult};
+ghost use Rattle.qr_symbol.specs.Joining.{AreReadBy};
+ghost use Rattle.qr_mending.specs.Series.{IsMendedContent, IsMendedSeries, IsUnmendedSeries};
+
+use crate::mending::mend_symbol;
+use qr_bits::Parsed;
+use qr_matrix::Matrix;
+use qr_symbol::{ReadFault, join};
+use std::alloc::Global;
+
+// Reads the symbols one by one, each with its damage mended.
+fn mend_all(alloc: Global, damaged: &[Matrix]) -> Result<Vec<Parsed>, ReadFault>
+    ensures { MatchResult result (λ contents. AreReadBy IsMendedContent damaged.now contents.items)
+        (IsUnmendedSeries damaged.now) }
+{
+    let mut contents = Vec::with_capacity(alloc, damaged.len())?;
+    for matrix in damaged {
+        contents.push(mend_symbol(alloc, matrix)?.parsed)?;
+    }
+    Ok(contents)
+}
+
+/// Reads symbols, mends their damage and joins what they say, in their order (ISO/IEC 18004:2015, 8 and 12): the bytes of
+/// one symbol without a header, or those of a series, whose headers must tell their positions from 0, how many they are, and
+/// the parity of all bytes. How much damage each symbol has is what `mend_symbol` returns.
+///
+/// # Errors
+///
+/// The first fault of a symbol that is not mended, in their order, before any header is looked at; then `Series` if the
+/// symbols do not belong together. No symbol at all is no series.
+pub fn mend_series(alloc: Global, damaged: &[Matrix]) -> Result<Vec<u8>, ReadFault>
+    ensures { MatchResult result (λ bytes. IsMendedSeries damaged.now bytes.items) (IsUnmendedSeries damaged.now) }
+{
+    let contents = mend_all(alloc, damaged)?;
+    join(alloc, &contents)
+}
+
+#[cfg(test)]
+mod tests {
+    use super::*;
+    use qr_bits::Rule;
+    use qr_layout::{Level, Version};
+    use qr_symbol::encode_series;
+    use std::test::Fail;
+
+    // The two symbols of `ABCDEFGH` at 1-H, which hold `ABCDE` and `FGH`, with one module of each inverted: in version 1
+    // and level H eight codewords may be changed.
+    fn damaged_parts(rt: &HostRuntime) -> Result<Vec<Matrix>, Fail> {
+        let symbols = encode_series(
+            rt.alloc(),
+            b"ABCDEFGH",
+            Version::FIRST,
+            Level::H,
+            Rule::BytesOnly,
+        )?;
+        let mut parts = Vec::new(rt.alloc());
+        for mut symbol in symbols {
+            if symbol.matrix.side() != 21 {
+                return Err("a symbol of version 1".into());
+            }
+            let dark = symbol.matrix.dark(20, 20);
+            symbol.matrix.set(20, 20, !dark);
+            parts.push(symbol.matrix)?;
+        }
+        Ok(parts)
+    }
+
+    #[test]
+    fn two_damaged_parts(rt: HostRuntime) -> Result<(), Fail> {
+        let parts = damaged_parts(&rt)?;
+        assert!(rt; parts.len() == 2);
+        let bytes = mend_series(rt.alloc(), &parts)?;
+        assert_eq!(rt; bytes.as_slice(), b"ABCDEFGH".as_slice());
+        Ok(())
+    }
+
+    #[test]
+    fn refusals(rt: HostRuntime) -> Result<(), Fail> {
+        let mut parts = damaged_parts(&rt)?;
+        assert!(rt; parts.len() == 2);
+        assert_eq!(rt;
+            mend_series(rt.alloc(), &parts[..1]).err(),
+            Some(ReadFault::Series)
+        );
+        assert_eq!(rt; mend_series(rt.alloc(), &[]).err(), Some(ReadFault::Series));
+        parts.swap(0, 1);
+        assert_eq!(rt;
+            mend_series(rt.alloc(), &parts).err(),
+            Some(ReadFault::Series)
+        );
+        parts.push(Matrix::new(rt.alloc(), 21)?)?;
+        parts.push(Matrix::new(rt.alloc(), 20)?)?;
+        assert_eq!(rt;
+            mend_series(rt.alloc(), &parts).err(),
+            Some(ReadFault::Format)
+        );
+        Ok(())
+    }
+}
