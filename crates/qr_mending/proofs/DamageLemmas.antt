@@ -42,3 +42,11 @@ pub mended-as : (g : Grid) (v : ℕ) (l : Level) (mask : ℕ) (content : Content
 mended-as g v l mask content changed (Ok m) h k =
     mended-reading-one g m.version v m.level l m.mask mask m.parsed content m.changed.items changed k h
 mended-as g v l mask content changed (Err e) h k = mended-not-refused g v l mask content changed e h k
+
+-- the same without the counts
+pub symbol-mended-as : (g : Grid) (v : ℕ) (l : Level) (mask : ℕ) (content : Content) (changed : List ℕ) (r : Result Mended ReadFault) →
+    IsMendedReading g v l mask content changed →
+    MatchResult r (λ m. IsMendedReading g m.version m.level m.mask m.parsed m.changed.items) (IsUnmended g) →
+    MatchResult r (λ m. (m.version ≡ v) × (m.level ≡ l) × (m.mask ≡ mask) × (m.parsed ≡ content)) (λ e. e ≡ fault.Memory)
+symbol-mended-as g v l mask content changed (Ok m) h k = let w = mended-as g v l mask content changed (Ok m) h k in (w.0, w.1, w.2, w.3)
+symbol-mended-as g v l mask content changed (Err e) h k = mended-as g v l mask content changed (Err e) h k

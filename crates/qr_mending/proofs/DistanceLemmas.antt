@@ -38,7 +38,7 @@ shown Second v l mask cw i p q h r =
     colour-square s (colour_of v l mask cw) m.row m.col a b ∙ ap (colour_by v l mask cw m.row m.col) (format-second v i p q r)
 
 -- the differences of the same bits
-bits-alike : (n : ℕ) (p q r s : ℕ → Bool) → ((i : ℕ) → i < n → p i ≡ r i) → ((i : ℕ) → i < n → q i ≡ s i) →
+pub bits-alike : (n : ℕ) (p q r s : ℕ → Bool) → ((i : ℕ) → i < n → p i ≡ r i) → ((i : ℕ) → i < n → q i ≡ s i) →
     bit_differences n p q ≡ bit_differences n r s
 bits-alike zero p q r s f g = refl
 bits-alike (suc n) p q r s f g =

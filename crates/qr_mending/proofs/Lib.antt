@@ -9,4 +9,6 @@ mod MendingLemmas
 mod UndamagedLemmas
 mod DamageLemmas
 mod SeriesLemmas
+mod ModuleLemmas
+mod FewModuleLemmas
 mod DistanceLemmas

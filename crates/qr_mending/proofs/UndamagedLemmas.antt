@@ -12,7 +12,7 @@ use Rattle.qr_layout.specs.Format.{format_word_of}
 use Rattle.qr_bits.specs.Parsing.{Content}
 use Rattle.qr_matrix.specs.Grid.{Grid}
 use Rattle.qr_symbol.specs.Symbol.{word_bit}
-use Rattle.qr_symbol.specs.Interleaving.{block_count, block_len, start_of, cut_len, IsTag, codeword_at, data_cut, correction_cut, block_of, check_at, IsFinalMessage, part_of}
+use Rattle.qr_symbol.specs.Interleaving.{block_count, block_len, start_of, cut_len, IsTag, codeword_at, data_cut, correction_cut, block_of, check_at, IsFinalMessage, IsGathered, part_of}
 use Rattle.qr_symbol.specs.Steps.Interleaving.{IsChecks}
 use Rattle.qr_symbol.specs.Distance.{blocks_in}
 use Rattle.qr_symbol.specs.Reading.{IsFormat, IsReading}
@@ -66,10 +66,16 @@ check-part b d es cs h e i l c =
     ∙ (get_or-drop (start_of cut i) es k 0
     ∙ (h.same (tag k i) l (within, small) ∙ ap (λ (zs : List (List ℕ)). get_or (get_or zs i []) k 0) e)))
 
--- a final sequence is a damaged form of its message, and nothing is changed
-pub final-mended : (b : Blocks) (t : ℕ) (d cw : List ℕ) → length d ≡ cut_len (data_cut b) → IsFinalMessage b d cw →
-    IsMendedMessage b t cw d (replicate (block_count (data_cut b)) 0)
-final-mended b t d cw n h =
+-- the two parts of a final sequence, gathered
+pub record FinalParts (b : Blocks) (d cw : List ℕ) (corrections : List (List ℕ)) : Type 0 where
+  pub checks : List ℕ
+  pub gathered : IsGathered (data_cut b) cw d
+  pub rest : IsGathered (correction_cut b) (drop (cut_len (data_cut b)) cw) checks
+  pub same : (i : ℕ) → i < block_count (data_cut b) → part_of (correction_cut b) checks i ≡ get_or corrections i []
+
+pub final-parts : (b : Blocks) (d cw : List ℕ) → length d ≡ cut_len (data_cut b) → (h : IsFinalMessage b d cw) →
+    FinalParts b d cw h.corrections
+final-parts b d cw n h =
     let own = data_cut b in
     let cut = correction_cut b in
     let some = checks-some b d h.corrections (block_count own) (omega arith) h.each in
@@ -89,7 +95,6 @@ final-mended b t d cw n h =
     let back : length last ≡ cut_len cut = length-map h.check_tags (codeword_at cut es) ∙ rest in
     let after : drop (cut_len own) cw ≡ last = ap (drop (cut_len own)) whole ∙ drop_at first last (cut_len own) front in
     record {
-      codewords = d;
       checks = es;
       gathered = record {
         long = n;
@@ -105,13 +110,26 @@ final-mended b t d cw n h =
         many = rest;
         same = sym (ap (take (cut_len cut)) after ∙ take_all (cut_len cut) last (omega (arith, back)));
       };
+      same = λ i l. check-part b d es h.corrections ch same i l (h.each i l);
+    }
+
+-- a final sequence is a damaged form of its message, and nothing is changed
+pub final-mended : (b : Blocks) (t : ℕ) (d cw : List ℕ) → length d ≡ cut_len (data_cut b) → IsFinalMessage b d cw →
+    IsMendedMessage b t cw d (replicate (block_count (data_cut b)) 0)
+final-mended b t d cw n h =
+    let own = data_cut b in
+    let w = final-parts b d cw n h in
+    record {
+      codewords = d;
+      checks = w.checks;
+      gathered = w.gathered;
+      rest = w.rest;
       mended = record {
         long = n;
         many = length-replicate (block_count own) 0;
         each = λ i l.
             let none = get_or-replicate (block_count own) i 0 0 l in
             let c = get_or h.corrections i [] in
-            let part = check-part b d es h.corrections ch same i l (h.each i l) in
             let block = part_of own d i ++ c in
             record {
               correction = c;
@@ -120,7 +138,7 @@ final-mended b t d cw n h =
               count =
                   none
                   ∙ (sym (differences-same block)
-                  ∙ ap (λ (z : List ℕ). differences (part_of own d i ++ z) block) (sym part));
+                  ∙ ap (λ (z : List ℕ). differences (part_of own d i ++ z) block) (sym (w.same i l)));
             };
       };
     }

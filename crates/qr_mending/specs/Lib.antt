@@ -4,4 +4,5 @@ pub mod Format
 pub mod Message
 pub mod Mending
 pub mod Series
+pub mod Modules
 pub mod Steps

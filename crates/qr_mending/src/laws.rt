@@ -19,6 +19,7 @@ ghost use Rattle.qr_mending.specs.declared.format.FormatCopy.{FormatCopy};
 ghost use Rattle.qr_mending.specs.Format.{IsNearFormat};
 ghost use Rattle.qr_mending.specs.Message.{tolerance_of, IsMendedIn};
 ghost use Rattle.qr_mending.specs.Mending.{HasFormat, HoldsDamaged, IsMendedReading, IsUnmended};
+ghost use Rattle.qr_mending.specs.Modules.{DifferInFewModules};
 ghost use Rattle.qr_mending.specs.Series.{AreDamagedSquares, IsUnmendedSeries};
 
 use crate::mending::{Mended, mend_symbol};
@@ -108,6 +109,19 @@ pub fn damaged_symbols_are_mended(alloc: Global, damaged: &Matrix) -> Result<Men
         (λ m. (m.version ≡ v) × (m.level ≡ l) × (m.mask ≡ mask)
         × (m.parsed ≡ record { header = None; segments = s.made.segments; bytes = x })
         × (m.changed.items ≡ changed)) (λ e. e ≡ ReadFault.Memory) }
+{
+    mend_symbol(alloc, damaged)
+}
+
+/// The symbol of an input is mended to exactly the input, unless memory is refused, if few of its modules are wrong: in each
+/// block at most as many as codewords can be mended, and at most three of the first copy of the format information. What
+/// happened to all other modules does not matter.
+pub fn few_wrong_modules_are_mended(alloc: Global, damaged: &Matrix) -> Result<Mended, ReadFault>
+    ensures { (smallest : ℕ) (l : Level) (rule : Rule) (x : List ℕ) (v mask : ℕ) (g : Grid) → 1 ≤ smallest
+        → (s : IsSymbol smallest l rule x v mask g) → damaged.now.side ≡ g.side → DifferInFewModules v l damaged.now g
+        → MatchResult result
+        (λ m. (m.version ≡ v) × (m.level ≡ l) × (m.mask ≡ mask)
+        × (m.parsed ≡ record { header = None; segments = s.made.segments; bytes = x })) (λ e. e ≡ ReadFault.Memory) }
 {
     mend_symbol(alloc, damaged)
 }

@@ -1,12 +1,13 @@
 -- Putting codewords back into their blocks.
-use Rattle.std.proofs.Common.{◌≡◌, ℕ, zero, suc, ◌+◌, ◌<◌, ◌≤◌, List, [], ◌∷◌, ◌++◌, map, take, length, get_or, set, refl, sym, ◌∙◌, ap, subst, inl, inr, arith}
-use Rattle.std.proofs.lemmas.List.{take_more, get_or-set_same, get_or-set_other, length-set, length-map, length-take, map-append, ext_get_or}
+use Rattle.std.proofs.Common.{◌≡◌, ℕ, zero, suc, ◌+◌, ◌<◌, ◌≤◌, List, [], ◌∷◌, ◌++◌, map, take, length, get_or, set, replicate, refl, sym, ◌∙◌, ap, subst, inl, inr, arith}
+use Rattle.std.proofs.lemmas.Bool.{cases_lt}
+use Rattle.std.proofs.lemmas.List.{take_more, get_or-set_same, get_or-set_other, length-set, length-map, length-replicate, length-take, map-append, ext_get_or}
 use Rattle.qr_layout.proofs.Facts.{Mem}
 use Rattle.qr_layout.specs.declared.blocks.Blocks.{Blocks}
 use Rattle.qr_symbol.specs.declared.interleaving.Cut.{Cut}
-use Rattle.qr_symbol.specs.Interleaving.{Tag, IsSentBefore, block_count, start_of, cut_len, IsTag, codeword_at, data_cut, check_at, IsFinalMessage, IsGathered}
-use Rattle.qr_symbol.proofs.TagLemmas.{tag, TagsBefore, tags-push, tags-pass, tags-row, tags-end, tag-in}
-use Rattle.qr_symbol.proofs.RankLemmas.{tag-one, rank_of, rank-push, rank-pass, rank-row, rank-end, rank-in, tags-one, tag-of, map-at, Mem-of-Contains}
+use Rattle.qr_symbol.specs.Interleaving.{Tag, IsSentBefore, block_count, block_len, start_of, cut_len, IsTag, codeword_at, data_cut, check_at, IsFinalMessage, IsGathered}
+use Rattle.qr_symbol.proofs.TagLemmas.{tag, TagsBefore, tags-start, tags-push, tags-pass, tags-row, tags-end, tag-in}
+use Rattle.qr_symbol.proofs.RankLemmas.{tag-one, rank_of, rank-start, rank-push, rank-pass, rank-row, rank-end, rank-in, tags-one, tag-of, map-at, Mem-of-Contains}
 use Rattle.qr_symbol.proofs.MessageLemmas.{final-one}
 
 -- ---- what was put back so far
@@ -72,6 +73,48 @@ gather-end c sent xs p next l e h =
       many = let a = ap length s in let b = length-map h.tags (codeword_at c xs) in let d = length-take (cut_len c) sent in omega arith;
       same = s;
     }
+
+-- ---- every sequence can be gathered
+
+-- what was put back, whatever it is
+record IsBegun (c : Cut) (sent : List ℕ) (p b : ℕ) : Type 0 where
+  codewords : List ℕ
+  next : ℕ
+  gathered : GatheredBefore c sent p b codewords next
+
+-- one block more
+begun-next : (c : Cut) (sent : List ℕ) (p b : ℕ) → cut_len c ≤ length sent → p ≤ c.short_len → b < block_count c → IsBegun c sent p b → IsBegun c sent p (b + 1)
+begun-next c sent p b n l m h = elim (cases_lt p (block_len c b)) [
+  | inl k ↦ record {
+    codewords = set h.codewords (start_of c b + p) (get_or sent h.next 0);
+    next = h.next + 1;
+    gathered = gather-push c sent h.codewords (set h.codewords (start_of c b + p) (get_or sent h.next 0)) p b h.next (start_of c b + p) n h.gathered (m, k) refl refl;
+  }
+  | inr k ↦ record { codewords = h.codewords; next = h.next; gathered = gather-pass c sent h.codewords p b h.next l m h.gathered (λ t. let q = t.1 in absurd (omega arith)) }
+]
+
+-- all blocks of a place
+begun-across : (c : Cut) (sent : List ℕ) (p b : ℕ) → cut_len c ≤ length sent → p ≤ c.short_len → b ≤ block_count c → IsBegun c sent p 0 → IsBegun c sent p b
+begun-across c sent p zero n l m h = h
+begun-across c sent p (suc b) n l m h = let e : b + 1 ≡ suc b = omega arith in subst (IsBegun c sent p) e (begun-next c sent p b n l (omega arith) (begun-across c sent p b n l (omega arith) h))
+
+-- all places
+begun-down : (c : Cut) (sent : List ℕ) (p : ℕ) → cut_len c ≤ length sent → p ≤ c.short_len + 1 → IsBegun c sent p 0
+begun-down c sent zero n l = record {
+  codewords = replicate (cut_len c) 0;
+  next = 0;
+  gathered = record { long = length-replicate (cut_len c) 0; tags = []; order = tags-start c; rank = rank-start c; same = refl };
+}
+begun-down c sent (suc p) n l =
+    let h = begun-across c sent p (block_count c) n (omega arith) (omega arith) (begun-down c sent p n (omega arith)) in
+    let e : p + 1 ≡ suc p = omega arith in
+    subst (λ (k : ℕ). IsBegun c sent k 0) e (record { codewords = h.codewords; next = h.next; gathered = gather-row c sent h.codewords p (block_count c) h.next (omega arith) refl h.gathered })
+
+-- codewords that are as many as a cut has can be gathered
+pub gather-some : (c : Cut) (sent : List ℕ) → cut_len c ≤ length sent → (xs : List ℕ) × IsGathered c sent xs
+gather-some c sent n =
+    let h = begun-down c sent (c.short_len + 1) n (omega arith) in
+    (h.codewords, gather-end c sent h.codewords (c.short_len + 1) h.next n refl h.gathered)
 
 -- ---- one message at most
 

@@ -9,9 +9,7 @@ use Rattle.qr_symbol.specs.declared.symbol.Symbol.{Symbol}
 use Rattle.qr_matrix.specs.Grid.{Grid}
 use Rattle.qr_symbol.specs.Reading.{IsReading, IsUnread}
 use Rattle.qr_symbol.specs.Series.{squares_of}
-use Rattle.qr_symbol.specs.Joining.{AreReadBy, AreReadings, bytes_of_all, HaveHeaders, BelongTogether, IsFirstRefused, IsJoined, IsJoinedBy, IsNoSeries, IsUnjoined, IsUnjoinedBy}
-use Rattle.qr_symbol.proofs.RoundTripLemmas.{reading-one}
-use Rattle.qr_symbol.proofs.RefusalLemmas.{read-refused, refused-one}
+use Rattle.qr_symbol.specs.Joining.{AreReadBy, AreReadings, bytes_of_all, HaveHeaders, BelongTogether, IsFirstRefused, IsJoinedBy, IsNoSeries, IsUnjoined, IsUnjoinedBy}
 
 -- ---- squares and contents, in turn
 

@@ -36,21 +36,29 @@ final-bytes b d cw a h =
     let i = (h.check_order.in_blocks k t l).0 in
     byte-at (get_or h.corrections u.block []) u.place (h.each u.block (omega arith)).bytes)))
 
--- a symbol is read as the bytes of which it is the symbol, in their segments and after their header
-pub symbol-read : (v : ℕ) (l : Level) (b : Rule) (x : List ℕ) (h : Option Header) (mask : ℕ) (g : Grid) → 1 ≤ v → v ≤ 40 → (s : IsSymbolAt v l b x h mask g) → IsReading g (record { header = h; segments = s.segments; bytes = x })
-symbol-read v l b x h mask g p q s =
+-- a symbol holds its message
+pub symbol-holds : (v : ℕ) (l : Level) (b : Rule) (x : List ℕ) (h : Option Header) (mask : ℕ) (g : Grid) → 1 ≤ v → v ≤ 40 → (s : IsSymbolAt v l b x h mask g) → IsMessage v l mask g s.message
+symbol-holds v l b x h mask g p q s =
     let bytes = final-bytes (blocks_of v l) s.message s.codewords s.written.bytes s.sent in
     let many = final-whole v l s.message s.codewords p q s.sent in
-    record {
-      version = v;
-      level = l;
-      mask = mask;
-      message = s.message;
-      sized = record { least = p; most = q; side = ap (λ (z : Grid). z.side) s.drawn };
-      format = subst (λ (z : Grid). IsFormat z l mask) (sym s.drawn) (format-read v l mask s.codewords p q s.best.in_range);
-      holds = subst (λ (z : Grid). IsMessage v l mask z s.message) (sym s.drawn) (message-read v l mask s.message s.codewords p q many bytes (length-data v l x s.segments h s.message s.written) s.sent);
-      parsed = data_again v l x s.segments h s.message s.written;
-    }
+    subst (λ (z : Grid). IsMessage v l mask z s.message) (sym s.drawn) (message-read v l mask s.message s.codewords p q many bytes (length-data v l x s.segments h s.message s.written) s.sent)
+
+-- a symbol shows its level and its mask
+pub symbol-format : (v : ℕ) (l : Level) (b : Rule) (x : List ℕ) (h : Option Header) (mask : ℕ) (g : Grid) → 1 ≤ v → v ≤ 40 → IsSymbolAt v l b x h mask g → IsFormat g l mask
+symbol-format v l b x h mask g p q s = subst (λ (z : Grid). IsFormat z l mask) (sym s.drawn) (format-read v l mask s.codewords p q s.best.in_range)
+
+-- a symbol is read as the bytes of which it is the symbol, in their segments and after their header
+pub symbol-read : (v : ℕ) (l : Level) (b : Rule) (x : List ℕ) (h : Option Header) (mask : ℕ) (g : Grid) → 1 ≤ v → v ≤ 40 → (s : IsSymbolAt v l b x h mask g) → IsReading g (record { header = h; segments = s.segments; bytes = x })
+symbol-read v l b x h mask g p q s = record {
+  version = v;
+  level = l;
+  mask = mask;
+  message = s.message;
+  sized = record { least = p; most = q; side = ap (λ (z : Grid). z.side) s.drawn };
+  format = symbol-format v l b x h mask g p q s;
+  holds = symbol-holds v l b x h mask g p q s;
+  parsed = data_again v l x s.segments h s.message s.written;
+}
 
 -- a square is read as one content at most
 pub reading-one : (g : Grid) (p q : Content) → IsReading g p → IsReading g q → p ≡ q

@@ -1,4 +1,4 @@
-use Rattle.std.proofs.Common.{take, get_or, ◌+◌, ◌-◌, ap, sym, ◌∙◌, arith}
+use Rattle.std.proofs.Common.{take, get_or, ◌+◌, ◌-◌, ap, ◌∙◌, arith}
 use Rattle.std.specs.List.{list_any}
 use Rattle.std.proofs.lemmas.List.{take_all}
 use Rattle.qr_layout.specs.declared.region.Module.{Module}

@@ -1,0 +1,219 @@
+-- A wrong module spoils one codeword at most.
+use Rattle.std.proofs.Common.{◌≡◌, ℕ, zero, suc, ◌+◌, ◌-◌, ◌*◌, ◌<◌, ◌≤◌, Bool, true, false, List, [], ◌∷◌, ◌++◌, map, take, drop, length, get_or, replicate, refl, sym, ◌∙◌, ap, subst, inl, inr, arith}
+use Rattle.std.proofs.lemmas.Bool.{cases_eq, cases_lt}
+use Rattle.std.proofs.lemmas.Bool.Decides.{nat_tests}
+use Rattle.std.proofs.lemmas.List.{append-nil, take_more, take_at, take-map, drop_at, drop-drop, drop-map, drop-take, length-map, length-take, length-drop, get_or-drop, get_or-take, get_or-map}
+use Rattle.std.specs.List.{All}
+use Rattle.qr_field.specs.Distance.{difference, differences}
+use Rattle.qr_layout.specs.declared.region.Module.{Module}
+use Rattle.qr_layout.specs.Order.{IsOrder}
+use Rattle.qr_layout.specs.Version.{total_codewords_of}
+use Rattle.qr_layout.proofs.Facts.{Mem, only_order, order-length}
+use Rattle.qr_bits.specs.Bits.{bits_of, field}
+use Rattle.qr_bits.proofs.Facts.{length-bits_of, length-field}
+use Rattle.qr_matrix.specs.Grid.{Grid, colour}
+use Rattle.qr_symbol.specs.declared.interleaving.Cut.{Cut}
+use Rattle.qr_symbol.specs.Interleaving.{block_count, block_len, start_of, cut_len, codeword_at, IsGathered, IsTag, IsTagOrder, Tag}
+use Rattle.qr_symbol.specs.Reading.{unmasked, read_bits, IsRead}
+use Rattle.qr_symbol.specs.Mask.{inverted, inverts}
+use Rattle.qr_symbol.proofs.Facts.{Mem-of-Contains, bits-one, tag, tag-in, tags-many, tags-one}
+use Rattle.qr_mending.specs.Format.{bit_difference}
+use Rattle.qr_mending.specs.Modules.{index_of, module_differences, modules_of, part_differences}
+
+-- ---- one codeword
+
+-- bits that do not differ are the same
+bit-one : (a b : Bool) → bit_difference a b ≡ 0 → a ≡ b
+bit-one true true e = refl
+bit-one true false e = absurd (omega (arith, e))
+bit-one false true e = absurd (omega (arith, e))
+bit-one false false e = refl
+
+-- where no module differs, the same bits are read
+same-bits : (mask : ℕ) (g h : Grid) (ms : List Module) → module_differences g h ms ≡ 0 →
+    map (unmasked mask g) ms ≡ map (unmasked mask h) ms
+same-bits mask g h [] e = refl
+same-bits mask g h (m ∷ ms) e =
+    let here = ap (inverted (inverts mask m.row m.col)) (bit-one (colour g m.row m.col) (colour h m.row m.col) (omega (arith, e))) in
+    let rest = same-bits mask g h ms (omega (arith, e)) in
+    λ i. here i ∷ rest i
+
+-- a byte has one field of eight bits
+byte-one : (a b : ℕ) → a < 256 → b < 256 → field 8 a ≡ field 8 b → a ≡ b
+unfolding bits_of
+byte-one a b l m e =
+    let same : a ∷ [] ≡ b ∷ [] = bits-one (a ∷ []) (b ∷ []) (single a l) (single b m) (ap (λ (z : List Bool). z ++ []) e) in
+    ap (λ (z : List ℕ). get_or z 0 0) same
+  where
+    single : (x : ℕ) → x < 256 → All (λ y. y < 256) (x ∷ [])
+    single x l zero d k = l
+    single x l (suc i) d k = absurd (omega (arith, k))
+
+-- a codeword differs only where a module does
+codeword-near : (mask : ℕ) (g h : Grid) (ms : List Module) (a b : ℕ) → a < 256 → b < 256 →
+    field 8 a ≡ map (unmasked mask g) ms → field 8 b ≡ map (unmasked mask h) ms → difference a b ≤ module_differences g h ms
+codeword-near mask g h ms a b l m e f = elim (cases_eq a b) [
+  | inl same ↦ grind (arith, nat_tests)
+  | inr other ↦ elim (cases_lt 0 (module_differences g h ms)) [
+    | inl some ↦ grind (arith, nat_tests)
+    | inr none ↦ absurd (other (byte-one a b l m (e ∙ (same-bits mask g h ms (omega (arith, none)) ∙ sym f))))
+  ]
+]
+
+-- the bits of one codeword
+codeword-bits : (cs : List ℕ) (j : ℕ) → j < length cs → take 8 (drop (8 * j) (bits_of cs)) ≡ field 8 (get_or cs j 0)
+unfolding bits_of
+codeword-bits [] j l = absurd (omega (arith, l))
+codeword-bits (c ∷ cs) zero l = take_at (field 8 c) (bits_of cs) 8 (length-field 8 c)
+codeword-bits (c ∷ cs) (suc j) l =
+    let n : 8 * suc j ≡ 8 + 8 * j = omega arith in
+    ap (λ (k : ℕ). take 8 (drop k (field 8 c ++ bits_of cs))) n
+    ∙ (ap (take 8) (sym (drop-drop (8 * j) 8 (field 8 c ++ bits_of cs)))
+    ∙ (ap (λ (z : List Bool). take 8 (drop (8 * j) z)) (drop_at (field 8 c) (bits_of cs) 8 (length-field 8 c))
+    ∙ codeword-bits cs j (omega (arith, l))))
+
+-- the first n of more than n
+take-less : {X : Type 0} (n m : ℕ) (xs : List X) → n ≤ m → take n (take m xs) ≡ take n xs
+take-less zero m xs l = refl
+take-less (suc n) zero xs l = absurd (omega (arith, l))
+take-less (suc n) (suc m) [] l = refl
+take-less (suc n) (suc m) (x ∷ xs) l = ap (λ zs. x ∷ zs) (take-less n m xs (omega (arith, l)))
+
+-- the bits that a square holds
+held-bits : (v mask : ℕ) (g : Grid) (ms : List Module) (cw : List ℕ) → 1 ≤ v → v ≤ 40 → IsOrder v ms → IsRead v mask g cw →
+    bits_of cw ≡ map (unmasked mask g) (take (8 * total_codewords_of v) ms)
+held-bits v mask g ms cw p q o h =
+    let t = 8 * total_codewords_of v in
+    let many = order-length v ms p q o in
+    let none : t - length ms ≡ 0 = omega (arith, many) in
+    h.bits
+    ∙ (ap (read_bits v mask g) (only_order v h.places ms h.order o)
+    ∙ (ap (λ (z : ℕ). map (unmasked mask g) (take t ms) ++ replicate z false) none
+    ∙ append-nil (map (unmasked mask g) (take t ms))))
+
+-- and how many codewords
+pub held-many : (v mask : ℕ) (g : Grid) (cw : List ℕ) → 1 ≤ v → v ≤ 40 → IsRead v mask g cw → length cw ≡ total_codewords_of v
+held-many v mask g cw p q h =
+    let ms = h.places in
+    let t = 8 * total_codewords_of v in
+    let many = order-length v ms p q h.order in
+    let a = ap (length {A = Bool}) (held-bits v mask g ms cw p q h.order h) in
+    let b = length-map (take t ms) (unmasked mask g) in
+    let c = length-take t ms in
+    let d = length-bits_of cw in
+    omega (arith, a, b, c, d, many)
+
+-- the bits of a codeword that a square holds
+held-codeword : (v mask : ℕ) (g : Grid) (ms : List Module) (cw : List ℕ) (j : ℕ) → 1 ≤ v → v ≤ 40 → IsOrder v ms →
+    IsRead v mask g cw → j < total_codewords_of v → field 8 (get_or cw j 0) ≡ map (unmasked mask g) (modules_of ms j)
+held-codeword v mask g ms cw j p q o h l =
+    let t = 8 * total_codewords_of v in
+    let n = 8 * j in
+    let rest = t - n in
+    let whole : t ≡ n + rest = omega (arith, l) in
+    sym (codeword-bits cw j (omega (arith, l, held-many v mask g cw p q h)))
+    ∙ (ap (λ (z : List Bool). take 8 (drop n z)) (held-bits v mask g ms cw p q o h)
+    ∙ (ap (take 8) (drop-map (unmasked mask g) n (take t ms))
+    ∙ (take-map (unmasked mask g) 8 (drop n (take t ms))
+    ∙ ap (map (unmasked mask g)) (ap (λ (k : ℕ). take 8 (drop n (take k ms))) whole ∙ (ap (take 8) (drop-take n rest ms) ∙ take-less 8 rest (drop n ms) (omega (arith, l)))))))
+
+-- codewords differ only where modules do
+pub sent-near : (v mask : ℕ) (g h : Grid) (ms : List Module) (cs ds : List ℕ) (j : ℕ) → 1 ≤ v → v ≤ 40 → IsOrder v ms →
+    IsRead v mask g cs → IsRead v mask h ds → j < total_codewords_of v →
+    difference (get_or cs j 0) (get_or ds j 0) ≤ module_differences g h (modules_of ms j)
+sent-near v mask g h ms cs ds j p q o a b l =
+    codeword-near mask g h (modules_of ms j) (get_or cs j 0) (get_or ds j 0)
+    (a.bytes j 0 (omega (arith, l, held-many v mask g cs p q a))) (b.bytes j 0 (omega (arith, l, held-many v mask h ds p q b)))
+    (held-codeword v mask g ms cs j p q o a l) (held-codeword v mask h ms ds j p q o b l)
+
+-- ---- one block
+
+-- tags with the same place and block are one
+tag-same : (t u : Tag) → t.place ≡ u.place → t.block ≡ u.block → t ≡ u
+tag-same t u p b = λ i. record { place = p i; block = b i }
+
+-- a tag that is not the first of a list has its index in the rest
+later : (t u : Tag) (ts : List Tag) → index_of t (u ∷ ts) ≡ suc (index_of t ts) → (index_of t ts < length ts) × (get_or ts (index_of t ts) t ≡ t) →
+    (index_of t (u ∷ ts) < length (u ∷ ts)) × (get_or (u ∷ ts) (index_of t (u ∷ ts)) t ≡ t)
+later t u ts there w = (omega (arith, there, w.0), ap (λ (k : ℕ). get_or (u ∷ ts) k t) there ∙ w.1)
+
+-- a member that is not the first is one of the rest
+member-later : (t u : Tag) (ts : List Tag) → Mem t (u ∷ ts) → (t ≡ u → ⊥) → Mem t ts
+member-later t u ts m n = elim m [ inl e ↦ absurd (n (sym e)) | inr r ↦ r ]
+
+-- a tag of a list has its index
+index-found : (t : Tag) (ts : List Tag) → Mem t ts → (index_of t ts < length ts) × (get_or ts (index_of t ts) t ≡ t)
+index-found t [] m = absurd m
+index-found t (u ∷ us) m = elim (cases_eq t.place u.place) [
+  | inl p ↦ elim (cases_eq t.block u.block) [
+    | inl b ↦
+        let here : index_of t (u ∷ us) ≡ 0 = grind (arith, nat_tests) in
+        (omega (arith, here), ap (λ (k : ℕ). get_or (u ∷ us) k t) here ∙ sym (tag-same t u p b))
+    | inr b ↦
+        let there : index_of t (u ∷ us) ≡ suc (index_of t us) = grind (arith, nat_tests) in
+        later t u us there (index-found t us (member-later t u us m (λ e. b (ap (λ (x : Tag). x.block) e))))
+  ]
+  | inr p ↦
+      let there : index_of t (u ∷ us) ≡ suc (index_of t us) = grind (arith, nat_tests) in
+      later t u us there (index-found t us (member-later t u us m (λ e. p (ap (λ (x : Tag). x.place) e))))
+]
+
+-- the codeword of a tag where it was sent
+sent-at : (c : Cut) (ts : List Tag) (sent xs : List ℕ) (t : Tag) → IsTagOrder c ts → IsGathered c sent xs → IsTag c t →
+    (index_of t ts < cut_len c) × (get_or sent (index_of t ts) 0 ≡ codeword_at c xs t)
+sent-at c ts sent xs t o h i =
+    let k = index_of t ts in
+    let w = index-found t ts (Mem-of-Contains ts t (o.complete t i)) in
+    let n = tags-many c ts o in
+    let l : k < cut_len c = omega (arith, w.0, n) in
+    let same : map (codeword_at c xs) ts ≡ take (cut_len c) sent = ap (map (codeword_at c xs)) (tags-one c ts h.tags o h.order) ∙ h.same in (
+      l,
+      sym (get_or-take (cut_len c) sent k 0 l)
+          ∙ (ap (λ (z : List ℕ). get_or z k 0) (sym same)
+          ∙ (get_or-map (codeword_at c xs) ts k t 0 w.0 ∙ ap (codeword_at c xs) w.1)),
+    )
+
+-- the differences of lists of one length are those of their parts
+pub differences-join : (xs ys us vs : List ℕ) → length xs ≡ length ys → differences (xs ++ us) (ys ++ vs) ≡ differences xs ys + differences us vs
+differences-join [] [] us vs e = omega arith
+differences-join [] (y ∷ ys) us vs e = absurd (omega (arith, e))
+differences-join (x ∷ xs) [] us vs e = absurd (omega (arith, e))
+differences-join (x ∷ xs) (y ∷ ys) us vs e = let h = differences-join xs ys us vs (omega (arith, e)) in omega (arith, h)
+
+-- one codeword more of two lists
+more-differences : (xs ys : List ℕ) (n : ℕ) → n < length xs → n < length ys →
+    differences (take (suc n) xs) (take (suc n) ys) ≡ differences (take n xs) (take n ys) + difference (get_or xs n 0) (get_or ys n 0)
+more-differences xs ys n l m =
+    let e : suc n ≡ n + 1 = omega arith in
+    let a = ap (λ (k : ℕ). take k xs) e ∙ take_more xs n 0 l in
+    let b = ap (λ (k : ℕ). take k ys) e ∙ take_more ys n 0 m in
+    let p = length-take n xs in
+    let q = length-take n ys in
+    let j = differences-join (take n xs) (take n ys) (get_or xs n 0 ∷ []) (get_or ys n 0 ∷ []) (omega (arith, p, q, l, m)) in
+    ap (λ (z : List ℕ). differences z (take (suc n) ys)) a ∙ (ap (differences (take n xs ++ get_or xs n 0 ∷ [])) b ∙ omega (arith, j))
+
+-- in a block as many codewords differ as modules, or fewer
+pub part-near : (g h : Grid) (ms : List Module) (c : Cut) (ts : List Tag) (first i : ℕ) (sent also xs ys : List ℕ) → IsTagOrder c ts →
+    IsGathered c sent xs → IsGathered c also ys →
+    ((k : ℕ) → k < cut_len c → difference (get_or sent k 0) (get_or also k 0) ≤ module_differences g h (modules_of ms (first + k))) →
+    i < block_count c → (n : ℕ) → n ≤ block_len c i →
+    differences (take n (drop (start_of c i) xs)) (take n (drop (start_of c i) ys)) ≤ part_differences g h ms ts first i n
+part-near g h ms c ts first i sent also xs ys o a b near l zero m = omega arith
+part-near g h ms c ts first i sent also xs ys o a b near l (suc n) m =
+    let s = start_of c i in
+    let t = tag n i in
+    let is : IsTag c t = (l, omega (arith, m)) in
+    let k = index_of t ts in
+    let p = sent-at c ts sent xs t o a is in
+    let q = sent-at c ts also ys t o b is in
+    let x : get_or (drop s xs) n 0 ≡ get_or sent k 0 = get_or-drop s xs n 0 ∙ sym p.1 in
+    let y : get_or (drop s ys) n 0 ≡ get_or also k 0 = get_or-drop s ys n 0 ∙ sym q.1 in
+    let inside = tag-in c n i is in
+    let u = length-drop s xs in
+    let w = length-drop s ys in
+    let some : difference (get_or (drop s xs) n 0) (get_or (drop s ys) n 0) ≤ module_differences g h (modules_of ms (first + k)) =
+    subst (λ (z : ℕ). difference z (get_or (drop s ys) n 0) ≤ module_differences g h (modules_of ms (first + k))) (sym x)
+    (subst (λ (z : ℕ). difference (get_or sent k 0) z ≤ module_differences g h (modules_of ms (first + k))) (sym y) (near k p.0)) in
+    let more = more-differences (drop s xs) (drop s ys) n (omega (arith, u, inside, a.long)) (omega (arith, w, inside, b.long)) in
+    let rest = part-near g h ms c ts first i sent also xs ys o a b near l n (omega (arith, m)) in
+    omega (arith, more, rest, some)

@@ -1,0 +1,47 @@
+-- The damage of a symbol in words of modules.
+use Rattle.std.specs.Prelude.{ℕ, ◌+◌, ◌*◌, ◌<◌, ◌≤◌, ◌==◌, ◌&&◌, if◌then◌else◌, List, [], ◌∷◌, take, drop}
+use Prim.Native.Nat.{zero, suc}
+use Rattle.qr_layout.specs.declared.level.Level.{Level}
+use Rattle.qr_layout.specs.declared.region.Module.{Module}
+use Rattle.qr_layout.specs.Blocks.{blocks_of}
+use Rattle.qr_layout.specs.Order.{IsOrder}
+use Rattle.qr_matrix.specs.Grid.{Grid, colour}
+use Rattle.qr_symbol.specs.Interleaving.{block_len, correction_cut, cut_len, data_cut, IsTagOrder, Tag}
+use Rattle.qr_symbol.specs.Distance.{blocks_in}
+use Rattle.qr_mending.specs.declared.format.FormatCopy.TheVariants.{First}
+use Rattle.qr_mending.specs.Format.{bit_difference, bit_differences, format_bit}
+use Rattle.qr_mending.specs.Message.{tolerance_of}
+
+-- in how many of these modules two squares differ [own]
+abbrev pub module_differences : Grid → Grid → List Module → ℕ
+module_differences g h [] = 0
+module_differences g h (m ∷ ms) = bit_difference (colour g m.row m.col) (colour h m.row m.col) + module_differences g h ms
+
+-- how many tags stand before one in a list [own]
+abbrev pub index_of : Tag → List Tag → ℕ
+index_of t [] = 0
+index_of t (u ∷ us) = if (t.place == u.place) && (t.block == u.block) then 0 else index_of t us + 1
+
+-- the eight modules that hold codeword k of the final sequence (ISO/IEC 18004:2015, 7.7.3)
+abbrev pub modules_of : List Module → ℕ → List Module
+modules_of places k = take 8 (drop (8 * k) places)
+
+-- in how many modules of the first n codewords of block i two squares differ, where the codewords of a cut are sent in the
+-- order of these tags from number `first` of the final sequence on (ISO/IEC 18004:2015, 7.6, 7.7.3)
+abbrev pub part_differences : Grid → Grid → List Module → List Tag → (first i n : ℕ) → ℕ
+part_differences g h places tags first i zero = 0
+part_differences g h places tags first i (suc n) =
+    module_differences g h (modules_of places (first + index_of (record { place = n; block = i }) tags))
+    + part_differences g h places tags first i n
+
+-- two squares differ in few modules: in at most three of the first copy of the format information, and in each block in at
+-- most as many as codewords can be mended (ISO/IEC 18004:2015, 7.5.1, 7.9.1)
+pub record DifferInFewModules (v : ℕ) (l : Level) (g h : Grid) : Type 0 where
+  pub format : bit_differences 15 (format_bit First g) (format_bit First h) ≤ 3
+  pub places : List Module
+  pub order : IsOrder v places
+  pub data_tags : List Tag
+  pub data_order : IsTagOrder (data_cut (blocks_of v l)) data_tags
+  pub check_tags : List Tag
+  pub check_order : IsTagOrder (correction_cut (blocks_of v l)) check_tags
+  pub few : (i : ℕ) → i < blocks_in v l → part_differences g h places data_tags 0 i (block_len (data_cut (blocks_of v l)) i) + part_differences g h places check_tags (cut_len (data_cut (blocks_of v l))) i (blocks_of v l).ec_len ≤ tolerance_of v l
