@@ -4,3 +4,4 @@ pub mod Runs
 pub mod Line
 pub mod Steps
 pub mod Laws
+pub mod Difference

@@ -2,10 +2,11 @@
 //! the definitions count module by module, for every square. The first two functions do nothing, their contracts are
 //! the laws; the others count, and their contracts say what.
 
-ghost use Rattle.std.specs.Prelude.{◌≡◌, ℕ, Bool};
+ghost use Rattle.std.specs.Prelude.{◌≡◌, ◌↔◌, ◌<◌, ℕ, Bool};
 ghost use Rattle.qr_matrix.specs.Penalty.{over_lines, run_cost, square_count, window_count, penalty_of};
 ghost use Rattle.qr_matrix.specs.Runs.{place_cost};
-ghost use Rattle.qr_matrix.specs.Grid.{colour};
+ghost use Rattle.qr_matrix.specs.Grid.{colour, Grid};
+ghost use Rattle.qr_matrix.specs.Difference.{difference_count};
 ghost use Rattle.qr_matrix.specs.Laws.{all_dark, all_light, chequered, ratio_in_a_row, ratio_in_a_column};
 
 use crate::matrix::Matrix;
@@ -51,3 +52,9 @@ pub fn windows_on_words(m: &Matrix) -> u32
 {
     window_count(m, m.words())
 }
+
+/// Two squares of one side differ at no place exactly if they have the same colour everywhere.
+pub fn differences_tell_squares_apart()
+    ensures { (g h : Grid) → (difference_count g h ≡ 0)
+        ↔ ((r c : ℕ) → r < g.side → c < g.side → colour g r c ≡ colour h r c) }
+{}

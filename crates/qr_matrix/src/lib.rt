@@ -1,6 +1,8 @@
-//! The square of modules that makes a symbol, in rows of words, and its penalty, counted on these.
+//! The square of modules that makes a symbol, in rows of words, and its penalty and the differences of two,
+//! counted on these.
 #![tactic(auto)]
 
+mod difference;
 pub mod laws;
 mod line;
 mod matrix;
@@ -9,5 +11,6 @@ mod runs;
 mod squares;
 mod windows;
 
+pub use difference::differences;
 pub use matrix::Matrix;
 pub use penalties::penalty;

@@ -12,3 +12,4 @@ mod SeriesLemmas
 mod ModuleLemmas
 mod FewModuleLemmas
 mod DistanceLemmas
+mod SoundnessLemmas

@@ -46,7 +46,7 @@ format-one v g l k m n p q x y (inr a) (inl b) h j = absurd (a.1 k n b q y j)
 format-one v g l k m n p q x y (inr a) (inr b) h j = near-one Second g l k m n a.0 b.0
 
 -- a square is a damaged form of one symbol
-form-one : (g : Grid) (v w : ℕ) (l k : Level) (m n : ℕ) (p q x y : List ℕ) → IsDamagedForm g v l m p x →
+pub form-one : (g : Grid) (v w : ℕ) (l k : Level) (m n : ℕ) (p q x y : List ℕ) → IsDamagedForm g v l m p x →
     IsDamagedForm g w k n q y → (v ≡ w) × (l ≡ k) × (m ≡ n) × (p ≡ q) × (x ≡ y)
 form-one g v w l k m n p q x y h j =
     let a = h.sized in

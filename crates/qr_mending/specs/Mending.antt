@@ -6,8 +6,11 @@ use Rattle.qr_bits.specs.Parsing.{Content, parse}
 use Rattle.qr_bits.specs.declared.fault.ParseFault.{ParseFault}
 use Rattle.qr_bits.specs.declared.fault.ParseFault.TheVariants as unparsed
 use Rattle.qr_matrix.specs.Grid.{Grid}
+use Rattle.qr_matrix.specs.Difference.{difference_count}
 use Rattle.qr_symbol.specs.declared.fault.ReadFault.{ReadFault}
 use Rattle.qr_symbol.specs.declared.fault.ReadFault.TheVariants as unread
+use Rattle.qr_symbol.specs.Symbol.{grid_of}
+use Rattle.qr_symbol.specs.Interleaving.{IsInterleaved}
 use Rattle.qr_symbol.specs.Reading.{IsOfVersion, IsRead}
 use Rattle.qr_mending.specs.declared.format.FormatCopy.{FormatCopy}
 use Rattle.qr_mending.specs.declared.format.FormatCopy.TheVariants.{First, Second}
@@ -54,6 +57,20 @@ IsMendedReading g v l mask content changed = IsMendedAs g v l mask (Ok content) 
 -- (ISO/IEC 18004:2015, 7.9.1)
 abbrev pub wrong_format_modules : Grid → Level → ℕ → ℕ
 wrong_format_modules g l mask = wrong_bits First g l mask + wrong_bits Second g l mask
+
+-- so many modules of the square are not those of the symbol that the message has in the version, the level and the mask:
+-- function patterns, version information and remainder bits too (ISO/IEC 18004:2015, 7.5.2, 7.6, 7.7, 7.8)
+pub record DiffersFromSymbol (g : Grid) (v : ℕ) (l : Level) (mask : ℕ) (message : List ℕ) (wrong : ℕ) : Type 0 where
+  pub codewords : List ℕ
+  pub sent : IsInterleaved v l message codewords
+  pub count : wrong ≡ difference_count g (grid_of v l mask codewords)
+
+-- so many modules of the square are not those of the symbol of which it is a damaged form: 0 exactly if the square is that
+-- symbol (ISO/IEC 18004:2015, 7.5.2, 7.6, 7.7, 7.8)
+pub record HasWrongModules (g : Grid) (v : ℕ) (l : Level) (mask : ℕ) (changed : List ℕ) (wrong : ℕ) : Type 0 where
+  pub message : List ℕ
+  pub form : IsDamagedForm g v l mask message changed
+  pub differs : DiffersFromSymbol g v l mask message wrong
 
 -- some copy of the format information is near to a level and a mask, but both are of no use: there is more damage than can be
 -- mended (ISO/IEC 18004:2015, 7.5.1, 7.9.1, 12)

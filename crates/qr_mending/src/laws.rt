@@ -5,7 +5,7 @@ ghost use Rattle.std.specs.Prelude.{◌≡◌, ◌≢◌, ◌↔◌, ◌⊎◌, 
 ghost use Rattle.qr_layout.specs.declared.level.Level.{Level};
 ghost use Rattle.qr_bits.specs.declared.modes.Rule.{Rule};
 ghost use Rattle.qr_bits.specs.Parsing.{Content};
-ghost use Rattle.qr_matrix.specs.Grid.{Grid};
+ghost use Rattle.qr_matrix.specs.Grid.{Grid, IsSquare};
 ghost use Rattle.qr_symbol.specs.declared.fault.ReadFault.{ReadFault};
 ghost use Rattle.qr_symbol.specs.Distance.{blocks_in};
 ghost use Rattle.qr_symbol.specs.Encoding.{IsSymbol};
@@ -13,12 +13,13 @@ ghost use Rattle.qr_symbol.specs.declared.symbol.Symbol.{Symbol};
 ghost use Rattle.qr_symbol.specs.Joining.{IsJoined};
 ghost use Rattle.qr_symbol.specs.Reading.{IsReading};
 ghost use Rattle.qr_symbol.specs.Series.{squares_of, IsSeries};
+ghost use Rattle.qr_symbol.specs.Symbol.{grid_of};
 ghost use Rattle.qr_mending.specs.Block.{IsMended};
 ghost use Rattle.qr_mending.specs.Distance.{SymbolsLieApart};
 ghost use Rattle.qr_mending.specs.declared.format.FormatCopy.{FormatCopy};
 ghost use Rattle.qr_mending.specs.Format.{IsNearFormat};
 ghost use Rattle.qr_mending.specs.Message.{tolerance_of, IsMendedIn};
-ghost use Rattle.qr_mending.specs.Mending.{HasFormat, HoldsDamaged, IsMendedReading, IsUnmended};
+ghost use Rattle.qr_mending.specs.Mending.{HasFormat, HasWrongModules, HoldsDamaged, IsMendedReading, IsUnmended};
 ghost use Rattle.qr_mending.specs.Modules.{DifferInFewModules};
 ghost use Rattle.qr_mending.specs.Series.{AreDamagedSquares, IsUnmendedSeries};
 
@@ -63,6 +64,19 @@ pub fn mended_readings_are_one()
     ensures { (g : Grid) (v w : ℕ) (l k : Level) (m n : ℕ) (p q : Content) (x y : List ℕ)
         → IsMendedReading g v l m p x → IsMendedReading g w k n q y
         → (v ≡ w) × (l ≡ k) × (m ≡ n) × (p ≡ q) × (x ≡ y) }
+{}
+
+/// A square has one number of wrong modules at most.
+pub fn wrong_modules_are_one()
+    ensures { (g : Grid) (v w : ℕ) (l k : Level) (m n : ℕ) (x y : List ℕ) (a b : ℕ)
+        → HasWrongModules g v l m x a → HasWrongModules g w k n y b → a ≡ b }
+{}
+
+/// A square has no wrong module exactly if it is the symbol of which it is a damaged form.
+pub fn sound_squares_are_symbols()
+    ensures { (g : Grid) (v : ℕ) (l : Level) (mask : ℕ) (changed : List ℕ) (wrong : ℕ)
+        → IsSquare g.side g → (w : HasWrongModules g v l mask changed wrong)
+        → (wrong ≡ 0) ↔ (g ≡ grid_of v l mask w.differs.codewords) }
 {}
 
 /// A square that is read without mending is read as the same content with it, and no codeword is changed.

@@ -1,20 +1,20 @@
 //! The reading of a damaged symbol (ISO/IEC 18004:2015, 7.5.1, 7.9.1 and 12).
 
-ghost use Rattle.std.specs.Prelude.{◌≡◌, length, IfErr, IfOk, MatchOption, MatchResult};
+ghost use Rattle.std.specs.Prelude.{◌≡◌, ◌<◌, length, IfErr, IfOk, MatchOption, MatchResult};
 ghost use Rattle.qr_layout.specs.Blocks.{data_codewords_of};
 ghost use Rattle.qr_layout.specs.Version.{side_of};
 ghost use Rattle.qr_symbol.specs.declared.fault.ReadFault.{ReadFault};
 ghost use Rattle.qr_mending.specs.declared.format.FormatCopy.{FormatCopy};
 ghost use Rattle.qr_mending.specs.Format.{IsNearFormat};
-ghost use Rattle.qr_mending.specs.Mending.{wrong_format_modules, HasFormat, HoldsDamaged, IsMendedReading, IsOfNoUse, IsUnmended};
+ghost use Rattle.qr_mending.specs.Mending.{wrong_format_modules, DiffersFromSymbol, HasFormat, HasWrongModules, HoldsDamaged, IsMendedReading, IsOfNoUse, IsUnmended};
 
 use crate::format::{FormatCopy, near_format_of, near_format_of_either, wrong_format_modules};
 use crate::message::{MendedMessage, mend_message};
 use qr_bits::{Parsed, parse};
 use qr_layout::{Level, Version};
-use qr_matrix::Matrix;
-use qr_symbol::{ReadFault, read_codewords};
-use std::alloc::Global;
+use qr_matrix::{Matrix, differences};
+use qr_symbol::{ReadFault, draw_symbol, interleave, read_codewords};
+use std::alloc::{AllocError, Global};
 
 // The message of a damaged symbol, with the level and the mask that it was mended under.
 #[derive(Drop)]
@@ -75,6 +75,25 @@ fn mend_by_either(
     }
 }
 
+// How many modules of the square are not those of the symbol that the message has. The symbol is drawn.
+fn count_wrong_modules(
+    alloc: Global,
+    version: Version,
+    level: Level,
+    mask: u8,
+    message: &[u8],
+    matrix: &Matrix,
+) -> Result<u32, AllocError>
+    requires whole { length message.now ≡ data_codewords_of version level }
+    requires mask_in { mask < 8 }
+    requires side { matrix.now.side ≡ side_of version }
+    ensures { IfOk result (DiffersFromSymbol matrix.now version level mask message.now) }
+{
+    let codewords = interleave(alloc, version, level, message)?;
+    let symbol = draw_symbol(alloc, version, level, &codewords, mask)?;
+    Ok(differences(matrix, &symbol))
+}
+
 /// What a damaged symbol says, and how much of its error correction that took.
 #[derive(Drop)]
 pub struct Mended {
@@ -88,6 +107,9 @@ pub struct Mended {
     pub parsed: Parsed,
     /// How many of the 30 modules of format information were wrong, both copies taken together.
     pub wrong_format_modules: u8,
+    /// How many modules of the whole square are not those of the symbol that the content's codewords have: function patterns,
+    /// version information and remainder bits too. 0 exactly if the square is that symbol.
+    pub wrong_modules: u32,
     /// How many codewords of each block were changed.
     pub changed: Vec<usize>,
 }
@@ -95,8 +117,8 @@ pub struct Mended {
 /// Reads a symbol and mends its damage (ISO/IEC 18004:2015, 7.5.1, 7.9.1 and 12). The version is told by the side. The level
 /// and the mask are those whose format information differs in three modules at most from the copy beside the top left finder
 /// pattern; if there are none, or if some block cannot be mended under them, they are those of the other copy. In each block
-/// as many codewords are mended as the level allows. The function patterns, the version information and the remainder bits
-/// are ignored.
+/// as many codewords are mended as the level allows. For the reading, the function patterns, the version information and the
+/// remainder bits are ignored; that they are wrong is told by the number of wrong modules.
 ///
 /// # Errors
 ///
@@ -107,6 +129,8 @@ pub fn mend_symbol(alloc: Global, matrix: &Matrix) -> Result<Mended, ReadFault>
     ensures mended { MatchResult result
         (λ m. IsMendedReading matrix.now m.version m.level m.mask m.parsed m.changed.items) (IsUnmended matrix.now) }
     ensures format { IfOk result (λ m. m.wrong_format_modules ≡ wrong_format_modules matrix.now m.level m.mask) }
+    ensures modules { IfOk result
+        (λ m. HasWrongModules matrix.now m.version m.level m.mask m.changed.items m.wrong_modules) }
 {
     let Some(version) = Version::of_side(matrix.side()) else {
         return Err(ReadFault::Side);
@@ -125,12 +149,14 @@ pub fn mend_symbol(alloc: Global, matrix: &Matrix) -> Result<Mended, ReadFault>
     } = mended;
     let parsed = parse(alloc, &message, version)?;
     let wrong_format_modules = wrong_format_modules(matrix, version, level, mask);
+    let wrong_modules = count_wrong_modules(alloc, version, level, mask, &message, matrix)?;
     Ok(Mended {
         version,
         level,
         mask,
         parsed,
         wrong_format_modules,
+        wrong_modules,
         changed,
     })
 }
@@ -142,12 +168,12 @@ mod tests {
     use qr_symbol::build_masked;
     use std::test::Fail;
 
-    // Inverts some modules of the symbol of `01234567` at 1-M, and returns how many codewords were changed and how many
-    // modules of format information were wrong, or why it is not mended.
+    // Inverts some modules of the symbol of `01234567` at 1-M, and returns how many codewords were changed, how many modules
+    // of format information were wrong, and how many modules in all, or why it is not mended.
     fn mend_inverted(
         rt: &HostRuntime,
         modules: &[(u8, u8)],
-    ) -> Result<Result<(usize, u8), ReadFault>, Fail> {
+    ) -> Result<Result<(usize, u8, u32), ReadFault>, Fail> {
         let version = Version::FIRST;
         if version.total_codewords() != 26 {
             return Err("26 codewords".into());
@@ -167,7 +193,7 @@ mod tests {
                     return Err("something else is read".into());
                 }
                 let changed = mended.changed.first().copied().ok_or("a block")?;
-                Ok(Ok((changed, mended.wrong_format_modules)))
+                Ok(Ok((changed, mended.wrong_format_modules, mended.wrong_modules)))
             }
         }
     }
@@ -186,19 +212,29 @@ mod tests {
             (8, 18),
             (8, 17),
         ];
+        let patterns = [(6u8, 9u8), (0, 0)];
         let codewords = [(20u8, 20u8), (16, 20), (12, 20), (9, 18), (13, 18)];
         let rows = [
-            ("as drawn", &first[..0], Ok((0, 0))),
-            ("three modules of the first copy", &first[..3], Ok((0, 3))),
-            ("four of the first copy", &first[..], Ok((0, 4))),
+            ("as drawn", &first[..0], Ok((0, 0, 0))),
+            (
+                "three modules of the first copy",
+                &first[..3],
+                Ok((0, 3, 3)),
+            ),
+            ("four of the first copy", &first[..], Ok((0, 4, 4))),
             (
                 "four of one copy, three of the other",
                 &both[..7],
-                Ok((0, 7)),
+                Ok((0, 7, 7)),
+            ),
+            (
+                "a timing module and one of a finder pattern",
+                &patterns[..],
+                Ok((0, 0, 2)),
             ),
             ("four of both copies", &both[..], Err(ReadFault::Format)),
-            ("one codeword", &codewords[..1], Ok((1, 0))),
-            ("four codewords", &codewords[..4], Ok((4, 0))),
+            ("one codeword", &codewords[..1], Ok((1, 0, 1))),
+            ("four codewords", &codewords[..4], Ok((4, 0, 4))),
             ("five codewords", &codewords[..], Err(ReadFault::Check)),
         ];
         for (name, modules, wanted) in rows {

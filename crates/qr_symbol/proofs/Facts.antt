@@ -4,7 +4,7 @@ pub use Rattle.qr_symbol.proofs.DistanceLemmas.{messages-apart, parts-same}
 pub use Rattle.qr_symbol.proofs.FormatLemmas.{format-read, level-one, level-small}
 pub use Rattle.qr_symbol.proofs.GatherLemmas.{gather-some}
 pub use Rattle.qr_symbol.proofs.JoiningLemmas.{joined-refused, joining-one, readings-next, readings-none, unjoined-next, unjoined-one}
-pub use Rattle.qr_symbol.proofs.MessageLemmas.{checks-one, cuts-whole, data-cut-whole, ok-also}
+pub use Rattle.qr_symbol.proofs.MessageLemmas.{checks-one, cuts-whole, data-cut-whole, final-one, ok-also}
 pub use Rattle.qr_symbol.proofs.RankLemmas.{Mem-of-Contains, map-at, tag-of, tags-many, tags-one}
 pub use Rattle.qr_symbol.proofs.ReadLemmas.{bits-one, message-one, read-one, read-some}
 pub use Rattle.qr_symbol.proofs.RefusalLemmas.{exactly, moved}

@@ -27,4 +27,4 @@ pub use joining::{join, read_series};
 pub use qr_matrix::{Matrix, penalty};
 pub use reading::{read_codewords, read_symbol};
 pub use series::encode_series;
-pub use symbol::{Symbol, build_masked};
+pub use symbol::{Symbol, build_masked, draw_symbol};

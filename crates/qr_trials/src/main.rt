@@ -15,7 +15,7 @@ use std::env;
 use std::process::ExitCode;
 
 // The trials, in the order of the crates.
-static NAMES: [&str; 19] = [
+static NAMES: [&str; 20] = [
     "Matrix::new",
     "segments",
     "longest_fit",
@@ -30,6 +30,7 @@ static NAMES: [&str; 19] = [
     "encode_series",
     "read_symbol",
     "read_series",
+    "mend_symbol",
     "options",
     "run_series",
     "run_empty",
@@ -54,6 +55,7 @@ fn trial(alloc: Global, name: &str) -> Result<Answer, AllocError> {
         "encode_series" => symbols::encoded_series(alloc),
         "read_symbol" => symbols::read(alloc),
         "read_series" => symbols::read_whole_series(alloc),
+        "mend_symbol" => symbols::mended(alloc),
         "options" => command::settings(alloc),
         "run_series" => command::run_of_a_series(alloc),
         "run_empty" => command::run_of_no_byte(alloc),

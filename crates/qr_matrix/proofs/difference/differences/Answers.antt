@@ -1,0 +1,24 @@
+use Rattle.std.proofs.Common.{arith, ap, ◌∙◌, refl}
+use Rattle.qr_matrix.specs.Difference.{differs, difference_count}
+use Rattle.qr_matrix.specs.Penalty.{count_below, sum_below}
+use Rattle.qr_matrix.proofs.SumLemmas.{sum_below-more}
+use Rattle.qr_matrix.proofs.DifferenceLemmas.{row-differs}
+use Rattle.qr_matrix.proofs.difference.differences.Goals as goal
+
+pub loop-row-preserved : goal.loop-row-preserved
+loop-row-preserved c =
+    let g = c.args.a.now in
+    let h = c.args.b.now in
+    let r = c.loop-row.row in
+    let e = row-differs g h r c.bitxor.result c.line.result c.line-in-loop-row.result (omega (arith, c.line.ensures.few)) c.bitxor.ensures c.line.ensures.colours c.line-in-loop-row.ensures.colours c.line.ensures.past (λ k l. c.line-in-loop-row.ensures.past k (omega arith)) in
+    record {
+      counted = sum_below-more r _ _ _ (λ r. count_below g.side (differs g h r)) c.loop-row.invariant.counted (c.count-total.ensures.value ∙ e) refl;
+      small = omega arith;
+    }
+
+pub returns : goal.returns
+unfolding difference_count
+returns c =
+    let g = c.args.a.now in
+    let h = c.args.b.now in
+    c.loop-row.invariant.counted ∙ ap (λ z. sum_below z (λ r. count_below g.side (differs g h r))) (omega arith)

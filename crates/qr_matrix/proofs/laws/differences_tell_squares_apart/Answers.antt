@@ -1,0 +1,5 @@
+use Rattle.qr_matrix.proofs.DifferenceLemmas.{no-difference}
+use Rattle.qr_matrix.proofs.laws.differences_tell_squares_apart.Goals as goal
+
+pub returns : goal.returns
+returns c = no-difference

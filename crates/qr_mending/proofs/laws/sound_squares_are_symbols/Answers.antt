@@ -1,0 +1,5 @@
+use Rattle.qr_mending.proofs.SoundnessLemmas.{sound-is}
+use Rattle.qr_mending.proofs.laws.sound_squares_are_symbols.Goals as goal
+
+pub returns : goal.returns
+returns c = sound-is
