@@ -15,9 +15,9 @@ use Rattle.qr_symbol.proofs.Facts.{series-one, symbol-one}
 use Rattle.qrencode_cli.specs.Command.{IsDrawing, IsRefusal, Refuses, held, input_for}
 use Rattle.qrencode_cli.specs.Laws.{AnswersAreOne, RefusalsAreOne, RefusalsExcludeDrawings}
 use Rattle.qrencode_cli.specs.Arguments.{faults_for, rows_for}
-use Rattle.qrencode_cli.specs.Drawing.{drawn}
+use Rattle.qr_drawing.specs.Drawing.{drawn}
 use Rattle.qrencode_cli.specs.Settings.{Reason, SettingsView, checked_series, drawing_named, level_named, needs_version, no_matches, number_or, rule_for, settings_for, settings_of, settings_with, unknown_level, unknown_type}
-use Rattle.qrencode_cli.specs.declared.drawing.Drawing.{Drawing}
+use Rattle.qr_drawing.specs.declared.drawing.Drawing.{Drawing}
 use Rattle.qrencode_cli.specs.declared.fault.Refusal.{Refusal}
 use Rattle.qrencode_cli.specs.Picture.{AreSquares, AreSymbols, IsTooLong, IsTooMany, smallest_of}
 use Rattle.qrencode_cli.specs.declared.fault.Refusal.TheVariants as refusal

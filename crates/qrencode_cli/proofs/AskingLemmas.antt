@@ -4,7 +4,7 @@ use Rattle.std.proofs.lemmas.Bool.{cases_lt}
 use Rattle.std.proofs.lemmas.List.{take_min}
 use Rattle.std.specs.List.{All}
 use Rattle.std.proofs.lemmas.List.Elements.{All-cons, All-head, All-nil}
-use Rattle.qrencode_cli.specs.Drawing.{HaveOneSide}
+use Rattle.qr_drawing.specs.Drawing.{HaveOneSide}
 use Rattle.clap.specs.Walk.{Text}
 use Rattle.qr_bits.specs.declared.modes.TheConstants.{INPUT_MAX}
 use Rattle.qr_bits.specs.declared.modes.Rule.{Rule}
@@ -14,12 +14,12 @@ use Rattle.qr_symbol.specs.declared.fault.EncodeFault.{EncodeFault}
 use Rattle.qr_symbol.specs.declared.fault.EncodeFault.TheVariants as encode
 use Rattle.qr_symbol.specs.declared.symbol.Symbol.{Symbol}
 use Rattle.qr_matrix.specs.Grid.{Grid}
-use Rattle.qr_symbol.specs.Joining.{AreReadings, IsJoined}
+use Rattle.qr_symbol.specs.Joining.{AreReadBy, IsJoined}
 use Rattle.qr_symbol.specs.Reading.{IsReadBack}
 use Rattle.qr_symbol.specs.Series.{IsSeries, squares_of}
 use Rattle.qr_symbol.proofs.Facts.{long-has-no-series, series-few, series-side, series-some}
 use Rattle.qrencode_cli.specs.Command.{Asks, GivesInput, IsDrawing, IsFault, Reads, ReadsFor, held, input_for}
-use Rattle.qrencode_cli.specs.Device.{Reader}
+use Rattle.qr_devices.specs.Device.{Reader}
 use Rattle.qrencode_cli.specs.Steps.Fault.{fault_of_input, fault_of_words}
 use Rattle.qrencode_cli.specs.Input.{IsInputOf}
 use Rattle.qrencode_cli.specs.Settings.{IsUsageFault, Reason, SettingsView, rule_for, settings_for}
@@ -63,7 +63,7 @@ held-plain s input fold = rw fold refl
 
 -- a symbol that is read as the input is joined to it
 joined-one : (input : List ℕ) (v : ℕ) (b : Rule) (g : Grid) → IsReadBack v b input g → IsJoined (g ∷ []) input
-unfolding AreReadings
+unfolding AreReadBy
 joined-one input v b g h = record {
   contents = record { header = None; segments = h.0; bytes = input } ∷ [];
   read = (h.2, tt);

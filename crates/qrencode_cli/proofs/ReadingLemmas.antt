@@ -5,8 +5,8 @@ use Rattle.std.proofs.Math.Seq.{take-append_seam}
 use Rattle.qr_bits.specs.declared.modes.TheConstants.{INPUT_MAX}
 use Rattle.qrencode_cli.specs.Input.{IsInputOf}
 use Rattle.std.specs.Io.KnownBytes.{Consumes, IsAtEnd}
-use Rattle.qrencode_cli.specs.Device.{no_reads}
-use Rattle.qrencode_cli.specs.declared.device.ReadCounts.{ReadCounts}
+use Rattle.qr_devices.specs.Device.{no_reads}
+use Rattle.qr_devices.specs.declared.device.ReadCounts.{ReadCounts}
 
 -- the counts of a device that began with none and has given so many bytes, with so many interruptions
 pub record IsCounted (c : ReadCounts) (len interrupted : ℕ) : Type 0 where

@@ -3,14 +3,14 @@ use Rattle.std.proofs.Common.{◌≤◌, arith, ◌≡◌, ◌∙◌, ℕ, List,
 use Rattle.std.specs.Io.KnownBytes.{Appends}
 use Rattle.clap.specs.Walk.{Text}
 use Rattle.qrencode_cli.specs.Command.{Breaks, Draws, IsTold, Reads, ReadsFor, Shows}
-use Rattle.qrencode_cli.specs.Device.{AppendsBeginning, Reader, Writer, counted, is_write_fault, no_writes}
+use Rattle.qr_devices.specs.Device.{AppendsBeginning, Reader, Writer, counted, is_write_fault, no_writes}
 use Rattle.qrencode_cli.specs.Fault.{fault_line}
 use Rattle.qrencode_cli.specs.Settings.{Reason, SettingsView, settings_for}
 use Rattle.qrencode_cli.specs.Steps.Command.{Attempts, IsEarly, Prepares, drawing_of}
 use Rattle.qrencode_cli.specs.declared.fault.Fault.{Fault}
 use Rattle.qrencode_cli.specs.declared.fault.Fault.TheVariants as fault
 use Rattle.qrencode_cli.specs.declared.picture.Picture.{Picture}
-use Rattle.qrencode_cli.specs.declared.pen.DrawFault.{DrawFault}
+use Rattle.qr_drawing.specs.declared.pen.DrawFault.{DrawFault}
 
 -- showing a picture reads nothing more
 reads-on : (o : Result SettingsView Reason) (in0 in1 : Reader) (given : List ℕ) (p : Picture) (r : Result (Unit {0}) Fault)

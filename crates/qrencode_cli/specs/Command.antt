@@ -8,11 +8,11 @@ use Rattle.qr_bits.specs.declared.modes.TheConstants.{INPUT_MAX}
 use Rattle.qr_bits.specs.Folding.{folded}
 use Rattle.qr_matrix.specs.Grid.{Grid}
 use Rattle.qr_symbol.specs.Joining.{IsJoined}
-use Rattle.qrencode_cli.specs.declared.pen.TheConstants.{WRITE_MAX}
-use Rattle.qrencode_cli.specs.Device.{AppendsBeginning, IsReadWithin, IsWrittenWithin, Reader, Writer, counted, is_read_fault, is_write_fault, no_reads, no_writes}
-use Rattle.qrencode_cli.specs.Drawing.{drawn}
+use Rattle.qr_drawing.specs.declared.pen.TheConstants.{WRITE_MAX}
+use Rattle.qr_devices.specs.Device.{AppendsBeginning, IsWrittenWithin, Reader, Writer, counted, is_read_fault, is_write_fault, no_reads, no_writes}
+use Rattle.qr_drawing.specs.Drawing.{drawn}
 use Rattle.qrencode_cli.specs.Fault.{fault_line}
-use Rattle.qrencode_cli.specs.Input.{IsInputOf}
+use Rattle.qrencode_cli.specs.Input.{IsInputOf, IsReadWithin}
 use Rattle.qrencode_cli.specs.Settings.{Reason, SettingsView, needs_version, no_matches, rule_for, settings_for, unknown_level, unknown_type}
 use Rattle.qrencode_cli.specs.Picture.{AreSymbols, IsTooLong, IsTooMany}
 use Rattle.qrencode_cli.specs.declared.fault.Fault.{Fault}

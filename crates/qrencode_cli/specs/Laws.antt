@@ -6,17 +6,15 @@ use Rattle.qr_layout.specs.declared.level.Level.TheVariants.{H, L, M, Q}
 use Rattle.qr_bits.specs.declared.modes.Rule.TheVariants.{Auto, BytesOnly, WithKanji}
 use Rattle.qr_bits.specs.Folding.{folded}
 use Rattle.qrencode_cli.specs.Command.{Asks, IsRefusal, Runs, held}
-use Rattle.qrencode_cli.specs.Device.{Reader, Writer}
+use Rattle.qr_devices.specs.Device.{Reader, Writer}
 use Rattle.qrencode_cli.specs.Fault.{fault_line}
 use Rattle.qrencode_cli.specs.Settings.{Reason, SettingsView, needs_version, no_matches, rule_for, settings_for, unknown_level, unknown_type, usage_fault_number}
-use Rattle.qrencode_cli.specs.Text.{ascii_module, half_blocks, line_count}
-use Rattle.qrencode_cli.specs.declared.drawing.Drawing.TheVariants.{Ascii, AsciiInverse, Svg, Utf8}
+use Rattle.qr_drawing.specs.declared.drawing.Drawing.TheVariants.{Ascii, AsciiInverse, Svg, Utf8}
 use Rattle.qrencode_cli.specs.declared.fault.Fault.{Fault}
 use Rattle.qrencode_cli.specs.declared.fault.Fault.TheVariants as fault
 use Rattle.qrencode_cli.specs.declared.fault.Refusal.{Refusal}
 use Rattle.qrencode_cli.specs.declared.fault.Refusal.TheVariants as refusal
 use Rattle.qrencode_cli.specs.declared.settings.UsageFault.TheVariants as usage
-use Rattle.qrencode_cli.specs.declared.text.Cells.TheVariants.{HalfBlocks}
 
 -- the settings of words that ask for an ASCII drawing and for nothing else [own]
 abbrev pub by_default : SettingsView
@@ -145,17 +143,6 @@ pub record LinesOfFaults : Type 0 where
   pub read : fault_line fault.Read ≡ codes "qrencode: read error\n"
   pub memory : fault_line fault.Memory ≡ codes "qrencode: out of memory\n"
   pub write : fault_line fault.Write ≡ codes "qrencode: write error\n"
-
--- The characters of a dark and a light module; those of two modules, one above the other: the space, U+2584, U+2580 and
--- U+2588 in UTF-8; and how many lines of the latter 29 rows make [own].
-pub record CharactersOfModules : Type 0 where
-  pub dark : ascii_module true ≡ codes "##"
-  pub light : ascii_module false ≡ codes "  "
-  pub both_dark : half_blocks true true ≡ codes " "
-  pub lower_light : half_blocks true false ≡ 0xE2 ∷ 0x96 ∷ 0x84 ∷ []
-  pub upper_light : half_blocks false true ≡ 0xE2 ∷ 0x96 ∷ 0x80 ∷ []
-  pub both_light : half_blocks false false ≡ 0xE2 ∷ 0x96 ∷ 0x88 ∷ []
-  pub odd_rows : line_count HalfBlocks 29 ≡ 15
 
 -- The number of each fault of words [own].
 pub record NumbersOfUsageFaults : Type 0 where

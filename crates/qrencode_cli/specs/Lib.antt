@@ -1,14 +1,8 @@
 pub mod Command
 pub mod Arguments
-pub mod Device
-pub mod Drawing
 pub mod Fault
 pub mod Input
-pub mod Raster
 pub mod Laws
 pub mod Settings
-pub mod Svg
-pub mod Text
 pub mod Picture
-pub mod Trial
 pub mod Steps

@@ -9,8 +9,8 @@ use Rattle.qr_bits.specs.declared.modes.Rule.TheVariants.{Auto, BytesOnly, WithK
 use Rattle.qr_layout.specs.declared.level.Level.{Level}
 use Rattle.qr_layout.specs.declared.level.Level.TheVariants as level
 use Rattle.qrencode_cli.specs.Arguments.{faults_for, rows_for}
-use Rattle.qrencode_cli.specs.declared.drawing.Drawing.{Drawing}
-use Rattle.qrencode_cli.specs.declared.drawing.Drawing.TheVariants as drawing
+use Rattle.qr_drawing.specs.declared.drawing.Drawing.{Drawing}
+use Rattle.qr_drawing.specs.declared.drawing.Drawing.TheVariants as drawing
 use Rattle.qrencode_cli.specs.declared.settings.UsageFault.{UsageFault}
 use Rattle.qrencode_cli.specs.declared.settings.UsageFault.TheVariants as usage
 

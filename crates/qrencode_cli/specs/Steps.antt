@@ -1,6 +1,3 @@
 -- Definitions of single steps. Only private clauses cite them, so that a reader need not believe them.
-pub mod Pen
 pub mod Command
-pub mod Writing
 pub mod Fault
-pub mod Text

@@ -3,19 +3,19 @@
 ghost use Rattle.std.specs.Prelude.{◌≡◌, ◌≤◌, ◌<◌, ◌↔◌, Err, OnOk, IfErr, IsErrOf, IsTrue, max, length, map};
 ghost use Rattle.std.specs.Prelude.{MatchResult, Result};
 ghost use Rattle.std.specs.String.{string_bytes};
+ghost use Rattle.qrencode_cli.specs.Input.{IsReadWithin};
 ghost use Rattle.qrencode_cli.specs.Command.{Breaks, Draws, IsDrawing, RunsTo, held};
-ghost use Rattle.qrencode_cli.specs.Device.{IsReadWithin, IsWrittenWithin, is_read_fault, is_write_fault, no_reads, no_writes};
+ghost use Rattle.qr_devices.specs.Device.{IsWrittenWithin, is_read_fault, is_write_fault, no_reads, no_writes};
 ghost use Rattle.qrencode_cli.specs.Steps.Command.{AreDrawnFor, Attempts, IsInputFault, Prepares, drawing_of};
 ghost use Rattle.qrencode_cli.specs.declared.fault.Fault.{Fault};
 
-use crate::device::{Sink, Source};
-use crate::drawing::draw;
 use crate::fault::Fault;
 use crate::input::read_input;
-use crate::pen::{WRITE_MAX, write_text};
 use crate::picture::Picture;
 use crate::settings::{Settings, options};
 use qr_bits::{INPUT_MAX, fold};
+use qr_devices::{Sink, Source};
+use qr_drawing::{WRITE_MAX, draw, write_text};
 use qr_layout::Version;
 use qr_symbol::{Symbol, encode, encode_series};
 use std::alloc::Global;

@@ -3,8 +3,8 @@
 ghost use Rattle.std.specs.Prelude.{◌≡◌};
 ghost use Rattle.qrencode_cli.specs.Fault.{fault_line, refusal_line};
 
-use crate::pen::DrawFault;
 use crate::settings::UsageFault;
+use qr_drawing::DrawFault;
 use qr_symbol::EncodeFault;
 use std::alloc::{AllocError, AllocFailed};
 

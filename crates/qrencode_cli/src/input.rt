@@ -2,13 +2,13 @@
 
 ghost use Rattle.std.specs.Prelude.{◌≡◌, ◌+◌, ◌≤◌, ◌↔◌, ◌⊎◌, IfErr, IfOk, IsTrue, IsErrOf, length};
 ghost use Rattle.std.specs.Io.KnownBytes.{Consumes};
-ghost use Rattle.qrencode_cli.specs.Device.{IsReadWithin, is_read_fault, no_reads};
-ghost use Rattle.qrencode_cli.specs.Input.{IsInputOf};
+ghost use Rattle.qr_devices.specs.Device.{is_read_fault, no_reads};
+ghost use Rattle.qrencode_cli.specs.Input.{IsInputOf, IsReadWithin};
 ghost use Rattle.qrencode_cli.specs.declared.fault.Fault.{Fault};
 
-use crate::device::{INTERRUPTIONS_MAX, Source, Trouble};
 use crate::fault::Fault;
 use qr_bits::INPUT_MAX;
+use qr_devices::{INTERRUPTIONS_MAX, Source, Trouble};
 use std::alloc::Global;
 
 const CHUNK: usize = 4096;

@@ -1,25 +1,15 @@
-//! The command `qrencode`: its words, its devices, its drawings and its run.
+//! The command `qrencode`: its words and its run. The devices and the drawings that it uses are passed on.
 #![tactic(auto)]
 
 mod arguments;
 mod command;
-mod counted;
-mod device;
-mod drawing;
 mod fault;
 mod input;
 pub mod laws;
-mod pen;
 mod picture;
 mod settings;
-mod svg;
-mod text;
-mod trial;
 
 pub use command::run;
-pub use counted::Counted;
-pub use device::{ReadCounts, Sink, Source, Trouble, WriteCounts};
-pub use drawing::{Drawing, draw};
-pub use pen::DrawFault;
+pub use qr_devices::{Counted, Manner, ReadCounts, Sink, Source, Trial, Trouble, WriteCounts};
+pub use qr_drawing::{DrawFault, Drawing, draw};
 pub use settings::{Settings, UsageFault, options};
-pub use trial::{Manner, Trial};

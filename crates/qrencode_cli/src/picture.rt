@@ -2,9 +2,9 @@
 
 ghost use Rattle.std.specs.Prelude.{◌<◌, ◌≤◌, length};
 ghost use Rattle.qr_symbol.specs.Series.{squares_of};
-ghost use Rattle.qrencode_cli.specs.Drawing.{HaveOneSide};
+ghost use Rattle.qr_drawing.specs.Drawing.{HaveOneSide};
 
-use crate::drawing::Drawing;
+use qr_drawing::Drawing;
 use qr_symbol::Symbol;
 
 /// One symbol, or those of a series, and how they are drawn.

@@ -11,9 +11,9 @@ ghost use Rattle.qrencode_cli.specs.declared.settings.UsageFault.{UsageFault};
 ghost use Rattle.std.specs.Global.{Global};
 
 use crate::arguments::matches;
-use crate::drawing::Drawing;
 use clap::ArgMatches;
 use qr_bits::Rule;
+use qr_drawing::Drawing;
 use qr_layout::{Level, Version};
 use std::alloc::{AllocError, Global};
 use std::marker::Model;

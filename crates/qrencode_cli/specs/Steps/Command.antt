@@ -2,12 +2,12 @@
 use Rattle.std.specs.Prelude.{◌≡◌, ◌<◌, ◌≤◌, ℕ, List, [], length, IfErr, Result, MatchResult}
 use Rattle.clap.specs.Walk.{Text}
 use Rattle.qrencode_cli.specs.Command.{Asks, IsFault, ReadsFor, Shows}
-use Rattle.qrencode_cli.specs.Device.{Reader, Writer}
+use Rattle.qr_devices.specs.Device.{Reader, Writer}
 use Rattle.qr_bits.specs.declared.modes.TheConstants.{INPUT_MAX}
 use Rattle.qr_symbol.specs.declared.symbol.Symbol.{Symbol}
 use Rattle.qr_symbol.specs.Joining.{IsJoined}
 use Rattle.qr_symbol.specs.Series.{squares_of}
-use Rattle.qrencode_cli.specs.Drawing.{HaveOneSide, drawn}
+use Rattle.qr_drawing.specs.Drawing.{HaveOneSide, drawn}
 use Rattle.qrencode_cli.specs.Input.{IsInputOf}
 use Rattle.qrencode_cli.specs.Settings.{SettingsView, settings_for}
 use Rattle.qrencode_cli.specs.Picture.{AreSymbols, IsTooLong, IsTooMany}

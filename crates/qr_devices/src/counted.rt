@@ -1,0 +1,70 @@
+//! A reader or a writer of std as a device whose calls are counted.
+
+ghost use Rattle.std.specs.Prelude.{◌≡◌, ◌↔◌};
+ghost use Rattle.std.specs.IoError.{error_kind};
+ghost use Rattle.std.specs.declared.io.ErrorKind.{ErrorKind};
+ghost use Rattle.qr_devices.specs.Device.{no_reads, no_writes};
+
+use crate::device::{ReadCounts, Sink, Source, Trouble, WriteCounts};
+use std::io::{self, ErrorKind, Read, Write};
+
+// What an error of std is to a device.
+fn trouble_of(error: io::Error) -> Trouble
+    ensures { result ≡ Trouble.Interrupted ↔ error_kind error ≡ ErrorKind.Interrupted }
+{
+    if error.kind() == ErrorKind::Interrupted {
+        Trouble::Interrupted
+    } else {
+        Trouble::Failed
+    }
+}
+
+/// A reader or a writer of std. Its bytes are those that `inner` tells: known for bytes in memory,
+/// unknown for a file, a pipe or a terminal.
+#[derive(Drop)]
+pub struct Counted<T> {
+    inner: T,
+    reads: ReadCounts,
+    writes: WriteCounts,
+}
+
+impl<T> Counted<T> {
+    /// A device over `inner`, with all counts at 0.
+    pub fn new(inner: T) -> Self
+        ensures inner { result.inner ≡ inner }
+        ensures reads { result.reads ≡ no_reads }
+        ensures writes { result.writes ≡ no_writes }
+    {
+        Counted {
+            inner,
+            reads: ReadCounts::NONE,
+            writes: WriteCounts::NONE,
+        }
+    }
+}
+
+impl<R: Read> Source for Counted<R> {
+    ghost device = { λ c. record { remaining = R.remaining c.inner; counts = c.reads } };
+
+    fn read(&mut self, buf: &mut [u8]) -> Result<usize, Trouble> {
+        let answer = self.inner.read(buf).map_err(trouble_of);
+        self.reads.add(buf.len(), answer);
+        answer
+    }
+}
+
+impl<W: Write> Sink for Counted<W> {
+    ghost device = { λ c. record { taken = W.contents c.inner; counts = c.writes } };
+
+    fn write(&mut self, buf: &[u8]) -> Result<usize, Trouble> {
+        let answer = self.inner.write(buf).map_err(trouble_of);
+        self.writes.add(buf.len(), answer);
+        answer
+    }
+
+    fn flush(&mut self) -> Result<(), Trouble> {
+        let answer = self.inner.flush().map_err(trouble_of);
+        self.writes.add_flush(answer);
+        answer
+    }
+}

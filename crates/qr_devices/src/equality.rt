@@ -1,0 +1,98 @@
+//! Equality and clones of the public types: values are equal exactly if they are the same, and a clone is the same value.
+
+ghost use Rattle.std.specs.Prelude.{◌≡◌, ◌↔◌, IsTrue, IfOk};
+
+use crate::device::{ReadCounts, Trouble, WriteCounts};
+use crate::trial::Manner;
+use std::alloc::AllocError;
+
+/// Two troubles of a device compare as equal exactly where they are the same.
+pub fn troubles_are_equal(a: Trouble, b: Trouble) -> bool
+    ensures { IsTrue result ↔ (a ≡ b) }
+{
+    a == b
+}
+
+/// Two counts of reads compare as equal exactly where they are the same.
+pub fn read_counts_are_equal(a: ReadCounts, b: ReadCounts) -> bool
+    ensures { IsTrue result ↔ (a ≡ b) }
+{
+    a == b
+}
+
+/// Two counts of writes compare as equal exactly where they are the same.
+pub fn write_counts_are_equal(a: WriteCounts, b: WriteCounts) -> bool
+    ensures { IsTrue result ↔ (a ≡ b) }
+{
+    a == b
+}
+
+/// Two manners of a device compare as equal exactly where they are the same.
+pub fn manners_are_equal(a: Manner, b: Manner) -> bool
+    ensures { IsTrue result ↔ (a ≡ b) }
+{
+    a == b
+}
+
+/// A clone of a trouble is the same trouble.
+pub fn trouble_clones(a: Trouble) -> Result<Trouble, AllocError>
+    ensures { IfOk result (λ b. b ≡ a) }
+{
+    a.clone()
+}
+
+/// A clone of counts of reads is the same counts.
+pub fn read_counts_clones(a: ReadCounts) -> Result<ReadCounts, AllocError>
+    ensures { IfOk result (λ b. b ≡ a) }
+{
+    a.clone()
+}
+
+/// A clone of counts of writes is the same counts.
+pub fn write_counts_clones(a: WriteCounts) -> Result<WriteCounts, AllocError>
+    ensures { IfOk result (λ b. b ≡ a) }
+{
+    a.clone()
+}
+
+/// A clone of a manner is the same manner.
+pub fn manner_clones(a: Manner) -> Result<Manner, AllocError>
+    ensures { IfOk result (λ b. b ≡ a) }
+{
+    a.clone()
+}
+
+#[cfg(test)]
+mod tests {
+    use super::*;
+    use std::test::Fail;
+
+    // Equal where each field is, and unequal where one is not.
+    #[test]
+    fn equal_and_unequal_values(rt: HostRuntime) -> Result<(), Fail> {
+        let (interrupted, failed) = (Trouble::Interrupted, Trouble::Failed);
+        assert!(rt; troubles_are_equal(failed, failed) && !troubles_are_equal(failed, interrupted));
+        let mut read = ReadCounts::NONE;
+        assert!(rt; read_counts_are_equal(read, ReadCounts::NONE));
+        read.calls = 1;
+        assert!(rt; !read_counts_are_equal(read, ReadCounts::NONE));
+        let mut written = WriteCounts::NONE;
+        assert!(rt; write_counts_are_equal(written, WriteCounts::NONE));
+        written.settled = true;
+        assert!(rt; !write_counts_are_equal(written, WriteCounts::NONE));
+        let mut manner = Manner::WELL;
+        assert!(rt; manners_are_equal(manner, Manner::WELL));
+        manner.flush_fails = true;
+        assert!(rt; !manners_are_equal(manner, Manner::WELL));
+        Ok(())
+    }
+
+    #[test]
+    fn clones(rt: HostRuntime) -> Result<(), Fail> {
+        assert_eq!(rt; trouble_clones(Trouble::Failed)?, Trouble::Failed);
+        assert_eq!(rt; read_counts_clones(ReadCounts::NONE)?, ReadCounts::NONE);
+        assert_eq!(rt; write_counts_clones(WriteCounts::NONE)?, WriteCounts::NONE);
+        assert_eq!(rt; manner_clones(Manner::WELL)?, Manner::WELL);
+        Ok(())
+    }
+}

@@ -1,0 +1,26 @@
+//! Laws of devices.
+
+ghost use Rattle.std.specs.Prelude.{◌≡◌, ◌-◌, ◌^◌, false};
+ghost use Rattle.qr_devices.specs.declared.device.TheConstants.{INTERRUPTIONS_MAX};
+
+pub use crate::equality::{
+    manner_clones, manners_are_equal, read_counts_are_equal, read_counts_clones, trouble_clones,
+    troubles_are_equal, write_counts_are_equal, write_counts_clones,
+};
+use crate::trial::Manner;
+
+/// A device with no fault moves all that there is, is never interrupted, and never fails.
+pub fn well() -> Manner
+    ensures at_most { result.at_most ≡ 2 ^ 64 - 1 }
+    ensures interruptions { result.interruptions ≡ 0 }
+    ensures fails_from { result.fails_from ≡ 2 ^ 64 - 1 }
+    ensures stops_from { result.stops_from ≡ 2 ^ 64 - 1 }
+    ensures flush_fails { result.flush_fails ≡ false }
+{
+    Manner::WELL
+}
+
+/// Interruptions of one device are tried again 999 times.
+pub fn interruptions_are_limited()
+    ensures { INTERRUPTIONS_MAX ≡ 999 }
+{}

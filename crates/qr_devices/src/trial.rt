@@ -1,0 +1,215 @@
+//! A device over bytes in memory, for tests: it can be slow, interrupted, failing or full.
+
+ghost use Rattle.std.specs.Prelude.{◌≡◌, ◌+◌, ◌≤◌, ◌<◌, ◌++◌, [], take, length, Some, IfOk};
+ghost use Rattle.std.specs.Vec.{vec_len, vec_capacity};
+
+use crate::device::{ReadCounts, Sink, Source, Trouble, WriteCounts};
+use std::alloc::{AllocError, Global};
+
+/// How a device is to misbehave. Calls are counted from 0.
+#[derive(Clone, Copy, Debug, PartialEq, Eq)]
+pub struct Manner {
+    /// The most bytes that a call gives or takes; at least one is moved where there is one.
+    pub at_most: usize,
+    /// How many calls are interrupted before any works.
+    pub interruptions: u64,
+    /// The call from which on each read or write fails.
+    pub fails_from: u64,
+    /// The call from which on each write answers 0.
+    pub stops_from: u64,
+    /// Whether each flush fails.
+    pub flush_fails: bool,
+}
+
+impl Manner {
+    /// A device with no fault.
+    pub const WELL: Manner = Manner {
+        at_most: usize::MAX,
+        interruptions: 0,
+        fails_from: u64::MAX,
+        stops_from: u64::MAX,
+        flush_fails: false,
+    };
+}
+
+/// Bytes in memory that can be read, or room for bytes that are written. A full one answers 0.
+#[derive(Drop)]
+pub struct Trial {
+    bytes: Vec<u8>,
+    position: usize,
+    room: usize,
+    manner: Manner,
+    reads: ReadCounts,
+    writes: WriteCounts,
+    ghost within: { position ≤ vec_len bytes },
+    ghost roomy: { room ≤ vec_capacity bytes },
+}
+
+impl Trial {
+    ghost use Rattle.qr_devices.specs.Device.{no_reads, no_writes};
+    ghost use Rattle.qr_devices.specs.Trial.{bytes_held, bytes_left, moved};
+
+    /// A device that gives `bytes`.
+    pub fn reader(alloc: Global, bytes: &[u8], manner: Manner) -> Result<Trial, AllocError>
+        ensures left { IfOk result (λ t. bytes_left t ≡ bytes.now) }
+        ensures unread { IfOk result (λ t. t.reads ≡ no_reads) }
+        ensures manner { IfOk result (λ t. t.manner ≡ manner) }
+    {
+        Ok(Trial {
+            bytes: Vec::from_slice(alloc, bytes)?,
+            position: 0,
+            room: 0,
+            manner,
+            reads: ReadCounts::NONE,
+            writes: WriteCounts::NONE,
+        })
+    }
+
+    /// A device that takes `room` bytes, for which it has the memory.
+    pub fn writer(alloc: Global, room: usize, manner: Manner) -> Result<Trial, AllocError>
+        ensures held { IfOk result (λ t. bytes_held t ≡ []) }
+        ensures unwritten { IfOk result (λ t. t.writes ≡ no_writes) }
+        ensures manner { IfOk result (λ t. t.manner ≡ manner) }
+        ensures room { IfOk result (λ t. t.room ≡ room) }
+    {
+        Ok(Trial {
+            bytes: Vec::with_capacity(alloc, room)?,
+            position: 0,
+            room,
+            manner,
+            reads: ReadCounts::NONE,
+            writes: WriteCounts::NONE,
+        })
+    }
+
+    /// The bytes that it holds.
+    pub fn bytes(&self) -> &[u8]
+        ensures { result.now ≡ bytes_held self.now }
+    {
+        self.bytes.as_slice()
+    }
+
+    /// How the reads so far went.
+    pub fn reads(&self) -> ReadCounts
+        ensures { result ≡ self.now.reads }
+    {
+        self.reads
+    }
+
+    /// How the writes and flushes so far went.
+    pub fn writes(&self) -> WriteCounts
+        ensures { result ≡ self.now.writes }
+    {
+        self.writes
+    }
+
+    // Gives the next `n` bytes to the front of `buf`.
+    fn give(&mut self, buf: &mut [u8], n: usize)
+        requires there { self.old.position + n ≤ vec_len self.old.bytes }
+        requires fits { n ≤ length buf.old }
+        ensures given { bytes_left self.old ≡ take n buf.new ++ bytes_left self.new }
+        ensures position { self.new.position ≡ self.old.position + n }
+        ensures bytes { self.new.bytes ≡ self.old.bytes }
+        ensures reads { self.new.reads ≡ self.old.reads }
+        ensures manner { self.new.manner ≡ self.old.manner }
+    {
+        let end = self.position + n;
+        buf[..n].copy_from_slice(&self.bytes.as_slice()[self.position..end]);
+        self.position = end;
+    }
+
+    // How many bytes a call moves, of those there are.
+    fn moved(&self, call: u64, there: usize) -> Result<usize, Trouble>
+        ensures value { result ≡ moved self.now.manner call there }
+        ensures bound { IfOk result (λ n. n ≤ there) }
+        ensures some { IfOk result (λ n. 0 < there → 0 < n) }
+    {
+        if call < self.manner.interruptions {
+            Err(Trouble::Interrupted)
+        } else if call >= self.manner.fails_from {
+            Err(Trouble::Failed)
+        } else {
+            Ok(there.min(self.manner.at_most.max(1)))
+        }
+    }
+}
+
+impl Source for Trial {
+    ghost use Rattle.std.specs.Prelude.{◌≡◌, ◌≤◌, IfOk, Some, length, min};
+    ghost use Rattle.std.specs.Io.KnownBytes.{ReadConsumes};
+    ghost use Rattle.qr_devices.specs.Device.{read_counted};
+    ghost use Rattle.qr_devices.specs.Trial.{bytes_left, moved};
+
+    ghost device = { λ t. record { remaining = Some (bytes_left t); counts = t.reads } };
+
+    fn read(&mut self, buf: &mut [u8]) -> Result<usize, Trouble>
+        ensures bound { IfOk result (λ n. n ≤ length buf.new) }
+        ensures bytes { ReadConsumes (Some (bytes_left self.old)) (Some (bytes_left self.new)) result buf.new }
+        ensures counted { self.new.reads ≡ read_counted (length buf.new) result self.old.reads }
+        ensures answer { result ≡ moved self.old.manner self.old.reads.calls (min (length (bytes_left self.old)) (length buf.old)) }
+        ensures manner { self.new.manner ≡ self.old.manner }
+    {
+        let left = self.bytes.len() - self.position;
+        let answer = match self.moved(self.reads.calls, left.min(buf.len())) {
+            Ok(n) => {
+                self.give(buf, n);
+                Ok(n)
+            }
+            Err(trouble) => Err(trouble),
+        };
+        self.reads.add(buf.len(), answer);
+        answer
+    }
+}
+
+impl Sink for Trial {
+    ghost use Rattle.std.specs.Prelude.{◌≡◌, ◌≤◌, IfOk, Ok, Err, if◌then◌else◌, length, min, Some};
+    ghost use Rattle.std.specs.Io.KnownBytes.{Keeps, WriteAppends};
+    ghost use Rattle.qr_devices.specs.Device.{flush_counted, write_counted};
+    ghost use Rattle.qr_devices.specs.Trial.{bytes_held, free_of, moved};
+
+    ghost device = { λ t. record { taken = Some (bytes_held t); counts = t.writes } };
+
+    fn write(&mut self, buf: &[u8]) -> Result<usize, Trouble>
+        ensures bound { IfOk result (λ n. n ≤ length buf.now) }
+        ensures bytes { WriteAppends (Some (bytes_held self.old)) (Some (bytes_held self.new)) result buf.now }
+        ensures counted { self.new.writes ≡ write_counted (length buf.now) result self.old.writes }
+        ensures answer { result ≡ moved self.old.manner self.old.writes.calls (min (free_of self.old) (length buf.now)) }
+        ensures manner { self.new.manner ≡ self.old.manner }
+        ensures room { self.new.room ≡ self.old.room }
+    {
+        let free = if self.writes.calls < self.manner.stops_from {
+            self.room.saturating_sub(self.bytes.len())
+        } else {
+            0
+        };
+        let answer = match self.moved(self.writes.calls, free.min(buf.len())) {
+            Ok(n) => {
+                if self.bytes.extend_from_slice(&buf[..n]).is_ok() {
+                    Ok(n)
+                } else {
+                    Ok(0)
+                }
+            }
+            Err(trouble) => Err(trouble),
+        };
+        self.writes.add(buf.len(), answer);
+        answer
+    }
+
+    fn flush(&mut self) -> Result<(), Trouble>
+        ensures bytes { Keeps (Some (bytes_held self.old)) (Some (bytes_held self.new)) }
+        ensures counted { self.new.writes ≡ flush_counted result self.old.writes }
+        ensures answer { result ≡ (if self.old.manner.flush_fails then Err Trouble.Failed else Ok tt) }
+        ensures manner { self.new.manner ≡ self.old.manner }
+        ensures room { self.new.room ≡ self.old.room }
+    {
+        let answer = if self.manner.flush_fails {
+            Err(Trouble::Failed)
+        } else {
+            Ok(())
+        };
+        self.writes.add_flush(answer);
+        answer
+    }
+}

@@ -1,0 +1,20 @@
+-- The drawings of symbols, of each kind. Public clauses cite this file.
+use Rattle.std.specs.Prelude.{◌≡◌, ℕ, List}
+use Rattle.std.specs.List.{All, flat_map}
+use Rattle.qr_matrix.specs.Grid.{Grid}
+use Rattle.qr_drawing.specs.declared.drawing.Drawing.{Drawing}
+use Rattle.qr_drawing.specs.declared.drawing.Drawing.TheVariants.{Ascii, AsciiInverse, Utf8, Svg}
+use Rattle.qr_drawing.specs.Svg.{square_at, svg_document}
+use Rattle.qr_drawing.specs.Text.{text_drawing}
+use Rattle.qr_drawing.specs.declared.text.Cells.TheVariants.{Plain, Inverse, HalfBlocks}
+
+-- the squares are of one side, that of the first [own]
+abbrev pub HaveOneSide : List Grid → Type 0
+HaveOneSide squares = All (λ g. g.side ≡ (square_at squares 0).side) squares
+
+-- the drawing of symbols: their texts one after the other, or one document [own]
+abbrev pub drawn : Drawing → ℕ → List Grid → List ℕ
+drawn Ascii margin squares = flat_map (text_drawing Plain margin) squares
+drawn AsciiInverse margin squares = flat_map (text_drawing Inverse margin) squares
+drawn Utf8 margin squares = flat_map (text_drawing HalfBlocks margin) squares
+drawn Svg margin squares = svg_document margin squares

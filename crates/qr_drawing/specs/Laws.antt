@@ -1,0 +1,15 @@
+-- The characters of the drawings. Public laws cite this file.
+use Rattle.std.specs.Prelude.{◌≡◌, [], ◌∷◌, codes, true, false}
+use Rattle.qr_drawing.specs.Text.{ascii_module, half_blocks, line_count}
+use Rattle.qr_drawing.specs.declared.text.Cells.TheVariants.{HalfBlocks}
+
+-- The characters of a dark and a light module; those of two modules, one above the other: the space, U+2584, U+2580 and
+-- U+2588 in UTF-8; and how many lines of the latter 29 rows make [own].
+pub record CharactersOfModules : Type 0 where
+  pub dark : ascii_module true ≡ codes "##"
+  pub light : ascii_module false ≡ codes "  "
+  pub both_dark : half_blocks true true ≡ codes " "
+  pub lower_light : half_blocks true false ≡ 0xE2 ∷ 0x96 ∷ 0x84 ∷ []
+  pub upper_light : half_blocks false true ≡ 0xE2 ∷ 0x96 ∷ 0x80 ∷ []
+  pub both_light : half_blocks false false ≡ 0xE2 ∷ 0x96 ∷ 0x88 ∷ []
+  pub odd_rows : line_count HalfBlocks 29 ≡ 15

@@ -1,0 +1,17 @@
+-- What a pen does. Only private clauses cite this file.
+use Rattle.std.specs.Prelude.{ℕ, ◌++◌, List, [], Result, MatchResult}
+use Rattle.qr_devices.specs.Device.{Writer}
+use Rattle.qr_drawing.specs.Steps.Writing.{Stops, Writes}
+use Rattle.qr_drawing.specs.declared.pen.DrawFault.{DrawFault}
+use Rattle.qr_drawing.specs.declared.pen.Pen.{Pen}
+
+-- the pen put a text after what it held
+abbrev pub Puts : Writer → Writer → Pen → Pen → List ℕ → {T : Type 0} → Result T DrawFault → Type 0
+Puts old new before after text r = MatchResult r
+    (λ _. Writes old new before.interrupted after.interrupted (before.piece.items ++ text) after.piece.items)
+    (λ _. Stops old new before.interrupted (before.piece.items ++ text))
+
+-- the pen wrote what it held
+abbrev pub Finishes : Writer → Writer → Pen → {T : Type 0} → Result T DrawFault → Type 0
+Finishes old new pen r = MatchResult r (λ _. (tries : ℕ) × Writes old new pen.interrupted tries pen.piece.items [])
+    (λ _. Stops old new pen.interrupted pen.piece.items)

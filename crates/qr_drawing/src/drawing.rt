@@ -1,0 +1,107 @@
+//! The types of drawings, and drawing symbols. The raster of a symbol is its square with a light
+//! margin on all sides (ISO/IEC 18004:2015, 6.3.8).
+
+ghost use Rattle.std.specs.Prelude.{◌≡◌, ◌≤◌, ◌<◌, ◌+◌, max, is_err, length, OnOk, OnErr};
+ghost use Rattle.std.specs.Io.KnownBytes.{Appends};
+ghost use Rattle.qr_devices.specs.Device.{AppendsBeginning, IsWrittenWithin, counted, is_write_fault, no_writes};
+ghost use Rattle.qr_symbol.specs.Series.{squares_of};
+ghost use Rattle.qr_drawing.specs.Drawing.{HaveOneSide, drawn};
+ghost use Rattle.qr_drawing.specs.Steps.Pen.{Puts};
+ghost use Rattle.qr_drawing.specs.Raster.{is_dark_at, raster_width};
+
+use crate::pen::{DrawFault, Pen, WRITE_MAX};
+use crate::svg::put_document;
+use crate::text::{Cells, put_texts};
+use qr_devices::Sink;
+use qr_symbol::{Matrix, Symbol};
+
+/// A type of drawing.
+#[derive(Clone, Copy, Debug, PartialEq, Eq)]
+pub enum Drawing {
+    /// Two `#` for a dark module, two spaces for a light one.
+    Ascii,
+    /// Two spaces for a dark module, two `#` for a light one.
+    AsciiInverse,
+    /// A character of half blocks for two modules, one above the other.
+    Utf8,
+    /// A Scalable Vector Graphics document.
+    Svg,
+}
+
+// How many modules a raster is wide and high.
+pub(crate) fn raster_width(matrix: &Matrix, margin: u8) -> u16
+    ensures value { result ≡ raster_width margin matrix.now }
+    ensures most { result < 1000 }
+{
+    2 * u16::from(margin) + u16::from(matrix.side())
+}
+
+// Whether a place of the raster is dark.
+#[tactic(auto, unfolding(crate::specs::Raster::is_dark_at))]
+pub(crate) fn is_dark_at(matrix: &Matrix, margin: u8, y: u16, x: u16) -> bool
+    ensures { result ≡ is_dark_at margin matrix.now y x }
+{
+    let first = u16::from(margin);
+    let end = first + u16::from(matrix.side());
+    if y < first || y >= end {
+        return false;
+    }
+    if x < first || x >= end {
+        return false;
+    }
+    matrix.dark((y - first) as u8, (x - first) as u8)
+}
+
+// Puts the drawing of symbols.
+fn put_drawing<W: Sink>(
+    pen: &mut Pen,
+    out: &mut W,
+    symbols: &[Symbol],
+    kind: Drawing,
+    margin: u8,
+) -> Result<(), DrawFault>
+    requires some { 0 < length symbols.now }
+    requires few { length symbols.now ≤ 16 }
+    requires one_side { HaveOneSide (squares_of symbols.now) }
+    ensures { Puts (W.device out.old) (W.device out.new)
+        pen.old pen.new (drawn kind margin (squares_of symbols.now)) result }
+{
+    match kind {
+        Drawing::Ascii => put_texts(pen, out, Cells::Plain, symbols, margin),
+        Drawing::AsciiInverse => put_texts(pen, out, Cells::Inverse, symbols, margin),
+        Drawing::Utf8 => put_texts(pen, out, Cells::HalfBlocks, symbols, margin),
+        Drawing::Svg => put_document(pen, out, symbols, margin),
+    }
+}
+
+/// Draws symbols of one side, 1 to 16 of them: as text one after the other, as a document one below
+/// the other. Each has a light margin of so many modules on all sides (ISO/IEC 18004:2015, 6.3.8).
+///
+/// Takes no memory, and offers the writer at most 1,200 bytes at a time. Writes that are
+/// interrupted are tried again, 999 times in all. Where the writer is at fault, a beginning of the
+/// drawing was written.
+pub fn draw<W: Sink>(
+    symbols: &[Symbol],
+    kind: Drawing,
+    margin: u8,
+    out: &mut W,
+) -> Result<(), DrawFault>
+    requires some { 0 < length symbols.now }
+    requires few { length symbols.now ≤ 16 }
+    requires one_side { HaveOneSide (squares_of symbols.now) }
+    ensures ok { OnOk result (Appends (W.device out.old).taken (W.device out.new).taken (drawn kind margin (squares_of symbols.now))) }
+    ensures err { OnErr result (AppendsBeginning (W.device out.old).taken (W.device out.new).taken
+        (drawn kind margin (squares_of symbols.now))) }
+    ensures fault { (W.device out.old).counts ≡ no_writes → is_write_fault (W.device out.new).counts ≡ is_err result }
+    ensures taken { (W.device out.old).counts ≡ no_writes
+        → OnOk result ((W.device out.new).counts.taken ≡ counted (length (drawn kind margin (squares_of symbols.now)))) }
+    ensures most { (W.device out.old).counts ≡ no_writes
+        → OnErr result ((W.device out.new).counts.taken ≤ counted (length (drawn kind margin (squares_of symbols.now)))) }
+    ensures within { (W.device out.old).counts ≡ no_writes → IsWrittenWithin (W.device out.new).counts }
+    ensures offered { (W.device out.new).counts.offered ≤ max (W.device out.old).counts.offered WRITE_MAX }
+    ensures flushes { (W.device out.new).counts.flushes ≡ (W.device out.old).counts.flushes }
+{
+    let mut pen = Pen::new();
+    put_drawing(&mut pen, out, symbols, kind, margin)?;
+    pen.finish(out)
+}

@@ -1,0 +1,55 @@
+//! Equality and clones of the public types: values are equal exactly if they are the same, and a clone is the same value.
+
+ghost use Rattle.std.specs.Prelude.{◌≡◌, ◌↔◌, IsTrue, IfOk};
+
+use crate::drawing::Drawing;
+use crate::pen::DrawFault;
+use std::alloc::AllocError;
+
+/// Two types of drawing compare as equal exactly where they are the same.
+pub fn drawings_are_equal(a: Drawing, b: Drawing) -> bool
+    ensures { IsTrue result ↔ (a ≡ b) }
+{
+    a == b
+}
+
+/// Two faults of drawing compare as equal exactly where they are the same.
+pub fn draw_faults_are_equal(a: DrawFault, b: DrawFault) -> bool
+    ensures { IsTrue result ↔ (a ≡ b) }
+{
+    a == b
+}
+
+/// A clone of a type of drawing is the same type.
+pub fn drawing_clones(a: Drawing) -> Result<Drawing, AllocError>
+    ensures { IfOk result (λ b. b ≡ a) }
+{
+    a.clone()
+}
+
+/// A clone of a fault of drawing is the same fault.
+pub fn draw_fault_clones(a: DrawFault) -> Result<DrawFault, AllocError>
+    ensures { IfOk result (λ b. b ≡ a) }
+{
+    a.clone()
+}
+
+#[cfg(test)]
+mod tests {
+    use super::*;
+    use std::test::Fail;
+
+    #[test]
+    fn equal_and_unequal_values(rt: HostRuntime) {
+        assert!(rt; drawings_are_equal(Drawing::Svg, Drawing::Svg));
+        assert!(rt; !drawings_are_equal(Drawing::Ascii, Drawing::AsciiInverse));
+        assert!(rt; draw_faults_are_equal(DrawFault::Write, DrawFault::Write));
+    }
+
+    #[test]
+    fn clones(rt: HostRuntime) -> Result<(), Fail> {
+        assert_eq!(rt; drawing_clones(Drawing::Svg)?, Drawing::Svg);
+        assert_eq!(rt; draw_fault_clones(DrawFault::Write)?, DrawFault::Write);
+        Ok(())
+    }
+}

@@ -1,0 +1,12 @@
+//! Drawings of symbols: as ASCII, as UTF-8 half blocks, or as a Scalable Vector Graphics document.
+#![tactic(auto)]
+
+mod drawing;
+mod equality;
+pub mod laws;
+mod pen;
+mod svg;
+mod text;
+
+pub use drawing::{Drawing, draw};
+pub use pen::{DrawFault, WRITE_MAX, write_text};
