@@ -1,6 +1,6 @@
 /* QR Code symbols (ISO/IEC 18004:2015, QR Code Model 2): an input is encoded as a symbol or as a series of symbols, and a
- * symbol is read. The calls are proved to meet their contracts, in crates/qrproved; docs/LIBRARY.md says what that means
- * for a caller. tests/library compares this file with the exports.
+ * symbol is read: as it was drawn, or with its damage mended and measured. The calls are proved to meet their contracts, in
+ * crates/qrproved; docs/LIBRARY.md says what that means for a caller. tests/library compares this file with the exports.
  *
  * Modules are bytes in the caller's buffer, row by row from the top left, without the quiet zone of four light modules
  * that a drawing needs on each side. A call keeps nothing: no state, no file, no lock. It takes memory by malloc and
@@ -46,7 +46,7 @@ extern "C" {
 #define QRPROVED_TOO_LONG 2 /* no version from the smallest one on holds the input */
 #define QRPROVED_TOO_MANY 3 /* the input takes more than 16 symbols of the version */
 #define QRPROVED_MEMORY 4   /* malloc refused */
-#define QRPROVED_SETTINGS 5 /* the number of the version, the level or the rule is none */
+#define QRPROVED_SETTINGS 5 /* the number of the version, the level or the rule is none, or a byte is that of no module */
 #define QRPROVED_ROOM 6     /* a buffer is too short */
 #define QRPROVED_SIDE 7     /* no version has this side */
 #define QRPROVED_FORMAT 8   /* the format information is that of no level and mask */
@@ -76,6 +76,22 @@ struct qrproved_content {
 	uint8_t parity;     /* the exclusive or of all bytes of the input */
 };
 
+/* What a damaged symbol says, and how damaged it is. */
+struct qrproved_mended {
+	size_t len;                   /* bytes that it holds */
+	uint32_t wrong_modules;       /* modules of the whole square that are not the symbol's; 0: the square is the symbol */
+	uint8_t version;              /* from 1 to 40 */
+	uint8_t has_header;           /* 1 if it is one of a series; 0 if it is a plain symbol, and then the next three are 0 */
+	uint8_t position;             /* which symbol of its series, from 0 to 15 */
+	uint8_t last;                 /* symbols of its series less 1, from 0 to 15 */
+	uint8_t parity;               /* the exclusive or of all bytes of the input */
+	uint8_t level;                /* QRPROVED_LEVEL_L to QRPROVED_LEVEL_H */
+	uint8_t mask;                 /* from 0 to 7 */
+	uint8_t wrong_format_modules; /* of the 30 modules of format information, those that are wrong */
+	uint8_t changed_most;         /* the most codewords that were changed in a block */
+	uint8_t changed_allowed;      /* how many may be changed in each block, from 2 to 15 */
+};
+
 /* The layout that the compiled calls rest on. */
 #if defined(__cplusplus) && __cplusplus >= 201103L
 #define QRPROVED_HOLDS(fact) static_assert(fact, #fact)
@@ -99,6 +115,19 @@ QRPROVED_HOLDS(offsetof(struct qrproved_content, has_header) == 9);
 QRPROVED_HOLDS(offsetof(struct qrproved_content, position) == 10);
 QRPROVED_HOLDS(offsetof(struct qrproved_content, last) == 11);
 QRPROVED_HOLDS(offsetof(struct qrproved_content, parity) == 12);
+QRPROVED_HOLDS(sizeof(struct qrproved_mended) == 24);
+QRPROVED_HOLDS(offsetof(struct qrproved_mended, len) == 0);
+QRPROVED_HOLDS(offsetof(struct qrproved_mended, wrong_modules) == 8);
+QRPROVED_HOLDS(offsetof(struct qrproved_mended, version) == 12);
+QRPROVED_HOLDS(offsetof(struct qrproved_mended, has_header) == 13);
+QRPROVED_HOLDS(offsetof(struct qrproved_mended, position) == 14);
+QRPROVED_HOLDS(offsetof(struct qrproved_mended, last) == 15);
+QRPROVED_HOLDS(offsetof(struct qrproved_mended, parity) == 16);
+QRPROVED_HOLDS(offsetof(struct qrproved_mended, level) == 17);
+QRPROVED_HOLDS(offsetof(struct qrproved_mended, mask) == 18);
+QRPROVED_HOLDS(offsetof(struct qrproved_mended, wrong_format_modules) == 19);
+QRPROVED_HOLDS(offsetof(struct qrproved_mended, changed_most) == 20);
+QRPROVED_HOLDS(offsetof(struct qrproved_mended, changed_allowed) == 21);
 #undef QRPROVED_HOLDS
 
 /* Writes the symbol of the input: modules[row * side + column] is 1 where that module is dark, and 0 where it is light.
@@ -139,6 +168,43 @@ uint8_t qrproved_encode_series(const uint8_t *input, size_t input_len, uint8_t v
  */
 uint8_t qrproved_read(const uint8_t *modules, size_t modules_len, uint8_t side, uint8_t *bytes, size_t bytes_len,
                       struct qrproved_content *content);
+
+/* Reads the symbol whose modules stand in a buffer as qrproved_encode writes them, 0 for a light module and 1 for a dark one,
+ * mends its damage, and tells how damaged it is. Bytes past the last module are not looked at. What the symbol says goes to
+ * the start of the second buffer, and the rest of that stays as it was. What qrproved_read reads of such bytes is read the
+ * same.
+ *
+ * side   modules on a side: 21, 25, and so on to 177
+ * bytes  QRPROVED_BYTES_MAX bytes hold what any symbol says
+ *
+ * The format information, which is the level and the mask, stands in a symbol twice. The first copy, beside the top left
+ * finder pattern, is believed if at most three of its 15 modules are wrong; if it is not, or if some block cannot be mended
+ * under what it says, the second copy is, on the same condition. In each block at most changed_allowed codewords are mended,
+ * as many as the standard allows. Of all other modules (finder, timing and alignment patterns, version information,
+ * remainder bits) none has to be right: they say nothing of the content. But they count in wrong_modules.
+ *
+ * Before a label is sold: the square is sound if wrong_modules is 0, for then it is, module by module, the symbol that the
+ * standard has for what it says, in its version, level and mask. After that: it is readable as long as DONE is returned, and
+ * changed_most beside changed_allowed is how much of its correction is spent, by its worst block. Neither says what a camera
+ * sees: the quiet zone, contrast, print growth, distortion and curvature are not in a square of modules.
+ *
+ * Beyond these bounds damage may make a symbol that is near enough to another one, and is then read as that one, as by any
+ * reader.
+ *
+ * Returns, and looks for the causes in this order:
+ *   SIDE      no version has this side
+ *   ROOM      modules_len is below side times side
+ *   SETTINGS  one of the first side times side bytes is neither 0 nor 1
+ *   FORMAT    for each level and mask, both copies of the format information have more than three wrong modules
+ *   CHECK     under each level and mask that a copy is near enough to, some block has more wrong codewords than can be
+ *             mended
+ *   SEGMENTS  what was mended cannot be parsed
+ *   ROOM      bytes_len is below the bytes that the symbol holds
+ *   DONE
+ * or, at any point after SETTINGS, MEMORY.
+ */
+uint8_t qrproved_mend(const uint8_t *modules, size_t modules_len, uint8_t side, uint8_t *bytes, size_t bytes_len,
+                      struct qrproved_mended *mended);
 
 #ifdef __cplusplus
 }

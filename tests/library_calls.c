@@ -1,6 +1,6 @@
 /* Calls the library for tests/library: library_calls WHAT
  *
- * encode, encode_series, read: one call, of which a growth of memory may be refused; says what came of it
+ * encode, encode_series, read, mend: one call, of which a growth of memory may be refused; says what came of it
  * edges: lengths of 0, and buffers that are just large enough
  * threads: eight threads, each with the answers of one thread */
 #include "qrproved.h"
@@ -60,6 +60,22 @@ static int read_symbol(void)
 	return 0;
 }
 
+static int mend_symbol(void)
+{
+	struct qrproved_symbol symbol;
+	struct qrproved_mended mended;
+	if (qrproved_encode(TEXT, sizeof TEXT - 1, 1, 0, 0, modules, sizeof modules, &symbol)) {
+		puts("mend: not prepared");
+		return 0;
+	}
+	/* a codeword is wrong */
+	modules[symbol.side * symbol.side - 1] ^= 1;
+	memset(bytes, MARK, sizeof bytes), memset(&mended, MARK, sizeof mended);
+	uint8_t status = qrproved_mend(modules, sizeof modules, symbol.side, bytes, sizeof bytes, &mended);
+	tell("mend", status, bytes, sizeof bytes, &mended, sizeof mended);
+	return 0;
+}
+
 static int wrong;
 
 static void want(const char *name, int is_so)
@@ -75,6 +91,7 @@ static int edges(void)
 	struct qrproved_symbol symbol;
 	struct qrproved_series series;
 	struct qrproved_content content;
+	struct qrproved_mended mended;
 	memset(modules, MARK, sizeof modules), memset(&symbol, MARK, sizeof symbol);
 	want("no input", qrproved_encode(NULL, 0, 1, 0, 0, modules, sizeof modules, &symbol) == QRPROVED_EMPTY);
 	want("no buffer", qrproved_encode(TEXT, 5, 1, 0, 0, NULL, 0, &symbol) == QRPROVED_ROOM);
@@ -95,6 +112,21 @@ static int edges(void)
 	want("a part", qrproved_read(modules + 441, 441, 21, bytes, 3, &content) == QRPROVED_DONE);
 	want("its bytes", content.len == 3 && !memcmp(bytes, TEXT + 5, 3) && is_marked(bytes, 3, sizeof bytes));
 	want("its header", content.version == 1 && content.has_header == 1 && content.position == 1 && content.last == 1);
+	memset(bytes, MARK, sizeof bytes), memset(&mended, MARK, sizeof mended);
+	want("no modules to mend", qrproved_mend(NULL, 0, 21, bytes, sizeof bytes, &mended) == QRPROVED_ROOM);
+	want("no room to mend", qrproved_mend(modules, 441, 21, NULL, 0, &mended) == QRPROVED_ROOM);
+	want("side 255 to mend", qrproved_mend(NULL, 0, 255, NULL, 0, &mended) == QRPROVED_SIDE);
+	want("too few modules before another byte", qrproved_mend(modules + 882, 440, 21, bytes, 3, &mended) == QRPROVED_ROOM);
+	want("a byte of no module", qrproved_mend(modules + 442, 441, 21, bytes, 3, &mended) == QRPROVED_SETTINGS);
+	want("nothing is mended", is_marked(bytes, 0, sizeof bytes) && is_marked(&mended, 0, sizeof mended));
+	want("a part to mend", qrproved_mend(modules + 441, 441, 21, bytes, 3, &mended) == QRPROVED_DONE);
+	want("its bytes, mended", mended.len == 3 && !memcmp(bytes, TEXT + 5, 3) && is_marked(bytes, 3, sizeof bytes));
+	want("its header, mended", mended.version == 1 && mended.has_header == 1 && mended.position == 1 && mended.last == 1);
+	want("it is sound", mended.wrong_modules == 0 && mended.wrong_format_modules == 0 && mended.changed_most == 0);
+	want("its level", mended.level == QRPROVED_LEVEL_H && mended.mask < 8 && mended.changed_allowed == 8);
+	modules[441 + 6 * 21 + 9] ^= 1;
+	want("a timing module", qrproved_mend(modules + 441, 441, 21, bytes, 3, &mended) == QRPROVED_DONE && mended.wrong_modules == 1);
+	want("nothing else", mended.wrong_format_modules == 0 && mended.changed_most == 0);
 	if (!wrong)
 		puts("edges: as wanted");
 	return wrong;
@@ -156,6 +188,8 @@ int main(int argc, char **argv)
 		return encode_series();
 	if (!strcmp(what, "read"))
 		return read_symbol();
+	if (!strcmp(what, "mend"))
+		return mend_symbol();
 	if (!strcmp(what, "edges"))
 		return edges();
 	if (!strcmp(what, "threads"))

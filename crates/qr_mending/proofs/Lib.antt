@@ -13,3 +13,4 @@ mod ModuleLemmas
 mod FewModuleLemmas
 mod DistanceLemmas
 mod SoundnessLemmas
+mod BoundLemmas

@@ -2,6 +2,7 @@
 //! that mend, each function does nothing: its contract is the law.
 
 ghost use Rattle.std.specs.Prelude.{◌≡◌, ◌≢◌, ◌↔◌, ◌⊎◌, Err, ℕ, ◌*◌, ◌≤◌, List, length, replicate, None, MatchResult};
+ghost use Rattle.std.specs.List.{All};
 ghost use Rattle.qr_layout.specs.declared.level.Level.{Level};
 ghost use Rattle.qr_bits.specs.declared.modes.Rule.{Rule};
 ghost use Rattle.qr_bits.specs.Parsing.{Content};
@@ -83,6 +84,16 @@ pub fn sound_squares_are_symbols()
 pub fn readings_are_mended_readings()
     ensures { (g : Grid) (p : Content) → (h : IsReading g p)
         → IsMendedReading g h.version h.level h.mask p (replicate (blocks_in h.version h.level) 0) }
+{}
+
+/// A square that is mended has one block at least, and in none were more codewords changed than may be: 2 to 15, by the version
+/// and the level.
+pub fn changes_are_bounded()
+    ensures some { (g : Grid) (v : ℕ) (l : Level) (m : ℕ) (p : Content) (x : List ℕ) → IsMendedReading g v l m p x
+        → 1 ≤ length x }
+    ensures few { (g : Grid) (v : ℕ) (l : Level) (m : ℕ) (p : Content) (x : List ℕ) → IsMendedReading g v l m p x
+        → All (λ n. n ≤ tolerance_of v l) x }
+    ensures tolerance { (v : ℕ) (l : Level) → 1 ≤ v → v ≤ 40 → (2 ≤ tolerance_of v l) × (tolerance_of v l ≤ 15) }
 {}
 
 /// A square that is read with its damage mended can only be refused for lack of memory.

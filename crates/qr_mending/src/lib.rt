@@ -17,4 +17,5 @@ mod sums;
 
 pub use block::mend;
 pub use mending::{Mended, mend_symbol};
+pub use message::changed_max;
 pub use series::mend_series;

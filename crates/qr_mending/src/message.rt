@@ -7,7 +7,7 @@ ghost use Rattle.qr_layout.specs.Blocks.{data_codewords_of};
 ghost use Rattle.qr_layout.specs.Version.{total_codewords_of};
 ghost use Rattle.qr_symbol.specs.declared.fault.ReadFault.{ReadFault};
 ghost use Rattle.qr_symbol.specs.Interleaving.{block_count, cut_len, data_cut, correction_cut};
-ghost use Rattle.qr_mending.specs.Message.{protection_of, AreMended, IsMendedIn, IsMendedMessage};
+ghost use Rattle.qr_mending.specs.Message.{protection_of, tolerance_of, AreMended, IsMendedIn, IsMendedMessage};
 
 use crate::block::mend;
 use qr_field::Divisor;
@@ -120,7 +120,7 @@ fn mend_blocks(
 }
 
 // How many error correction codewords of a block guard against mending to another block.
-fn protection(version: Version, level: Level) -> usize
+fn protection(version: Version, level: Level) -> u8
     ensures { result ≡ protection_of version level }
 {
     match (level, version.number()) {
@@ -129,6 +129,15 @@ fn protection(version: Version, level: Level) -> usize
         (Level::L, 3) | (Level::Q | Level::H, 1) => 1,
         _ => 0,
     }
+}
+
+/// Returns how many codewords of each block may be changed in a symbol of a version and a level, from 2 to 15: half of the
+/// block's error correction codewords, or for some levels of versions 1 to 3 less (ISO/IEC 18004:2015, 7.5.1, Table 9).
+pub fn changed_max(version: Version, level: Level) -> u8
+    ensures { result ≡ tolerance_of version level }
+{
+    let count = version.blocks(level).ec_len;
+    count.saturating_sub(protection(version, level)) / 2
 }
 
 // The message of which the codewords are a damaged form, in the blocks of a version and a level.
@@ -146,6 +155,6 @@ pub(crate) fn mend_message(
     ensures fault { IfErr result (λ e. (e ≡ ReadFault.Memory) ⊎ (e ≡ ReadFault.Check)) }
 {
     let blocks = version.blocks(level);
-    let spare = usize::from(blocks.ec_len).saturating_sub(protection(version, level));
-    mend_blocks(alloc, blocks, spare / 2, codewords)
+    let t = usize::from(changed_max(version, level));
+    mend_blocks(alloc, blocks, t, codewords)
 }

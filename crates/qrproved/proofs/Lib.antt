@@ -1,3 +1,4 @@
 mod ModuleLemmas
 mod EncodingLemmas
 mod ReadingLemmas
+mod MendingLemmas

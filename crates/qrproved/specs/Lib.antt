@@ -4,4 +4,5 @@ pub mod Modules
 pub mod Encoding
 pub mod Series
 pub mod Reading
+pub mod Mending
 pub mod Laws

@@ -12,10 +12,10 @@ use Rattle.qrproved.specs.Modules.{square_of_bytes}
 abbrev pub IsSide : ℕ → Type 0
 IsSide side = (v : ℕ) × (1 ≤ v) × (v ≤ 40) × (side ≡ side_of v)
 
--- the struct tells what the header says, and 0s where there is none (ISO/IEC 18004:2015, 8.1 to 8.3)
-abbrev pub TellsHeader : Option Header → QrprovedContent → Type 0
-TellsHeader None c = (c.has_header ≡ 0) × (c.position ≡ 0) × (c.last ≡ 0) × (c.parity ≡ 0)
-TellsHeader (Some h) c = (c.has_header ≡ 1) × (c.position ≡ h.position) × (c.last ≡ h.last) × (c.parity ≡ h.parity)
+-- the fields of a struct tell what the header says, and are 0 if there is none (ISO/IEC 18004:2015, 8.1 to 8.3)
+abbrev pub TellsHeader : Option Header → (has_header position last parity : ℕ) → Type 0
+TellsHeader None has_header position last parity = (has_header ≡ 0) × (position ≡ 0) × (last ≡ 0) × (parity ≡ 0)
+TellsHeader (Some h) has_header position last parity = (has_header ≡ 1) × (position ≡ h.position) × (last ≡ h.last) × (parity ≡ h.parity)
 
 -- the square of the modules is read: its bytes stand at the start of the buffer, the rest of which is as it was, and the
 -- struct tells how many they are, the version and the header [own]
@@ -27,7 +27,7 @@ pub record IsGiven (modules : List ℕ) (side : ℕ) (before after : List ℕ) (
   pub holds : after ≡ content.bytes ++ drop (length content.bytes) before
   pub len : c.len ≡ length content.bytes
   pub version : side ≡ side_of c.version
-  pub header : TellsHeader content.header c
+  pub header : TellsHeader content.header c.has_header c.position c.last c.parity
 
 -- the square of the modules is read as more bytes than the buffer has [own]
 pub record HasMoreBytes (modules : List ℕ) (side : ℕ) (buffer : List ℕ) : Type 0 where

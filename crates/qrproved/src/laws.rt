@@ -8,6 +8,7 @@ ghost use Rattle.qrproved.specs.Modules.{byte_of};
 ghost use Rattle.qrproved.specs.Settings.{level_of, rule_of};
 
 use crate::encoding::QrprovedSymbol;
+use crate::mending::QrprovedMended;
 use crate::reading::QrprovedContent;
 use crate::series::QrprovedSeries;
 use crate::status::{
@@ -58,6 +59,13 @@ pub fn series_clones(a: QrprovedSeries) -> Result<QrprovedSeries, AllocError>
 
 /// A clone of what a symbol says says the same.
 pub fn content_clones(a: QrprovedContent) -> Result<QrprovedContent, AllocError>
+    ensures { IfOk result (λ b. b ≡ a) }
+{
+    a.clone()
+}
+
+/// A clone of what a damaged symbol says says the same.
+pub fn mended_clones(a: QrprovedMended) -> Result<QrprovedMended, AllocError>
     ensures { IfOk result (λ b. b ≡ a) }
 {
     a.clone()

@@ -1,16 +1,20 @@
 //! Symbols for callers in C, and in all languages that call C: an input is encoded as a symbol or as a series, and a symbol
-//! is read. Modules are bytes in the caller's buffer, and what is said of them stands in the caller's struct. A call keeps
-//! nothing and hands out no memory. `include/qrproved.h` declares the calls.
+//! is read, as it was drawn or with its damage mended. Modules are bytes in the caller's buffer, and what is said of them
+//! stands in the caller's struct. A call keeps nothing and hands out no memory. `include/qrproved.h` declares the calls.
 #![tactic(auto)]
 
 mod encoding;
 pub mod laws;
+mod mending;
 mod modules;
 mod reading;
+#[cfg(test)]
+mod samples;
 mod series;
 mod settings;
 mod status;
 
 pub use encoding::{QrprovedSymbol, qrproved_encode};
+pub use mending::{QrprovedMended, qrproved_mend};
 pub use reading::{QrprovedContent, qrproved_read};
 pub use series::{QrprovedSeries, qrproved_encode_series};

@@ -32,8 +32,8 @@ pub struct QrprovedContent {
     pub parity: u8,
 }
 
-// The version whose symbols have this side.
-fn version_of_side(side: u8) -> Option<Version>
+/// The version whose symbols have this side.
+pub(crate) fn version_of_side(side: u8) -> Option<Version>
     ensures { MatchOption result (IsSide side → ⊥)
         (λ v. (1 ≤ v) × (v ≤ 40) × (side ≡ side_of v)) }
 {
@@ -43,11 +43,11 @@ fn version_of_side(side: u8) -> Option<Version>
     Version::new((side - 17) / 4)
 }
 
-// What the struct tells of a symbol of this version that holds `len` bytes after this header or none.
-fn content_of(len: usize, version: Version, header: Option<Header>) -> QrprovedContent
+/// What the struct tells of a symbol of this version that holds `len` bytes after this header or none.
+pub(crate) fn content_of(len: usize, version: Version, header: Option<Header>) -> QrprovedContent
     ensures len { result.len ≡ len }
     ensures version { result.version ≡ version }
-    ensures header { TellsHeader header result }
+    ensures header { TellsHeader header result.has_header result.position result.last result.parity }
 {
     let told = header.unwrap_or(Header {
         position: 0,
@@ -120,11 +120,8 @@ pub extern "C" fn qrproved_read(
 #[cfg(test)]
 mod tests {
     use super::*;
-    use crate::encoding::{QrprovedSymbol, qrproved_encode};
-    use crate::modules::write_square;
+    use crate::samples::{another_mode, eight_digits};
     use crate::series::{QrprovedSeries, qrproved_encode_series};
-    use qr_layout::Level;
-    use qr_symbol::{build_masked, interleave};
     use std::test::Fail;
 
     fn nothing() -> QrprovedContent {
@@ -136,21 +133,6 @@ mod tests {
             last: 9,
             parity: 9,
         }
-    }
-
-    // The modules of eight digits in version 1-M.
-    fn eight_digits(rt: &HostRuntime) -> Result<[u8; 441], Fail> {
-        let mut modules = [0u8; 441];
-        let mut symbol = QrprovedSymbol {
-            version: 0,
-            side: 0,
-            mask: 0,
-        };
-        let status = qrproved_encode(rt.alloc(), b"01234567", 1, 1, 0, &mut modules, &mut symbol);
-        if status != DONE {
-            return Err("eight digits are not encoded".into());
-        }
-        Ok(modules)
     }
 
     #[test]
@@ -211,15 +193,7 @@ mod tests {
         format[8] = 1 - format[8].min(1);
         let mut codeword = drawn;
         codeword[440] = 1 - codeword[440].min(1);
-        // data codewords that begin with the mode indicator 0111, which is none that is read
-        let version = Version::new(1).ok_or("version 1")?;
-        let message = [0x70u8; 16];
-        assert!(rt; version.data_codewords(Level::M) == 16);
-        let sent = interleave(rt.alloc(), version, Level::M, &message)?;
-        let symbol = build_masked(rt.alloc(), version, Level::M, &sent, 0)?;
-        let mut unparsed = [0u8; 441];
-        assert!(rt; symbol.matrix.side() == 21);
-        write_square(&symbol.matrix, 0, &mut unparsed);
+        let unparsed = another_mode(&rt)?;
         let rows = [
             ("no side", &drawn[..], 0u8, 8usize, SIDE),
             ("side 20", &drawn[..], 20, 8, SIDE),

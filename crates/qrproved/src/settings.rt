@@ -1,6 +1,6 @@
 //! What the numbers of a call ask for: any number may come from C, and those that stand for nothing are refused.
 
-ghost use Rattle.std.specs.Prelude.{◌<◌, SomeIff};
+ghost use Rattle.std.specs.Prelude.{◌≡◌, ◌<◌, SomeIff};
 ghost use Rattle.qrproved.specs.Settings.{AreSettings, level_of, rule_of};
 
 use qr_bits::Rule;
@@ -39,6 +39,19 @@ fn level_of(number: u8) -> Option<Level>
         2 => Some(Level::Q),
         3 => Some(Level::H),
         _ => None,
+    }
+}
+
+/// The number of a level.
+pub(crate) fn number_of(level: Level) -> u8
+    ensures in_range { result < 4 }
+    ensures same { level_of result ≡ level }
+{
+    match level {
+        Level::L => 0,
+        Level::M => 1,
+        Level::Q => 2,
+        Level::H => 3,
     }
 }
 

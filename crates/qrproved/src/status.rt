@@ -20,7 +20,7 @@ pub(crate) const TOO_MANY: u8 = 3;
 /// Memory was refused.
 pub(crate) const MEMORY: u8 = 4;
 
-/// The number of the version, the level or the rule is none.
+/// The number of the version, the level or the rule is none, or a byte is that of no module.
 pub(crate) const SETTINGS: u8 = 5;
 
 /// A buffer is too short.
@@ -29,10 +29,11 @@ pub(crate) const ROOM: u8 = 6;
 /// No version has this side.
 pub(crate) const SIDE: u8 = 7;
 
-/// The format information is that of no level and mask.
+/// The format information is that of no level and mask; where damage is mended, it is near to none.
 pub(crate) const FORMAT: u8 = 8;
 
-/// The error correction codewords of a block are not those of its data codewords.
+/// The error correction codewords of a block are not those of its data codewords; where damage is mended, some block has more
+/// than can be mended.
 pub(crate) const CHECK: u8 = 9;
 
 /// The data codewords cannot be parsed.
@@ -50,7 +51,7 @@ pub(crate) fn encode_status(fault: EncodeFault) -> u8
     }
 }
 
-// The status of a symbol that is not read. That symbols are no series is no fault of one symbol.
+// The status of a symbol that is not read, or not mended. That symbols are no series is no fault of one symbol.
 pub(crate) fn read_status(fault: ReadFault) -> u8
     ensures { result ≡ read_status fault }
 {

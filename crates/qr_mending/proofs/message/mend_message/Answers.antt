@@ -1,9 +1,9 @@
-use Rattle.std.proofs.Common.{◌≡◌, ◌≤◌, ◌+◌, ◌-◌, ◌/◌, ℕ, ◌∙◌, length, sym, ap, subst, arith}
+use Rattle.std.proofs.Common.{◌≡◌, ◌≤◌, ◌+◌, ℕ, ◌∙◌, length, sym, ap, subst, arith}
 use Rattle.qr_layout.specs.declared.blocks.Blocks.{Blocks}
 use Rattle.qr_layout.specs.Blocks.{blocks_of, data_codewords_of}
 use Rattle.qr_layout.proofs.Facts.{blocks-sound, laws-of}
 use Rattle.qr_symbol.specs.Interleaving.{cut_len, data_cut, correction_cut}
-use Rattle.qr_mending.specs.Message.{protection_of, tolerance_of, IsMendedMessage}
+use Rattle.qr_mending.specs.Message.{tolerance_of, IsMendedMessage}
 use Rattle.qr_symbol.proofs.Facts.{data-cut-whole, cuts-whole, ok-also}
 use Rattle.qr_mending.proofs.message.mend_message.Goals as goal
 
@@ -32,7 +32,7 @@ returns-clause-many c =
     let whole : cut_len (data_cut b) ≡ data_codewords_of c.args.version c.args.level =
     ap (λ (z : Blocks). cut_len (data_cut z)) c.blocks-blocks.ensures
     ∙ data-cut-whole c.args.version c.args.level (omega arith) (omega arith) in
-    ok-also (λ m. IsMendedMessage b (c.saturating_sub-spare.result / 2) c.args.codewords.now m.message.items m.changed.items)
+    ok-also (λ m. IsMendedMessage b c.from-t.result c.args.codewords.now m.message.items m.changed.items)
     (λ m. length m.message.items ≡ data_codewords_of c.args.version c.args.level) c.mend_blocks.result
     c.mend_blocks.ensures.mended (λ m h. h.mended.long ∙ whole)
 
@@ -40,14 +40,9 @@ pub returns-clause-refused : goal.returns-clause-refused
 returns-clause-refused c =
     let v = c.args.version in
     let l = c.args.level in
-    let b = c.blocks-blocks.result in
-    let same : b ≡ blocks_of v l = c.blocks-blocks.ensures in
-    let t : c.saturating_sub-spare.result / 2 ≡ tolerance_of v l =
-    ap (λ z. z / 2)
-    (c.saturating_sub-spare.ensures
-    ∙ (ap (λ z. z - c.protection.result) c.from.ensures
-    ∙ (ap (λ z. b.ec_len - z) c.protection.ensures ∙ ap (λ (z : Blocks). z.ec_len - protection_of v l) same))) in
+    let same : c.blocks-blocks.result ≡ blocks_of v l = c.blocks-blocks.ensures in
+    let t : c.from-t.result ≡ tolerance_of v l = c.from-t.ensures ∙ c.changed_max.ensures in
     λ e message changed h.
     c.mend_blocks.ensures.refused e message changed
-    (subst (λ (z : Blocks). IsMendedMessage z (c.saturating_sub-spare.result / 2) c.args.codewords.now message changed) (sym same)
+    (subst (λ (z : Blocks). IsMendedMessage z c.from-t.result c.args.codewords.now message changed) (sym same)
     (subst (λ (z : ℕ). IsMendedMessage (blocks_of v l) z c.args.codewords.now message changed) (sym t) h))

@@ -1,0 +1,38 @@
+-- How many codewords of a block may be changed, and how many were.
+use Rattle.std.proofs.Common.{◌≡◌, ℕ, ◌≤◌, ◌&&◌, true, leb, List, length, refl, arith}
+use Rattle.std.specs.List.{All}
+use Rattle.std.proofs.lemmas.List.Elements.{All-from_get_or}
+use borrow.Author.Tests.{leb-true}
+use Rattle.qr_layout.specs.declared.level.Level.{Level}
+use Rattle.qr_layout.specs.Blocks.{correction_len_of}
+use Rattle.qr_layout.proofs.Facts.{blocks-sound, every, every-at}
+use Rattle.qr_bits.specs.Parsing.{Content}
+use Rattle.qr_matrix.specs.Grid.{Grid}
+use Rattle.qr_matrix.proofs.Facts.{&&-left, &&-right}
+use Rattle.qr_mending.specs.Message.{tolerance_of}
+use Rattle.qr_mending.specs.Mending.{IsMendedReading}
+
+-- in each version and level from 2 to 15 codewords may be changed
+tolerance-all : every (λ l v. leb 2 (tolerance_of v l) && leb (tolerance_of v l) 15) ≡ true
+unfolding correction_len_of
+tolerance-all = refl
+
+-- the same at one version and level
+pub tolerance-bounds : (v : ℕ) (l : Level) → 1 ≤ v → v ≤ 40 → (2 ≤ tolerance_of v l) × (tolerance_of v l ≤ 15)
+tolerance-bounds v l a b =
+    let t = every-at (λ l v. leb 2 (tolerance_of v l) && leb (tolerance_of v l) 15) tolerance-all l v a b in
+    (leb-true _ _ (&&-left (leb 2 (tolerance_of v l)) _ t), leb-true _ _ (&&-right (leb 2 (tolerance_of v l)) _ t))
+
+-- a square that is mended has a block
+pub changes-some : (g : Grid) (v : ℕ) (l : Level) (m : ℕ) (p : Content) (x : List ℕ) → IsMendedReading g v l m p x → 1 ≤ length x
+changes-some g v l m p x h =
+    let sized = h.form.sized in
+    let d = h.form.damaged.mended.mended in
+    let w = blocks-sound l v sized.least sized.most in
+    omega (arith, d.many, w.some)
+
+-- in no block more codewords were changed than may be
+pub changes-few : (g : Grid) (v : ℕ) (l : Level) (m : ℕ) (p : Content) (x : List ℕ) → IsMendedReading g v l m p x → All (λ n. n ≤ tolerance_of v l) x
+changes-few g v l m p x h =
+    let d = h.form.damaged.mended.mended in
+    All-from_get_or (λ n. n ≤ tolerance_of v l) x 0 (λ i k. (d.each i (omega (arith, d.many))).near)

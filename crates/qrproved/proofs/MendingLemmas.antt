@@ -1,0 +1,100 @@
+-- What the struct tells of a square that is mended, and which statuses its bytes rule out.
+use Rattle.std.proofs.Common.{◌≡◌, ℕ, ◌*◌, ◌<◌, ◌≤◌, List, ◌++◌, drop, length, take, sym, ◌∙◌, ap, subst, arith}
+use Rattle.std.specs.List.{All}
+use Rattle.std.proofs.lemmas.List.Elements.{All-weaker}
+use Rattle.qr_layout.specs.declared.level.Level.{Level}
+use Rattle.qr_bits.specs.Parsing.{Content}
+use Rattle.qr_matrix.specs.Grid.{Grid}
+use Rattle.qr_symbol.specs.declared.fault.ReadFault.{ReadFault}
+use Rattle.qr_symbol.specs.declared.fault.ReadFault.TheVariants as unread
+use Rattle.qr_mending.specs.declared.mending.Mended.{Mended}
+use Rattle.qr_mending.specs.Mending.{wrong_format_modules, HasWrongModules, IsMendedReading, IsUnmended}
+use Rattle.qr_mending.specs.Message.{tolerance_of}
+use Rattle.qrproved.specs.declared.mending.QrprovedMended.{QrprovedMended}
+use Rattle.qrproved.specs.Modules.{square_of_bytes}
+use Rattle.qrproved.specs.Reading.{TellsHeader}
+use Rattle.qrproved.specs.Settings.{level_of}
+use Rattle.qrproved.specs.Mending.{AreModules, HasMoreMendedBytes, HasOtherByte, IsGivenMended, IsGreatest}
+
+-- as many bytes as the square has modules, each 0 or 1, are modules
+pub all-modules : (modules : List ℕ) (side area : ℕ) → area ≡ side * side → area ≤ length modules → All (λ b. b ≤ 1) (take area modules) → AreModules modules side
+all-modules modules side area e long each = record {
+  whole = omega (arith, e);
+  each = subst (λ (n : ℕ). All (λ b. b ≤ 1) (take n modules)) e each;
+}
+
+-- then none is another byte
+pub no-other : (modules : List ℕ) (side : ℕ) → AreModules modules side → HasOtherByte modules side → ⊥
+no-other modules side a o = let w = o.one in let low = a.each w.0 w.1 w.2 in omega (arith, w.3, w.4, low)
+
+-- counts that are no more than may be are bytes
+pub few-changes : (x : List ℕ) (t : ℕ) → t ≤ 15 → All (λ n. n ≤ t) x → All (λ n. n ≤ 15) x
+few-changes x t most few = All-weaker (λ n. n ≤ t) (λ n. n ≤ 15) (λ n h. omega arith) x few
+
+-- a square that is mended has no fault but lack of memory
+abbrev pub MendedExclude : Type 0
+MendedExclude = (g : Grid) (v : ℕ) (l : Level) (m : ℕ) (p : Content) (x : List ℕ) (e : ReadFault) → IsMendedReading g v l m p x → IsUnmended g e → e ≡ unread.Memory
+
+-- a square that is mended has no fault that is told
+pub not-unmended : (g : Grid) (v : ℕ) (l : Level) (m : ℕ) (p : Content) (x : List ℕ) (e : ReadFault) → MendedExclude → IsMendedReading g v l m p x → IsUnmended g e → (e ≡ unread.Memory → ⊥) → ⊥
+not-unmended g v l m p x e law r u known = known (law g v l m p x e r u)
+
+-- the reading in the version, the level and the mask that the struct tells
+read-told : (g : Grid) (v w : ℕ) (l k : Level) (m n : ℕ) (p : Content) (x : List ℕ) → w ≡ v → k ≡ l → n ≡ m → IsMendedReading g v l m p x → IsMendedReading g w k n p x
+read-told g v w l k m n p x ev el em r =
+    subst (λ (z : ℕ). IsMendedReading g z k n p x) (sym ev)
+    (subst (λ (z : Level). IsMendedReading g v z n p x) (sym el) (subst (λ (z : ℕ). IsMendedReading g v l z p x) (sym em) r))
+
+-- the wrong modules likewise
+wrong-told : (g : Grid) (v w : ℕ) (l k : Level) (m n : ℕ) (x : List ℕ) (a b : ℕ) → w ≡ v → k ≡ l → n ≡ m → b ≡ a → HasWrongModules g v l m x a → HasWrongModules g w k n x b
+wrong-told g v w l k m n x a b ev el em e r =
+    subst (λ (z : ℕ). HasWrongModules g z k n x b) (sym ev)
+    (subst (λ (z : Level). HasWrongModules g v z n x b) (sym el)
+    (subst (λ (z : ℕ). HasWrongModules g v l z x b) (sym em) (subst (λ (z : ℕ). HasWrongModules g v l m x z) (sym e) r)))
+
+-- the struct tells what is read and the damage
+pub given-mended : (modules : List ℕ) (side : ℕ) (before put : List ℕ) (m : Mended) (t : QrprovedMended) (len : ℕ)
+    → AreModules modules side
+    → IsMendedReading (square_of_bytes side modules) m.version m.level m.mask m.parsed m.changed.items
+    → m.wrong_format_modules ≡ wrong_format_modules (square_of_bytes side modules) m.level m.mask
+    → HasWrongModules (square_of_bytes side modules) m.version m.level m.mask m.changed.items m.wrong_modules
+    → len ≡ length m.parsed.bytes → len ≤ length before → put ≡ m.parsed.bytes
+    → t.len ≡ len → t.wrong_modules ≡ m.wrong_modules → t.version ≡ m.version
+    → TellsHeader m.parsed.header t.has_header t.position t.last t.parity
+    → t.level < 4 → level_of t.level ≡ m.level → t.mask ≡ m.mask → t.wrong_format_modules ≡ m.wrong_format_modules
+    → IsGreatest m.changed.items t.changed_most → t.changed_allowed ≡ tolerance_of m.version m.level
+    → IsGivenMended modules side before (put ++ drop len before) t
+given-mended modules side before put m t len all r format whole long room same elen ewrong ev header small el em eformat most allowed =
+    let g = square_of_bytes side modules in
+    record {
+      all_known = all;
+      content = m.parsed;
+      changed = m.changed.items;
+      level = small;
+      read = read-told g m.version t.version m.level (level_of t.level) m.mask t.mask m.parsed m.changed.items ev el em r;
+      room = omega arith;
+      holds = ap (λ (z : List ℕ). z ++ drop len before) same ∙ ap (λ (z : ℕ). m.parsed.bytes ++ drop z before) long;
+      len = elen ∙ long;
+      header = header;
+      damage = record {
+        whole = wrong-told g m.version t.version m.level (level_of t.level) m.mask t.mask m.changed.items m.wrong_modules t.wrong_modules ev el em ewrong whole;
+        format = eformat ∙ (format ∙ (ap (λ (z : Level). wrong_format_modules g z m.mask) (sym el) ∙ ap (λ (z : ℕ). wrong_format_modules g (level_of t.level) z) (sym em)));
+        most = most;
+        allowed = allowed ∙ (ap (λ (z : ℕ). tolerance_of z m.level) (sym ev) ∙ ap (λ (z : Level). tolerance_of t.version z) (sym el));
+      };
+    }
+
+-- a square that is mended as more bytes than the buffer has
+pub more-bytes : (modules : List ℕ) (side : ℕ) (buffer : List ℕ) (m : Mended) (len : ℕ) → AreModules modules side
+    → IsMendedReading (square_of_bytes side modules) m.version m.level m.mask m.parsed m.changed.items
+    → len ≡ length m.parsed.bytes → length buffer < len → HasMoreMendedBytes modules side buffer
+more-bytes modules side buffer m len all r long short = record {
+  all_known = all;
+  content = m.parsed;
+  version = m.version;
+  level = m.level;
+  mask = m.mask;
+  changed = m.changed.items;
+  read = r;
+  room = omega arith;
+}

@@ -1,0 +1,335 @@
+//! The call that reads a damaged symbol and tells how damaged it is (ISO/IEC 18004:2015, 7.5.1, 7.9.1 and 12).
+
+ghost use Rattle.std.specs.Prelude.{◌≡◌, ◌≢◌, ◌*◌, ◌<◌, ◌≤◌, ◌↔◌, ◌⊎◌, length, MatchBool};
+ghost use Rattle.std.specs.List.{All, Any};
+ghost use Rattle.qr_bits.specs.declared.fault.ParseFault.{ParseFault};
+ghost use Rattle.qr_symbol.specs.declared.fault.ReadFault.{ReadFault};
+ghost use Rattle.qr_mending.specs.Message.{tolerance_of};
+ghost use Rattle.qrproved.specs.Reading.{IsSide, TellsHeader};
+ghost use Rattle.qrproved.specs.Mending.{HasMoreMendedBytes, HasOtherByte, IsGivenMended, IsGreatest, IsUnmendedAt};
+ghost use Rattle.qrproved.specs.Settings.{level_of};
+
+use crate::modules::{area, matrix_of};
+use crate::reading::{content_of, version_of_side};
+use crate::settings::number_of;
+use crate::status::{CHECK, DONE, FORMAT, MEMORY, ROOM, SEGMENTS, SETTINGS, SIDE, read_status};
+use qr_mending::laws::{
+    changes_are_bounded, mended_readings_are_not_refused, mended_readings_are_one,
+    mending_refusals_are_one,
+};
+use qr_mending::{Mended, changed_max, mend_symbol};
+use std::alloc::Global;
+
+/// What a damaged symbol says, and how damaged it is.
+#[repr(C)]
+#[derive(Clone, Copy)]
+pub struct QrprovedMended {
+    /// How many bytes it holds.
+    pub len: usize,
+    /// How many modules of the whole square are not those of the symbol; 0 exactly if the square is the symbol.
+    pub wrong_modules: u32,
+    /// The version, from 1 to 40.
+    pub version: u8,
+    /// Whether it has a header: 1 if it is one of a series, 0 if it is a plain symbol, whose `position`, `last` and `parity`
+    /// are 0.
+    pub has_header: u8,
+    /// Which symbol of its series it is, from 0 to 15.
+    pub position: u8,
+    /// The number of symbols of its series less 1, from 0 to 15.
+    pub last: u8,
+    /// The parity of the whole input.
+    pub parity: u8,
+    /// The number of the level, from 0 to 3.
+    pub level: u8,
+    /// The mask, from 0 to 7.
+    pub mask: u8,
+    /// How many of the 30 modules of format information are wrong.
+    pub wrong_format_modules: u8,
+    /// The most codewords that were changed in a block.
+    pub changed_most: u8,
+    /// How many codewords of a block may be changed, from 2 to 15.
+    pub changed_allowed: u8,
+}
+
+// Whether each byte is that of a light or a dark module.
+fn are_modules(modules: &[u8]) -> bool
+    ensures { MatchBool result (All (λ b. b ≤ 1) modules.now) (Any (λ b. 1 < b) modules.now) }
+{
+    modules.iter().all(|module| *module <= 1)
+}
+
+// The greatest of some numbers.
+fn greatest(numbers: &[usize]) -> usize
+    requires { 1 ≤ length numbers.now }
+    ensures { IsGreatest numbers.now result }
+{
+    numbers.iter().copied().max().unwrap_or(0)
+}
+
+// What the struct tells of a square that is mended, and whose symbol holds `len` bytes.
+fn mended_of(len: usize, mended: &Mended) -> QrprovedMended
+    requires some { 1 ≤ length mended.now.changed.items }
+    requires few { All (λ n. n ≤ 15) mended.now.changed.items }
+    ensures len { result.len ≡ len }
+    ensures wrong_modules { result.wrong_modules ≡ mended.now.wrong_modules }
+    ensures version { result.version ≡ mended.now.version }
+    ensures header { TellsHeader mended.now.parsed.header result.has_header result.position result.last
+        result.parity }
+    ensures number { result.level < 4 }
+    ensures level { level_of result.level ≡ mended.now.level }
+    ensures mask { result.mask ≡ mended.now.mask }
+    ensures wrong_format_modules { result.wrong_format_modules ≡ mended.now.wrong_format_modules }
+    ensures most { IsGreatest mended.now.changed.items result.changed_most }
+    ensures allowed { result.changed_allowed ≡ tolerance_of mended.now.version mended.now.level }
+{
+    let content = content_of(len, mended.version, mended.parsed.header);
+    let most = greatest(&mended.changed);
+    QrprovedMended {
+        len: content.len,
+        wrong_modules: mended.wrong_modules,
+        version: content.version,
+        has_header: content.has_header,
+        position: content.position,
+        last: content.last,
+        parity: content.parity,
+        level: number_of(mended.level),
+        mask: mended.mask,
+        wrong_format_modules: mended.wrong_format_modules,
+        changed_most: most as u8,
+        changed_allowed: changed_max(mended.version, mended.level),
+    }
+}
+
+/// Reads the symbol whose modules stand in a buffer as `qrproved_encode` writes them, 0 for a light module and 1 for a dark
+/// one, and mends its damage. Its bytes go to the second buffer. What its header says, and how damaged it is, goes to the
+/// struct.
+///
+/// The causes of a refusal are looked for in this order: the side, a buffer of fewer modules, a byte of these that is neither 0
+/// nor 1, the format information, the codewords, what they say, a second buffer that is too short. The first three are found
+/// without any memory.
+#[unsafe(no_mangle)]
+pub extern "C" fn qrproved_mend(
+    alloc: Global,
+    modules: &[u8],
+    side: u8,
+    bytes: &mut [u8],
+    mended: &mut QrprovedMended,
+) -> u8
+    ensures done { result ≡ DONE → IsGivenMended modules.now side bytes.old bytes.new mended.new }
+    ensures unchanged { result ≢ DONE → (bytes.new ≡ bytes.old) × (mended.new ≡ mended.old) }
+    ensures side { (result ≡ SIDE) ↔ (IsSide side → ⊥) }
+    ensures room { (result ≡ ROOM) ↔ (IsSide side × ((length modules.now < side * side)
+        ⊎ ((result ≢ MEMORY) × HasMoreMendedBytes modules.now side bytes.old))) }
+    ensures settings { (result ≡ SETTINGS) ↔ (IsSide side × HasOtherByte modules.now side) }
+    ensures format { (result ≡ FORMAT)
+        ↔ ((result ≢ MEMORY) × IsUnmendedAt modules.now side ReadFault.Format) }
+    ensures check { (result ≡ CHECK)
+        ↔ ((result ≢ MEMORY) × IsUnmendedAt modules.now side ReadFault.Check) }
+    ensures segments { (result ≡ SEGMENTS) ↔ ((result ≢ MEMORY)
+        × ((why : ParseFault) × IsUnmendedAt modules.now side (ReadFault.Segments why))) }
+    ensures status { (result ≡ DONE) ⊎ (result ≡ MEMORY) ⊎ (result ≡ ROOM) ⊎ (result ≡ SIDE)
+        ⊎ (result ≡ SETTINGS) ⊎ (result ≡ FORMAT) ⊎ (result ≡ CHECK) ⊎ (result ≡ SEGMENTS) }
+{
+    let Some(_) = version_of_side(side) else {
+        return SIDE;
+    };
+    let area = area(side);
+    if modules.len() < area {
+        return ROOM;
+    }
+    if !are_modules(&modules[..area]) {
+        return SETTINGS;
+    }
+    let Ok(matrix) = matrix_of(alloc, modules, side) else {
+        return MEMORY;
+    };
+    mended_readings_are_one();
+    mended_readings_are_not_refused();
+    mending_refusals_are_one();
+    changes_are_bounded();
+    match mend_symbol(alloc, &matrix) {
+        Err(fault) => read_status(fault),
+        Ok(found) => {
+            let len = found.parsed.bytes.len();
+            if bytes.len() < len {
+                return ROOM;
+            }
+            bytes[..len].copy_from_slice(&found.parsed.bytes);
+            *mended = mended_of(len, &found);
+            DONE
+        }
+    }
+}
+
+#[cfg(test)]
+mod tests {
+    use super::*;
+    use crate::samples::{another_mode, eight_digits};
+    use crate::series::{QrprovedSeries, qrproved_encode_series};
+    use std::test::Fail;
+
+    fn nothing() -> QrprovedMended {
+        QrprovedMended {
+            len: 9,
+            wrong_modules: 99,
+            version: 9,
+            has_header: 9,
+            position: 9,
+            last: 9,
+            parity: 9,
+            level: 9,
+            mask: 9,
+            wrong_format_modules: 9,
+            changed_most: 9,
+            changed_allowed: 9,
+        }
+    }
+
+    // Inverts modules of a square of 21 by 21.
+    fn inverted(drawn: [u8; 441], places: &[(u8, u8)]) -> Result<[u8; 441], Fail> {
+        let mut modules = drawn;
+        for (row, col) in places {
+            let place = 21 * usize::from(*row) + usize::from(*col);
+            if place >= modules.len() {
+                return Err("no such module".into());
+            }
+            modules[place] = 1 - modules[place].min(1);
+        }
+        Ok(modules)
+    }
+
+    // Modules of the encoding region at 1-M, each of another codeword.
+    static CODEWORDS: [(u8, u8); 5] = [(20, 20), (16, 20), (12, 20), (9, 18), (13, 18)];
+
+    // Modules of the first copy of the format information, and then of the second.
+    static FORMATS: [(u8, u8); 8] = [
+        (0, 8),
+        (1, 8),
+        (2, 8),
+        (3, 8),
+        (8, 20),
+        (8, 19),
+        (8, 18),
+        (8, 17),
+    ];
+
+    // In version 1-M four of the 26 codewords may be changed.
+    #[test]
+    fn eight_digits_are_mended(rt: HostRuntime) -> Result<(), Fail> {
+        let drawn = eight_digits(&rt)?;
+        let rows = [
+            ("as drawn", &[][..], (0, 0, 0)),
+            (
+                "a module of the timing pattern",
+                &[(6u8, 9u8)][..],
+                (1, 0, 0),
+            ),
+            ("one of the format information", &FORMATS[..1], (1, 1, 0)),
+            ("seven of the format information", &FORMATS[..7], (7, 7, 0)),
+            ("a codeword", &CODEWORDS[..1], (1, 0, 1)),
+            ("four codewords", &CODEWORDS[..4], (4, 0, 4)),
+        ];
+        for (name, places, (wrong, wrong_format, changed)) in rows {
+            let modules = inverted(drawn, places)?;
+            let mut bytes = [7u8; 10];
+            let mut mended = nothing();
+            let status = qrproved_mend(rt.alloc(), &modules, 21, &mut bytes, &mut mended);
+            assert_eq!(rt; status, DONE, "{name}");
+            assert_eq!(rt; bytes, *b"01234567\x07\x07", "{name}");
+            assert_eq!(rt;
+                (mended.len, mended.version, mended.level),
+                (8, 1, 1),
+                "{name}"
+            );
+            assert_eq!(rt; mended.wrong_modules, wrong, "{name}");
+            assert_eq!(rt; mended.wrong_format_modules, wrong_format, "{name}");
+            assert_eq!(rt;
+                (mended.changed_most, mended.changed_allowed),
+                (changed, 4),
+                "{name}"
+            );
+            assert!(rt; mended.mask < 8 && mended.has_header == 0 && mended.position == 0);
+            assert_eq!(rt; (mended.last, mended.parity), (0, 0), "{name}");
+        }
+        Ok(())
+    }
+
+    #[test]
+    fn a_part_of_a_series_is_mended(rt: HostRuntime) -> Result<(), Fail> {
+        let mut modules = [0u8; 882];
+        let mut series = QrprovedSeries { count: 0, side: 0 };
+        let status = qrproved_encode_series(
+            rt.alloc(),
+            b"ABCDEFGH",
+            1,
+            3,
+            1,
+            &mut modules,
+            &mut series,
+        );
+        assert_eq!(rt; status, DONE);
+        // the last codeword of the second symbol's square is wrong
+        modules[881] = 1 - modules[881].min(1);
+        let mut bytes = [7u8; 3];
+        let mut mended = nothing();
+        let status = qrproved_mend(rt.alloc(), &modules[441..], 21, &mut bytes, &mut mended);
+        assert_eq!(rt; status, DONE);
+        assert_eq!(rt; bytes, *b"FGH");
+        assert_eq!(rt; (mended.len, mended.version, mended.level), (3, 1, 3));
+        assert_eq!(rt; (mended.has_header, mended.position), (1, 1));
+        assert_eq!(rt; (mended.last, mended.parity), (1, 0x08));
+        assert_eq!(rt; (mended.wrong_modules, mended.wrong_format_modules), (1, 0));
+        assert_eq!(rt; (mended.changed_most, mended.changed_allowed), (1, 8));
+        Ok(())
+    }
+
+    #[test]
+    fn refusals(rt: HostRuntime) -> Result<(), Fail> {
+        let drawn = eight_digits(&rt)?;
+        let format = inverted(drawn, &FORMATS)?;
+        let codewords = inverted(drawn, &CODEWORDS)?;
+        let unparsed = another_mode(&rt)?;
+        let mut unknown = drawn;
+        unknown[440] = 2;
+        let rows = [
+            ("no side", &drawn[..], 0u8, 8usize, SIDE),
+            ("side 22", &drawn[..], 22, 8, SIDE),
+            ("side 181", &drawn[..], 181, 8, SIDE),
+            ("440 modules", &drawn[..440], 21, 8, ROOM),
+            ("room for 7 bytes", &drawn[..], 21, 7, ROOM),
+            ("a byte of no module", &unknown[..], 21, 8, SETTINGS),
+            (
+                "four wrong modules of each copy",
+                &format[..],
+                21,
+                8,
+                FORMAT,
+            ),
+            ("five codewords", &codewords[..], 21, 8, CHECK),
+            ("another mode", &unparsed[..], 21, 8, SEGMENTS),
+        ];
+        for (name, modules, side, room, wanted) in rows {
+            let mut bytes = [7u8; 8];
+            let mut mended = nothing();
+            assert!(rt; room <= bytes.len());
+            let status = qrproved_mend(rt.alloc(), modules, side, &mut bytes[..room], &mut mended);
+            assert_eq!(rt; status, wanted, "{name}");
+            assert_eq!(rt; bytes, [7u8; 8], "{name}");
+            assert_eq!(rt; (mended.len, mended.wrong_modules), (9, 99), "{name}");
+            assert_eq!(rt; (mended.version, mended.has_header), (9, 9), "{name}");
+            assert_eq!(rt;
+                (mended.position, mended.last, mended.parity),
+                (9, 9, 9),
+                "{name}"
+            );
+            assert_eq!(rt; (mended.level, mended.mask), (9, 9), "{name}");
+            assert_eq!(rt; mended.wrong_format_modules, 9, "{name}");
+            assert_eq!(rt;
+                (mended.changed_most, mended.changed_allowed),
+                (9, 9),
+                "{name}"
+            );
+        }
+        Ok(())
+    }
+}
