@@ -22,13 +22,13 @@ use Rattle.qr_mending.specs.Steps.Sums.{dot_of, eval, blend, HasValues}
 use Rattle.qr_mending.specs.Steps.Polynomial.{all_of, miss_of, IsMonic}
 use Rattle.qr_mending.specs.Steps.Errors.{coefficient, low, IsLocated}
 use Rattle.qr_mending.proofs.SumLemmas.{dot-blend, blend-push}
-use Rattle.qr_mending.proofs.WeightLemmas.{blends-none, errors-root, coefficient-head, coefficient-tail}
+use Rattle.qr_mending.proofs.WeightLemmas.{root-blends, errors-root, coefficient-head, coefficient-tail}
 use Rattle.qr_mending.proofs.SpectrumLemmas.{eval-coefficient}
 
 -- ---- blocks
 
 -- a block consists of bytes
-bytes-block : (n : ℕ) (b : List ℕ) → IsBlock n b → All IsByte b
+pub bytes-block : (n : ℕ) (b : List ℕ) → IsBlock n b → All IsByte b
 bytes-block n b h =
     subst (λ (t : List ℕ). All IsByte t) (sym h.whole) (block-bytes h.message n h.correction h.corrects)
 
@@ -81,39 +81,23 @@ errors-value n damaged b h s a i l =
     ∙ (ap (bit_xor v) (root-block n b h i l) ∙ xor_zero_r v)))
 
 -- so they are the syndromes
-pub errors-values : (n t : ℕ) (damaged b first : List ℕ) → IsMended n t damaged b → All IsByte damaged →
+pub errors-values : (n : ℕ) (damaged b first : List ℕ) → IsBlock n b → length b ≡ length damaged → All IsByte damaged →
     HasValues first damaged → length first ≡ n → HasValues first (plus damaged b)
-errors-values n t damaged b first m a h l = record {
-  each = λ k g. h.each k g ∙ sym (errors-value n damaged b m.block m.long a k (omega (arith, l, g)));
+errors-values n damaged b first block long a h l = record {
+  each = λ k g. h.each k g ∙ sym (errors-value n damaged b block long a k (omega (arith, l, g)));
 }
 
 -- the leading coefficient comes last
-all-low : (p : Polynomial) → IsMonic p → p.degree < length p.terms → all_of p ≡ take p.degree p.terms ++ 1 ∷ []
+pub all-low : (p : Polynomial) → IsMonic p → p.degree < length p.terms → all_of p ≡ take p.degree p.terms ++ 1 ∷ []
 all-low p m l = take_more p.terms p.degree 0 l ∙ ap (λ z. take p.degree p.terms ++ z ∷ []) m
 
--- a polynomial that has solved the equations of the syndromes locates the errors
-pub errors-located : (n t : ℕ) (damaged b first q : List ℕ) (p : Polynomial) → IsMended n t damaged b → 2 * t ≤ n →
-    length damaged ≤ 255 → All IsByte damaged → HasValues first damaged → length first ≡ n → p.degree ≤ t →
-    IsMonic p → p.degree < length p.terms → All IsByte q → q ≡ all_of p →
-    ((i : ℕ) → i < t → miss_of p (drop i first) ≡ 0) → IsLocated q (plus damaged b)
-errors-located n t damaged b first q p m half most a h l d monic fits bytes same solved =
-    let e = plus damaged b in
-    let w = take p.degree p.terms in
-    let count : length e ≡ length b = length-plus damaged b (omega (arith, m.long)) in
-    let le : All IsByte e = bytes-plus damaged b a (bytes-block n b m.block) in
-    let ve = errors-values n t damaged b first m a h l in
-    let small : length e ≤ 255 = omega (arith, count, m.long) in
-    let few : weight e ≤ t = omega (arith, weight-plus damaged b (sym m.long), m.near) in
-    let split : q ≡ w ++ 1 ∷ [] = same ∙ all-low p monic fits in
-    let lower : length w ≡ p.degree = length-take-le p.degree p.terms (omega (arith, fits)) in
-    let long : length q ≡ p.degree + 1 = omega (arith, ap length split, length_push w 1, lower) in
-    let below : length q - 1 ≡ length w = omega (arith, long, lower) in
+-- errors that stand at roots of a polynomial are located by it
+pub roots-locate : (q w e : List ℕ) → q ≡ w ++ 1 ∷ [] → All IsByte q → All IsByte e → length e ≤ 255 →
+    ((m : ℕ) → m < length e → (eval (power m) q ≡ 0 → ⊥) → coefficient m e ≡ 0) → IsLocated q e
+roots-locate q w e split bytes le small roots =
+    let below : length q - 1 ≡ length w = omega (arith, ap length split, length_push w 1) in
     let rest : low q ≡ w = ap (take (length q - 1)) split ∙ take_at w (1 ∷ []) (length q - 1) (sym below) in
-    let none : (i : ℕ) → i < t → blend q i e ≡ 0 =
-    λ i g.
-    sym (dot-blend q i first e ve (omega (arith, g, long, half, l, d)))
-    ∙ (ap (λ z. dot_of z (drop i first)) same ∙ solved i g) in
-    let all = blends-none t q e bytes le small few none in
+    let all = root-blends q e bytes le roots in
     record {
       bytes = le;
       most = small;
@@ -122,31 +106,43 @@ errors-located n t damaged b first q p m half most a h l d monic fits bytes same
           sym (blend-push w i e le) ∙ (ap (λ z. blend z i e) (sym split) ∙ all i) in
           ap (λ z. value_at (i + z) e) below
           ∙ (sym (sum-none (blend w i e) (value_at (i + length w) e) joined) ∙ ap (λ z. blend z i e) (sym rest));
-      roots = errors-root t q e bytes le small few none;
+      roots = roots;
     }
 
--- the codeword at a place, mended
-pub codeword-mended : (n t : ℕ) (damaged b : List ℕ) (k error : ℕ) → IsMended n t damaged b → k < length damaged →
-    error ≡ coefficient (length damaged - 1 - k) (plus damaged b) → bit_xor (get_or damaged k 0) error ≡ get_or b k 0
-codeword-mended n t damaged b k error m l h =
-    let e = plus damaged b in
-    let count : length e ≡ length damaged = length-plus damaged b (omega (arith, m.long)) ∙ m.long in
-    let place : length damaged - 1 - k ≡ length e - 1 - k = omega (arith, count) in
-    let x = get_or damaged k 0 in
-    let read : error ≡ bit_xor x (get_or b k 0) =
-    h ∙ (ap (λ z. coefficient z e) place
-    ∙ (coefficient-at e k (omega (arith, count, l)) ∙ get_or-plus damaged b k (sym m.long) l)) in
-    ap (bit_xor x) read ∙ xor-cancel x (get_or b k 0)
+-- a polynomial that has solved the equations of the first values of few errors has a root at each of them
+pub solved-root : (t : ℕ) (e first q : List ℕ) (p : Polynomial) → All IsByte e → length e ≤ 255 → weight e ≤ t →
+    HasValues first e → 2 * t ≤ length first → p.degree ≤ t → p.degree < length p.terms → All IsByte q → q ≡ all_of p →
+    ((i : ℕ) → i < t → miss_of p (drop i first) ≡ 0) → (m : ℕ) → m < length e → (eval (power m) q ≡ 0 → ⊥) →
+    coefficient m e ≡ 0
+solved-root t e first q p le small few values long d fits bytes same solved =
+    let count : length q ≡ p.degree + 1 = omega (arith, ap length same, length-take-le (p.degree + 1) p.terms (omega (arith, fits))) in
+    errors-root t q e bytes le small few
+    (λ i g.
+    sym (dot-blend q i first e values (omega (arith, g, count, long, d)))
+    ∙ (ap (λ z. dot_of z (drop i first)) same ∙ solved i g))
 
--- one codeword more
-pub mended-more : (n t : ℕ) (damaged b items new : List ℕ) (k error : ℕ) → IsMended n t damaged b →
-    k < length damaged → error ≡ coefficient (length damaged - 1 - k) (plus damaged b) → items ≡ take k b →
-    new ≡ items ++ bit_xor (get_or damaged k 0) error ∷ [] → new ≡ take (k + 1) b
-mended-more n t damaged b items new k error m l h same push =
+-- the error that brings a codeword to that of another list, added
+pub plus-cancel : (xs ys : List ℕ) → length xs ≡ length ys → plus xs (plus xs ys) ≡ ys
+plus-cancel [] ys h = refl
+plus-cancel (x ∷ xs) [] h = absurd (omega arith)
+plus-cancel (x ∷ xs) (y ∷ ys) h =
+    ap (λ z. z ∷ plus xs (plus xs ys)) (xor-cancel x y) ∙ ap (λ z. y ∷ z) (plus-cancel xs ys (omega arith))
+
+-- one codeword more without its error
+pub sum-more : (xs errors items new : List ℕ) (k error : ℕ) → length errors ≡ length xs → k < length xs →
+    error ≡ coefficient (length xs - 1 - k) errors → items ≡ take k (plus xs errors) →
+    new ≡ items ++ bit_xor (get_or xs k 0) error ∷ [] → new ≡ take (k + 1) (plus xs errors)
+sum-more xs errors items new k error long l h same push =
+    let count : length (plus xs errors) ≡ length errors = length-plus xs errors (omega (arith, long)) in
+    let place : length xs - 1 - k ≡ length errors - 1 - k = omega (arith, long) in
+    let read : error ≡ get_or errors k 0 =
+    h ∙ (ap (λ z. coefficient z errors) place ∙ coefficient-at errors k (omega (arith, long, l))) in
+    let here : bit_xor (get_or xs k 0) error ≡ get_or (plus xs errors) k 0 =
+    ap (bit_xor (get_or xs k 0)) read ∙ sym (get_or-plus xs errors k (sym long) l) in
     push
-    ∙ (ap (λ z. z ++ bit_xor (get_or damaged k 0) error ∷ []) same
-    ∙ (ap (λ z. take k b ++ z ∷ []) (codeword-mended n t damaged b k error m l h)
-    ∙ sym (take_more b k 0 (omega (arith, l, m.long)))))
+    ∙ (ap (λ z. z ++ bit_xor (get_or xs k 0) error ∷ []) same
+    ∙ (ap (λ z. take k (plus xs errors) ++ z ∷ []) here
+    ∙ sym (take_more (plus xs errors) k 0 (omega (arith, l, long, count)))))
 
 -- ---- series
 
@@ -178,23 +174,22 @@ inverse-one place inverse e f =
 
 -- ---- the whole list
 
--- the mended codewords, one more
-pub candidate-more : (n t : ℕ) (damaged first q series items new : List ℕ) (p : Polynomial) (k error : ℕ) → 2 * t ≤ n →
-    length damaged ≤ 255 → All IsByte damaged → HasValues first damaged → length first ≡ n → p.degree ≤ t →
-    IsMonic p → p.degree < length p.terms → All IsByte q → q ≡ all_of p →
-    ((i : ℕ) → i < t → miss_of p (drop i first) ≡ 0) → k < length damaged →
-    ((e : List ℕ) → IsLocated q e → HasValues first e → HasValues series e) →
-    ((e : List ℕ) → IsLocated q e → HasValues series e → length damaged - 1 - k < length e →
-    error ≡ coefficient (length damaged - 1 - k) e) →
-    new ≡ items ++ bit_xor (get_or damaged k 0) error ∷ [] →
-    (b : List ℕ) → IsMended n t damaged b → items ≡ take k b → new ≡ take (k + 1) b
-candidate-more n t damaged first q series items new p k error half most a h l d monic fits bytes same solved below hs he push b m now =
+-- the errors of a damaged block, located, leave the true one
+pub errors-leave : (n t : ℕ) (damaged first q items : List ℕ) (p : Polynomial) → 2 * t ≤ n → length damaged ≤ 255 →
+    All IsByte damaged → HasValues first damaged → length first ≡ n → p.degree ≤ t → IsMonic p →
+    p.degree < length p.terms → All IsByte q → q ≡ all_of p → ((i : ℕ) → i < t → miss_of p (drop i first) ≡ 0) →
+    ((e : List ℕ) → length e ≡ length damaged → IsLocated q e → HasValues first e → items ≡ plus damaged e) →
+    (b : List ℕ) → IsMended n t damaged b → items ≡ b
+errors-leave n t damaged first q items p half most a h l d monic fits bytes same solved sum b m =
     let e = plus damaged b in
-    let located = errors-located n t damaged b first q p m half most a h l d monic fits bytes same solved in
-    let values = hs e located (errors-values n t damaged b first m a h l) in
     let count : length e ≡ length b = length-plus damaged b (omega (arith, m.long)) in
-    mended-more n t damaged b items new k error m below
-    (he e located values (omega (arith, count, m.long, below))) now push
+    let le : All IsByte e = bytes-plus damaged b a (bytes-block n b m.block) in
+    let ve = errors-values n damaged b first m.block m.long a h l in
+    let small : length e ≤ 255 = omega (arith, count, m.long) in
+    let few : weight e ≤ t = omega (arith, weight-plus damaged b (sym m.long), m.near) in
+    let roots = solved-root t e first q p le small few ve (omega (arith, half, l)) d fits bytes same solved in
+    let located = roots-locate q (take p.degree p.terms) e (same ∙ all-low p monic fits) bytes le small roots in
+    sum e (omega (arith, count, m.long)) located ve ∙ plus-cancel damaged b (sym m.long)
 
 -- ---- the checks
 

@@ -1,5 +1,6 @@
 -- Errors times the values of a polynomial at their places: as few as the errors; where the first values of them are 0, none
--- of them is left, so that each error stands at a root.
+-- of them is left, so that each error stands at a root. And where each error stands at a root, none of them is left, so that
+-- all their values are 0.
 use Rattle.std.proofs.Common.{◌≡◌, ℕ, suc, ◌+◌, ◌*◌, ◌<◌, ◌≤◌, List, [], ◌∷◌, length, refl, sym, ap, ◌∙◌, inl, inr, arith, bit_xor}
 use Rattle.std.specs.List.{All}
 use Rattle.std.specs.Int.Bits.{xor_zero_l}
@@ -17,13 +18,8 @@ use Rattle.qr_field.proofs.FieldLemmas.{product-assoc, product-front, product-by
 use Rattle.qr_field.proofs.ValueLemmas.{value-lt}
 use Rattle.qr_field.proofs.DistanceLemmas.{weight, weight-none, value-none, difference-same, difference-other, difference-most}
 use Rattle.qr_mending.specs.Steps.Sums.{eval, blend}
-use Rattle.qr_mending.specs.Steps.Errors.{coefficient}
+use Rattle.qr_mending.specs.Steps.Errors.{coefficient, weighted}
 use Rattle.qr_mending.proofs.SumLemmas.{eval-lt}
-
--- each error times the value of a polynomial at its place
-abbrev pub weighted : List ℕ → List ℕ → List ℕ
-weighted p [] = []
-weighted p (c ∷ e) = product c (eval (power (length e)) p) ∷ weighted p e
 
 -- as many places
 length-weighted : (p e : List ℕ) → length (weighted p e) ≡ length e
@@ -126,12 +122,6 @@ weighted-none t p e lp le most few h =
     weight-none (length (weighted p e)) t (weighted p e) (omega arith) (omega (arith, length-weighted p e))
     (bytes-weighted p e le) (omega (arith, w, few)) (λ i l. weighted-value p i e lp le ∙ h i l)
 
--- then all sums are 0
-pub blends-none : (t : ℕ) (p e : List ℕ) → All IsByte p → All IsByte e → length e ≤ 255 → weight e ≤ t →
-    ((i : ℕ) → i < t → blend p i e ≡ 0) → (i : ℕ) → blend p i e ≡ 0
-blends-none t p e lp le most few h i =
-    sym (weighted-value p i e lp le) ∙ value-none i (weighted p e) (weighted-none t p e lp le most few h)
-
 -- what differs from 0 in no place is 0
 difference-none : (x : ℕ) → difference x 0 ≡ 0 → x ≡ 0
 difference-none x h = elim (cases_eq x 0) [
@@ -169,3 +159,28 @@ weighted-root p (c ∷ e) lp le w m l n = elim (cases_eq m (length e)) [
 pub errors-root : (t : ℕ) (p e : List ℕ) → All IsByte p → All IsByte e → length e ≤ 255 → weight e ≤ t →
     ((i : ℕ) → i < t → blend p i e ≡ 0) → (m : ℕ) → m < length e → (eval (power m) p ≡ 0 → ⊥) → coefficient m e ≡ 0
 errors-root t p e lp le most few h = weighted-root p e lp le (weighted-none t p e lp le most few h)
+
+-- where errors stand at roots only, nothing is left of the weighted errors
+root-weighted : (p e : List ℕ) → All IsByte p → All IsByte e →
+    ((m : ℕ) → m < length e → (eval (power m) p ≡ 0 → ⊥) → coefficient m e ≡ 0) → weight (weighted p e) ≡ 0
+root-weighted p [] lp le r = refl
+root-weighted p (c ∷ e) lp le r =
+    let x = power (length e) in
+    let z = eval x p in
+    let lz = eval-lt x p (power-lt (length e)) lp in
+    let none : product c z ≡ 0 = elim (cases_eq z 0) [
+      | inl f ↦ ap (product c) f ∙ product-by_zero c (All-head IsByte c e le)
+      | inr o ↦
+          let no : c ≡ 0 = sym (coefficient-head (length e) c e refl) ∙ r (length e) (omega arith) o in
+          ap (λ t. product t z) no ∙ product-of_zero z lz
+    ] in
+    let one = difference-same (product c z) 0 none in
+    let rest = root-weighted p e lp (All-tail IsByte c e le)
+    (λ m l n. sym (coefficient-tail m c e (λ h. omega (arith, h, l))) ∙ r m (omega (arith, l)) n) in
+    omega (arith, one, rest)
+
+-- then all sums are 0
+pub root-blends : (p e : List ℕ) → All IsByte p → All IsByte e →
+    ((m : ℕ) → m < length e → (eval (power m) p ≡ 0 → ⊥) → coefficient m e ≡ 0) → (i : ℕ) → blend p i e ≡ 0
+root-blends p e lp le r i =
+    sym (weighted-value p i e lp le) ∙ value-none i (weighted p e) (root-weighted p e lp le r)

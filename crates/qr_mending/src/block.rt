@@ -5,7 +5,7 @@ ghost use Rattle.std.specs.Bool.{Decides};
 ghost use Rattle.qr_field.specs.Distance.{differences};
 ghost use Rattle.qr_mending.specs.Block.{IsBlock, IsMended};
 
-use crate::errors::{error, values};
+use crate::errors::without_errors;
 use crate::locator::locator;
 use crate::sums::syndromes;
 use arrayvec::ArrayVec;
@@ -22,13 +22,7 @@ fn candidate(n: usize, t: usize, damaged: &[u8]) -> ArrayVec<u8, 255>
     let first = syndromes(damaged, n);
     let polynomial = locator(first.as_slice(), t);
     let coefficients = polynomial.coefficients();
-    let series = values(coefficients, first.as_slice());
-    let mut mended = ArrayVec::new();
-    for k in 0..damaged.len() {
-        let place = (damaged.len() - 1 - k) as u8;
-        mended.push(damaged[k] ^ error(coefficients, series.as_slice(), place));
-    }
-    mended
+    without_errors(coefficients, first.as_slice(), damaged)
 }
 
 // The number of places in which two lists of one length differ.

@@ -1,7 +1,10 @@
-//! The errors of a damaged block: from their locator all their values follow, and from these the errors.
+//! The errors of a damaged block: from their locator all their values follow, from these the errors, and without them the
+//! block.
 
 ghost use Rattle.std.specs.Prelude.{◌≡◌, ℕ, ◌+◌, ◌<◌, ◌≤◌, List, length};
+ghost use Rattle.std.specs.List.{All};
 ghost use Rattle.arrayvec.specs.ArrayVec.{array_vec_len};
+ghost use Rattle.qr_field.specs.Polynomial.{IsByte, plus};
 ghost use Rattle.qr_field.specs.Steps.Polynomial.{value_at};
 ghost use Rattle.qr_mending.specs.Steps.Sums.{HasValues};
 ghost use Rattle.qr_mending.specs.Steps.Errors.{coefficient, IsLocated};
@@ -26,7 +29,7 @@ fn next_value(locator: &[u8], syndromes: &[u8], series: &[u8]) -> u8
 }
 
 // The values at all powers of 2 of errors whose first values are the syndromes.
-pub(crate) fn values(locator: &[u8], syndromes: &[u8]) -> ArrayVec<u8, 255>
+fn values(locator: &[u8], syndromes: &[u8]) -> ArrayVec<u8, 255>
     requires least { 1 ≤ length locator.now }
     requires long { length locator.now ≤ length syndromes.now + 1 }
     ensures count { array_vec_len result ≡ 255 }
@@ -42,7 +45,7 @@ pub(crate) fn values(locator: &[u8], syndromes: &[u8]) -> ArrayVec<u8, 255>
 }
 
 // The error at a place, counted from the last codeword.
-pub(crate) fn error(locator: &[u8], series: &[u8], place: u8) -> u8
+fn error(locator: &[u8], series: &[u8], place: u8) -> u8
     requires count { length series.now ≡ 255 }
     requires place { place < 255 }
     ensures { (errors : List ℕ) → IsLocated locator.now errors → HasValues series.now errors →
@@ -53,4 +56,23 @@ pub(crate) fn error(locator: &[u8], series: &[u8], place: u8) -> u8
     }
     let inverse = if place == 0 { 0 } else { 255 - place };
     value(series, power_of(inverse))
+}
+
+// The damaged codewords without their errors.
+pub(crate) fn without_errors(locator: &[u8], syndromes: &[u8], damaged: &[u8]) -> ArrayVec<u8, 255>
+    requires least { 1 ≤ length locator.now }
+    requires long { length locator.now ≤ length syndromes.now + 1 }
+    requires fits { length damaged.now ≤ 255 }
+    ensures long { length result.items ≡ length damaged.now }
+    ensures bytes { All IsByte locator.now }
+    ensures sum { (errors : List ℕ) → length errors ≡ length damaged.now → IsLocated locator.now errors →
+        HasValues syndromes.now errors → result.items ≡ plus damaged.now errors }
+{
+    let series = values(locator, syndromes);
+    let mut codewords = ArrayVec::new();
+    for k in 0..damaged.len() {
+        let place = (damaged.len() - 1 - k) as u8;
+        codewords.push(damaged[k] ^ error(locator, series.as_slice(), place));
+    }
+    codewords
 }

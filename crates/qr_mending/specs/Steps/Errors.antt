@@ -1,6 +1,7 @@
 -- The errors of a damaged block. No public clause rests on how this is written.
 use Rattle.std.specs.Prelude.{◌≡◌, ℕ, ◌+◌, ◌-◌, ◌<◌, ◌≤◌, ◌==◌, if◌then◌else◌, List, [], ◌∷◌, length, take}
 use Rattle.std.specs.List.{All}
+use Rattle.qr_field.specs.Galois.{product}
 use Rattle.qr_field.specs.Polynomial.{IsByte, power}
 use Rattle.qr_field.specs.Steps.Polynomial.{value_at}
 use Rattle.qr_mending.specs.Steps.Sums.{eval, blend}
@@ -13,6 +14,11 @@ coefficient m (c ∷ e) = if m == length e then c else coefficient m e
 -- all coefficients but the leading one, which comes last
 abbrev pub low : List ℕ → List ℕ
 low p = take (length p - 1) p
+
+-- each error, in a list from the highest power on, times the value of a polynomial at its place
+abbrev pub weighted : List ℕ → List ℕ → List ℕ
+weighted p [] = []
+weighted p (c ∷ e) = product c (eval (power (length e)) p) ∷ weighted p e
 
 -- the errors e stand at roots of the polynomial p, whose coefficients are listed from the lowest power of x to the leading
 -- 1, and so each of their values follows from those before
