@@ -1,12 +1,12 @@
 -- The errors of a damaged block: they are located by any polynomial that has solved the equations, and with them added the
 -- block is the true one.
-use Rattle.std.proofs.Common.{◌≡◌, ℕ, zero, suc, ◌+◌, ◌-◌, ◌*◌, ◌<◌, ◌≤◌, List, [], ◌∷◌, ◌++◌, length, take, drop, get_or, refl, sym, ap, ◌∙◌, subst, arith, bit_xor, length-append}
+use Rattle.std.proofs.Common.{◌≡◌, ℕ, zero, suc, ◌+◌, ◌-◌, ◌*◌, ◌/◌, ◌<◌, ◌≤◌, Option, Some, List, [], ◌∷◌, ◌++◌, length, map, take, drop, get_or, refl, sym, ap, ◌∙◌, subst, arith, bit_xor, length-append}
 use Rattle.std.specs.List.{All}
 use Rattle.std.specs.Int.Bits.{xor_zero_r}
-use Rattle.std.proofs.lemmas.List.{length-take, length-take-le, length_push, take_more, take_at, take_rest, take-append-drop, drop_at}
+use Rattle.std.proofs.lemmas.List.{length-map, length-take, length-take-le, length_push, take_more, take_at, take_rest, take-append-drop, drop_at}
 use Rattle.qr_field.specs.Galois.{product}
 use Rattle.qr_field.specs.Polynomial.{IsByte, plus, power, IsCorrection}
-use Rattle.qr_field.specs.Distance.{differences}
+use Rattle.qr_field.specs.Distance.{differences, erasures, errors}
 use Rattle.qr_field.specs.Steps.Polynomial.{value_at}
 use Rattle.qr_field.proofs.BitLemmas.{xor-cancel}
 use Rattle.qr_field.proofs.ByteLemmas.{product-by_one}
@@ -14,9 +14,10 @@ use Rattle.qr_field.proofs.FieldLemmas.{sum-none}
 use Rattle.qr_field.proofs.PowerLemmas.{power-round}
 use Rattle.qr_field.proofs.ListLemmas.{length-plus, bytes-plus}
 use Rattle.qr_field.proofs.ValueLemmas.{value-lt, value-plus, block-bytes, block-root}
-use Rattle.qr_field.proofs.DistanceLemmas.{weight, weight-plus, difference-same, unambiguous}
+use Rattle.qr_field.proofs.DistanceLemmas.{weight, weight-plus, difference-same, unambiguous-known, erasures-read, errors-read}
 use Rattle.qr_field.proofs.PolynomialLemmas.{correction-one}
 use Rattle.qr_mending.specs.Block.{IsBlock, IsMended}
+use Rattle.qr_mending.specs.Erasures.{IsMendedWithErasures}
 use Rattle.qr_mending.specs.declared.polynomial.Polynomial.{Polynomial}
 use Rattle.qr_mending.specs.Steps.Sums.{dot_of, eval, blend, HasValues}
 use Rattle.qr_mending.specs.Steps.Polynomial.{all_of, miss_of, IsMonic}
@@ -229,19 +230,50 @@ blocks-one n b c g h e =
     (subst (λ (z : List ℕ). IsCorrection z n g.correction) e g.corrects) h.corrects in
     g.whole ∙ (ap (λ z. z ++ g.correction) e ∙ (ap (λ z. h.message ++ z) f ∙ sym h.whole))
 
--- the law of mended blocks
-pub mended-one : (n t : ℕ) (damaged b c : List ℕ) → length damaged ≤ 255 → 2 * t ≤ n → IsMended n t damaged b →
-    IsMended n t damaged c → b ≡ c
-mended-one n t damaged b c most half g h =
+-- the law of mended blocks of which some places could not be read
+pub erasures-one : (n spare : ℕ) (read : List (Option ℕ)) (b c : List ℕ) → length read ≤ 255 → spare ≤ n →
+    IsMendedWithErasures n spare read b → IsMendedWithErasures n spare read c → b ≡ c
+erasures-one n spare read b c most enough g h =
     let x = g.block in
     let y = h.block in
     let lx = start-block n b x in
     let ly = start-block n c y in
     let all = length-append x.message x.correction in
+    let t = (spare - erasures read) / 2 in
+    let gt : errors read b ≤ t = omega (arith, g.near) in
+    let ht : errors read c ≤ t = omega (arith, h.near) in
     let e : x.message ≡ y.message =
-    unambiguous n t x.message x.correction y.message y.correction damaged x.corrects y.corrects
+    unambiguous-known n t x.message x.correction y.message y.correction read x.corrects y.corrects
     (omega (arith, lx, ly, g.long, h.long))
-    (omega (arith, all, ap length x.whole, x.corrects.count, g.long)) half
-    (subst (λ (z : List ℕ). differences damaged z ≤ t) x.whole g.near)
-    (subst (λ (z : List ℕ). differences damaged z ≤ t) y.whole h.near) in
+    (omega (arith, all, ap length x.whole, x.corrects.count, g.long)) (omega (arith, g.near, enough))
+    (subst (λ (z : List ℕ). errors read z ≤ t) x.whole gt)
+    (subst (λ (z : List ℕ). errors read z ≤ t) y.whole ht) in
     blocks-one n b c x y e
+
+-- a block of which each place was read
+pub read-mended : (n spare : ℕ) (damaged b : List ℕ) → IsMended n (spare / 2) damaged b →
+    IsMendedWithErasures n spare (map (λ x. Some x) damaged) b
+read-mended n spare damaged b m = record {
+  block = m.block;
+  long = m.long ∙ sym (length-map damaged (λ x. Some x));
+  near = omega (arith, m.near, erasures-read damaged, errors-read damaged b);
+}
+
+-- is mended alike
+pub mended-read : (n spare : ℕ) (damaged b : List ℕ) →
+    IsMendedWithErasures n spare (map (λ x. Some x) damaged) b → IsMended n (spare / 2) damaged b
+mended-read n spare damaged b m = record {
+  block = m.block;
+  long = m.long ∙ length-map damaged (λ x. Some x);
+  near = omega (arith, m.near, erasures-read damaged, errors-read damaged b);
+}
+
+-- the law of mended blocks
+pub mended-one : (n t : ℕ) (damaged b c : List ℕ) → length damaged ≤ 255 → 2 * t ≤ n → IsMended n t damaged b →
+    IsMended n t damaged c → b ≡ c
+mended-one n t damaged b c most half g h =
+    let turn : t ≡ 2 * t / 2 = omega arith in
+    let known : (z : List ℕ) → IsMended n t damaged z → IsMendedWithErasures n (2 * t) (map (λ x. Some x) damaged) z =
+    λ z m. read-mended n (2 * t) damaged z (subst (λ (k : ℕ). IsMended n k damaged z) turn m) in
+    erasures-one n (2 * t) (map (λ x. Some x) damaged) b c (omega (arith, most, length-map damaged (λ x. Some x))) half
+    (known b g) (known c h)

@@ -2,7 +2,9 @@ mod SumLemmas
 mod PoolLemmas
 mod WeightLemmas
 mod SpectrumLemmas
+mod RootLemmas
 pub mod BlockLemmas
+mod ErasureLemmas
 mod FormatLemmas
 mod MessageLemmas
 mod MendingLemmas

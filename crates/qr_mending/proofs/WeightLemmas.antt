@@ -1,7 +1,7 @@
 -- Errors times the values of a polynomial at their places: as few as the errors; where the first values of them are 0, none
 -- of them is left, so that each error stands at a root. And where each error stands at a root, none of them is left, so that
 -- all their values are 0.
-use Rattle.std.proofs.Common.{◌≡◌, ℕ, suc, ◌+◌, ◌*◌, ◌<◌, ◌≤◌, List, [], ◌∷◌, length, refl, sym, ap, ◌∙◌, inl, inr, arith, bit_xor}
+use Rattle.std.proofs.Common.{◌≡◌, ℕ, suc, ◌+◌, ◌*◌, ◌<◌, ◌≤◌, List, [], ◌∷◌, length, refl, sym, ap, ◌∙◌, subst, inl, inr, arith, lit<, bit_xor}
 use Rattle.std.specs.List.{All}
 use Rattle.std.specs.Int.Bits.{xor_zero_l}
 use Rattle.std.proofs.lemmas.Bool.{cases_eq, eq-eqb, ne_eqb}
@@ -22,17 +22,29 @@ use Rattle.qr_mending.specs.Steps.Errors.{coefficient, weighted}
 use Rattle.qr_mending.proofs.SumLemmas.{eval-lt}
 
 -- as many places
-length-weighted : (p e : List ℕ) → length (weighted p e) ≡ length e
+pub length-weighted : (p e : List ℕ) → length (weighted p e) ≡ length e
 length-weighted p [] = refl
 length-weighted p (c ∷ e) = ap suc (length-weighted p e)
 
 -- and bytes
-bytes-weighted : (p e : List ℕ) → All IsByte e → All IsByte (weighted p e)
+pub bytes-weighted : (p e : List ℕ) → All IsByte e → All IsByte (weighted p e)
 bytes-weighted p [] a = All-nil IsByte
 bytes-weighted p (c ∷ e) a =
     let z = eval (power (length e)) p in
     All-cons IsByte (product c z) (weighted p e) (product-lt c z (All-head IsByte c e a))
     (bytes-weighted p e (All-tail IsByte c e a))
+
+-- a multiple of an error is 0 where the error is
+pub difference-product : (c z : ℕ) → z < 256 → difference (product c z) 0 ≤ difference c 0
+difference-product c z l = elim (cases_eq c 0) [
+  | inl f ↦
+      let none = difference-same (product c z) 0 (ap (λ t. product t z) f ∙ product-of_zero z l) in
+      omega (arith, none)
+  | inr n ↦
+      let one = difference-other c 0 n in
+      let most = difference-most (product c z) 0 in
+      omega (arith, one, most)
+]
 
 -- no more of them are not 0
 weight-weighted : (p e : List ℕ) → All IsByte p → All IsByte e → weight (weighted p e) ≤ weight e
@@ -40,16 +52,9 @@ weight-weighted p [] b a = omega arith
 weight-weighted p (c ∷ e) b a =
     let z = eval (power (length e)) p in
     let lz = eval-lt (power (length e)) p (power-lt (length e)) b in
+    let head = difference-product c z lz in
     let rest = weight-weighted p e b (All-tail IsByte c e a) in
-    elim (cases_eq c 0) [
-      | inl f ↦
-          let none = difference-same (product c z) 0 (ap (λ t. product t z) f ∙ product-of_zero z lz) in
-          omega (arith, none, rest)
-      | inr n ↦
-          let one = difference-other c 0 n in
-          let most = difference-most (product c z) 0 in
-          omega (arith, one, most, rest)
-    ]
+    omega (arith, head, rest)
 
 -- the polynomial with no coefficient leaves none
 weight-nothing : (e : List ℕ) → All IsByte e → weight (weighted [] e) ≡ 0
@@ -105,7 +110,7 @@ weighted-step a p i (c ∷ e) la lp le =
     ∙ ap (bit_xor (product a (bit_xor (product c place) v))) back)))
 
 -- the values of the weighted errors are sums of products of the coefficients and the values of the errors
-weighted-value : (p : List ℕ) (i : ℕ) (e : List ℕ) → All IsByte p → All IsByte e →
+pub weighted-value : (p : List ℕ) (i : ℕ) (e : List ℕ) → All IsByte p → All IsByte e →
     value_at i (weighted p e) ≡ blend p i e
 weighted-value [] i e lp le = value-none i (weighted [] e) (weight-nothing e le)
 weighted-value (a ∷ p) i e lp le =
@@ -184,3 +189,29 @@ pub root-blends : (p e : List ℕ) → All IsByte p → All IsByte e →
     ((m : ℕ) → m < length e → (eval (power m) p ≡ 0 → ⊥) → coefficient m e ≡ 0) → (i : ℕ) → blend p i e ≡ 0
 root-blends p e lp le r i =
     sym (weighted-value p i e lp le) ∙ value-none i (weighted p e) (root-weighted p e lp le r)
+
+-- a coefficient is a byte
+pub coefficient-lt : (m : ℕ) (e : List ℕ) → All IsByte e → coefficient m e < 256
+coefficient-lt m [] le = lit< tt
+coefficient-lt m (c ∷ e) le = elim (cases_eq m (length e)) [
+  | inl h ↦ subst (λ (t : ℕ). t < 256) (sym (coefficient-head m c e h)) (All-head IsByte c e le)
+  | inr o ↦ subst (λ (t : ℕ). t < 256) (sym (coefficient-tail m c e o)) (coefficient-lt m e (All-tail IsByte c e le))
+]
+
+-- the weighted error at a place
+pub coefficient-weighted : (m : ℕ) (p e : List ℕ) → All IsByte p →
+    coefficient m (weighted p e) ≡ product (coefficient m e) (eval (power m) p)
+coefficient-weighted m p [] lp = sym (product-of_zero (eval (power m) p) (eval-lt (power m) p (power-lt m) lp))
+coefficient-weighted m p (c ∷ e) lp =
+    let x = product c (eval (power (length e)) p) in
+    let same = length-weighted p e in
+    elim (cases_eq m (length e)) [
+      | inl h ↦
+          coefficient-head m x (weighted p e) (h ∙ sym same)
+          ∙ (ap (λ t. product c (eval (power t) p)) (sym h)
+          ∙ ap (λ t. product t (eval (power m) p)) (sym (coefficient-head m c e h)))
+      | inr o ↦
+          coefficient-tail m x (weighted p e) (λ h. o (h ∙ same))
+          ∙ (coefficient-weighted m p e lp
+          ∙ ap (λ t. product t (eval (power m) p)) (sym (coefficient-tail m c e o)))
+    ]

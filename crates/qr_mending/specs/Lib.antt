@@ -1,4 +1,5 @@
 pub mod Block
+pub mod Erasures
 pub mod Distance
 pub mod Format
 pub mod Message

@@ -2,3 +2,4 @@
 pub mod Sums
 pub mod Polynomial
 pub mod Errors
+pub mod Roots

@@ -40,7 +40,7 @@ fn count_differences(xs: &[u8], ys: &[u8]) -> usize
 }
 
 // Whether the codewords are a block.
-fn is_block(divisor: &Divisor, codewords: &[u8]) -> bool
+pub(crate) fn is_block(divisor: &Divisor, codewords: &[u8]) -> bool
     requires { divisor.now ≤ length codewords.now }
     ensures { Decides result (IsBlock divisor.now codewords.now) }
 {

@@ -1,7 +1,7 @@
 //! The laws of mending: what is mended is one thing at most, and nothing that can be mended is refused. But for those
 //! that mend, each function does nothing: its contract is the law.
 
-ghost use Rattle.std.specs.Prelude.{◌≡◌, ◌≢◌, ◌↔◌, ◌⊎◌, Err, ℕ, ◌*◌, ◌≤◌, List, length, replicate, None, MatchResult};
+ghost use Rattle.std.specs.Prelude.{◌≡◌, ◌≢◌, ◌↔◌, ◌⊎◌, Err, ℕ, ◌*◌, ◌/◌, ◌≤◌, false, List, length, replicate, Option, None, MatchResult};
 ghost use Rattle.std.specs.List.{All};
 ghost use Rattle.qr_layout.specs.declared.level.Level.{Level};
 ghost use Rattle.qr_bits.specs.declared.modes.Rule.{Rule};
@@ -16,6 +16,7 @@ ghost use Rattle.qr_symbol.specs.Reading.{IsReading};
 ghost use Rattle.qr_symbol.specs.Series.{squares_of, IsSeries};
 ghost use Rattle.qr_symbol.specs.Symbol.{grid_of};
 ghost use Rattle.qr_mending.specs.Block.{IsMended};
+ghost use Rattle.qr_mending.specs.Erasures.{read_of, IsMendedWithErasures};
 ghost use Rattle.qr_mending.specs.Distance.{SymbolsLieApart};
 ghost use Rattle.qr_mending.specs.declared.format.FormatCopy.{FormatCopy};
 ghost use Rattle.qr_mending.specs.Format.{IsNearFormat};
@@ -36,6 +37,18 @@ use std::alloc::Global;
 pub fn mended_blocks_are_one()
     ensures { (n t : ℕ) (damaged b c : List ℕ) → length damaged ≤ 255 → 2 * t ≤ n
         → IsMended n t damaged b → IsMended n t damaged c → b ≡ c }
+{}
+
+/// What was read of a block, of which some codewords may be erased, is a damaged form of one block at most.
+pub fn blocks_mended_with_erasures_are_one()
+    ensures { (n spare : ℕ) (read : List (Option ℕ)) (b c : List ℕ) → length read ≤ 255 → spare ≤ n
+        → IsMendedWithErasures n spare read b → IsMendedWithErasures n spare read c → b ≡ c }
+{}
+
+/// Where no codeword is marked as erased, it means the same to mend a block with erasures and without them.
+pub fn blocks_without_erasures_are_mended_alike()
+    ensures { (n spare k : ℕ) (damaged mended : List ℕ)
+        → IsMendedWithErasures n spare (read_of damaged (replicate k false)) mended ↔ IsMended n (spare / 2) damaged mended }
 {}
 
 /// A copy of the format information is near to one level and one mask at most.

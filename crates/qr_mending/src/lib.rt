@@ -3,6 +3,7 @@
 #![tactic(auto)]
 
 mod block;
+mod erasures;
 mod errors;
 mod format;
 pub mod laws;
@@ -10,12 +11,14 @@ mod locator;
 mod mending;
 mod message;
 mod polynomial;
+mod roots;
 #[cfg(test)]
 mod samples;
 mod series;
 mod sums;
 
 pub use block::mend;
+pub use erasures::mend_with_erasures;
 pub use mending::{Mended, mend_symbol};
 pub use message::changed_max;
 pub use series::mend_series;

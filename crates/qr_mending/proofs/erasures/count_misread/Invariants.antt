@@ -1,0 +1,9 @@
+use Rattle.std.proofs.Common.{◌≡◌, ◌+◌, ◌≤◌, drop, length}
+use Rattle.qr_field.specs.Distance.{errors}
+use Rattle.qr_mending.specs.Erasures.{read_of}
+use Rattle.qr_mending.proofs.erasures.count_misread.Given as goal
+
+abbrev pub invariant-loop-k : goal.invariant-loop-k
+invariant-loop-k l =
+    (l.count + l.k ≤ length l.codewords)
+    × (l.count ≡ errors (read_of (drop l.k l.codewords) (drop l.k l.erased)) (drop l.k l.mended))

@@ -1,0 +1,12 @@
+use Rattle.std.proofs.Common.{◌≡◌, ℕ, List}
+use Rattle.std.specs.List.{All}
+use Rattle.arrayvec.specs.ArrayVec.{array_vec_len}
+use Rattle.qr_field.specs.Polynomial.{IsByte}
+use Rattle.qr_mending.specs.Steps.Sums.{HasValues}
+use Rattle.qr_mending.specs.Steps.Errors.{weighted}
+use Rattle.qr_mending.proofs.erasures.modified_syndromes.Given as goal
+
+abbrev pub invariant-loop-i : goal.invariant-loop-i
+invariant-loop-i l =
+    (array_vec_len l.modified ≡ l.i)
+    × ((errors : List ℕ) → All IsByte errors → HasValues l.syndromes errors → HasValues l.modified.items (weighted l.polynomial errors))

@@ -1,0 +1,5 @@
+use Rattle.qr_mending.proofs.BlockLemmas.{erasures-one}
+use Rattle.qr_mending.proofs.laws.blocks_mended_with_erasures_are_one.Goals as goal
+
+pub returns : goal.returns
+returns c = erasures-one

@@ -1,0 +1,239 @@
+//! Mends damaged blocks of which some codewords are known to be unreadable. These are erasures: each needs one error correction
+//! codeword, where a misread codeword needs two (ISO/IEC 18004:2015, 7.5.1 and Annex B).
+
+ghost use Rattle.std.specs.Prelude.{◌≡◌, ℕ, ◌+◌, ◌*◌, ◌≤◌, List, length, IfSome, IfNone};
+ghost use Rattle.std.specs.List.{All, count_by};
+ghost use Rattle.arrayvec.specs.ArrayVec.{array_vec_len};
+ghost use Rattle.qr_field.specs.Polynomial.{IsByte};
+ghost use Rattle.qr_field.specs.Distance.{errors};
+ghost use Rattle.qr_mending.specs.Block.{IsBlock};
+ghost use Rattle.qr_mending.specs.Erasures.{read_of, IsMendedWithErasures};
+ghost use Rattle.qr_mending.specs.Steps.Sums.{HasValues};
+ghost use Rattle.qr_mending.specs.Steps.Errors.{weighted};
+
+use crate::block::is_block;
+use crate::errors::without_errors;
+use crate::locator::locator;
+use crate::roots::{count_erased, with_roots};
+use crate::sums::{dot, syndromes};
+use arrayvec::ArrayVec;
+use qr_field::Divisor;
+
+// The first values of the errors, each of which is multiplied by the value of a polynomial at its place, from the first values
+// of the errors themselves: one value less for each root of the polynomial.
+fn modified_syndromes(polynomial: &[u8], syndromes: &[u8]) -> ArrayVec<u8, 30>
+    requires least { 1 ≤ length polynomial.now }
+    requires long { length polynomial.now ≤ length syndromes.now + 1 }
+    requires fits { length syndromes.now ≤ 30 }
+    ensures count { array_vec_len result + length polynomial.now ≡ length syndromes.now + 1 }
+    ensures values { (errors : List ℕ) → All IsByte errors → HasValues syndromes.now errors →
+        HasValues result.items (weighted polynomial.now errors) }
+{
+    let mut modified = ArrayVec::new();
+    for i in 0..syndromes.len() + 1 - polynomial.len() {
+        modified.push(dot(polynomial, &syndromes[i..]));
+    }
+    modified
+}
+
+// The block of which the codewords are a damaged form, if there is one. Otherwise some other list.
+fn candidate(n: usize, spare: usize, erased: &[bool], damaged: &[u8]) -> ArrayVec<u8, 255>
+    requires most { n ≤ 30 }
+    requires spare { spare ≤ n }
+    requires enough { count_by (λ e. e) erased.now ≤ spare }
+    requires fits { length damaged.now ≤ 255 }
+    requires marks { length erased.now ≡ length damaged.now }
+    ensures long { length result.items ≡ length damaged.now }
+    ensures mended { (mended : List ℕ) → IsMendedWithErasures n spare (read_of damaged.now erased.now) mended →
+        result.items ≡ mended }
+{
+    let t = (spare - count_erased(erased)) / 2;
+    let first = syndromes(damaged, n);
+    let unread = with_roots(erased, &[1]);
+    let modified = modified_syndromes(unread.as_slice(), first.as_slice());
+    let misread = locator(modified.as_slice(), t);
+    let all = with_roots(erased, misread.coefficients());
+    without_errors(all.as_slice(), first.as_slice(), damaged)
+}
+
+// The number of misread codewords: those that differ from the mended ones and are not erased.
+fn count_misread(codewords: &[u8], erased: &[bool], mended: &[u8]) -> usize
+    requires marks { length erased.now ≡ length codewords.now }
+    requires long { length mended.now ≡ length codewords.now }
+    ensures most { result ≤ length codewords.now }
+    ensures value { result ≡ errors (read_of codewords.now erased.now) mended.now }
+{
+    let mut count = 0;
+    for k in (0..codewords.len()).rev() {
+        if !erased[k] && codewords[k] != mended[k] {
+            count += 1;
+        }
+    }
+    count
+}
+
+/// Mends a block of which some codewords could not be read. `erased` is true at their places, and what `codewords` has there
+/// does not matter; other codewords may be misread. An erased codeword needs one error correction codeword and a misread one
+/// needs two, and at most `spare` of them may be used. Returns the number of misread codewords, to which the erased ones do not
+/// count. None if there is no such block; the codewords then stay as they are (ISO/IEC 18004:2015, 7.5.1 and Annex B).
+pub fn mend_with_erasures(
+    divisor: &Divisor,
+    spare: usize,
+    erased: &[bool],
+    codewords: &mut [u8],
+) -> Option<usize>
+    requires spare { spare ≤ divisor.now }
+    requires least { divisor.now ≤ length codewords.old }
+    requires most { length codewords.old ≤ 255 }
+    requires marks { length erased.now ≡ length codewords.old }
+    ensures mended { IfSome result (λ misread.
+        IsMendedWithErasures divisor.now spare (read_of codewords.old erased.now) codewords.new
+        × (misread ≡ errors (read_of codewords.old erased.now) codewords.new)) }
+    ensures only { IfSome result (λ _. (mended : List ℕ)
+        → IsMendedWithErasures divisor.now spare (read_of codewords.old erased.now) mended → mended ≡ codewords.new) }
+    ensures refused { IfNone result ((mended : List ℕ)
+        → IsMendedWithErasures divisor.now spare (read_of codewords.old erased.now) mended → ⊥) }
+    ensures same { IfNone result (codewords.new ≡ codewords.old) }
+{
+    let unread = count_erased(erased);
+    if unread > spare {
+        return None;
+    }
+    let mended = candidate(divisor.count(), spare, erased, codewords);
+    let misread = count_misread(codewords, erased, mended.as_slice());
+    if unread + 2 * misread > spare || !is_block(divisor, mended.as_slice()) {
+        return None;
+    }
+    codewords.copy_from_slice(mended.as_slice());
+    Some(misread)
+}
+
+#[cfg(test)]
+mod tests {
+    use super::*;
+    use crate::samples::EIGHT_DIGITS;
+    use std::process::Abort;
+
+    // How many codewords are mended beside the erased ones, where the block is then as it was.
+    fn is_mended(
+        rt: &impl Abort,
+        spare: usize,
+        unread: &[(usize, u8)],
+        misread: &[(usize, u8)],
+    ) -> Option<usize> {
+        let mut damaged = EIGHT_DIGITS;
+        let mut erased = [false; 26];
+        for (place, codeword) in unread {
+            assert!(rt; *place < 26);
+            damaged[*place] = *codeword;
+            erased[*place] = true;
+        }
+        for (place, codeword) in misread {
+            assert!(rt; *place < 26);
+            damaged[*place] = *codeword;
+        }
+        let divisor = Divisor::new(10);
+        assert!(rt; spare <= 10 && divisor.count() == 10);
+        let before = damaged;
+        match mend_with_erasures(&divisor, spare, &erased, &mut damaged) {
+            None => assert!(rt; damaged == before),
+            Some(count) => {
+                assert!(rt; damaged == EIGHT_DIGITS);
+                return Some(count);
+            }
+        }
+        None
+    }
+
+    // What is mended by trying all sets of places and solving the linear equations for the codewords there.
+    #[test]
+    fn eight_digits_with_erasures(rt: HostRuntime) {
+        let unread = [
+            (0, 0u8),
+            (1, 0),
+            (2, 0),
+            (3, 0),
+            (5, 0),
+            (8, 0),
+            (13, 0),
+            (16, 0),
+            (21, 0),
+            (25, 0),
+            (7, 0),
+        ];
+        let right = [(0, 0x10u8), (12, 0xEC), (25, 0x55)];
+        let misread = [(4, 0x41u8), (10, 0), (17, 0x22), (24, 0xFF)];
+        let rows = [
+            ("as sent", 10, &unread[..0], &misread[..0], Some(0)),
+            (
+                "three erased, yet right",
+                10,
+                &right[..],
+                &misread[..0],
+                Some(0),
+            ),
+            ("ten erased", 10, &unread[..10], &misread[..0], Some(0)),
+            ("eleven erased", 10, &unread[..], &misread[..0], None),
+            (
+                "eight erased, eight to spare",
+                8,
+                &unread[..8],
+                &misread[..0],
+                Some(0),
+            ),
+            (
+                "nine erased, eight to spare",
+                8,
+                &unread[..9],
+                &misread[..0],
+                None,
+            ),
+            (
+                "nine erased and one misread",
+                10,
+                &unread[..9],
+                &misread[..1],
+                None,
+            ),
+            (
+                "four erased and three misread",
+                10,
+                &unread[..4],
+                &misread[..3],
+                Some(3),
+            ),
+            (
+                "four erased and four misread",
+                10,
+                &unread[..4],
+                &misread[..],
+                None,
+            ),
+            (
+                "three erased and three misread",
+                10,
+                &unread[..3],
+                &misread[..3],
+                Some(3),
+            ),
+            (
+                "four and two, eight to spare",
+                8,
+                &unread[..4],
+                &misread[..2],
+                Some(2),
+            ),
+            (
+                "four and three, eight to spare",
+                8,
+                &unread[..4],
+                &misread[..3],
+                None,
+            ),
+            ("four misread", 10, &unread[..0], &misread[..], Some(4)),
+        ];
+        for (name, spare, unread, misread, mended) in rows {
+            assert_eq!(rt; is_mended(&rt, spare, unread, misread), mended, "{name}");
+        }
+    }
+}
