@@ -1,0 +1,139 @@
+"""The library for C, built by both compilers and called from Python, and the counts of what was checked."""
+import ctypes
+import os
+import subprocess
+
+from growths import TOP
+
+STRICT = ["-std=c11", "-O1", "-Wall", "-Wextra", "-pedantic", "-Werror", f"-I{TOP}/include"]
+BUILDS = {"LLVM": "--cpu x86-64", "Rattle's own compiler": "--cpu x86-64 --backend rattle"}
+LONG = 7200  # seconds: what stands below the library is proved again if no earlier run kept it
+MARGIN = 4
+LEVELS = "LMQH"
+STATUSES = ["DONE", "EMPTY", "TOO_LONG", "TOO_MANY", "MEMORY", "SETTINGS", "ROOM", "SIDE", "FORMAT", "CHECK", "SEGMENTS"]
+MARK = 7  # what stands in a buffer or a struct before a call
+
+counts = {"passed": 0, "failed": 0, "skipped": 0}
+
+
+def check(name, got, wanted=True):
+    counts["passed" if got == wanted else "failed"] += 1
+    if got != wanted:
+        print(f"FAILED: {name}: {str(got)[:300]}, and not {str(wanted)[:300]}")
+
+
+def total():
+    """Prints the counts and returns the status of the script."""
+    print(f"{counts['passed']} passed, {counts['failed']} failed, {counts['skipped']} skipped")
+    return 1 if counts["failed"] else 0
+
+
+def said(*words, given=b""):
+    """Returns what a program writes, or why there is nothing to look at."""
+    ran = subprocess.run(words, input=given, capture_output=True, timeout=300)
+    return ran.stdout.decode(errors="replace") if ran.returncode == 0 else f"status {ran.returncode}: {ran.stderr[-300:]!r}"
+
+
+def built(name, room):
+    """Builds the library by a compiler into a folder of `room`, and returns the folder; or None."""
+    out = f"{room}/{'llvm' if name == 'LLVM' else 'rattle'}"
+    made = subprocess.run(["make", "-s", "-C", TOP, "lib", f"LIBRARY_FLAGS={BUILDS[name]}", f"LIBRARY_OUT={out}"], capture_output=True,
+                          timeout=LONG)
+    check(f"{name}: make lib", (made.returncode, made.stderr[-300:] if made.returncode else b""), (0, b""))
+    if made.returncode:
+        return None
+    os.symlink(f"{out}/libqrproved.so.0", f"{out}/libqrproved.so")
+    return out
+
+
+def ascii_of(modules, side):
+    """Returns the drawing of a square as ASCII, with the quiet zone."""
+    light = b"  " * (side + 2 * MARGIN) + b"\n"
+    lines = [b"".join(b"##" if it else b"  " for it in modules[row * side:(row + 1) * side]) for row in range(side)]
+    return light * MARGIN + b"".join(b"  " * MARGIN + line + b"  " * MARGIN + b"\n" for line in lines) + light * MARGIN
+
+
+def bytes_of(*names):
+    return [(name, ctypes.c_uint8) for name in names]
+
+
+class Symbol(ctypes.Structure):
+    _fields_ = bytes_of("version", "side", "mask")
+
+
+class Series(ctypes.Structure):
+    _fields_ = bytes_of("count", "side")
+
+
+HEADED = ("version", "has_header", "position", "last", "parity")
+
+
+class Content(ctypes.Structure):
+    _fields_ = [("len", ctypes.c_size_t), *bytes_of(*HEADED)]
+
+
+class Mended(ctypes.Structure):
+    _fields_ = [("len", ctypes.c_size_t), ("wrong_modules", ctypes.c_uint32),
+                *bytes_of(*HEADED, "level", "mask", "wrong_format_modules", "changed_most", "changed_allowed")]
+
+
+POINTER, BUFFER = [ctypes.c_void_p], [ctypes.c_void_p, ctypes.c_size_t]
+INPUT, BYTE = [ctypes.c_char_p, ctypes.c_size_t], [ctypes.c_uint8]
+PARAMETERS = {
+    "qrproved_encode": INPUT + BYTE * 3 + BUFFER + POINTER,
+    "qrproved_encode_series": INPUT + BYTE * 3 + BUFFER + POINTER,
+    "qrproved_read": BUFFER + BYTE + BUFFER + POINTER,
+    "qrproved_mend": BUFFER + BYTE + BUFFER + POINTER,
+}
+
+
+class Library:
+    """The shared library, called as C calls it. A case is an input, a version, a level and the number of a rule."""
+
+    def __init__(self, path):
+        self.library = ctypes.CDLL(path)
+        self.modules, self.bytes = (ctypes.c_uint8 * 501264)(), (ctypes.c_uint8 * 7089)()
+        for name, listed in PARAMETERS.items():
+            call = getattr(self.library, name)
+            call.restype, call.argtypes = ctypes.c_uint8, listed
+
+    def symbol(self, case):
+        """Returns the symbol's modules and what the struct says of it, or a status."""
+        data, version, level, rule = case
+        symbol = Symbol()
+        status = self.library.qrproved_encode(data, len(data), version, LEVELS.index(level), rule, self.modules,
+                                              len(self.modules), ctypes.byref(symbol))
+        return status or (bytes(self.modules[:symbol.side ** 2]), symbol)
+
+    def encoded(self, case):
+        """Returns the symbol's modules and their side, or a status."""
+        got = self.symbol(case)
+        return got if isinstance(got, int) else ([got[0]], got[1].side)
+
+    def encoded_series(self, case):
+        data, version, level, rule = case
+        series = Series()
+        status = self.library.qrproved_encode_series(data, len(data), version, LEVELS.index(level), rule, self.modules,
+                                                     len(self.modules), ctypes.byref(series))
+        area = series.side ** 2
+        return status or ([bytes(self.modules[k * area:(k + 1) * area]) for k in range(series.count)], series.side)
+
+    def read(self, modules, side):
+        content = Content()
+        status = self.library.qrproved_read(modules, len(modules), side, self.bytes, len(self.bytes), ctypes.byref(content))
+        return status or (bytes(self.bytes[:content.len]), content)
+
+    def mended(self, modules, side, room=7089):
+        """Returns the fields of the struct and the bytes; or the name of the status, and what the call should have left
+        as it was."""
+        mended = Mended()
+        ctypes.memset(self.bytes, MARK, len(self.bytes))
+        ctypes.memset(ctypes.byref(mended), MARK, ctypes.sizeof(mended))
+        status = self.library.qrproved_mend(modules, len(modules), side, self.bytes, room, ctypes.byref(mended))
+        used = 0 if status else mended.len
+        others = "" if bytes(self.bytes[used:]).count(MARK) == len(self.bytes) - used else ", other bytes changed"
+        if status:
+            is_unchanged = bytes(mended).count(MARK) == ctypes.sizeof(mended)
+            return STATUSES[status] + others + ("" if is_unchanged else ", struct changed")
+        fields = {name: getattr(mended, name) for name, _ in Mended._fields_}
+        return {"bytes": bytes(self.bytes[:used]), **fields} if not others else f"DONE{others}"
