@@ -1,0 +1,216 @@
+"""Symbols of the library and squares with damage, each with what is wanted of it: the same on every machine."""
+import random
+
+import squares
+from squares import LEVELS, Unparsed, allowed, differences, format_word, interleaved, layout, reading, square_of
+
+AUTO = 0  # the number of the rule
+
+
+class Numbers:
+    """A fixed sequence of numbers for a name, the same on every machine."""
+
+    def __init__(self, *name):
+        self.random = random.Random(" ".join(map(str, name))).random
+
+    def below(self, bound):
+        return int(self.random() * bound)
+
+    def some(self, items, count):
+        """Returns so many of the items, each once."""
+        items = list(items)
+        for i in range(count):
+            k = i + self.below(len(items) - i)
+            items[i], items[k] = items[k], items[i]
+        return items[:count]
+
+    def one(self, items):
+        return items[self.below(len(items))]
+
+    def bytes(self, length, of=bytes(range(256))):
+        return bytes(self.one(of) for _ in range(length))
+
+
+def bits_of_kind(mode, count, version):
+    return 4 + squares.width(version, squares.COUNT_WIDTHS[mode]) + squares.payload_len(mode, count)
+
+
+def input_of(version, level):
+    """Returns an input for a version and a level: bytes, digits or characters that fill the symbol, as many bytes of mixed
+    modes, or fewer."""
+    numbers = Numbers("input", version, level)
+    room = squares.room_of(version, level)
+    kind = (version + LEVELS.index(level)) % 5
+    mode, of = [(4, bytes(range(256))), (1, b"0123456789"), (2, squares.CHARACTERS), (4, b""), (4, bytes(range(256)))][kind]
+    most = next(count for count in range(room * 3 // 10, 0, -1) if bits_of_kind(mode, count, version) <= room)
+    if kind == 3:
+        runs = (numbers.bytes(1 + numbers.below(24), numbers.one([b"0123456789", squares.CHARACTERS, bytes(range(97, 123))]))
+                for _ in range(most))
+        return b"".join(runs)[:most]
+    return numbers.bytes(1 + numbers.below(most) if kind == 4 else most, of)
+
+
+def wanted_of(data, version, level, mask, **others):
+    """Returns what is told of the sound symbol of an input, but for the fields that are given."""
+    fields = {"bytes": data, "len": len(data), "version": version, "level": LEVELS.index(level), "mask": mask, "has_header": 0,
+              "position": 0, "last": 0, "parity": 0, "wrong_modules": 0, "wrong_format_modules": 0, "changed_most": 0,
+              "changed_allowed": allowed(version, level)}
+    return {**fields, **others}
+
+
+def inverted(square, places):
+    """Returns the square with the modules in these places inverted."""
+    result = bytearray(square)
+    for place in places:
+        result[place] ^= 1
+    return bytes(result)
+
+
+def places_of(version, wrong):
+    """Returns the modules that make codewords wrong: a number other than 0 for each."""
+    region = layout(version).region
+    return [region[8 * i + bit] for i, by in wrong.items() for bit in range(8) if by << bit & 128]
+
+
+def wrong_codewords(numbers, version, level, counts_of_blocks):
+    """Returns the modules that make so many codewords of each block wrong."""
+    wrong = {}
+    for block, count in zip(squares.blocks(version, level), counts_of_blocks):
+        wrong.update((i, 1 + numbers.below(255)) for i in numbers.some(block, count))
+    return places_of(version, wrong)
+
+
+def distances(word):
+    """Returns in how many bits a word differs from each word of format information."""
+    return {(level, mask): bin(word ^ format_word(level, mask)).count("1") for level in LEVELS for mask in range(8)}
+
+
+def far_word(numbers):
+    """Returns a word that is near to no word of format information."""
+    while True:
+        word = numbers.below(1 << 15)
+        if min(distances(word).values()) > 3:
+            return word
+
+
+def to_word(square, version, copy, word):
+    """Returns the modules that make a copy of the format information that word."""
+    return [place for i, place in enumerate(layout(version).formats[copy]) if square[place] != word >> i & 1]
+
+
+class Case:
+    """A symbol of the library, and squares with damage, each with what is wanted of it."""
+
+    def __init__(self, library, version, level):
+        self.version, self.level, self.side = version, level, squares.side_of(version)
+        self.data = input_of(version, level)
+        self.square, symbol = library.symbol((self.data, version, level, AUTO))
+        self.mask = symbol.mask
+        self.wanted = wanted_of(self.data, version, level, self.mask)
+        self.numbers = Numbers("damage", version, level)
+        self.bound = allowed(version, level)
+        self.block_count = squares.BLOCKS[level][version - 1]
+        at = layout(version)
+        self.first, self.second = at.formats
+        self.outside = {"function patterns": list(at.patterns), "version information": sum(at.version_copies, []),
+                        "remainder bits": at.remainder}
+
+    def damaged(self, places, wrong_format_modules, changed_most):
+        """Returns the square with these modules inverted, and what is wanted of it."""
+        return inverted(self.square, places), {**self.wanted, "wrong_modules": len(places),
+                                               "wrong_format_modules": wrong_format_modules, "changed_most": changed_most}
+
+    def codewords_wrong(self, *more):
+        """Returns modules that make as many codewords of each block wrong as can be mended; of the first, so many more."""
+        blocks = [self.bound] * self.block_count
+        for k, others in enumerate(more):
+            blocks[k] += others
+        return wrong_codewords(self.numbers, self.version, self.level, blocks)
+
+    def to_the_bound(self):
+        return self.damaged(self.codewords_wrong() + self.numbers.some(self.first, 3), 3, self.bound)
+
+    def without_first_copy(self):
+        """The first copy is near to no word; three modules of the second are wrong, and all function patterns and the like."""
+        lost = to_word(self.square, self.version, 0, far_word(self.numbers))
+        others = sum(self.outside.values(), [])
+        return self.damaged(self.codewords_wrong() + lost + self.numbers.some(self.second, 3) + others, len(lost) + 3, self.bound)
+
+    def by_a_wrong_first_copy(self):
+        """The first copy is near to a wrong word, under which some block cannot be mended."""
+        codewords = self.codewords_wrong()
+        received = inverted(self.square, codewords)
+        while True:
+            level, mask = self.numbers.one(LEVELS), self.numbers.below(8)
+            if (level, mask) != (self.level, self.mask) and not squares.mended_codewords(received, self.version, level, mask):
+                break
+        word = format_word(level, mask)
+        for bit in self.numbers.some(range(15), self.numbers.below(4)):
+            word ^= 1 << bit
+        lost = to_word(self.square, self.version, 0, word)
+        return self.damaged(codewords + lost + self.numbers.some(self.second, 3), len(lost) + 3, self.bound)
+
+    def one_more(self):
+        """One more codeword of a block is wrong: what the decoder says is wanted."""
+        more = [0] * self.block_count
+        more[self.numbers.below(self.block_count)] = 1
+        square = inverted(self.square, self.codewords_wrong(*more) + self.numbers.some(self.first, 3))
+        return square, reading(square, self.version)
+
+    def nearer_to_another(self):
+        """One more codeword of a block is wrong, such that as many as can be mended make it another message. There is none
+        if codewords are kept so that no block is mended to another one, or if their number is odd."""
+        n = squares.correction_len(self.version, self.level)
+        if 2 * self.bound != n:
+            return None
+        sent = squares.codewords_of(self.square, self.version, self.mask)
+        data = bytearray(squares.data_of(self.version, self.level, sent))
+        data[self.numbers.below(len(data))] ^= 1 + self.numbers.below(255)
+        other = interleaved(self.version, self.level, data)
+        apart = {i: a ^ b for i, (a, b) in enumerate(zip(sent, other)) if a != b}
+        assert len(apart) == n + 1, "a byte of data changes all error correction codewords of its block"
+        changed = min(apart)
+        wrong = {i: apart[i] for i in [changed, *self.numbers.some(sorted(set(apart) - {changed}), self.bound)]}
+        for block in squares.blocks(self.version, self.level):
+            if changed not in block:
+                wrong.update((i, 1 + self.numbers.below(255)) for i in self.numbers.some(block, self.bound))
+        square = inverted(self.square, places_of(self.version, wrong) + self.numbers.some(self.first, 3))
+        try:
+            text, header = squares.parsed(bytes(data), self.version)
+        except Unparsed:
+            return square, "SEGMENTS"
+        wanted = {**self.wanted, "bytes": text, "len": len(text), "wrong_format_modules": 3, "changed_most": self.bound,
+                  "has_header": int(header is not None), **dict(zip(("position", "last", "parity"), header or (0, 0, 0))),
+                  "wrong_modules": differences(square, square_of(self.version, self.level, self.mask, other))}
+        return square, wanted
+
+    def no_format(self):
+        """Both copies are near to no word."""
+        return inverted(self.square, to_word(self.square, self.version, 0, far_word(self.numbers))
+                        + to_word(self.square, self.version, 1, far_word(self.numbers))), "FORMAT"
+
+    def outside_alone(self, name):
+        """All of the function patterns, of the version information or of the remainder bits are wrong, and nothing else."""
+        return self.damaged(self.outside[name], 0, 0) if self.outside[name] else None
+
+    def one_outside(self):
+        """One module outside the codewords and the format information is wrong."""
+        return self.damaged([self.numbers.one(sum(self.outside.values(), []))], 0, 0)
+
+    def one_codeword(self):
+        """One module of one codeword is wrong."""
+        return self.damaged([self.numbers.one(layout(self.version).region)], 0, 1)
+
+    def kinds(self):
+        """Yields the name of each kind of damage, with a square and what is wanted of it."""
+        yield "sound", (self.square, self.wanted)
+        yield "damaged to the bound, and three modules of the first copy", self.to_the_bound()
+        yield "damaged to the bound, the first copy and all patterns lost, three modules of the second", self.without_first_copy()
+        yield "damaged to the bound, the first copy near to a wrong word, three modules of the second", self.by_a_wrong_first_copy()
+        yield "one more codeword wrong", self.one_more()
+        yield "one more codeword wrong, nearer to another message", self.nearer_to_another()
+        yield "both copies near to no word", self.no_format()
+        yield "one module of a codeword wrong", self.one_codeword()
+        yield "one module outside the codewords wrong", self.one_outside()
+        for name in self.outside:
+            yield f"{name} wrong, and nothing else", self.outside_alone(name)
