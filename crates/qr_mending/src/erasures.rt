@@ -1,12 +1,11 @@
 //! Mends damaged blocks of which some codewords are known to be unreadable. These are erasures: each needs one error correction
 //! codeword, where a misread codeword needs two (ISO/IEC 18004:2015, 7.5.1 and Annex B).
 
-ghost use Rattle.std.specs.Prelude.{◌≡◌, ℕ, ◌+◌, ◌*◌, ◌≤◌, List, length, IfSome, IfNone};
+ghost use Rattle.std.specs.Prelude.{◌≡◌, ℕ, ◌+◌, ◌≤◌, List, length, IfSome, IfNone};
 ghost use Rattle.std.specs.List.{All, count_by};
 ghost use Rattle.arrayvec.specs.ArrayVec.{array_vec_len};
 ghost use Rattle.qr_field.specs.Polynomial.{IsByte};
 ghost use Rattle.qr_field.specs.Distance.{errors};
-ghost use Rattle.qr_mending.specs.Block.{IsBlock};
 ghost use Rattle.qr_mending.specs.Erasures.{read_of, IsMendedWithErasures};
 ghost use Rattle.qr_mending.specs.Steps.Sums.{HasValues};
 ghost use Rattle.qr_mending.specs.Steps.Errors.{weighted};
@@ -19,15 +18,15 @@ use crate::sums::{dot, syndromes};
 use arrayvec::ArrayVec;
 use qr_field::Divisor;
 
-// The first values of the errors, each of which is multiplied by the value of a polynomial at its place, from the first values
-// of the errors themselves: one value less for each root of the polynomial.
+// The first values of the errors, after each error has been multiplied by the value of a polynomial at its place. They are as
+// many as the syndromes less the degree of the polynomial.
 fn modified_syndromes(polynomial: &[u8], syndromes: &[u8]) -> ArrayVec<u8, 30>
     requires least { 1 ≤ length polynomial.now }
     requires long { length polynomial.now ≤ length syndromes.now + 1 }
     requires fits { length syndromes.now ≤ 30 }
     ensures count { array_vec_len result + length polynomial.now ≡ length syndromes.now + 1 }
-    ensures values { (errors : List ℕ) → All IsByte errors → HasValues syndromes.now errors →
-        HasValues result.items (weighted polynomial.now errors) }
+    ensures values { (e : List ℕ) → All IsByte e → HasValues syndromes.now e →
+        HasValues result.items (weighted polynomial.now e) }
 {
     let mut modified = ArrayVec::new();
     for i in 0..syndromes.len() + 1 - polynomial.len() {
