@@ -4,7 +4,7 @@ use crate::answer::Answer;
 use crate::bits::{DATA, HELLO_WORLD};
 use qr_bits::Rule;
 use qr_layout::{Level, Version};
-use qr_mending::mend_symbol;
+use qr_mending::{mend_series, mend_symbol};
 use qr_symbol::{
     EncodeFault, Matrix, ReadFault, Symbol, build, build_masked, deinterleave, encode,
     encode_series, interleave, read_series, read_symbol,
@@ -156,6 +156,17 @@ pub fn mended(alloc: Global) -> Result<Answer, AllocError> {
         Err(_) => Answer::Other,
     };
     Ok(answer.given(are_equal(&symbol.matrix, &same.matrix)))
+}
+
+pub fn mended_series(alloc: Global) -> Result<Answer, AllocError> {
+    let squares = [hello(alloc)?.matrix];
+    let same = hello(alloc)?;
+    let answer = match mend_series(alloc, &squares) {
+        Ok(bytes) => Answer::of(bytes.as_slice() == HELLO_WORLD.as_slice()),
+        Err(ReadFault::Memory) => READ_OUT,
+        Err(_) => Answer::Other,
+    };
+    Ok(answer.given(are_equal(&squares[0], &same.matrix)))
 }
 
 // The series of the eight letters in byte mode in version 1-H: five and three.
