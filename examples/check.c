@@ -1,10 +1,11 @@
 /* Says whether the symbol of a drawing is sound: qrencode -t ASCII ... | check
  *
  * Reads a drawing in ASCII from standard input: two characters a module, '##' for a dark one and two spaces for a light one,
- * with any margin. Prints one line, and ends with a status:
+ * with any margin. The first and the last row and column of the symbol each need a dark module, and the margin none.
+ * Prints one line, and ends with a status:
  *
  *   0  sound                                     each module is that of the symbol
- *   1  readable, 40 % of its correction spent    some modules are wrong, but it says what it said
+ *   1  readable, 40 % of its correction spent    some modules are wrong, but it can be read
  *   2  not readable: ...                         and why
  *
  * What is spent is that of the block with the most wrong codewords. It is 0 % if only modules outside the codewords are wrong:

@@ -14,8 +14,8 @@ use Rattle.qr_symbol.specs.Reading.{IsMessage}
 use Rattle.qr_symbol.proofs.Facts.{format-read, level-one, level-small, messages-apart}
 use Rattle.qr_mending.specs.declared.format.FormatCopy.{FormatCopy}
 use Rattle.qr_mending.specs.declared.format.FormatCopy.TheVariants.{First, Second}
-use Rattle.qr_mending.specs.Format.{bit_difference, bit_differences, format_bit}
-use Rattle.qr_mending.specs.Distance.{FormatsLieApart, BlocksLieApart, SymbolsLieApart}
+use Rattle.qr_mending.specs.Format.{bit_difference, bit_differences, copy_bit}
+use Rattle.qr_mending.specs.Distance.{FormatsLieApart, SomeBlockLiesApart, SymbolsLieApart}
 use Rattle.qr_mending.proofs.FormatLemmas.{far}
 
 -- the second copy stands in the square
@@ -27,7 +27,7 @@ second-col s i m l = elim (cases_lt i 8) [ inl k ↦ grind (arith, nat_tests) | 
 
 -- each copy of the format information of a symbol is that of its level and mask
 shown : (copy : FormatCopy) (v : ℕ) (l : Level) (mask : ℕ) (cw : List ℕ) (i : ℕ) → 1 ≤ v → v ≤ 40 → mask < 8 → i < 15 →
-    format_bit copy (grid_of v l mask cw) i ≡ word_bit (format_word_of l mask) i
+    copy_bit copy (grid_of v l mask cw) i ≡ word_bit (format_word_of l mask) i
 unfolding colour_of
 shown First v l mask cw i p q h r = (format-read v l mask cw p q h).bits i r
 shown Second v l mask cw i p q h r =
@@ -55,12 +55,12 @@ formats-apart v l k m n cw ds p q h j o = λ copy.
     let s = level-small l in
     let t = level-small k in
     let apart = far (five_bits l m) (five_bits k n) (omega arith) (omega arith) o in
-    let same = bits-alike 15 (format_bit copy (grid_of v l m cw)) (format_bit copy (grid_of v k n ds)) (word_bit (format_word_of l m)) (word_bit (format_word_of k n)) (λ i r. shown copy v l m cw i p q h r) (λ i r. shown copy v k n ds i p q j r) in
+    let same = bits-alike 15 (copy_bit copy (grid_of v l m cw)) (copy_bit copy (grid_of v k n ds)) (word_bit (format_word_of l m)) (word_bit (format_word_of k n)) (λ i r. shown copy v l m cw i p q h r) (λ i r. shown copy v k n ds i p q j r) in
     omega (arith, apart, same)
 
 -- messages of one level that differ
 blocks-apart : (v : ℕ) (l : Level) (m n : ℕ) (g h : Grid) (d e : List ℕ) → 1 ≤ v → v ≤ 40 → (a : IsMessage v l m g d) →
-    (b : IsMessage v l n h e) → (d ≡ e → ⊥) → BlocksLieApart v l l m n g h d e a b
+    (b : IsMessage v l n h e) → (d ≡ e → ⊥) → SomeBlockLiesApart v l l m n g h d e a b
 blocks-apart v l m n g h d e p q a b o =
     let w = messages-apart v l p q m n g h d e a b o in
     let far = w.2 in
@@ -68,9 +68,9 @@ blocks-apart v l m n g h d e p q a b o =
 
 -- the same, the level of the second said anew
 blocks-apart-at : (v : ℕ) (l k : Level) (m n : ℕ) (g h : Grid) (d e : List ℕ) → 1 ≤ v → v ≤ 40 → l ≡ k →
-    (a : IsMessage v l m g d) → (b : IsMessage v k n h e) → (d ≡ e → ⊥) → BlocksLieApart v l k m n g h d e a b
+    (a : IsMessage v l m g d) → (b : IsMessage v k n h e) → (d ≡ e → ⊥) → SomeBlockLiesApart v l k m n g h d e a b
 blocks-apart-at v l k m n g h d e p q s a b o =
-    subst (λ (z : Level). (b : IsMessage v z n h e) → BlocksLieApart v l z m n g h d e a b) s
+    subst (λ (z : Level). (b : IsMessage v z n h e) → SomeBlockLiesApart v l z m n g h d e a b) s
     (λ b. blocks-apart v l m n g h d e p q a b o) b
 
 -- the law of damage over a whole symbol

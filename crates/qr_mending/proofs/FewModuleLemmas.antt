@@ -13,7 +13,7 @@ use Rattle.qr_symbol.specs.Interleaving.{block_count, block_len, cut_len, data_c
 use Rattle.qr_symbol.specs.Reading.{IsFormat, IsMessage}
 use Rattle.qr_symbol.proofs.Facts.{check-len, cuts-whole, data-cut-whole, gather-some, read-some}
 use Rattle.qr_mending.specs.declared.format.FormatCopy.TheVariants.{First}
-use Rattle.qr_mending.specs.Format.{format_bit, IsNearFormat}
+use Rattle.qr_mending.specs.Format.{copy_bit, IsNearFormat}
 use Rattle.qr_mending.specs.Message.{received, tolerance_of, IsMendedBlock}
 use Rattle.qr_mending.specs.Mending.{HoldsDamaged}
 use Rattle.qr_mending.specs.Modules.{module_differences, modules_of, part_differences, DifferInFewModules}
@@ -27,7 +27,7 @@ pub few-format : (v : ℕ) (l : Level) (mask : ℕ) (g h : Grid) → IsFormat h 
 few-format v l mask g h f w = record {
   in_range = f.in_range;
   near =
-      let same = bits-alike 15 (format_bit First g) (word_bit (format_word_of l mask)) (format_bit First g) (format_bit First h) (λ i k. refl) (λ i k. sym (f.bits i k)) in
+      let same = bits-alike 15 (copy_bit First g) (word_bit (format_word_of l mask)) (copy_bit First g) (copy_bit First h) (λ i k. refl) (λ i k. sym (f.bits i k)) in
       let few = w.format in
       omega (arith, same, few);
 }

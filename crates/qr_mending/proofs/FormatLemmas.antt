@@ -11,7 +11,7 @@ use Rattle.qr_matrix.specs.Grid.{Grid}
 use Rattle.qr_symbol.specs.Symbol.{word_bit}
 use Rattle.qr_mending.specs.declared.format.FormatCopy.{FormatCopy}
 use Rattle.qr_mending.specs.declared.format.FormatCopy.TheVariants.{First, Second}
-use Rattle.qr_mending.specs.Format.{bit_difference, bit_differences, format_bit, IsNearFormat}
+use Rattle.qr_mending.specs.Format.{bit_difference, bit_differences, copy_bit, IsNearFormat}
 use Rattle.qr_symbol.proofs.Facts.{level-small, level-one}
 
 -- ---- three words
@@ -74,7 +74,7 @@ near-one copy g l k m n h j =
       | inl e ↦ (level-one l k (omega arith), omega arith)
       | inr o ↦
           let apart = far a b (omega arith) (omega arith) o in
-          let between = bits-between 15 (format_bit copy g) (word_bit (format_with a)) (word_bit (format_with b)) in
+          let between = bits-between 15 (copy_bit copy g) (word_bit (format_with a)) (word_bit (format_with b)) in
           absurd (omega (arith, apart, between, h.near, j.near))
     ]
 

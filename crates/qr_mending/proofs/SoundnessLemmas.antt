@@ -14,7 +14,7 @@ use Rattle.qr_mending.specs.Mending.{DiffersFromSymbol, HasWrongModules}
 use Rattle.qr_mending.proofs.MendingLemmas.{form-one}
 
 -- a message has one symbol, from which a square differs in one number of modules
-differs-one : (g : Grid) (v w : ℕ) (l k : Level) (m n : ℕ) (p q : List ℕ) (a b : ℕ) → v ≡ w → l ≡ k → m ≡ n → p ≡ q →
+pub differs-one : (g : Grid) (v w : ℕ) (l k : Level) (m n : ℕ) (p q : List ℕ) (a b : ℕ) → v ≡ w → l ≡ k → m ≡ n → p ≡ q →
     DiffersFromSymbol g v l m p a → DiffersFromSymbol g w k n q b → a ≡ b
 differs-one g v w l k m n p q a b ev el em ep h j =
     let here : IsInterleaved v l p j.codewords =

@@ -17,7 +17,7 @@ use Rattle.qr_symbol.specs.Steps.Interleaving.{IsChecks}
 use Rattle.qr_symbol.specs.Distance.{blocks_in}
 use Rattle.qr_symbol.specs.Reading.{IsFormat, IsReading}
 use Rattle.qr_mending.specs.declared.format.FormatCopy.TheVariants.{First}
-use Rattle.qr_mending.specs.Format.{bit_difference, bit_differences, format_bit, IsNearFormat}
+use Rattle.qr_mending.specs.Format.{bit_difference, bit_differences, copy_bit, IsNearFormat}
 use Rattle.qr_mending.specs.Message.{tolerance_of, IsMendedMessage}
 use Rattle.qr_mending.specs.Mending.{IsMendedReading}
 use Rattle.qr_symbol.proofs.Facts.{start-none, tag, tags-many, check-len, checks-push, map-each, checks-one, data-cut-whole}
@@ -162,7 +162,7 @@ bits-same (suc n) p q h =
 format-near : (g : Grid) (l : Level) (mask : ℕ) → IsFormat g l mask → IsNearFormat First g l mask
 format-near g l mask h = record {
   in_range = h.in_range;
-  near = let none = bits-same 15 (format_bit First g) (word_bit (format_word_of l mask)) h.bits in omega (arith, none);
+  near = let none = bits-same 15 (copy_bit First g) (word_bit (format_word_of l mask)) h.bits in omega (arith, none);
 }
 
 -- ---- squares

@@ -7,16 +7,16 @@ use Rattle.qr_symbol.specs.Symbol.{grid_of}
 use Rattle.qr_symbol.specs.Reading.{IsMessage}
 use Rattle.qr_symbol.specs.Distance.{blocks_in, held_block}
 use Rattle.qr_mending.specs.declared.format.FormatCopy.{FormatCopy}
-use Rattle.qr_mending.specs.Format.{bit_differences, format_bit}
+use Rattle.qr_mending.specs.Format.{bit_differences, copy_bit}
 use Rattle.qr_mending.specs.Message.{tolerance_of}
 
 -- in each copy of the format information the squares differ in seven modules or more (ISO/IEC 18004:2015, 7.9.1, Annex C)
 abbrev pub FormatsLieApart : Grid → Grid → Type 0
-FormatsLieApart g h = (copy : FormatCopy) → 7 ≤ bit_differences 15 (format_bit copy g) (format_bit copy h)
+FormatsLieApart g h = (copy : FormatCopy) → 7 ≤ bit_differences 15 (copy_bit copy g) (copy_bit copy h)
 
 -- in some block the squares differ in more than twice as many codewords as can be mended (ISO/IEC 18004:2015, 7.5.1)
-abbrev pub BlocksLieApart : (v : ℕ) (l k : Level) (m n : ℕ) (g h : Grid) (d e : List ℕ) → IsMessage v l m g d → IsMessage v k n h e → Type 0
-BlocksLieApart v l k m n g h d e a b = (i : ℕ) × (i < blocks_in v l) × (2 * tolerance_of v l < differences (held_block v l m g d a i) (held_block v k n h e b i))
+abbrev pub SomeBlockLiesApart : (v : ℕ) (l k : Level) (m n : ℕ) (g h : Grid) (d e : List ℕ) → IsMessage v l m g d → IsMessage v k n h e → Type 0
+SomeBlockLiesApart v l k m n g h d e a b = (i : ℕ) × (i < blocks_in v l) × (2 * tolerance_of v l < differences (held_block v l m g d a i) (held_block v k n h e b i))
 
 -- Two symbols of a version that differ in their level or in their message differ in each copy of the format information in
 -- seven modules or more, or they have one level and one mask and differ in some block in more than twice as many codewords as
@@ -27,4 +27,4 @@ SymbolsLieApart v =
     → (a : IsMessage v l m (grid_of v l m cw) d) → (b : IsMessage v k n (grid_of v k n ds) e)
     → ((l ≡ k) × (d ≡ e) → ⊥)
     → FormatsLieApart (grid_of v l m cw) (grid_of v k n ds)
-    ⊎ ((l ≡ k) × (m ≡ n) × BlocksLieApart v l k m n (grid_of v l m cw) (grid_of v k n ds) d e a b)
+    ⊎ ((l ≡ k) × (m ≡ n) × SomeBlockLiesApart v l k m n (grid_of v l m cw) (grid_of v k n ds) d e a b)

@@ -3,7 +3,7 @@ use Rattle.std.specs.Prelude.{◌≡◌, ℕ, ◌+◌, ◌*◌, ◌≤◌, Bool,
 use Rattle.qr_field.specs.Distance.{erasures, errors}
 use Rattle.qr_mending.specs.Block.{IsBlock}
 
--- what was read of the codewords: none where a codeword is marked as erased [own]
+-- what was read of the codewords: `None` where a codeword is marked as erased [own]
 abbrev pub read_of : List ℕ → List Bool → List (Option ℕ)
 read_of [] erased = []
 read_of (x ∷ xs) [] = Some x ∷ read_of xs []

@@ -1,4 +1,4 @@
--- The format information of a damaged symbol, which stands in it twice.
+-- The format information of a damaged symbol, which is in it twice.
 use Rattle.std.specs.Prelude.{ℕ, ◌+◌, ◌<◌, ◌≤◌, Bool, true, false}
 use Prim.Native.Nat.{zero, suc}
 use Rattle.qr_layout.specs.declared.level.Level.{Level}
@@ -22,19 +22,19 @@ abbrev pub bit_differences : ℕ → (ℕ → Bool) → (ℕ → Bool) → ℕ
 bit_differences zero p q = 0
 bit_differences (suc n) p q = bit_difference (p n) (q n) + bit_differences n p q
 
--- where bit i of a copy of the format information stands in a square of s modules on a side: the first copy is beside the
+-- the place of bit i of a copy of the format information in a square of s modules on a side: the first copy is beside the
 -- top left finder pattern, the second beside the other two (ISO/IEC 18004:2015, 7.9.1)
 abbrev pub copy_place : FormatCopy → ℕ → ℕ → Module
 copy_place First s i = first_place i
 copy_place Second s i = second_place s i
 
 -- bit i of a copy of the format information, as the square shows it (ISO/IEC 18004:2015, 7.9.1)
-abbrev pub format_bit : FormatCopy → Grid → ℕ → Bool
-format_bit copy g i = colour g (copy_place copy g.side i).row (copy_place copy g.side i).col
+abbrev pub copy_bit : FormatCopy → Grid → ℕ → Bool
+copy_bit copy g i = colour g (copy_place copy g.side i).row (copy_place copy g.side i).col
 
 -- how many modules of a copy of the format information are not those of the level and the mask (ISO/IEC 18004:2015, 7.9.1)
 abbrev pub wrong_bits : FormatCopy → Grid → Level → ℕ → ℕ
-wrong_bits copy g l mask = bit_differences 15 (format_bit copy g) (word_bit (format_word_of l mask))
+wrong_bits copy g l mask = bit_differences 15 (copy_bit copy g) (word_bit (format_word_of l mask))
 
 -- at most three modules of a copy of the format information are not those of the level and the mask
 -- (ISO/IEC 18004:2015, 7.9.1, Annex C)

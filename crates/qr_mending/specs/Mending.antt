@@ -58,14 +58,14 @@ IsMendedReading g v l mask content changed = IsMendedAs g v l mask (Ok content) 
 abbrev pub wrong_format_modules : Grid → Level → ℕ → ℕ
 wrong_format_modules g l mask = wrong_bits First g l mask + wrong_bits Second g l mask
 
--- so many modules of the square are not those of the symbol that the message has in the version, the level and the mask:
+-- `wrong` modules of the square are not those of the symbol that the message has in the version, the level and the mask:
 -- function patterns, version information and remainder bits too (ISO/IEC 18004:2015, 7.5.2, 7.6, 7.7, 7.8)
 pub record DiffersFromSymbol (g : Grid) (v : ℕ) (l : Level) (mask : ℕ) (message : List ℕ) (wrong : ℕ) : Type 0 where
   pub codewords : List ℕ
   pub sent : IsInterleaved v l message codewords
   pub count : wrong ≡ difference_count g (grid_of v l mask codewords)
 
--- so many modules of the square are not those of the symbol of which it is a damaged form: 0 exactly if the square is that
+-- `wrong` modules of the square are not those of the symbol of which it is a damaged form: 0 exactly if the square is that
 -- symbol (ISO/IEC 18004:2015, 7.5.2, 7.6, 7.7, 7.8)
 pub record HasWrongModules (g : Grid) (v : ℕ) (l : Level) (mask : ℕ) (changed : List ℕ) (wrong : ℕ) : Type 0 where
   pub message : List ℕ

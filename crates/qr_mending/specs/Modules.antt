@@ -9,7 +9,7 @@ use Rattle.qr_matrix.specs.Grid.{Grid, colour}
 use Rattle.qr_symbol.specs.Interleaving.{block_len, correction_cut, cut_len, data_cut, IsTagOrder, Tag}
 use Rattle.qr_symbol.specs.Distance.{blocks_in}
 use Rattle.qr_mending.specs.declared.format.FormatCopy.TheVariants.{First}
-use Rattle.qr_mending.specs.Format.{bit_difference, bit_differences, format_bit}
+use Rattle.qr_mending.specs.Format.{bit_difference, bit_differences, copy_bit}
 use Rattle.qr_mending.specs.Message.{tolerance_of}
 
 -- in how many of these modules two squares differ [own]
@@ -17,7 +17,7 @@ abbrev pub module_differences : Grid → Grid → List Module → ℕ
 module_differences g h [] = 0
 module_differences g h (m ∷ ms) = bit_difference (colour g m.row m.col) (colour h m.row m.col) + module_differences g h ms
 
--- how many tags stand before one in a list [own]
+-- the place of a tag in a list, or the length of the list if it is not in it [own]
 abbrev pub index_of : Tag → List Tag → ℕ
 index_of t [] = 0
 index_of t (u ∷ us) = if (t.place == u.place) && (t.block == u.block) then 0 else index_of t us + 1
@@ -26,8 +26,8 @@ index_of t (u ∷ us) = if (t.place == u.place) && (t.block == u.block) then 0 e
 abbrev pub modules_of : List Module → ℕ → List Module
 modules_of places k = take 8 (drop (8 * k) places)
 
--- in how many modules of the first n codewords of block i two squares differ, where the codewords of a cut are sent in the
--- order of these tags from number `first` of the final sequence on (ISO/IEC 18004:2015, 7.6, 7.7.3)
+-- in how many modules of the first n codewords of block i two squares differ: the tags say in which order the codewords of a
+-- cut are sent, and the first of these is codeword `first` of the final sequence (ISO/IEC 18004:2015, 7.6, 7.7.3)
 abbrev pub part_differences : Grid → Grid → List Module → List Tag → (first i n : ℕ) → ℕ
 part_differences g h places tags first i zero = 0
 part_differences g h places tags first i (suc n) =
@@ -37,7 +37,7 @@ part_differences g h places tags first i (suc n) =
 -- two squares differ in few modules: in at most three of the first copy of the format information, and in each block in at
 -- most as many as codewords can be mended (ISO/IEC 18004:2015, 7.5.1, 7.9.1)
 pub record DifferInFewModules (v : ℕ) (l : Level) (g h : Grid) : Type 0 where
-  pub format : bit_differences 15 (format_bit First g) (format_bit First h) ≤ 3
+  pub format : bit_differences 15 (copy_bit First g) (copy_bit First h) ≤ 3
   pub places : List Module
   pub order : IsOrder v places
   pub data_tags : List Tag

@@ -50,7 +50,7 @@ pub(crate) fn is_block(divisor: &Divisor, codewords: &[u8]) -> bool
 }
 
 /// Mends a block of which at most `t` codewords have been changed, where 2t is at most the number of its error correction
-/// codewords, and returns how many those were. None if there is no such block; the codewords then stay as they are
+/// codewords, and returns how many those were. `None` if there is no such block; the codewords then stay as they are
 /// (ISO/IEC 18004:2015, 7.5.1 and Annex B).
 pub fn mend(divisor: &Divisor, t: usize, codewords: &mut [u8]) -> Option<usize>
     requires half { 2 * t ≤ divisor.now }

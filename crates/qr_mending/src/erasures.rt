@@ -73,8 +73,8 @@ fn count_misread(codewords: &[u8], erased: &[bool], mended: &[u8]) -> usize
 
 /// Mends a block of which some codewords could not be read. `erased` is true at their places, and what `codewords` has there
 /// does not matter; other codewords may be misread. An erased codeword needs one error correction codeword and a misread one
-/// needs two, and at most `spare` of them may be used. Returns the number of misread codewords, to which the erased ones do not
-/// count. None if there is no such block; the codewords then stay as they are (ISO/IEC 18004:2015, 7.5.1 and Annex B).
+/// needs two, and at most `spare` of them may be used: in a symbol twice `changed_max`. Returns the number of misread codewords, to which the erased ones do not
+/// count. `None` if there is no such block; the codewords then stay as they are (ISO/IEC 18004:2015, 7.5.1 and Annex B).
 pub fn mend_with_erasures(
     divisor: &Divisor,
     spare: usize,

@@ -7,7 +7,7 @@ ghost use Rattle.qr_layout.specs.Format.{format_word_of};
 ghost use Rattle.qr_layout.specs.Version.{side_of};
 ghost use Rattle.qr_symbol.specs.Symbol.{word_bit};
 ghost use Rattle.qr_mending.specs.declared.format.FormatCopy.{FormatCopy};
-ghost use Rattle.qr_mending.specs.Format.{bit_differences, copy_place, format_bit, wrong_bits, IsNearFormat};
+ghost use Rattle.qr_mending.specs.Format.{bit_differences, copy_place, copy_bit, wrong_bits, IsNearFormat};
 ghost use Rattle.qr_mending.specs.Mending.{wrong_format_modules};
 
 use qr_layout::{Level, Module, Version, format_place, format_word, second_format_place};
@@ -19,7 +19,7 @@ const FORMAT_BITS: u8 = 15;
 // How many modules of a copy may be wrong: any two words of the format information differ in seven bits at least.
 const FORMAT_ERRORS: u8 = 3;
 
-/// The format information stands twice in a symbol.
+/// The format information is in a symbol twice.
 #[derive(Clone, Copy)]
 pub(crate) enum FormatCopy {
     /// Beside the top left finder pattern.
@@ -29,7 +29,7 @@ pub(crate) enum FormatCopy {
 }
 
 impl FormatCopy {
-    // Returns where a bit of the copy stands.
+    // Returns the place of a bit of the copy.
     fn place(self, version: Version, bit: u8) -> Module
         requires { bit < 15 }
         ensures place { result ≡ copy_place self (side_of version) bit }
@@ -54,7 +54,7 @@ fn is_bit_set(word: u32, i: u8) -> bool
 // Counts the modules of a copy that are not those of a word.
 fn wrong_bits(matrix: &Matrix, version: Version, copy: FormatCopy, word: u32) -> u8
     requires { matrix.now.side ≡ side_of version }
-    ensures value { result ≡ bit_differences 15 (format_bit copy matrix.now) (word_bit word) }
+    ensures value { result ≡ bit_differences 15 (copy_bit copy matrix.now) (word_bit word) }
     ensures most { result ≤ 15 }
 {
     let mut wrong = 0u8;

@@ -6,6 +6,7 @@ ghost use Rattle.std.specs.List.{All};
 ghost use Rattle.qr_layout.specs.declared.level.Level.{Level};
 ghost use Rattle.qr_bits.specs.declared.modes.Rule.{Rule};
 ghost use Rattle.qr_bits.specs.Parsing.{Content};
+ghost use Rattle.qr_matrix.specs.Difference.{difference_count};
 ghost use Rattle.qr_matrix.specs.Grid.{Grid, IsSquare};
 ghost use Rattle.qr_symbol.specs.declared.fault.ReadFault.{ReadFault};
 ghost use Rattle.qr_symbol.specs.Distance.{blocks_in};
@@ -20,8 +21,8 @@ ghost use Rattle.qr_mending.specs.Erasures.{read_of, IsMendedWithErasures};
 ghost use Rattle.qr_mending.specs.Distance.{SymbolsLieApart};
 ghost use Rattle.qr_mending.specs.declared.format.FormatCopy.{FormatCopy};
 ghost use Rattle.qr_mending.specs.Format.{IsNearFormat};
-ghost use Rattle.qr_mending.specs.Message.{tolerance_of, IsMendedIn};
-ghost use Rattle.qr_mending.specs.Mending.{HasFormat, HasWrongModules, HoldsDamaged, IsMendedReading, IsUnmended};
+ghost use Rattle.qr_mending.specs.Message.{protection_of, tolerance_of, IsMendedIn};
+ghost use Rattle.qr_mending.specs.Mending.{wrong_format_modules, HasFormat, HasWrongModules, HoldsDamaged, IsMendedReading, IsUnmended};
 ghost use Rattle.qr_mending.specs.Modules.{DifferInFewModules};
 ghost use Rattle.qr_mending.specs.Series.{AreDamagedSquares, IsUnmendedSeries};
 
@@ -65,6 +66,9 @@ pub fn tolerances_compute()
     ensures two { tolerance_of 2 Level.L ≡ 4 }
     ensures three { tolerance_of 3 Level.L ≡ 7 }
     ensures forty { tolerance_of 40 Level.L ≡ 15 }
+    ensures protection_one { protection_of 1 Level.L ≡ 3 × protection_of 1 Level.M ≡ 2 }
+    ensures protection_one_more { protection_of 1 Level.Q ≡ 1 × protection_of 1 Level.H ≡ 1 }
+    ensures protection_more { protection_of 2 Level.L ≡ 2 × protection_of 3 Level.L ≡ 1 }
 {}
 
 /// Codewords are a damaged form of one message at most, and so is what was changed.
@@ -99,8 +103,8 @@ pub fn readings_are_mended_readings()
         → IsMendedReading g h.version h.level h.mask p (replicate (blocks_in h.version h.level) 0) }
 {}
 
-/// A square that is mended has one block at least, and in none were more codewords changed than may be: 2 to 15, by the version
-/// and the level.
+/// A mended square has a count for one block at least, and no count is more than the codewords of a block that may be changed,
+/// which are 2 to 15.
 pub fn changes_are_bounded()
     ensures some { (g : Grid) (v : ℕ) (l : Level) (m : ℕ) (p : Content) (x : List ℕ) → IsMendedReading g v l m p x
         → 1 ≤ length x }
@@ -146,7 +150,8 @@ pub fn damaged_symbols_are_mended(alloc: Global, damaged: &Matrix) -> Result<Men
         → MatchResult result
         (λ m. (m.version ≡ v) × (m.level ≡ l) × (m.mask ≡ mask)
         × (m.parsed ≡ record { header = None; segments = s.made.segments; bytes = x })
-        × (m.changed.items ≡ changed)) (λ e. e ≡ ReadFault.Memory) }
+        × (m.changed.items ≡ changed) × (m.wrong_modules ≡ difference_count damaged.now g)
+        × (m.wrong_format_modules ≡ wrong_format_modules damaged.now l mask)) (λ e. e ≡ ReadFault.Memory) }
 {
     mend_symbol(alloc, damaged)
 }

@@ -36,7 +36,7 @@ fn first_miss(pool: &[Polynomial], window: &[u8], t: usize) -> usize
     pool.len()
 }
 
-// Makes the sums of the polynomials from a place on 0.
+// Changes the polynomials from number `first` on so that their sums with the window are 0.
 fn relieve(pool: &mut [Polynomial], first: usize, pivot: &Polynomial, window: &[u8], t: usize)
     requires degrees { HasDegrees t pool.old }
     requires small { t ≤ 15 }
@@ -52,7 +52,7 @@ fn relieve(pool: &mut [Polynomial], first: usize, pivot: &Polynomial, window: &[
     }
 }
 
-// Solves one equation more.
+// Makes the pool solve equation `i` too.
 fn solve(pool: &mut ArrayVec<Polynomial, 16>, syndromes: &[u8], i: usize, t: usize)
     requires pool { IsPool t i syndromes.now pool.old.items }
     requires small { t ≤ 15 }
@@ -68,7 +68,8 @@ fn solve(pool: &mut ArrayVec<Polynomial, 16>, syndromes: &[u8], i: usize, t: usi
     }
 }
 
-// A polynomial of degree t at most whose sums with the syndromes from each of the first t on are 0.
+// Returns a polynomial of degree `t` at most that solves the first `t` equations: its sum with the syndromes from the i-th on is 0
+// for each i below `t`.
 pub(crate) fn locator(syndromes: &[u8], t: usize) -> Polynomial
     requires small { t ≤ 15 }
     requires long { 2 * t ≤ length syndromes.now }

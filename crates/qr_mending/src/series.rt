@@ -28,7 +28,7 @@ fn mend_all(alloc: Global, damaged: &[Matrix]) -> Result<Vec<Parsed>, ReadFault>
 ///
 /// # Errors
 ///
-/// The first fault of a symbol that is not mended, in their order, before any header is looked at; then `Series` if the
+/// The first fault of a symbol that is not mended, in their order, whatever the headers are; then `Series` if the
 /// symbols do not belong together. No symbol at all is no series.
 pub fn mend_series(alloc: Global, damaged: &[Matrix]) -> Result<Vec<u8>, ReadFault>
     ensures { MatchResult result (λ bytes. IsMendedSeries damaged.now bytes.items) (IsUnmendedSeries damaged.now) }

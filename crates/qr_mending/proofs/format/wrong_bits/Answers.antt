@@ -2,7 +2,7 @@ use Rattle.std.proofs.Common.{◌≡◌, ℕ, ap, ◌∙◌, sym, arith}
 use Rattle.qr_layout.specs.declared.region.Module.{Module}
 use Rattle.qr_matrix.specs.Grid.{colour}
 use Rattle.qr_symbol.specs.Symbol.{word_bit}
-use Rattle.qr_mending.specs.Format.{copy_place, format_bit}
+use Rattle.qr_mending.specs.Format.{copy_place, copy_bit}
 use Rattle.qr_mending.proofs.FormatLemmas.{count-differs, count-agrees}
 use Rattle.qr_mending.proofs.format.wrong_bits.Goals as goal
 use Rattle.qr_mending.proofs.format.wrong_bits.Goals.{then-dark-is_bit_set, else-dark-is_bit_set}
@@ -11,8 +11,8 @@ pub loop-i-preserved : goal.loop-i-preserved
 loop-i-preserved c =
     let g = c.args.matrix.now in
     let i = c.loop-i.i in
-    let p = format_bit c.args.copy g in
-    let dark : c.dark.result ≡ format_bit c.args.copy g i =
+    let p = copy_bit c.args.copy g in
+    let dark : c.dark.result ≡ copy_bit c.args.copy g i =
     c.dark.ensures
     ∙ ap (λ (m : Module). colour g m.row m.col)
     (c.place-place.ensures.place ∙ ap (λ (s : ℕ). copy_place c.args.copy s i) (sym c.requires)) in
