@@ -1,5 +1,6 @@
 # Builds the proved program, tests it, counts its instructions, and puts it and its manual page under PREFIX, by the name NAME.
 # Also builds the library for C, and puts it and its header there.
+VERSION := $(shell cat VERSION)
 PREFIX = /usr/local
 NAME = qrencode
 PROGRAM = crates/qrencode/out/qrencode
@@ -47,8 +48,12 @@ install-lib: lib
 	ln -sf $(SONAME) "$(LIBRARIES)/libqrproved.so"
 	install -D -m 644 include/qrproved.h "$(INCLUDES)/qrproved.h"
 	mkdir -p "$(LIBRARIES)/pkgconfig"
-	printf '%s\n' 'prefix=$(PREFIX)' 'Name: qrproved' 'Description: QR Code symbols, by proved calls' 'Version: 0' \
-	    'Libs: -L"$${prefix}/lib" -lqrproved' 'Cflags: -I"$${prefix}/include"' >"$(LIBRARIES)/pkgconfig/qrproved.pc"
+	$(MAKE) -s --no-print-directory print-pc >"$(LIBRARIES)/pkgconfig/qrproved.pc"
+
+# The pkg-config file.
+print-pc:
+	@printf '%s\n' 'prefix=$(PREFIX)' 'Name: qrproved' 'Description: QR Code symbols, by proved calls' 'Version: $(VERSION)' \
+	    'Libs: -L"$${prefix}/lib" -lqrproved' 'Cflags: -I"$${prefix}/include"'
 
 uninstall-lib:
 	rm -f "$(LIBRARIES)/libqrproved.a" "$(LIBRARIES)/$(SONAME)" "$(LIBRARIES)/libqrproved.so"
@@ -58,4 +63,4 @@ bench: all lib
 	bench/instructions
 	bench/library
 
-.PHONY: all bench check install install-lib lib uninstall uninstall-lib
+.PHONY: all bench check install install-lib lib print-pc uninstall uninstall-lib

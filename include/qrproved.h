@@ -23,6 +23,9 @@
 extern "C" {
 #endif
 
+#define QRPROVED_VERSION "0.1.0"
+#define QRPROVED_VERSION_NUMBER 100 /* 10000 * major + 100 * minor + patch, for #if */
+
 #define QRPROVED_SIDE_MAX 177      /* modules on a side of the largest symbol, of version 40 */
 #define QRPROVED_SYMBOL_MAX 31329  /* bytes that hold the modules of every symbol: 177 times 177 */
 #define QRPROVED_COUNT_MAX 16      /* symbols in the longest series */
