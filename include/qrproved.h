@@ -10,6 +10,7 @@
  * - each pointer is to as many bytes as the length beside it says, or to a struct; where the length is 0 it is not used;
  * - no two of the buffers and the struct overlap;
  * - during the call nothing else writes to any of them, and nothing else reads those that the call writes to;
+ * - malloc returns memory that is aligned for every type that fits in it, as C asks of it;
  * - no call from a signal handler, nor in the forked child of a process with threads, since malloc may not be called there.
  * Calls may run side by side in any threads, each with a buffer and a struct of its own.
  */
@@ -142,7 +143,13 @@ QRPROVED_HOLDS(offsetof(struct qrproved_mended, changed_allowed) == 21);
  * rule     QRPROVED_RULE_AUTO to QRPROVED_RULE_WITH_KANJI
  * modules  QRPROVED_SYMBOL_MAX bytes hold every symbol
  *
- * Returns DONE, SETTINGS, EMPTY, TOO_LONG, ROOM or MEMORY. More than 7,089 bytes of input are TOO_LONG.
+ * Returns, and looks for the causes in this order:
+ *   SETTINGS  no such version, level or rule
+ *   EMPTY     input_len is 0
+ *   TOO_LONG  no version from the smallest one on holds the input; more than 7,089 bytes are always TOO_LONG
+ *   ROOM      modules_len is below the modules of the symbol
+ *   DONE
+ * or MEMORY, at any point where none of SETTINGS, EMPTY and more than 7,089 bytes is the cause.
  */
 uint8_t qrproved_encode(const uint8_t *input, size_t input_len, uint8_t version, uint8_t level, uint8_t rule,
                         uint8_t *modules, size_t modules_len, struct qrproved_symbol *symbol);
@@ -154,7 +161,13 @@ uint8_t qrproved_encode(const uint8_t *input, size_t input_len, uint8_t version,
  * version  the version of all symbols, from 1 to 40
  * modules  QRPROVED_SERIES_MAX bytes hold every series
  *
- * The rest is as for qrproved_encode. Returns DONE, SETTINGS, EMPTY, TOO_MANY, ROOM or MEMORY.
+ * The rest is as for qrproved_encode. Returns, and looks for the causes in this order:
+ *   SETTINGS  no such version, level or rule
+ *   EMPTY     input_len is 0
+ *   TOO_MANY  the input takes more than 16 symbols of the version; more than 113,425 bytes are always TOO_MANY
+ *   ROOM      modules_len is below the modules of the series
+ *   DONE
+ * or MEMORY, at any point where none of SETTINGS, EMPTY and more than 113,425 bytes is the cause.
  */
 uint8_t qrproved_encode_series(const uint8_t *input, size_t input_len, uint8_t version, uint8_t level, uint8_t rule,
                                uint8_t *modules, size_t modules_len, struct qrproved_series *series);
@@ -166,8 +179,21 @@ uint8_t qrproved_encode_series(const uint8_t *input, size_t input_len, uint8_t v
  * side   modules on a side: 21, 25, and so on to 177
  * bytes  QRPROVED_BYTES_MAX bytes hold what any symbol says
  *
- * Returns DONE, SIDE, ROOM, FORMAT, CHECK, SEGMENTS or MEMORY. ROOM is for either buffer: modules_len is below side times
- * side, or bytes_len below the bytes that the symbol holds.
+ * The call looks at the first copy of the format information, beside the top left finder pattern, and at the codewords, which
+ * have to be those of their error correction codewords and are parsed up to the terminator. It does not look at the finder, alignment and
+ * timing patterns, the version information, the second copy of the format information, the remainder bits, nor at what
+ * follows the terminator. So DONE does not say that a scanner finds the symbol. qrproved_mend says that: the square is whole
+ * if its wrong_modules is 0.
+ *
+ * Returns, and looks for the causes in this order:
+ *   SIDE      no version has this side
+ *   ROOM      modules_len is below side times side
+ *   FORMAT    the first copy of the format information is that of no level and mask
+ *   CHECK     the error correction codewords of some block are not those of its data codewords
+ *   SEGMENTS  the data codewords cannot be parsed
+ *   ROOM      bytes_len is below the bytes that the symbol holds
+ *   DONE
+ * or, at any point after the first ROOM, MEMORY.
  */
 uint8_t qrproved_read(const uint8_t *modules, size_t modules_len, uint8_t side, uint8_t *bytes, size_t bytes_len,
                       struct qrproved_content *content);
