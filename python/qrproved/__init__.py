@@ -1,0 +1,235 @@
+"""QR Code symbols (ISO/IEC 18004:2015, QR Code Model 2) by the library libqrproved.
+
+encode and encode_series draw bytes as a symbol or as a series of symbols; read reads a symbol that is as it was drawn; mend
+reads a damaged one, and says how damaged it is. Modules are bytes, row by row from the top left, without the quiet zone of
+four light modules that a drawing needs on each side.
+
+Each refusal is an exception of the class Error. A number that is out of range is refused, and one that is no integer, as a
+bool or a float, is a TypeError. Calls may run side by side in any number of threads.
+"""
+from __future__ import annotations
+
+import ctypes
+import operator
+from dataclasses import dataclass
+from enum import IntEnum
+from typing import TYPE_CHECKING, NamedTuple, Optional, Union
+
+from . import _library
+from ._errors import (CheckError, EmptyError, Error, FormatError, OutOfMemoryError, RoomError, SegmentsError, SettingsError,
+                      SideError, TooLongError, TooManyError, raise_for)
+from ._library import BYTES_MAX, COUNT_MAX, SERIES_MAX, SIDE_MAX, SYMBOL_MAX
+
+if TYPE_CHECKING:
+    Bytes = Union[bytes, bytearray, memoryview]
+
+__all__ = ["BYTES_MAX", "COUNT_MAX", "SERIES_MAX", "SIDE_MAX", "SYMBOL_MAX", "CheckError", "Content", "EmptyError", "Error",
+           "FormatError", "Header", "Level", "Mended", "OutOfMemoryError", "RoomError", "Rule", "SegmentsError",
+           "SettingsError", "SideError", "Symbol", "TooLongError", "TooManyError", "encode", "encode_series", "mend", "read"]
+
+_calls = _library.load()
+
+
+class Level(IntEnum):
+    """How much of a damaged symbol can be restored: about 7, 15, 25 or 30 % of its codewords."""
+
+    L = 0
+    M = 1
+    Q = 2
+    H = 3
+
+
+class Rule(IntEnum):
+    """Which modes the segments of an input may have."""
+
+    AUTO = 0
+    """Numeric, alphanumeric and byte mode, whatever takes the least bits."""
+    BYTES_ONLY = 1
+    """The whole input in byte mode."""
+    WITH_KANJI = 2
+    """Also kanji mode, for pairs of bytes that are Shift JIS characters."""
+
+
+@dataclass(frozen=True)
+class Symbol:
+    """The modules of a symbol. symbol[row, column] is True if that module is dark; both are from 0 to side - 1."""
+
+    version: int
+    """From 1 to 40."""
+    side: int
+    """Modules on a side: 17 + 4 * version."""
+    mask: Optional[int]
+    """From 0 to 7; None in a series, whose call does not return it."""
+    modules: bytes
+    """side * side bytes, row by row: 1 is dark, 0 is light."""
+
+    def __getitem__(self, place: tuple[int, int]) -> bool:
+        row, column = place
+        if not (0 <= row < self.side and 0 <= column < self.side):
+            raise IndexError(f"row and column are from 0 to {self.side - 1}, and not {row} and {column}")
+        return self.modules[row * self.side + column] != 0
+
+    def rows(self) -> list[list[bool]]:
+        """Returns the rows from the top, each from the left; True is dark."""
+        starts = range(0, len(self.modules), self.side)
+        return [[module != 0 for module in self.modules[start:start + self.side]] for start in starts]
+
+
+class Header(NamedTuple):
+    """What a symbol of a series says about its series."""
+
+    position: int
+    """Which symbol of its series it is, from 0 to 15."""
+    last: int
+    """The position of the last symbol, from 0 to 15: the number of symbols less 1."""
+    parity: int
+    """The exclusive or of all bytes of the input, from 0 to 255."""
+
+
+@dataclass(frozen=True)
+class Content:
+    """What a symbol says."""
+
+    data: bytes
+    """At most BYTES_MAX bytes."""
+    version: int
+    """From 1 to 40."""
+    header: Optional[Header]
+    """None if it is a plain symbol and not one of a series."""
+
+
+@dataclass(frozen=True)
+class Mended:
+    """What a damaged symbol says, and how damaged it is."""
+
+    content: Content
+    level: Level
+    mask: int
+    """From 0 to 7."""
+    wrong_modules: int
+    """Modules of the whole square that are not the symbol's."""
+    wrong_format_modules: int
+    """Of the 30 modules of format information, those that are wrong."""
+    changed_most: int
+    """The most codewords that were changed in a block."""
+    changed_allowed: int
+    """How many codewords may be changed in each block, from 2 to 15."""
+
+    @property
+    def is_sound(self) -> bool:
+        """True if each module of the square is that of the symbol."""
+        return self.wrong_modules == 0
+
+    @property
+    def spent(self) -> float:
+        """The share of the correction that the block with the most wrong codewords has spent, from 0.0 to 1.0."""
+        return self.changed_most / self.changed_allowed
+
+
+def _whole(name: str, value: int) -> int:
+    """Returns a number that is an integer. A bool is none, though Python takes it for 0 or 1."""
+    if isinstance(value, bool):
+        raise TypeError(f"{name} is a number, and not a bool")
+    try:
+        return operator.index(value)
+    except TypeError:
+        raise TypeError(f"{name} is an integer, and not of type {type(value).__name__}") from None
+
+
+def _setting(name: str, value: int, least: int, most: int) -> int:
+    number = _whole(name, value)
+    if not least <= number <= most:
+        raise SettingsError(f"{name} is from {least} to {most}, and not {number}")
+    return number
+
+
+def _settings(version: int, level: int, rule: int) -> tuple[int, int, int]:
+    return _setting("version", version, 1, 40), _setting("level", level, 0, 3), _setting("rule", rule, 0, 2)
+
+
+def _side(value: int) -> int:
+    side = _whole("side", value)
+    if not (21 <= side <= SIDE_MAX and side % 4 == 1):
+        raise SideError(f"side is 21, 25, and so on to {SIDE_MAX}, and not {side}")
+    return side
+
+
+def _copied(data: Bytes) -> bytes:
+    """Returns bytes that nothing else can write to during a call. Raises TypeError for a text or a number."""
+    return memoryview(data).tobytes()
+
+
+def _first(buffer: ctypes.Array[ctypes.c_uint8], length: int) -> bytes:
+    return bytes(memoryview(buffer)[:length])
+
+
+def encode(data: Bytes, *, version: int = 1, level: int = Level.M, rule: int = Rule.AUTO) -> Symbol:
+    """Returns the symbol of some bytes, of the least version from `version` on that holds them.
+
+    data     from 1 byte to BYTES_MAX; a text has to be encoded first, as by text.encode()
+    version  the smallest version that may be taken, from 1 to 40
+    level    a Level, or its number
+    rule     a Rule, or its number
+
+    Raises SettingsError if a number is out of range, EmptyError, TooLongError if no version from there on holds the bytes,
+    and OutOfMemoryError.
+    """
+    settings, given = _settings(version, level, rule), _copied(data)
+    modules, symbol = (ctypes.c_uint8 * SYMBOL_MAX)(), _library.Symbol()
+    raise_for(_calls.qrproved_encode(given, len(given), *settings, modules, SYMBOL_MAX, ctypes.byref(symbol)))
+    return Symbol(symbol.version, symbol.side, symbol.mask, _first(modules, symbol.side ** 2))
+
+
+def encode_series(data: Bytes, *, version: int, level: int = Level.M, rule: int = Rule.AUTO) -> list[Symbol]:
+    """Returns the symbols of the series of some bytes, all of `version`, from 1 to COUNT_MAX of them.
+
+    Bytes that fit one symbol are one plain symbol. The rest is as for encode; TooManyError is raised where encode raises
+    TooLongError: if the bytes take more than COUNT_MAX symbols.
+    """
+    settings, given = _settings(version, level, rule), _copied(data)
+    modules, series = (ctypes.c_uint8 * SERIES_MAX)(), _library.Series()
+    raise_for(_calls.qrproved_encode_series(given, len(given), *settings, modules, SERIES_MAX, ctypes.byref(series)))
+    area = series.side ** 2
+    written = _first(modules, series.count * area)
+    return [Symbol(settings[0], series.side, None, written[k * area:(k + 1) * area]) for k in range(series.count)]
+
+
+def read(modules: Bytes, side: int) -> Content:
+    """Returns what a symbol says. No errors are corrected: each codeword has to be as it was drawn.
+
+    modules  side * side bytes, row by row: 0 is light, all others are dark; bytes past the last module are ignored
+    side     modules on a side: 21, 25, and so on to SIDE_MAX
+
+    Raises SideError, RoomError if there are too few modules, FormatError, CheckError, SegmentsError, and OutOfMemoryError.
+
+    The finder, timing and alignment patterns and the version information are not looked at, so a symbol that is read here
+    may not scan. mend looks at each module.
+    """
+    checked, given = _side(side), _copied(modules)
+    data, content = (ctypes.c_uint8 * BYTES_MAX)(), _library.Content()
+    raise_for(_calls.qrproved_read(given, len(given), checked, data, BYTES_MAX, ctypes.byref(content)))
+    return _content_of(content, data)
+
+
+def mend(modules: Bytes, side: int) -> Mended:
+    """Returns what a damaged symbol says, and how damaged it is.
+
+    modules  side * side bytes, row by row: 0 is light, 1 is dark; bytes past the last module are ignored
+    side     modules on a side: 21, 25, and so on to SIDE_MAX
+
+    In each block at most changed_allowed codewords are mended. One copy of the format information has to have at most three
+    wrong modules. No other module has to be right.
+
+    Raises SideError, RoomError if there are too few modules, SettingsError if one is neither 0 nor 1, FormatError if both
+    copies of the format information are too damaged, CheckError if a block is, SegmentsError, and OutOfMemoryError.
+    """
+    checked, given = _side(side), _copied(modules)
+    data, mended = (ctypes.c_uint8 * BYTES_MAX)(), _library.Mended()
+    raise_for(_calls.qrproved_mend(given, len(given), checked, data, BYTES_MAX, ctypes.byref(mended)))
+    return Mended(_content_of(mended, data), Level(mended.level), mended.mask, mended.wrong_modules, mended.wrong_format_modules,
+                  mended.changed_most, mended.changed_allowed)
+
+
+def _content_of(it: Union[_library.Content, _library.Mended], data: ctypes.Array[ctypes.c_uint8]) -> Content:
+    header = Header(it.position, it.last, it.parity) if it.has_header else None
+    return Content(_first(data, it.len), it.version, header)

@@ -1,0 +1,94 @@
+"""The refusals of the library, an exception for each status."""
+from __future__ import annotations
+
+from typing import ClassVar
+
+
+class Error(Exception):
+    """A refusal of the library. `status` is its number in include/qrproved.h."""
+
+    status: ClassVar[int] = 0
+    text: ClassVar[str] = "the library refused"
+
+    def __init__(self, text: str | None = None) -> None:
+        super().__init__(text or self.text)
+
+
+class EmptyError(Error, ValueError):
+    """The input has no byte."""
+
+    status = 1
+    text = "the input is empty"
+
+
+class TooLongError(Error, ValueError):
+    """No version from the smallest one on holds the input."""
+
+    status = 2
+    text = "the input does not fit a symbol"
+
+
+class TooManyError(Error, ValueError):
+    """The input takes more than 16 symbols of the version."""
+
+    status = 3
+    text = "the input takes more than 16 symbols"
+
+
+class OutOfMemoryError(Error, MemoryError):
+    """The library was refused memory."""
+
+    status = 4
+    text = "out of memory"
+
+
+class SettingsError(Error, ValueError):
+    """The version, the level or the rule is out of range, or a module to mend is neither 0 nor 1."""
+
+    status = 5
+    text = "a module is neither 0 nor 1"
+
+
+class RoomError(Error, ValueError):
+    """There are fewer modules than the side times itself."""
+
+    status = 6
+    text = "there are fewer modules than the side times itself"
+
+
+class SideError(Error, ValueError):
+    """No version has this side."""
+
+    status = 7
+    text = "no version has this side"
+
+
+class FormatError(Error, ValueError):
+    """The format information is that of no level and mask, or is too damaged."""
+
+    status = 8
+    text = "the format information cannot be read"
+
+
+class CheckError(Error, ValueError):
+    """A block's error correction codewords are not its own, or a block is too damaged to be mended."""
+
+    status = 9
+    text = "a block has wrong codewords that are not mended"
+
+
+class SegmentsError(Error, ValueError):
+    """The data codewords cannot be parsed."""
+
+    status = 10
+    text = "the data codewords cannot be parsed"
+
+
+BY_STATUS = {kind.status: kind for kind in (EmptyError, TooLongError, TooManyError, OutOfMemoryError, SettingsError, RoomError,
+                                            SideError, FormatError, CheckError, SegmentsError)}
+
+
+def raise_for(status: int) -> None:
+    """Raises the exception of a status, and returns for 0."""
+    if status:
+        raise BY_STATUS[status]() if status in BY_STATUS else Error(f"the library returned the unknown status {status}")

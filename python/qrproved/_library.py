@@ -1,0 +1,75 @@
+"""Finds the shared library, and declares its calls as include/qrproved.h does."""
+from __future__ import annotations
+
+import ctypes
+import ctypes.util
+import os
+from ctypes import c_size_t, c_uint8, c_uint32, c_void_p
+from pathlib import Path
+
+VARIABLE = "QRPROVED_LIBRARY"
+FILE = "libqrproved.so.0"
+
+SIDE_MAX = 177
+SYMBOL_MAX = 31329
+COUNT_MAX = 16
+SERIES_MAX = 501264
+BYTES_MAX = 7089
+
+
+class Symbol(ctypes.Structure):
+    _fields_ = [("version", c_uint8), ("side", c_uint8), ("mask", c_uint8)]
+
+
+class Series(ctypes.Structure):
+    _fields_ = [("count", c_uint8), ("side", c_uint8)]
+
+
+class Content(ctypes.Structure):
+    _fields_ = [("len", c_size_t), ("version", c_uint8), ("has_header", c_uint8), ("position", c_uint8), ("last", c_uint8),
+                ("parity", c_uint8)]
+
+
+class Mended(ctypes.Structure):
+    _fields_ = [("len", c_size_t), ("wrong_modules", c_uint32), ("version", c_uint8), ("has_header", c_uint8),
+                ("position", c_uint8), ("last", c_uint8), ("parity", c_uint8), ("level", c_uint8), ("mask", c_uint8),
+                ("wrong_format_modules", c_uint8), ("changed_most", c_uint8), ("changed_allowed", c_uint8)]
+
+
+# A setting is a version, a level, a rule or a side. C takes a byte: a larger number would be cut, so callers check it first.
+SETTING = c_uint8
+BYTES = [ctypes.c_char_p, c_size_t]
+BUFFER = [c_void_p, c_size_t]
+PARAMETERS = {
+    "qrproved_encode": [*BYTES, SETTING, SETTING, SETTING, *BUFFER, ctypes.POINTER(Symbol)],
+    "qrproved_encode_series": [*BYTES, SETTING, SETTING, SETTING, *BUFFER, ctypes.POINTER(Series)],
+    "qrproved_read": [*BYTES, SETTING, *BUFFER, ctypes.POINTER(Content)],
+    "qrproved_mend": [*BYTES, SETTING, *BUFFER, ctypes.POINTER(Mended)],
+}
+
+
+def path_of_library() -> str:
+    """Returns the path in the environment variable, that beside the package, or what the system finds."""
+    wanted = os.environ.get(VARIABLE)
+    if wanted:
+        return wanted
+    beside = Path(__file__).with_name(FILE)
+    if beside.exists():
+        return str(beside)
+    found = ctypes.util.find_library("qrproved")
+    if found is None:
+        raise ImportError(f"{FILE} is neither beside the package nor among the system's libraries; set {VARIABLE} to its path")
+    return found
+
+
+def load() -> ctypes.CDLL:
+    """Returns the library with the types of its calls. Raises ImportError if it is missing or lacks a call."""
+    path = path_of_library()
+    try:
+        library = ctypes.CDLL(path)
+        for name, parameters in PARAMETERS.items():
+            call = getattr(library, name)
+            call.argtypes, call.restype = parameters, c_uint8
+    except (OSError, AttributeError) as fault:
+        raise ImportError(f"{path} cannot be used: {fault}") from fault
+    return library

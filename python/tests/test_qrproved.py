@@ -1,0 +1,160 @@
+"""What the package adds to the library: its types, its checks of arguments, and its refusals. The symbols themselves are
+compared by tests/library."""
+import array
+import unittest
+
+import qrproved
+from qrproved import Level, Rule
+
+# The symbol of 01234567 of version 1 and level M under mask 0.
+EIGHT_DIGITS = bytes(map(int, "".join("""
+    111111100011101111111
+    100000101110001000001
+    101110100110001011101
+    101110100101101011101
+    101110101101101011101
+    100000100001001000001
+    111111101010101111111
+    000000000000000000000
+    101010100010100010010
+    110100001011010100010
+    000110111011011101110
+    110011010101110110010
+    001001110111011100001
+    000000001010001000010
+    111111100000100010001
+    100000100010001001011
+    101110101110101011101
+    101110100101010101110
+    101110101101011100101
+    100000100001110111000
+    111111101001011100101""".split())))
+
+
+def inverted(modules, *places):
+    return bytes(module ^ (place in places) for place, module in enumerate(modules))
+
+
+class Calls(unittest.TestCase):
+    def test_a_symbol_of_the_standard_is_read(self):
+        self.assertEqual(qrproved.read(EIGHT_DIGITS, 21), qrproved.Content(b"01234567", 1, None))
+
+    def test_a_dark_module_is_any_byte_but_0(self):
+        self.assertEqual(qrproved.read(bytes(255 * module for module in EIGHT_DIGITS) + b"more", 21).data, b"01234567")
+
+    def test_a_symbol_has_its_numbers(self):
+        symbol = qrproved.encode(b"01234567")
+        self.assertEqual((symbol.version, symbol.side, len(symbol.modules)), (1, 21, 441))
+        self.assertIn(symbol.mask, range(8))
+        self.assertEqual(qrproved.read(symbol.modules, 21).data, b"01234567")
+
+    def test_a_symbol_has_rows_and_columns(self):
+        symbol = qrproved.Symbol(1, 21, 0, EIGHT_DIGITS)
+        self.assertEqual([symbol[0, 6], symbol[0, 7], symbol[6, 0], symbol[7, 0], symbol[20, 20]], [True, False, True, False, True])
+        self.assertEqual(symbol.rows(), [[symbol[row, column] for column in range(21)] for row in range(21)])
+        for place in ((21, 0), (0, 21), (-1, 0), (0, -1)):
+            with self.assertRaises(IndexError):
+                symbol[place]
+
+    def test_version_level_and_rule_reach_the_library(self):
+        self.assertEqual(qrproved.encode(b"A", version=7).side, 45)
+        self.assertEqual(qrproved.encode(b"7" * 7089, level=Level.L).version, 40)
+        self.assertEqual(qrproved.encode(b"7" * 41, level=Level.L).version, 1)  # Table 7
+        self.assertEqual(qrproved.encode(b"7" * 42, level=Level.L).version, 2)
+        self.assertEqual(qrproved.encode(b"7" * 18, level=Level.L, rule=Rule.BYTES_ONLY).version, 2)
+        self.assertEqual(qrproved.encode(b"\x93\x5f" * 10, level=Level.L, rule=Rule.WITH_KANJI).version, 1)
+        for level in Level:
+            symbol = qrproved.encode(b"A", level=level)
+            mended = qrproved.mend(symbol.modules, symbol.side)
+            self.assertEqual((mended.level, mended.mask), (level, symbol.mask))
+
+    def test_a_series_is_read_and_joined(self):
+        data = b"ABCDEFGH" * 6
+        series = qrproved.encode_series(data, version=1, level=Level.L)
+        contents = [qrproved.read(symbol.modules, symbol.side) for symbol in series]
+        self.assertGreater(len(series), 1)
+        self.assertEqual(b"".join(content.data for content in contents), data)
+        self.assertEqual([content.header for content in contents], [(k, len(series) - 1, 0) for k in range(len(series))])
+        self.assertEqual({(it.version, it.side, it.mask) for it in series}, {(1, 21, None)})
+
+    def test_one_plain_symbol_is_a_series(self):
+        series = qrproved.encode_series(b"A", version=1, level=Level.L)
+        self.assertEqual([symbol.modules for symbol in series], [qrproved.encode(b"A", level=Level.L).modules])
+
+    def test_a_sound_symbol(self):
+        mended = qrproved.mend(EIGHT_DIGITS, 21)
+        self.assertEqual(mended, qrproved.Mended(qrproved.Content(b"01234567", 1, None), Level.M, 0, 0, 0, 0, 4))
+        self.assertEqual((mended.is_sound, mended.spent), (True, 0.0))
+
+    def test_damage_is_counted(self):
+        timing, last, format_module = 6 * 21 + 8, 20 * 21 + 20, 8 * 21
+        mended = qrproved.mend(inverted(EIGHT_DIGITS, timing, last, format_module), 21)
+        self.assertEqual(mended, qrproved.Mended(qrproved.Content(b"01234567", 1, None), Level.M, 0, 3, 1, 1, 4))
+        self.assertEqual((mended.is_sound, mended.spent), (False, 0.25))
+
+    def test_all_kinds_of_bytes_are_taken(self):
+        wanted = qrproved.encode(b"AB12")
+        for data in (bytearray(b"AB12"), memoryview(b"AB12"), memoryview(b"A?B?1?2?")[::2], array.array("B", b"AB12")):
+            self.assertEqual(qrproved.encode(data), wanted)
+
+
+class Refusals(unittest.TestCase):
+    def refused(self, kind, status, call, *given, **named):
+        with self.assertRaises(kind) as caught:
+            call(*given, **named)
+        self.assertIsInstance(caught.exception, qrproved.Error)
+        self.assertIs(type(caught.exception), kind)
+        self.assertEqual(caught.exception.status, status)
+        self.assertTrue(str(caught.exception))
+
+    def test_inputs(self):
+        self.refused(qrproved.EmptyError, 1, qrproved.encode, b"")
+        self.refused(qrproved.EmptyError, 1, qrproved.encode_series, b"", version=1)
+        self.refused(qrproved.TooLongError, 2, qrproved.encode, b"7" * 7090, level=Level.L)
+        self.refused(qrproved.TooManyError, 3, qrproved.encode_series, b"a" * 1000, version=1)
+
+    def test_numbers_out_of_range(self):
+        for name, numbers in {"version": (0, 41, -1, 256, 257, 1 << 64), "level": (-1, 4, 256, 1 << 32), "rule": (-1, 3, 257)}.items():
+            for number in numbers:
+                settings = {"version": 1, name: number}
+                self.refused(qrproved.SettingsError, 5, qrproved.encode, b"A", **settings)
+                self.refused(qrproved.SettingsError, 5, qrproved.encode_series, b"A", **settings)
+        for side in (0, 17, 20, 22, 181, -21, 21 + 256, 1 << 64):
+            self.refused(qrproved.SideError, 7, qrproved.read, EIGHT_DIGITS, side)
+            self.refused(qrproved.SideError, 7, qrproved.mend, EIGHT_DIGITS, side)
+
+    def test_what_is_no_number(self):
+        for other in (True, 1.0, "1", None, b"1"):
+            for name in ("version", "level", "rule"):
+                with self.assertRaises(TypeError):
+                    qrproved.encode(b"A", **{name: other})
+                with self.assertRaises(TypeError):
+                    qrproved.encode_series(b"A", **{"version": 1, name: other})
+            for call in (qrproved.read, qrproved.mend):
+                with self.assertRaises(TypeError):
+                    call(EIGHT_DIGITS, other)
+
+    def test_what_is_no_bytes(self):
+        for other in ("A", 5, None, [1, 2]):
+            with self.assertRaises(TypeError):
+                qrproved.encode(other)
+            with self.assertRaises(TypeError):
+                qrproved.read(other, 21)
+
+    def test_squares(self):
+        for call in (qrproved.read, qrproved.mend):
+            self.refused(qrproved.RoomError, 6, call, EIGHT_DIGITS[:-1], 21)
+            self.refused(qrproved.RoomError, 6, call, b"", 177)
+        self.refused(qrproved.SettingsError, 5, qrproved.mend, EIGHT_DIGITS[:-1] + b"\2", 21)
+        self.refused(qrproved.FormatError, 8, qrproved.read, bytes(441), 21)
+        self.refused(qrproved.CheckError, 9, qrproved.read, inverted(EIGHT_DIGITS, 440), 21)
+        region = range(9 * 21 + 9, 16 * 21)
+        self.refused(qrproved.CheckError, 9, qrproved.mend, inverted(EIGHT_DIGITS, *region), 21)
+
+    def test_each_status_has_an_exception(self):
+        kinds = [kind for kind in vars(qrproved).values() if isinstance(kind, type) and issubclass(kind, qrproved.Error)]
+        self.assertEqual(sorted(kind.status for kind in kinds), list(range(11)))
+
+
+if __name__ == "__main__":
+    unittest.main()
