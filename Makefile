@@ -1,6 +1,6 @@
 # Builds the proved program, tests it, counts its instructions, and puts it and its manual page under PREFIX, by the name NAME.
-# Also builds the library for C, and puts it and its header there. STRIP=1 leaves the names of functions out of what is
-# installed.
+# Also builds the library for C, puts it and its header there, and packs it into a wheel for Python. STRIP=1 leaves the names
+# of functions out of what is installed.
 VERSION := $(shell cat VERSION)
 PREFIX = /usr/local
 BINDIR = $(PREFIX)/bin
@@ -25,6 +25,8 @@ LIBRARY_OUT = $(LIBRARY)/out/lib
 SONAME = libqrproved.so.0
 LIBRARIES = $(DESTDIR)$(LIBDIR)
 INCLUDES = $(DESTDIR)$(INCLUDEDIR)
+PYTHON = python3
+WHEELS = python/out
 
 all:
 	./qrencode -t ASCII A >/dev/null
@@ -86,8 +88,12 @@ uninstall-lib:
 	rm -f "$(LIBRARIES)/libqrproved.a" "$(LIBRARIES)/$(SONAME)" "$(LIBRARIES)/libqrproved.so"
 	rm -f "$(INCLUDES)/qrproved.h" "$(LIBRARIES)/pkgconfig/qrproved.pc"
 
+# A wheel with the shared library that `make lib` built.
+wheel:
+	$(PYTHON) python/backend.py "$(LIBRARY_OUT)/$(SONAME)" "$(WHEELS)"
+
 bench: all lib
 	bench/instructions
 	bench/library
 
-.PHONY: all bench check install install-lib lib print-pc uninstall uninstall-lib
+.PHONY: all bench check install install-lib lib print-pc uninstall uninstall-lib wheel
