@@ -28,9 +28,9 @@ def total():
     return 1 if counts["failed"] else 0
 
 
-def said(*words, given=b""):
+def said(*words, given=b"", env=None):
     """Returns what a program writes, or why there is nothing to look at."""
-    ran = subprocess.run(words, input=given, capture_output=True, timeout=300)
+    ran = subprocess.run(words, input=given, capture_output=True, timeout=300, env=env)
     return ran.stdout.decode(errors="replace") if ran.returncode == 0 else f"status {ran.returncode}: {ran.stderr[-300:]!r}"
 
 
