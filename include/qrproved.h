@@ -179,11 +179,11 @@ uint8_t qrproved_encode_series(const uint8_t *input, size_t input_len, uint8_t v
  * side   modules on a side: 21, 25, and so on to 177
  * bytes  QRPROVED_BYTES_MAX bytes hold what any symbol says
  *
- * The call looks at the first copy of the format information, beside the top left finder pattern, and at the codewords, which
- * have to be those of their error correction codewords and are parsed up to the terminator. It does not look at the finder, alignment and
- * timing patterns, the version information, the second copy of the format information, the remainder bits, nor at what
- * follows the terminator. So DONE does not say that a scanner finds the symbol. qrproved_mend says that: the square is whole
- * if its wrong_modules is 0.
+ * The call looks at the first copy of the format information, beside the top left finder pattern, and at the codewords: they
+ * have to agree with their error correction codewords, and are parsed up to the terminator. It does not look at the finder,
+ * alignment and timing patterns, the version information, the second copy of the format information, the remainder bits, nor
+ * at what follows the terminator. So DONE does not say that a scanner finds the symbol. After qrproved_mend, wrong_modules 0
+ * says that the square is whole.
  *
  * Returns, and looks for the causes in this order:
  *   SIDE      no version has this side
