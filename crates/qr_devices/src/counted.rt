@@ -41,6 +41,13 @@ impl<T> Counted<T> {
             writes: WriteCounts::NONE,
         }
     }
+
+    /// The reader or the writer.
+    pub fn into_inner(self) -> T
+        ensures { result ≡ self.inner }
+    {
+        self.inner
+    }
 }
 
 impl<R: Read> Source for Counted<R> {

@@ -1,5 +1,5 @@
 -- Which paths stand in the rows of a raster, and how they join while they are put.
-use Rattle.std.proofs.Common.{◌≡◌, ◌≢◌, ◌≤◌, ◌<◌, ◌+◌, ◌-◌, ◌*◌, ◌++◌, ◌∙◌, ℕ, zero, suc, Bool, true, false, List, [], length, get_or, refl, sym, ap, arith, append-nil, ⊎_elim}
+use Rattle.std.proofs.Common.{◌≡◌, ◌≢◌, ◌≤◌, ◌<◌, ◌+◌, ◌-◌, ◌*◌, ◌++◌, ◌∙◌, ℕ, zero, suc, Bool, true, false, List, [], length, map, get_or, refl, sym, ap, arith, append-nil, ⊎_elim}
 use Rattle.std.specs.Prelude.{codes}
 use Rattle.std.proofs.Math.Nat.{eq-or-lt_of_le, suc-mul}
 use Rattle.std.specs.List.{prefix_len, range_with_len}
@@ -8,9 +8,7 @@ use Rattle.std.proofs.lemmas.List.{get_or-map, length-map}
 use Rattle.std.proofs.lemmas.List.Elements.{All-get_or}
 use Rattle.qr_matrix.specs.Grid.{Grid, colour, light}
 use Rattle.qr_matrix.specs.Runs.{IsRunEnd}
-use Rattle.qr_symbol.specs.declared.symbol.Symbol.{Symbol}
 use Rattle.qr_devices.specs.Device.{Writer}
-use Rattle.qr_symbol.specs.Series.{squares_of}
 use Rattle.qr_drawing.specs.Drawing.{HaveOneSide}
 use Rattle.qr_drawing.specs.Raster.{is_dark_at, raster_width, texts_below}
 use Rattle.qr_drawing.specs.Svg.{background, begins_run, box_path, closing, declaration, foreground, numbered, opening, row_path, run_length, run_path, square_at, stack_path, svg_document, symbol_path}
@@ -241,45 +239,45 @@ pub put_same : (a b : Writer) (i j : ℕ) (h0 h1 text same : List ℕ) → same 
 put_same a b i j h0 h1 text same e p = rw e p
 
 -- the square of the symbol at k
-square_at-item : (xs : List Symbol) (k : ℕ) (x : Symbol) → k < length xs → x ≡ get_or xs k x → square_at (squares_of xs) k ≡ x.matrix
-square_at-item xs k x lt is = get_or-map (λ s. s.matrix) xs k x (light 0) lt ∙ ap (λ s. s.matrix) (sym is)
+square_at-item : {T : Type 0} (grid : T → Grid) (xs : List T) (k : ℕ) (x : T) → k < length xs → x ≡ get_or xs k x → square_at (map grid xs) k ≡ grid x
+square_at-item grid xs k x lt is = get_or-map grid xs k x (light 0) lt ∙ ap grid (sym is)
 
 -- the rasters of symbols of one side are as wide as the first
-pub one_width : (margin k : ℕ) (xs : List Symbol) (x : Symbol) → HaveOneSide (squares_of xs) → k < length xs → x ≡ get_or xs k x
-    → raster_width margin x.matrix ≡ raster_width margin (square_at (squares_of xs) 0)
-one_width margin k xs x one lt is =
-    let n : length (squares_of xs) ≡ length xs = length-map xs (λ s. s.matrix) in
-    let here : (square_at (squares_of xs) k).side ≡ (square_at (squares_of xs) 0).side =
-    All-get_or (λ g. g.side ≡ (square_at (squares_of xs) 0).side) (squares_of xs) k (light 0) (omega arith) one in
-    ap (λ m. 2 * margin + m) (ap (λ g. g.side) (sym (square_at-item xs k x lt is)) ∙ here)
+pub one_width : {T : Type 0} (grid : T → Grid) (margin k : ℕ) (xs : List T) (x : T) → HaveOneSide (map grid xs) → k < length xs → x ≡ get_or xs k x
+    → raster_width margin (grid x) ≡ raster_width margin (square_at (map grid xs) 0)
+one_width grid margin k xs x one lt is =
+    let n : length (map grid xs) ≡ length xs = length-map xs grid in
+    let here : (square_at (map grid xs) k).side ≡ (square_at (map grid xs) 0).side =
+    All-get_or (λ g. g.side ≡ (square_at (map grid xs) 0).side) (map grid xs) k (light 0) (omega arith) one in
+    ap (λ m. 2 * margin + m) (ap (λ g. g.side) (sym (square_at-item grid xs k x lt is)) ∙ here)
 
 -- the paths of k symbols, all told
-pub stack_ends : (margin k : ℕ) (xs : List Symbol) → k ≡ length xs → stack_path margin (squares_of xs)
-    ≡ texts_below k (λ n. symbol_path (n * raster_width margin (square_at (squares_of xs) n)) margin (square_at (squares_of xs) n))
+pub stack_ends : {T : Type 0} (grid : T → Grid) (margin k : ℕ) (xs : List T) → k ≡ length xs → stack_path margin (map grid xs)
+    ≡ texts_below k (λ n. symbol_path (n * raster_width margin (square_at (map grid xs) n)) margin (square_at (map grid xs) n))
 unfolding stack_path
-stack_ends margin k xs e =
-    let n : length (squares_of xs) ≡ k = length-map xs (λ s. s.matrix) ∙ sym e in
-    ap (λ m. texts_below m (λ n. symbol_path (n * raster_width margin (square_at (squares_of xs) n)) margin (square_at (squares_of xs) n))) n
+stack_ends grid margin k xs e =
+    let n : length (map grid xs) ≡ k = length-map xs grid ∙ sym e in
+    ap (λ m. texts_below m (λ n. symbol_path (n * raster_width margin (square_at (map grid xs) n)) margin (square_at (map grid xs) n))) n
 
 -- the paths of the symbol at k
-pub stack_at : (margin k top : ℕ) (xs : List Symbol) (x : Symbol) → HaveOneSide (squares_of xs) → k < length xs → x ≡ get_or xs k x
-    → top ≡ k * raster_width margin (square_at (squares_of xs) 0)
-    → symbol_path (k * raster_width margin (square_at (squares_of xs) k)) margin (square_at (squares_of xs) k) ≡ symbol_path top margin x.matrix
-stack_at margin k top xs x one lt is e =
-    let s = square_at-item xs k x lt is in
-    rw (s, one_width margin k xs x one lt is, e) refl
+pub stack_at : {T : Type 0} (grid : T → Grid) (margin k top : ℕ) (xs : List T) (x : T) → HaveOneSide (map grid xs) → k < length xs → x ≡ get_or xs k x
+    → top ≡ k * raster_width margin (square_at (map grid xs) 0)
+    → symbol_path (k * raster_width margin (square_at (map grid xs) k)) margin (square_at (map grid xs) k) ≡ symbol_path top margin (grid x)
+stack_at grid margin k top xs x one lt is e =
+    let s = square_at-item grid xs k x lt is in
+    rw (s, one_width grid margin k xs x one lt is, e) refl
 
 -- one more time a number
 next-multiple : (k w : ℕ) → k * w + w ≡ (k + 1) * w
 next-multiple k w = let e : k + 1 ≡ suc k = omega arith in rw e (sym (suc-mul k w))
 
 -- the top of the next symbol
-pub next_top : (margin k top width : ℕ) (xs : List Symbol) (x : Symbol) → HaveOneSide (squares_of xs) → k < length xs → x ≡ get_or xs k x
-    → top ≡ k * raster_width margin (square_at (squares_of xs) 0) → width ≡ raster_width margin x.matrix
-    → top + width ≡ (k + 1) * raster_width margin (square_at (squares_of xs) 0)
-next_top margin k top width xs x one lt is e f =
-    let w = f ∙ one_width margin k xs x one lt is in
-    rw (e, w) (next-multiple k (raster_width margin (square_at (squares_of xs) 0)))
+pub next_top : {T : Type 0} (grid : T → Grid) (margin k top width : ℕ) (xs : List T) (x : T) → HaveOneSide (map grid xs) → k < length xs → x ≡ get_or xs k x
+    → top ≡ k * raster_width margin (square_at (map grid xs) 0) → width ≡ raster_width margin (grid x)
+    → top + width ≡ (k + 1) * raster_width margin (square_at (map grid xs) 0)
+next_top grid margin k top width xs x one lt is e f =
+    let w = f ∙ one_width grid margin k xs x one lt is in
+    rw (e, w) (next-multiple k (raster_width margin (square_at (map grid xs) 0)))
 
 -- the parts of the line that opens a picture
 pub opening-parts : (width height : ℕ) → opening width height
@@ -306,16 +304,16 @@ lines_of width height margin squares =
     declaration ++ opening width height ++ background width height ++ foreground margin squares ++ closing
 
 -- the parts of the document
-pub document-parts : (margin width height : ℕ) (xs : List Symbol) (x : Symbol) → 0 < length xs
-    → width ≡ raster_width margin (get_or xs 0 x).matrix → height ≡ width * length xs
-    → svg_document margin (squares_of xs)
-    ≡ declaration ++ opening width height ++ background width height ++ foreground margin (squares_of xs) ++ closing
+pub document-parts : {T : Type 0} (grid : T → Grid) (margin width height : ℕ) (xs : List T) (x : T) → 0 < length xs
+    → width ≡ raster_width margin (grid (get_or xs 0 x)) → height ≡ width * length xs
+    → svg_document margin (map grid xs)
+    ≡ declaration ++ opening width height ++ background width height ++ foreground margin (map grid xs) ++ closing
 unfolding svg_document lines_of
-document-parts margin width height xs x some e f =
-    let n : length (squares_of xs) ≡ length xs = length-map xs (λ s. s.matrix) in
-    let w : raster_width margin (square_at (squares_of xs) 0) ≡ width =
-    ap (raster_width margin) (get_or-map (λ s. s.matrix) xs 0 x (light 0) some) ∙ sym e in
-    let h : raster_width margin (square_at (squares_of xs) 0) * length (squares_of xs) ≡ height =
-    ap (λ m. m * length (squares_of xs)) w ∙ ap (λ m. width * m) n ∙ sym f in
-    ap (λ m. lines_of m (raster_width margin (square_at (squares_of xs) 0) * length (squares_of xs)) margin (squares_of xs)) w
-    ∙ ap (λ m. lines_of width m margin (squares_of xs)) h
+document-parts grid margin width height xs x some e f =
+    let n : length (map grid xs) ≡ length xs = length-map xs grid in
+    let w : raster_width margin (square_at (map grid xs) 0) ≡ width =
+    ap (raster_width margin) (get_or-map grid xs 0 x (light 0) some) ∙ sym e in
+    let h : raster_width margin (square_at (map grid xs) 0) * length (map grid xs) ≡ height =
+    ap (λ m. m * length (map grid xs)) w ∙ ap (λ m. width * m) n ∙ sym f in
+    ap (λ m. lines_of m (raster_width margin (square_at (map grid xs) 0) * length (map grid xs)) margin (map grid xs)) w
+    ∙ ap (λ m. lines_of width m margin (map grid xs)) h

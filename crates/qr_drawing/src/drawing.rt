@@ -1,10 +1,9 @@
 //! The types of drawings, and drawing symbols. The raster of a symbol is its square with a light
 //! margin on all sides (ISO/IEC 18004:2015, 6.3.8).
 
-ghost use Rattle.std.specs.Prelude.{◌≡◌, ◌≤◌, ◌<◌, ◌+◌, max, is_err, length, OnOk, OnErr};
+ghost use Rattle.std.specs.Prelude.{◌≡◌, ◌≤◌, ◌<◌, ◌+◌, max, is_err, length, map, OnOk, OnErr};
 ghost use Rattle.std.specs.Io.KnownBytes.{Appends};
 ghost use Rattle.qr_devices.specs.Device.{AppendsBeginning, IsWrittenWithin, counted, is_write_fault, no_writes};
-ghost use Rattle.qr_symbol.specs.Series.{squares_of};
 ghost use Rattle.qr_drawing.specs.Drawing.{HaveOneSide, drawn};
 ghost use Rattle.qr_drawing.specs.Steps.Pen.{Puts};
 ghost use Rattle.qr_drawing.specs.Raster.{is_dark_at, raster_width};
@@ -26,6 +25,34 @@ pub enum Drawing {
     Utf8,
     /// A Scalable Vector Graphics document.
     Svg,
+}
+
+/// What has a square of modules, and so can be drawn.
+pub trait HasSquare {
+    ghost use Rattle.qr_matrix.specs.Grid.{Grid};
+
+    // The modules.
+    ghost grid: { Self → Grid };
+
+    /// The square.
+    fn square(&self) -> &Matrix
+        ensures { result.now ≡ grid self.now };
+}
+
+impl HasSquare for Matrix {
+    ghost grid = { λ m. m };
+
+    fn square(&self) -> &Matrix {
+        self
+    }
+}
+
+impl HasSquare for Symbol {
+    ghost grid = { λ s. s.matrix };
+
+    fn square(&self) -> &Matrix {
+        &self.matrix
+    }
 }
 
 // How many modules a raster is wide and high.
@@ -53,18 +80,18 @@ pub(crate) fn is_dark_at(matrix: &Matrix, margin: u8, y: u16, x: u16) -> bool
 }
 
 // Puts the drawing of symbols.
-fn put_drawing<W: Sink>(
+fn put_drawing<S: HasSquare, W: Sink>(
     pen: &mut Pen,
     out: &mut W,
-    symbols: &[Symbol],
+    symbols: &[S],
     kind: Drawing,
     margin: u8,
 ) -> Result<(), DrawFault>
     requires some { 0 < length symbols.now }
     requires few { length symbols.now ≤ 16 }
-    requires one_side { HaveOneSide (squares_of symbols.now) }
+    requires one_side { HaveOneSide (map S.grid symbols.now) }
     ensures { Puts (W.device out.old) (W.device out.new)
-        pen.old pen.new (drawn kind margin (squares_of symbols.now)) result }
+        pen.old pen.new (drawn kind margin (map S.grid symbols.now)) result }
 {
     match kind {
         Drawing::Ascii => put_texts(pen, out, Cells::Plain, symbols, margin),
@@ -74,29 +101,29 @@ fn put_drawing<W: Sink>(
     }
 }
 
-/// Draws symbols of one side, 1 to 16 of them: as text one after the other, as a document one below
+/// Draws symbols or other squares of one side, 1 to 16 of them: as text one after the other, as a document one below
 /// the other. Each has a light margin of so many modules on all sides (ISO/IEC 18004:2015, 6.3.8).
 ///
 /// Takes no memory, and offers the writer at most 1,200 bytes at a time. Writes that are
 /// interrupted are tried again, 999 times in all. Where the writer is at fault, a beginning of the
 /// drawing was written.
-pub fn draw<W: Sink>(
-    symbols: &[Symbol],
+pub fn draw<S: HasSquare, W: Sink>(
+    symbols: &[S],
     kind: Drawing,
     margin: u8,
     out: &mut W,
 ) -> Result<(), DrawFault>
     requires some { 0 < length symbols.now }
     requires few { length symbols.now ≤ 16 }
-    requires one_side { HaveOneSide (squares_of symbols.now) }
-    ensures ok { OnOk result (Appends (W.device out.old).taken (W.device out.new).taken (drawn kind margin (squares_of symbols.now))) }
+    requires one_side { HaveOneSide (map S.grid symbols.now) }
+    ensures ok { OnOk result (Appends (W.device out.old).taken (W.device out.new).taken (drawn kind margin (map S.grid symbols.now))) }
     ensures err { OnErr result (AppendsBeginning (W.device out.old).taken (W.device out.new).taken
-        (drawn kind margin (squares_of symbols.now))) }
+        (drawn kind margin (map S.grid symbols.now))) }
     ensures fault { (W.device out.old).counts ≡ no_writes → is_write_fault (W.device out.new).counts ≡ is_err result }
     ensures taken { (W.device out.old).counts ≡ no_writes
-        → OnOk result ((W.device out.new).counts.taken ≡ counted (length (drawn kind margin (squares_of symbols.now)))) }
+        → OnOk result ((W.device out.new).counts.taken ≡ counted (length (drawn kind margin (map S.grid symbols.now)))) }
     ensures most { (W.device out.old).counts ≡ no_writes
-        → OnErr result ((W.device out.new).counts.taken ≤ counted (length (drawn kind margin (squares_of symbols.now)))) }
+        → OnErr result ((W.device out.new).counts.taken ≤ counted (length (drawn kind margin (map S.grid symbols.now)))) }
     ensures within { (W.device out.old).counts ≡ no_writes → IsWrittenWithin (W.device out.new).counts }
     ensures offered { (W.device out.new).counts.offered ≤ max (W.device out.old).counts.offered WRITE_MAX }
     ensures flushes { (W.device out.new).counts.flushes ≡ (W.device out.old).counts.flushes }

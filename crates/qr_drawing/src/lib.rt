@@ -8,5 +8,5 @@ mod pen;
 mod svg;
 mod text;
 
-pub use drawing::{Drawing, draw};
+pub use drawing::{Drawing, HasSquare, draw};
 pub use pen::{DrawFault, WRITE_MAX, write_text};

@@ -1,18 +1,17 @@
 //! Drawing symbols as a Scalable Vector Graphics document: one path that goes round each run of dark modules.
 
-ghost use Rattle.std.specs.Prelude.{◌≡◌, ◌≤◌, ◌<◌, ◌+◌, ◌*◌, ◌++◌, ◌∷◌, [], decimal, length};
+ghost use Rattle.std.specs.Prelude.{◌≡◌, ◌≤◌, ◌<◌, ◌+◌, ◌*◌, ◌++◌, ◌∷◌, [], decimal, length, map};
 ghost use Rattle.arrayvec.specs.ArrayVec.{array_vec_len};
-ghost use Rattle.qr_symbol.specs.Series.{squares_of};
 ghost use Rattle.qr_drawing.specs.Drawing.{HaveOneSide};
 ghost use Rattle.qr_drawing.specs.Steps.Pen.{Puts};
 ghost use Rattle.qr_drawing.specs.Svg.{background, box_path, foreground, numbered, opening, row_path, stack_path, svg_document, symbol_path};
 
-use crate::drawing::raster_width;
+use crate::drawing::{HasSquare, raster_width};
 use crate::pen::{DrawFault, Pen, WRITE_MAX};
 use arrayvec::ArrayVec;
 use itoa::Buffer;
 use qr_devices::Sink;
-use qr_symbol::{Matrix, Symbol};
+use qr_symbol::Matrix;
 
 // Puts a text, and a number in decimal digits after it.
 fn put_numbered<W: Sink>(
@@ -170,21 +169,22 @@ fn put_symbol<W: Sink>(
 }
 
 // Puts the paths of symbols, one below the other.
-fn put_stack<W: Sink>(
+fn put_stack<S: HasSquare, W: Sink>(
     pen: &mut Pen,
     out: &mut W,
-    symbols: &[Symbol],
+    symbols: &[S],
     margin: u8,
 ) -> Result<(), DrawFault>
     requires few { length symbols.now ≤ 16 }
-    requires one_side { HaveOneSide (squares_of symbols.now) }
+    requires one_side { HaveOneSide (map S.grid symbols.now) }
     ensures { Puts (W.device out.old) (W.device out.new)
-        pen.old pen.new (stack_path margin (squares_of symbols.now)) result }
+        pen.old pen.new (stack_path margin (map S.grid symbols.now)) result }
 {
     let mut top = 0;
     for symbol in symbols {
-        put_symbol(pen, out, top, margin, &symbol.matrix)?;
-        top += raster_width(&symbol.matrix, margin);
+        let square = symbol.square();
+        put_symbol(pen, out, top, margin, square)?;
+        top += raster_width(square, margin);
     }
     Ok(())
 }
@@ -225,16 +225,16 @@ fn put_background<W: Sink>(
 }
 
 // Puts the line that makes the dark modules black.
-fn put_foreground<W: Sink>(
+fn put_foreground<S: HasSquare, W: Sink>(
     pen: &mut Pen,
     out: &mut W,
-    symbols: &[Symbol],
+    symbols: &[S],
     margin: u8,
 ) -> Result<(), DrawFault>
     requires few { length symbols.now ≤ 16 }
-    requires one_side { HaveOneSide (squares_of symbols.now) }
+    requires one_side { HaveOneSide (map S.grid symbols.now) }
     ensures { Puts (W.device out.old) (W.device out.new)
-        pen.old pen.new (foreground margin (squares_of symbols.now)) result }
+        pen.old pen.new (foreground margin (map S.grid symbols.now)) result }
 {
     pen.put_all(out, b"<path fill=\"#000000\" d=\"")?;
     put_stack(pen, out, symbols, margin)?;
@@ -242,19 +242,19 @@ fn put_foreground<W: Sink>(
 }
 
 /// Puts the document of symbols of one side, one below the other.
-pub(crate) fn put_document<W: Sink>(
+pub(crate) fn put_document<S: HasSquare, W: Sink>(
     pen: &mut Pen,
     out: &mut W,
-    symbols: &[Symbol],
+    symbols: &[S],
     margin: u8,
 ) -> Result<(), DrawFault>
     requires some { 0 < length symbols.now }
     requires few { length symbols.now ≤ 16 }
-    requires one_side { HaveOneSide (squares_of symbols.now) }
+    requires one_side { HaveOneSide (map S.grid symbols.now) }
     ensures { Puts (W.device out.old) (W.device out.new)
-        pen.old pen.new (svg_document margin (squares_of symbols.now)) result }
+        pen.old pen.new (svg_document margin (map S.grid symbols.now)) result }
 {
-    let width = raster_width(&symbols[0].matrix, margin);
+    let width = raster_width(symbols[0].square(), margin);
     let height = width * symbols.len() as u16;
     pen.put_all(out, b"<?xml version=\"1.0\" encoding=\"UTF-8\"?>\n")?;
     put_opening(pen, out, width, height)?;

@@ -1,21 +1,20 @@
 //! Drawing symbols as lines of text: two characters for a module, or one for two modules, one above
 //! the other.
 
-ghost use Rattle.std.specs.Prelude.{◌≡◌, ◌≢◌, ℕ, true, ◌≤◌, ◌<◌, ◌+◌, ◌%◌, ◌++◌, ◌∷◌, [], IfSome};
+ghost use Rattle.std.specs.Prelude.{◌≡◌, ◌≢◌, ℕ, true, ◌≤◌, ◌<◌, ◌+◌, ◌%◌, ◌++◌, ◌∷◌, [], map, IfSome};
 ghost use Rattle.std.specs.List.{flat_map};
 ghost use Rattle.arrayvec.specs.ArrayVec.{array_vec_len};
-ghost use Rattle.qr_symbol.specs.Series.{squares_of};
 ghost use Rattle.qr_drawing.specs.Text.{ascii_module, cell_of, half_blocks, line_count, cells_of_line, text_drawing};
 ghost use Rattle.qr_drawing.specs.Steps.Text.{AreDark, cells_from, four_halves, four_modules, fours_of};
 ghost use Rattle.qr_drawing.specs.Steps.Pen.{Puts};
 ghost use Rattle.qr_drawing.specs.declared.text.Cells.TheVariants.{HalfBlocks};
 ghost use Rattle.qr_drawing.specs.Raster.{raster_width};
 
-use crate::drawing::{is_dark_at, raster_width};
+use crate::drawing::{HasSquare, is_dark_at, raster_width};
 use crate::pen::{DrawFault, Pen};
 use arrayvec::ArrayVec;
 use qr_devices::Sink;
-use qr_symbol::{Matrix, Symbol};
+use qr_symbol::Matrix;
 
 /// How a text shows modules.
 #[derive(Clone, Copy)]
@@ -336,18 +335,18 @@ fn put_lines<W: Sink>(
 }
 
 /// Puts the lines of symbols, one after the other.
-pub(crate) fn put_texts<W: Sink>(
+pub(crate) fn put_texts<S: HasSquare, W: Sink>(
     pen: &mut Pen,
     out: &mut W,
     cells: Cells,
-    symbols: &[Symbol],
+    symbols: &[S],
     margin: u8,
 ) -> Result<(), DrawFault>
     ensures { Puts (W.device out.old) (W.device out.new)
-        pen.old pen.new (flat_map (text_drawing cells margin) (squares_of symbols.now)) result }
+        pen.old pen.new (flat_map (text_drawing cells margin) (map S.grid symbols.now)) result }
 {
     for symbol in symbols {
-        put_lines(pen, out, cells, &symbol.matrix, margin)?;
+        put_lines(pen, out, cells, symbol.square(), margin)?;
     }
     Ok(())
 }

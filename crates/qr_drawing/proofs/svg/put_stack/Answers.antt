@@ -10,23 +10,23 @@ loop-symbol-init g c = record { top = omega arith; low = omega arith; writes = p
 pub returns-in_err-put_symbol : goal.returns-in_err-put_symbol
 returns-in_err-put_symbol g c =
     let p = err_from_is_err_and c.from_residual.result c.from_residual.ensures.1 in
-    let here = stack_at c.args.margin c.loop-symbol.symbol-index c.loop-symbol.top c.args.symbols.now c.symbol-item.result
+    let here = stack_at g.S.HasSquare.grid c.args.margin c.loop-symbol.symbol-index c.loop-symbol.top c.args.symbols.now c.symbol-item.result
     c.requires.one_side c.loop-symbol-test.true c.symbol-item.is c.loop-symbol.invariant.top in
-    rw (p.1, stack_ends c.args.margin _ c.args.symbols.now refl)
-    (run_stops _ _ _ _ _ _ _ _ _ _ _ here c.loop-symbol-test.true c.loop-symbol.invariant.writes c.in_err-put_symbol.ensures)
+    rw (p.1, stack_ends g.S.HasSquare.grid c.args.margin _ c.args.symbols.now refl)
+    (run_stops _ _ _ _ _ _ _ _ _ _ _ here c.loop-symbol-test.true c.loop-symbol.invariant.writes (rw c.square-square.ensures at c.in_err-put_symbol.ensures))
 
 pub loop-symbol-preserved : goal.loop-symbol-preserved
 loop-symbol-preserved g c =
-    let here = stack_at c.args.margin c.loop-symbol.symbol-index c.loop-symbol.top c.args.symbols.now c.symbol-item.result
+    let here = stack_at g.S.HasSquare.grid c.args.margin c.loop-symbol.symbol-index c.loop-symbol.top c.args.symbols.now c.symbol-item.result
     c.requires.one_side c.loop-symbol-test.true c.symbol-item.is c.loop-symbol.invariant.top in
     let low = c.loop-symbol.invariant.low in
     record {
-      top = next_top c.args.margin c.loop-symbol.symbol-index c.loop-symbol.top _ c.args.symbols.now c.symbol-item.result
-          c.requires.one_side c.loop-symbol-test.true c.symbol-item.is c.loop-symbol.invariant.top c.raster_width-top.ensures.value;
+      top = next_top g.S.HasSquare.grid c.args.margin c.loop-symbol.symbol-index c.loop-symbol.top _ c.args.symbols.now c.symbol-item.result
+          c.requires.one_side c.loop-symbol-test.true c.symbol-item.is c.loop-symbol.invariant.top (rw c.square-square.ensures at c.raster_width-top.ensures.value);
       low = let m = c.raster_width-top.ensures.most in omega arith;
-      writes = put_run _ _ _ _ _ _ _ _ _ _ _ _ _ here refl c.loop-symbol.invariant.writes c.in_ok-put_symbol.ensures;
+      writes = put_run _ _ _ _ _ _ _ _ _ _ _ _ _ here refl c.loop-symbol.invariant.writes (rw c.square-square.ensures at c.in_ok-put_symbol.ensures);
     }
 
 pub returns : goal.returns
 returns g c =
-    put_same _ _ _ _ _ _ _ _ (stack_ends c.args.margin c.loop-symbol.symbol-index c.args.symbols.now (omega arith)) c.loop-symbol.invariant.writes
+    put_same _ _ _ _ _ _ _ _ (stack_ends g.S.HasSquare.grid c.args.margin c.loop-symbol.symbol-index c.args.symbols.now (omega arith)) c.loop-symbol.invariant.writes

@@ -1,5 +1,4 @@
-use Rattle.std.proofs.Common.{◌≡◌, ◌≤◌, ◌*◌, ◌++◌}
-use Rattle.qr_symbol.specs.Series.{squares_of}
+use Rattle.std.proofs.Common.{◌≡◌, ◌≤◌, ◌*◌, ◌++◌, map}
 use Rattle.qr_drawing.specs.Raster.{raster_width, texts_below}
 use Rattle.qr_drawing.specs.Svg.{square_at, symbol_path}
 use Rattle.qr_drawing.specs.Steps.Writing.{Writes}
@@ -7,12 +6,12 @@ use Rattle.qr_drawing.proofs.svg.put_stack.Given as goal
 
 abbrev pub invariant-loop-symbol : goal.invariant-loop-symbol
 invariant-loop-symbol g l = record {
-  top : l.top ≡ l.symbol-index * raster_width l.margin (square_at (squares_of l.symbols) 0);
+  top : l.top ≡ l.symbol-index * raster_width l.margin (square_at (map g.S.HasSquare.grid l.symbols) 0);
   low : l.top ≤ 1000 * l.symbol-index;
   writes :
       Writes (g.W.Sink.device l.fn.out) (g.W.Sink.device l.out)
       l.fn.pen.interrupted l.pen.interrupted
       (l.fn.pen.piece.items ++ texts_below l.symbol-index
-      (λ k. symbol_path (k * raster_width l.margin (square_at (squares_of l.symbols) k)) l.margin (square_at (squares_of l.symbols) k)))
+      (λ k. symbol_path (k * raster_width l.margin (square_at (map g.S.HasSquare.grid l.symbols) k)) l.margin (square_at (map g.S.HasSquare.grid l.symbols) k)))
       l.pen.piece.items;
 }
