@@ -2,3 +2,4 @@ mod ModuleLemmas
 mod EncodingLemmas
 mod ReadingLemmas
 mod MendingLemmas
+mod DrawingLemmas

@@ -5,4 +5,5 @@ pub mod Encoding
 pub mod Series
 pub mod Reading
 pub mod Mending
+pub mod Drawing
 pub mod Laws

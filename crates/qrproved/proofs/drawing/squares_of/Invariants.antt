@@ -1,0 +1,10 @@
+use Rattle.std.proofs.Common.{◌≡◌, ◌*◌, ◌-◌, ◌≤◌, ◌++◌, length}
+use Rattle.qrproved.specs.Drawing.{squares_of_bytes}
+use Rattle.qrproved.proofs.drawing.squares_of.Given as goal
+
+-- the squares as far as they are read, and those that are left
+abbrev pub invariant-loop : goal.invariant-loop
+invariant-loop l = record {
+  room : (l.count - l.counter) * (l.side * l.side) ≤ length l.rest;
+  squares : l.squares.items ++ squares_of_bytes l.side (l.count - l.counter) l.rest ≡ squares_of_bytes l.side l.count l.modules;
+}

@@ -1,0 +1,160 @@
+//! The call that draws squares of modules as text or as SVG (ISO/IEC 18004:2015, 6.3.8).
+
+ghost use Rattle.std.specs.Prelude.{◌≡◌, ◌≢◌, ◌*◌, ◌<◌, ◌≤◌, ◌↔◌, ◌⊎◌, length, IfOk, SomeIff};
+ghost use Rattle.qr_drawing.specs.Drawing.{drawn};
+ghost use Rattle.qrproved.specs.Drawing.{AreDrawingSettings, HasFewModules, HasNoTextRoom, HoldsText, drawing_of, drawing_of_bytes, squares_of_bytes};
+
+use crate::modules::{area, matrix_of};
+use crate::status::{DONE, MEMORY, ROOM, SETTINGS};
+use qr_devices::Counted;
+use qr_drawing::{Drawing, draw};
+use qr_symbol::Matrix;
+use std::alloc::{AllocError, Global};
+
+// What is to be drawn, and how.
+#[derive(Clone, Copy)]
+struct DrawingSettings {
+    // How many modules a side has.
+    side: u8,
+    // How many squares there are.
+    count: u8,
+    // The type of drawing.
+    drawing: Drawing,
+    // How many light modules stand on each side.
+    margin: u8,
+}
+
+// The type of drawing of this number.
+fn drawing_of(number: u32) -> Option<Drawing>
+    ensures { SomeIff result (number < 4) (drawing_of number) }
+{
+    match number {
+        0 => Some(Drawing::Ascii),
+        1 => Some(Drawing::AsciiInverse),
+        2 => Some(Drawing::Utf8),
+        3 => Some(Drawing::Svg),
+        _ => None,
+    }
+}
+
+// This number, if it is neither below nor above these.
+fn between(number: u32, least: u8, most: u8) -> Option<u8>
+    ensures { SomeIff result ((least ≤ number) × (number ≤ most)) number }
+{
+    let byte = u8::try_from(number).ok()?;
+    if byte < least || byte > most {
+        return None;
+    }
+    Some(byte)
+}
+
+// The settings of these numbers, if they are those of a drawing.
+fn drawing_settings_of(
+    side: u32,
+    count: u32,
+    drawing: u32,
+    margin: u32,
+) -> Option<DrawingSettings>
+    ensures { SomeIff result (AreDrawingSettings side count drawing margin)
+        (record { side = side; count = count; drawing = drawing_of drawing; margin = margin }) }
+{
+    Some(DrawingSettings {
+        side: between(side, 1, 177)?,
+        count: between(count, 1, 16)?,
+        drawing: drawing_of(drawing)?,
+        margin: between(margin, 0, 100)?,
+    })
+}
+
+// The squares whose modules have these bytes, one square after the other.
+fn squares_of(
+    alloc: Global,
+    modules: &[u8],
+    side: u8,
+    count: u8,
+) -> Result<Vec<Matrix>, AllocError>
+    requires least { 1 ≤ side }
+    requires most { side ≤ 177 }
+    requires room { count * (side * side) ≤ length modules.now }
+    ensures { IfOk result (λ squares. squares.items ≡ squares_of_bytes side count modules.now) }
+{
+    let mut squares = Vec::with_capacity(alloc, usize::from(count))?;
+    let mut rest = modules;
+    for _ in 0..count {
+        squares.push(matrix_of(alloc, rest, side)?)?;
+        rest = rest.split_at(area(side)).1;
+    }
+    Ok(squares)
+}
+
+// The drawing of the squares whose modules have these bytes.
+fn drawn(
+    alloc: Global,
+    modules: &[u8],
+    asked: DrawingSettings,
+) -> Result<Vec<u8>, AllocError>
+    requires least { 1 ≤ asked.side }
+    requires most { asked.side ≤ 177 }
+    requires some { 1 ≤ asked.count }
+    requires few { asked.count ≤ 16 }
+    requires room { asked.count * (asked.side * asked.side) ≤ length modules.now }
+    ensures { IfOk result (λ text. text.items
+        ≡ drawn asked.drawing asked.margin (squares_of_bytes asked.side asked.count modules.now)) }
+{
+    let squares = squares_of(alloc, modules, asked.side, asked.count)?;
+    let mut text = Counted::new(Vec::new(alloc));
+    match draw(&squares, asked.drawing, asked.margin, &mut text) {
+        Ok(()) => Ok(text.into_inner()),
+        Err(_) => Err(AllocError),
+    }
+}
+
+/// Writes the drawing of squares of one side as `qrencode` draws symbols. Their modules stand in a buffer as
+/// `qrproved_encode_series` writes them; any byte but 0 is a dark module, and a square may be no symbol. The numbers of
+/// types of drawing are 0 to 3 for ASCII, ASCIIi, UTF8 and SVG.
+///
+/// The causes of a refusal are looked for in this order: the numbers (1 to 177 modules a side, 1 to 16 squares, a type, a
+/// margin of 0 to 100 modules), a buffer of fewer modules, which says 0 in `written`, and a second buffer that is too short for
+/// the drawing, whose length is then told in `written`. The first two are found without any memory.
+#[unsafe(no_mangle)]
+pub extern "C" fn qrproved_draw(
+    alloc: Global,
+    modules: &[u8],
+    side: u32,
+    count: u32,
+    drawing: u32,
+    margin: u32,
+    text: &mut [u8],
+    written: &mut usize,
+) -> u8
+    ensures done { result ≡ DONE → (AreDrawingSettings side count drawing margin)
+        × (count * (side * side) ≤ length modules.now)
+        × HoldsText (drawing_of_bytes side count drawing margin modules.now) text.old text.new written.new }
+    ensures unchanged { result ≢ DONE → text.new ≡ text.old }
+    ensures settings { (result ≡ SETTINGS) ↔ (AreDrawingSettings side count drawing margin → ⊥) }
+    ensures room { (result ≡ ROOM) ↔ ((HasFewModules modules.now side count drawing margin)
+        ⊎ ((result ≢ MEMORY) × HasNoTextRoom modules.now side count drawing margin text.old)) }
+    ensures few { HasFewModules modules.now side count drawing margin → written.new ≡ 0 }
+    ensures needed { result ≡ ROOM → HasNoTextRoom modules.now side count drawing margin text.old
+        → written.new ≡ length (drawing_of_bytes side count drawing margin modules.now) }
+    ensures written { (result ≡ SETTINGS) ⊎ (result ≡ MEMORY) → written.new ≡ written.old }
+    ensures status { (result ≡ DONE) ⊎ (result ≡ MEMORY) ⊎ (result ≡ SETTINGS) ⊎ (result ≡ ROOM) }
+{
+    let Some(asked) = drawing_settings_of(side, count, drawing, margin) else {
+        return SETTINGS;
+    };
+    if modules.len() < usize::from(asked.count) * area(asked.side) {
+        *written = 0;
+        return ROOM;
+    }
+    let Ok(drawing) = drawn(alloc, modules, asked) else {
+        return MEMORY;
+    };
+    let len = drawing.len();
+    *written = len;
+    if text.len() < len {
+        return ROOM;
+    }
+    text[..len].copy_from_slice(&drawing);
+    DONE
+}
