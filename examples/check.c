@@ -88,7 +88,7 @@ static int copy_square(void)
 static int judge(int side)
 {
 	struct qrproved_mended mended;
-	switch (qrproved_mend(modules, sizeof modules, (uint8_t)side, bytes, sizeof bytes, &mended)) {
+	switch (qrproved_mend(modules, sizeof modules, (uint32_t)side, bytes, sizeof bytes, &mended)) {
 	case QRPROVED_DONE: break;
 	case QRPROVED_SIDE: return not_readable("there is no square of a symbol");
 	case QRPROVED_FORMAT: return not_readable("the format information is lost");

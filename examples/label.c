@@ -5,9 +5,9 @@
 #include <stdio.h>
 #include <string.h>
 
-enum { QUIET_ZONE = 4, INPUT_MAX = 8192 };
+enum { QUIET_ZONE = 4, INPUT_MAX = 8192, TEXT_MAX = 70000 };
 
-static uint8_t modules[QRPROVED_SYMBOL_MAX];
+static uint8_t modules[QRPROVED_SYMBOL_MAX], text[TEXT_MAX];
 
 static const char *reason(uint8_t status)
 {
@@ -33,36 +33,22 @@ static size_t joined(char **words, uint8_t *input, size_t room)
 	return len;
 }
 
-/* Whether the module in that row and column is dark; all are light outside the symbol. */
-static int dark(const struct qrproved_symbol *symbol, int row, int col)
-{
-	int side = symbol->side;
-	return row >= 0 && row < side && col >= 0 && col < side && modules[row * side + col];
-}
-
 int main(int argc, char **argv)
 {
 	static uint8_t input[INPUT_MAX];
 	struct qrproved_symbol symbol;
 	int is_ascii = argc > 1 && strcmp(argv[1], "-a") == 0;
-	size_t len = joined(argv + (argc > 0) + is_ascii, input, sizeof input);
+	size_t len = joined(argv + (argc > 0) + is_ascii, input, sizeof input), written;
 	uint8_t status = QRPROVED_TOO_LONG;
 
 	if (len <= sizeof input)
 		status = qrproved_encode(input, len, 1, QRPROVED_LEVEL_M, QRPROVED_RULE_AUTO, modules, sizeof modules, &symbol);
+	if (status == QRPROVED_DONE)
+		status = qrproved_draw(modules, sizeof modules, symbol.side, 1, is_ascii ? QRPROVED_ASCII : QRPROVED_UTF8, QUIET_ZONE,
+				       text, sizeof text, &written);
 	if (status != QRPROVED_DONE) {
 		fprintf(stderr, "label: %s\n", reason(status));
 		return 1;
 	}
-	for (int row = -QUIET_ZONE; row < symbol.side + QUIET_ZONE; row += is_ascii ? 1 : 2) {
-		for (int col = -QUIET_ZONE; col < symbol.side + QUIET_ZONE; col++) {
-			int upper = dark(&symbol, row, col), lower = dark(&symbol, row + 1, col);
-			if (is_ascii)
-				fputs(upper ? "##" : "  ", stdout);
-			else
-				fputs(upper ? (lower ? " " : "\u2584") : (lower ? "\u2580" : "\u2588"), stdout);
-		}
-		putchar('\n');
-	}
-	return fflush(stdout) == 0 && !ferror(stdout) ? 0 : 1;
+	return fwrite(text, 1, written, stdout) == written && fflush(stdout) == 0 ? 0 : 1;
 }

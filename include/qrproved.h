@@ -1,9 +1,9 @@
 /* QR Code symbols (ISO/IEC 18004:2015, QR Code Model 2): an input is encoded as a symbol or as a series of symbols, and a
- * symbol is read: as it was drawn, or with its damage mended and measured. The calls are proved to meet their contracts, in
- * crates/qrproved; docs/LIBRARY.md says what that means for a caller. tests/library compares this file with the exports.
+ * symbol is read: as it was drawn, or with its damage mended and measured. Symbols are drawn as text or as SVG. The calls are
+ * proved to meet their contracts, in crates/qrproved; docs/LIBRARY.md says what that means for a caller. tests/library compares this file with the exports.
  *
  * Modules are bytes in the caller's buffer, row by row from the top left, without the quiet zone of four light modules
- * that a drawing needs on each side. A call keeps nothing: no state, no file, no lock. It takes memory by malloc and
+ * that a drawing needs on each side; qrproved_draw adds it. A call keeps nothing: no state, no file, no lock. It takes memory by malloc and
  * gives all of it back before it returns.
  *
  * What the caller owes, at each call:
@@ -32,6 +32,7 @@ extern "C" {
 #define QRPROVED_COUNT_MAX 16      /* symbols in the longest series */
 #define QRPROVED_SERIES_MAX 501264 /* bytes that hold the modules of every series: 16 times 31,329 */
 #define QRPROVED_BYTES_MAX 7089    /* bytes that hold what any symbol says: the digits of version 40 and level L */
+#define QRPROVED_MARGIN_MAX 100    /* light modules on each side of a drawing */
 
 /* Levels: how much of a damaged symbol can be restored, about 7, 15, 25 or 30 % of the codewords. */
 #define QRPROVED_LEVEL_L 0
@@ -44,13 +45,19 @@ extern "C" {
 #define QRPROVED_RULE_BYTES_ONLY 1 /* the whole input in byte mode */
 #define QRPROVED_RULE_WITH_KANJI 2 /* also kanji mode, for pairs of bytes that are Shift JIS characters */
 
+/* Types of drawings, as qrencode draws them. */
+#define QRPROVED_ASCII 0  /* two # for a dark module, two spaces for a light one */
+#define QRPROVED_ASCIIi 1 /* the other way round */
+#define QRPROVED_UTF8 2   /* a character of half blocks for two modules, one above the other, light on a dark terminal */
+#define QRPROVED_SVG 3    /* a document of its own, one unit of length for a module */
+
 /* What a call returns. On all but 0 the buffer and the struct are as they were. */
 #define QRPROVED_DONE 0     /* what was asked for is written */
 #define QRPROVED_EMPTY 1    /* the input has no byte */
 #define QRPROVED_TOO_LONG 2 /* no version from the smallest one on holds the input */
 #define QRPROVED_TOO_MANY 3 /* the input takes more than 16 symbols of the version */
 #define QRPROVED_MEMORY 4   /* malloc refused */
-#define QRPROVED_SETTINGS 5 /* the number of the version, the level or the rule is none, or a byte is that of no module */
+#define QRPROVED_SETTINGS 5 /* a number is out of its range, or a byte is that of no module */
 #define QRPROVED_ROOM 6     /* a buffer is too short */
 #define QRPROVED_SIDE 7     /* no version has this side */
 #define QRPROVED_FORMAT 8   /* the format information is that of no level and mask */
@@ -134,6 +141,18 @@ QRPROVED_HOLDS(offsetof(struct qrproved_mended, changed_most) == 20);
 QRPROVED_HOLDS(offsetof(struct qrproved_mended, changed_allowed) == 21);
 #undef QRPROVED_HOLDS
 
+/* The result of a call has to be looked at, and a pointer to a struct or to a number is never NULL. Compilers that know of
+ * such promises warn where they are broken. */
+#if defined(__GNUC__)
+#define QRPROVED_CALL(pointer) __attribute__((warn_unused_result, nonnull(pointer)))
+#else
+#define QRPROVED_CALL(pointer)
+#endif
+
+/* The version of the library that was linked: 10000 * major + 100 * minor + patch, as QRPROVED_VERSION_NUMBER is for the
+ * header. */
+uint32_t qrproved_version(void);
+
 /* Writes the symbol of the input: modules[row * side + column] is 1 where that module is dark, and 0 where it is light.
  * Bytes past the last module stay as they were.
  *
@@ -151,7 +170,8 @@ QRPROVED_HOLDS(offsetof(struct qrproved_mended, changed_allowed) == 21);
  *   DONE
  * or MEMORY, at any point where none of SETTINGS, EMPTY and more than 7,089 bytes is the cause.
  */
-uint8_t qrproved_encode(const uint8_t *input, size_t input_len, uint8_t version, uint8_t level, uint8_t rule,
+QRPROVED_CALL(8)
+uint8_t qrproved_encode(const uint8_t *input, size_t input_len, uint32_t version, uint32_t level, uint32_t rule,
                         uint8_t *modules, size_t modules_len, struct qrproved_symbol *symbol);
 
 /* Writes the series of the input by structured append, all of one version: modules[(k * side + row) * side + column] is
@@ -169,7 +189,8 @@ uint8_t qrproved_encode(const uint8_t *input, size_t input_len, uint8_t version,
  *   DONE
  * or MEMORY, at any point where none of SETTINGS, EMPTY and more than 113,425 bytes is the cause.
  */
-uint8_t qrproved_encode_series(const uint8_t *input, size_t input_len, uint8_t version, uint8_t level, uint8_t rule,
+QRPROVED_CALL(8)
+uint8_t qrproved_encode_series(const uint8_t *input, size_t input_len, uint32_t version, uint32_t level, uint32_t rule,
                                uint8_t *modules, size_t modules_len, struct qrproved_series *series);
 
 /* Reads the symbol whose modules stand in a buffer as qrproved_encode writes them; any byte but 0 is a dark module, and
@@ -195,7 +216,8 @@ uint8_t qrproved_encode_series(const uint8_t *input, size_t input_len, uint8_t v
  *   DONE
  * or, at any point after the first ROOM, MEMORY.
  */
-uint8_t qrproved_read(const uint8_t *modules, size_t modules_len, uint8_t side, uint8_t *bytes, size_t bytes_len,
+QRPROVED_CALL(6)
+uint8_t qrproved_read(const uint8_t *modules, size_t modules_len, uint32_t side, uint8_t *bytes, size_t bytes_len,
                       struct qrproved_content *content);
 
 /* Reads the symbol whose modules stand in a buffer as qrproved_encode writes them, 0 for a light module and 1 for a dark one,
@@ -232,8 +254,35 @@ uint8_t qrproved_read(const uint8_t *modules, size_t modules_len, uint8_t side, 
  *   DONE
  * or, at any point after SETTINGS, MEMORY.
  */
-uint8_t qrproved_mend(const uint8_t *modules, size_t modules_len, uint8_t side, uint8_t *bytes, size_t bytes_len,
+QRPROVED_CALL(6)
+uint8_t qrproved_mend(const uint8_t *modules, size_t modules_len, uint32_t side, uint8_t *bytes, size_t bytes_len,
                       struct qrproved_mended *mended);
+
+/* Writes the drawing of squares of one side, byte for byte as qrencode draws symbols: as text one after the other, as SVG one
+ * below the other in one document. Their modules stand in a buffer as qrproved_encode_series writes them, one square after
+ * the other; any byte but 0 is a dark module, and bytes past the last module are not looked at. A square need not be a symbol.
+ * The text has no byte 0 at its end, and what follows it in the buffer stays as it was.
+ *
+ * side     modules on a side, from 1 to 177
+ * count    squares, from 1 to QRPROVED_COUNT_MAX
+ * drawing  QRPROVED_ASCII to QRPROVED_SVG
+ * margin   light modules on each side of each square, from 0 to QRPROVED_MARGIN_MAX; a scanner needs 4
+ * text     may be NULL if text_len is 0: such a call asks for the length
+ * written  the length of the drawing, on DONE and where text_len is below it; 0 where modules_len is too small; else as it was
+ *
+ * Returns, and looks for the causes in this order:
+ *   SETTINGS  side, count, drawing or margin is out of its range
+ *   ROOM      modules_len is below count times side times side
+ *   ROOM      text_len is below the length of the drawing
+ *   DONE
+ * or, at any point after the first ROOM, MEMORY: the drawing is made in memory, and copied once it is whole. On all but DONE
+ * the text is as it was.
+ */
+QRPROVED_CALL(9)
+uint8_t qrproved_draw(const uint8_t *modules, size_t modules_len, uint32_t side, uint32_t count, uint32_t drawing,
+                      uint32_t margin, uint8_t *text, size_t text_len, size_t *written);
+
+#undef QRPROVED_CALL
 
 #ifdef __cplusplus
 }

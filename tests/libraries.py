@@ -78,12 +78,13 @@ class Mended(ctypes.Structure):
 
 
 POINTER, BUFFER = [ctypes.c_void_p], [ctypes.c_void_p, ctypes.c_size_t]
-INPUT, BYTE = [ctypes.c_char_p, ctypes.c_size_t], [ctypes.c_uint8]
+INPUT, NUMBER = [ctypes.c_char_p, ctypes.c_size_t], [ctypes.c_uint32]
 PARAMETERS = {
-    "qrproved_encode": INPUT + BYTE * 3 + BUFFER + POINTER,
-    "qrproved_encode_series": INPUT + BYTE * 3 + BUFFER + POINTER,
-    "qrproved_read": BUFFER + BYTE + BUFFER + POINTER,
-    "qrproved_mend": BUFFER + BYTE + BUFFER + POINTER,
+    "qrproved_encode": INPUT + NUMBER * 3 + BUFFER + POINTER,
+    "qrproved_encode_series": INPUT + NUMBER * 3 + BUFFER + POINTER,
+    "qrproved_read": BUFFER + NUMBER + BUFFER + POINTER,
+    "qrproved_mend": BUFFER + NUMBER + BUFFER + POINTER,
+    "qrproved_draw": BUFFER + NUMBER * 4 + BUFFER + POINTER,
 }
 
 
@@ -117,6 +118,25 @@ class Library:
                                                      len(self.modules), ctypes.byref(series))
         area = series.side ** 2
         return status or ([bytes(self.modules[k * area:(k + 1) * area]) for k in range(series.count)], series.side)
+
+    def drawn(self, modules, side, count, drawing, margin, text, room):
+        """Draws into a buffer. Returns the status and the length that was told."""
+        written = ctypes.c_size_t(MARK)
+        status = self.library.qrproved_draw(modules, len(modules), side, count, drawing, margin, text, room, ctypes.byref(written))
+        return STATUSES[status], written.value
+
+    def drawing(self, squares, side, drawing, margin):
+        """Returns the drawing of squares; or why a call left no room for it, or wrote where it should not."""
+        asked = b"".join(squares), side, len(squares), drawing, margin
+        status, needed = self.drawn(*asked, None, 0)
+        if status != "ROOM":
+            return f"{status} where the length is asked for"
+        text = (ctypes.c_uint8 * (needed + 1))(*[MARK] * (needed + 1))
+        if self.drawn(*asked, text, needed - 1) != ("ROOM", needed) or bytes(text).count(MARK) != needed + 1:
+            return "one byte too short, and not refused"
+        if self.drawn(*asked, text, needed) != ("DONE", needed) or text[needed] != MARK:
+            return "not drawn, or past the end"
+        return bytes(text[:needed])
 
     def read(self, modules, side):
         content = Content()

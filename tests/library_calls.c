@@ -1,6 +1,6 @@
 /* Calls the library for tests/library: library_calls WHAT
  *
- * encode, encode_series, read, mend: one call, of which a growth of memory may be refused; says what came of it
+ * encode, encode_series, read, mend, draw: one call, of which a growth of memory may be refused; says what came of it
  * edges: lengths of 0, and buffers that are just large enough
  * threads: eight threads, each with the answers of one thread */
 #include "qrproved.h"
@@ -76,6 +76,21 @@ static int mend_symbol(void)
 	return 0;
 }
 
+static int draw(void)
+{
+	static uint8_t text[20000];
+	struct qrproved_symbol symbol;
+	size_t written;
+	if (qrproved_encode(TEXT, sizeof TEXT - 1, 1, 0, 0, modules, sizeof modules, &symbol)) {
+		puts("draw: not prepared");
+		return 0;
+	}
+	memset(text, MARK, sizeof text), memset(&written, MARK, sizeof written);
+	uint8_t status = qrproved_draw(modules, sizeof modules, symbol.side, 1, QRPROVED_SVG, 4, text, sizeof text, &written);
+	tell("draw", status, text, sizeof text, &written, sizeof written);
+	return 0;
+}
+
 static int wrong;
 
 static void want(const char *name, int is_so)
@@ -127,6 +142,27 @@ static int edges(void)
 	modules[441 + 6 * 21 + 9] ^= 1;
 	want("a timing module", qrproved_mend(modules + 441, 441, 21, bytes, 3, &mended) == QRPROVED_DONE && mended.wrong_modules == 1);
 	want("nothing else", mended.wrong_format_modules == 0 && mended.changed_most == 0);
+	size_t written = 5;
+	memset(bytes, MARK, sizeof bytes);
+	want("no squares", qrproved_draw(NULL, 0, 21, 1, QRPROVED_ASCII, 0, bytes, sizeof bytes, &written) == QRPROVED_ROOM && written == 0);
+	written = 5;
+	want("17 squares", qrproved_draw(modules, 882, 1, 17, QRPROVED_ASCII, 0, bytes, sizeof bytes, &written) == QRPROVED_SETTINGS);
+	want("margin 101", qrproved_draw(modules, 882, 21, 2, QRPROVED_SVG, 101, bytes, sizeof bytes, &written) == QRPROVED_SETTINGS);
+	want("margin 2^32 - 1", qrproved_draw(modules, 882, 21, 2, QRPROVED_SVG, UINT32_MAX, bytes, sizeof bytes, &written) == QRPROVED_SETTINGS);
+	want("side 256 + 21", qrproved_draw(modules, 882, 277, 1, QRPROVED_SVG, 0, bytes, sizeof bytes, &written) == QRPROVED_SETTINGS);
+	want("drawing 4", qrproved_draw(modules, 882, 21, 2, 4, 0, bytes, sizeof bytes, &written) == QRPROVED_SETTINGS && written == 5);
+	want("its length", qrproved_draw(modules, 882, 21, 2, QRPROVED_ASCII, 0, NULL, 0, &written) == QRPROVED_ROOM && written == 2 * 21 * 43);
+	want("one byte too short", qrproved_draw(modules, 882, 21, 2, QRPROVED_ASCII, 0, bytes, 1805, &written) == QRPROVED_ROOM && written == 1806);
+	want("nothing is drawn", is_marked(bytes, 0, sizeof bytes));
+	want("two squares", qrproved_draw(modules, 882, 21, 2, QRPROVED_ASCII, 0, bytes, 1806, &written) == QRPROVED_DONE && written == 1806);
+	want("no more is drawn", bytes[1805] == '\n' && is_marked(bytes, 1806, sizeof bytes));
+	want("a single dark module", qrproved_draw((const uint8_t *)"\xC8", 1, 1, 1, QRPROVED_ASCII, 0, bytes, 3, &written) == QRPROVED_DONE && !memcmp(bytes, "##\n", 3));
+	want("numbers above 255", qrproved_encode(TEXT, 5, 257, 0, 0, modules, 441, &symbol) == QRPROVED_SETTINGS
+	     && qrproved_encode(TEXT, 5, 1, 256, 0, modules, 441, &symbol) == QRPROVED_SETTINGS
+	     && qrproved_encode(TEXT, 5, 1, 0, 256, modules, 441, &symbol) == QRPROVED_SETTINGS
+	     && qrproved_read(modules, 441, 277, bytes, sizeof bytes, &content) == QRPROVED_SIDE
+	     && qrproved_mend(modules, 441, 277, bytes, sizeof bytes, &mended) == QRPROVED_SIDE);
+	want("the version", qrproved_version() == QRPROVED_VERSION_NUMBER);
 	if (!wrong)
 		puts("edges: as wanted");
 	return wrong;
@@ -144,7 +180,7 @@ static uint64_t sum_of(int k)
 		size_t len = (size_t)(1 + (k * 37 + call * 7) % 299);
 		for (size_t i = 0; i < len; i++)
 			input[i] = (uint8_t)(k * 31 + call + (int)i * 7);
-		if (qrproved_encode(input, len, (uint8_t)(1 + call % 12), (uint8_t)(call % 4), (uint8_t)(call % 3), drawn, sizeof drawn, &symbol))
+		if (qrproved_encode(input, len, (uint32_t)(1 + call % 12), (uint32_t)(call % 4), (uint32_t)(call % 3), drawn, sizeof drawn, &symbol))
 			return 0;
 		if (qrproved_read(drawn, sizeof drawn, symbol.side, said, sizeof said, &content) || content.len != len || memcmp(said, input, len))
 			return 0;
@@ -190,6 +226,8 @@ int main(int argc, char **argv)
 		return read_symbol();
 	if (!strcmp(what, "mend"))
 		return mend_symbol();
+	if (!strcmp(what, "draw"))
+		return draw();
 	if (!strcmp(what, "edges"))
 		return edges();
 	if (!strcmp(what, "threads"))

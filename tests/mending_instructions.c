@@ -15,7 +15,7 @@ int main(int argc, char **argv)
 	if (argc != 4)
 		return 2;
 	size_t len = fread(modules, 1, sizeof modules, stdin);
-	uint8_t side = (uint8_t)atoi(argv[2]);
+	uint32_t side = (uint32_t)atoi(argv[2]);
 	int mends = strcmp(argv[1], "mend") == 0;
 	for (int times = atoi(argv[3]); times > 0; times--)
 		if (mends ? qrproved_mend(modules, len, side, bytes, sizeof bytes, &mended)

@@ -1,7 +1,7 @@
 """QR Code symbols (ISO/IEC 18004:2015, QR Code Model 2) by the library libqrproved.
 
 encode and encode_series draw bytes as a symbol or as a series of symbols; read reads a symbol that is as it was drawn; mend
-reads a damaged one, and says how damaged it is. Modules are bytes, row by row from the top left, without the quiet zone of
+reads a damaged one, and says how damaged it is. draw, and the methods of a Symbol, draw symbols as text or as SVG. Modules are bytes, row by row from the top left, without the quiet zone of
 four light modules that a drawing needs on each side.
 
 Each refusal is an exception of the class Error. A number that is out of range is refused, and one that is no integer, as a
@@ -18,14 +18,17 @@ from typing import TYPE_CHECKING, NamedTuple, Optional, Union
 from . import _library
 from ._errors import (CheckError, EmptyError, Error, FormatError, OutOfMemoryError, RoomError, SegmentsError, SettingsError,
                       SideError, TooLongError, TooManyError, raise_for)
-from ._library import BYTES_MAX, COUNT_MAX, SERIES_MAX, SIDE_MAX, SYMBOL_MAX
+from ._library import BYTES_MAX, COUNT_MAX, MARGIN_MAX, SERIES_MAX, SIDE_MAX, SYMBOL_MAX
 
 if TYPE_CHECKING:
+    from collections.abc import Sequence
+
     Bytes = Union[bytes, bytearray, memoryview]
 
-__all__ = ["BYTES_MAX", "COUNT_MAX", "SERIES_MAX", "SIDE_MAX", "SYMBOL_MAX", "CheckError", "Content", "EmptyError", "Error",
-           "FormatError", "Header", "Level", "Mended", "OutOfMemoryError", "RoomError", "Rule", "SegmentsError",
-           "SettingsError", "SideError", "Symbol", "TooLongError", "TooManyError", "encode", "encode_series", "mend", "read"]
+__all__ = ["BYTES_MAX", "COUNT_MAX", "MARGIN_MAX", "SERIES_MAX", "SIDE_MAX", "SYMBOL_MAX", "CheckError", "Content", "Drawing",
+           "EmptyError", "Error", "FormatError", "Header", "Level", "Mended", "OutOfMemoryError", "RoomError", "Rule",
+           "SegmentsError", "SettingsError", "SideError", "Symbol", "TooLongError", "TooManyError", "draw", "encode",
+           "encode_series", "mend", "read"]
 
 _calls = _library.load()
 
@@ -48,6 +51,19 @@ class Rule(IntEnum):
     """The whole input in byte mode."""
     WITH_KANJI = 2
     """Also kanji mode, for pairs of bytes that are Shift JIS characters."""
+
+
+class Drawing(IntEnum):
+    """How modules are drawn."""
+
+    ASCII = 0
+    """Two # for a dark module, two spaces for a light one."""
+    ASCII_INVERSE = 1
+    """The other way round."""
+    UTF8 = 2
+    """A character of half blocks for two modules, one above the other, light on a dark terminal."""
+    SVG = 3
+    """A document of its own, one unit of length for a module."""
 
 
 @dataclass(frozen=True)
@@ -73,6 +89,14 @@ class Symbol:
         """Returns the rows from the top, each from the left; True is dark."""
         starts = range(0, len(self.modules), self.side)
         return [[module != 0 for module in self.modules[start:start + self.side]] for start in starts]
+
+    def svg(self, *, margin: int = 4) -> bytes:
+        """Returns the drawing as an SVG document, with `margin` light modules on each side. Raises as draw does."""
+        return draw([self], drawing=Drawing.SVG, margin=margin)
+
+    def text(self, *, drawing: int = Drawing.UTF8, margin: int = 4) -> str:
+        """Returns the drawing as text, with `margin` light modules on each side. Raises as draw does."""
+        return draw([self], drawing=drawing, margin=margin).decode()
 
 
 class Header(NamedTuple):
@@ -228,6 +252,33 @@ def mend(modules: Bytes, side: int) -> Mended:
     raise_for(_calls.qrproved_mend(given, len(given), checked, data, BYTES_MAX, ctypes.byref(mended)))
     return Mended(_content_of(mended, data), Level(mended.level), mended.mask, mended.wrong_modules, mended.wrong_format_modules,
                   mended.changed_most, mended.changed_allowed)
+
+
+def draw(symbols: Sequence[Symbol], *, drawing: int = Drawing.UTF8, margin: int = 4) -> bytes:
+    """Returns the drawing of symbols of one side: texts one after the other, or one document with one below the other.
+
+    symbols  from 1 to COUNT_MAX
+    drawing  a Drawing, or its number
+    margin   light modules on each side of each symbol, from 0 to MARGIN_MAX; a scanner needs 4
+
+    Raises SettingsError if a number is out of range or the sides are not the same, RoomError if a symbol has too few modules,
+    and OutOfMemoryError.
+    """
+    kind, light, listed = _setting("drawing", drawing, 0, 3), _setting("margin", margin, 0, MARGIN_MAX), list(symbols)
+    count = _setting("the number of symbols", len(listed), 1, COUNT_MAX)
+    side = _setting("side", listed[0].side, 1, SIDE_MAX)
+    if any(symbol.side != side for symbol in listed):
+        raise SettingsError("the symbols have one side")
+    if any(len(symbol.modules) < side * side for symbol in listed):
+        raise RoomError("a symbol has side * side modules")
+    given = b"".join(symbol.modules[:side * side] for symbol in listed)
+    asked, written = (given, len(given), side, count, kind, light), ctypes.c_size_t()
+    status = _calls.qrproved_draw(*asked, None, 0, ctypes.byref(written))
+    if status != RoomError.status:
+        raise_for(status)
+    text = (ctypes.c_uint8 * written.value)()
+    raise_for(_calls.qrproved_draw(*asked, text, written.value, ctypes.byref(written)))
+    return _first(text, written.value)
 
 
 def _content_of(it: Union[_library.Content, _library.Mended], data: ctypes.Array[ctypes.c_uint8]) -> Content:

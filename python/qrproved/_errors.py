@@ -43,7 +43,7 @@ class OutOfMemoryError(Error, MemoryError):
 
 
 class SettingsError(Error, ValueError):
-    """The version, the level or the rule is out of range, or a module to mend is neither 0 nor 1."""
+    """A number is out of range, or a module to mend is neither 0 nor 1."""
 
     status = 5
     text = "a module is neither 0 nor 1"

@@ -15,6 +15,7 @@ SYMBOL_MAX = 31329
 COUNT_MAX = 16
 SERIES_MAX = 501264
 BYTES_MAX = 7089
+MARGIN_MAX = 100
 
 
 class Symbol(ctypes.Structure):
@@ -36,8 +37,9 @@ class Mended(ctypes.Structure):
                 ("wrong_format_modules", c_uint8), ("changed_most", c_uint8), ("changed_allowed", c_uint8)]
 
 
-# A setting is a version, a level, a rule or a side. C takes a byte: a larger number would be cut, so callers check it first.
-SETTING = c_uint8
+# A setting is a version, a level, a rule, a side or another number of 32 bits. Python would cut a larger one, so callers
+# check it first.
+SETTING = c_uint32
 BYTES = [ctypes.c_char_p, c_size_t]
 BUFFER = [c_void_p, c_size_t]
 PARAMETERS = {
@@ -45,6 +47,7 @@ PARAMETERS = {
     "qrproved_encode_series": [*BYTES, SETTING, SETTING, SETTING, *BUFFER, ctypes.POINTER(Series)],
     "qrproved_read": [*BYTES, SETTING, *BUFFER, ctypes.POINTER(Content)],
     "qrproved_mend": [*BYTES, SETTING, *BUFFER, ctypes.POINTER(Mended)],
+    "qrproved_draw": [*BYTES, SETTING, SETTING, SETTING, SETTING, *BUFFER, ctypes.POINTER(c_size_t)],
 }
 
 

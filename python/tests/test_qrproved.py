@@ -1,10 +1,12 @@
 """What the package adds to the library: its types, its checks of arguments, and its refusals. The symbols themselves are
 compared by tests/library."""
 import array
+import re
 import unittest
+from xml.etree import ElementTree
 
 import qrproved
-from qrproved import Level, Rule
+from qrproved import Drawing, Level, Rule
 
 # The symbol of 01234567 of version 1 and level M under mask 0.
 EIGHT_DIGITS = bytes(map(int, "".join("""
@@ -92,6 +94,27 @@ class Calls(unittest.TestCase):
         self.assertEqual(mended, qrproved.Mended(qrproved.Content(b"01234567", 1, None), Level.M, 0, 3, 1, 1, 4))
         self.assertEqual((mended.is_sound, mended.spent), (False, 0.25))
 
+    def test_a_symbol_is_drawn_as_text(self):
+        symbol = qrproved.Symbol(1, 21, 0, EIGHT_DIGITS)
+        light = [[False] * 23]
+        rows = light + [[False, *row, False] for row in symbol.rows()] + light * 2  # the half below the last line is light
+        for drawing, kinds in ((Drawing.ASCII, ("##", "  ")), (Drawing.ASCII_INVERSE, ("  ", "##"))):
+            lines = ["".join(kinds[0] if dark else kinds[1] for dark in row) for row in rows[:-1]]
+            self.assertEqual(symbol.text(drawing=drawing, margin=1), "".join(line + "\n" for line in lines))
+        halves = {(False, False): "\u2588", (False, True): "\u2580", (True, False): "\u2584", (True, True): " "}
+        lines = ["".join(halves[pair] for pair in zip(rows[y], rows[y + 1])) for y in range(0, 22, 2)]
+        self.assertEqual(symbol.text(margin=1).splitlines()[:11], lines)
+        self.assertEqual(qrproved.draw([symbol, symbol], margin=1).decode(), symbol.text(margin=1) * 2)
+
+    def test_a_symbol_is_drawn_as_svg(self):
+        symbol = qrproved.Symbol(1, 21, 0, EIGHT_DIGITS)
+        picture = ElementTree.fromstring(symbol.svg())
+        self.assertEqual(picture.get("viewBox"), "0 0 29 29")
+        (path,) = [it.get("d") for it in picture.iter("{http://www.w3.org/2000/svg}path")]
+        runs = {(int(y), int(x) + k) for x, y, run in re.findall(r"M(\d+) (\d+)h(\d+)", path) for k in range(int(run))}
+        self.assertEqual(runs, {(row + 4, column + 4) for row in range(21) for column in range(21) if symbol[row, column]})
+        self.assertIn(b"viewBox=\"0 0 21 42\"", qrproved.draw([symbol] * 2, drawing=Drawing.SVG, margin=0))
+
     def test_all_kinds_of_bytes_are_taken(self):
         wanted = qrproved.encode(b"AB12")
         for data in (bytearray(b"AB12"), memoryview(b"AB12"), memoryview(b"A?B?1?2?")[::2], array.array("B", b"AB12")):
@@ -122,6 +145,16 @@ class Refusals(unittest.TestCase):
         for side in (0, 17, 20, 22, 181, -21, 21 + 256, 1 << 64):
             self.refused(qrproved.SideError, 7, qrproved.read, EIGHT_DIGITS, side)
             self.refused(qrproved.SideError, 7, qrproved.mend, EIGHT_DIGITS, side)
+
+    def test_drawings(self):
+        symbol = qrproved.Symbol(1, 21, 0, EIGHT_DIGITS)
+        for named in ({"margin": -1}, {"margin": 101}, {"margin": 1 << 32}, {"drawing": 4}, {"drawing": -1}):
+            self.refused(qrproved.SettingsError, 5, qrproved.draw, [symbol], **named)
+        for symbols in ([], [symbol] * 17, [symbol, qrproved.encode(b"A", version=2)], [qrproved.Symbol(1, 178, 0, b"")]):
+            self.refused(qrproved.SettingsError, 5, qrproved.draw, symbols)
+        self.refused(qrproved.RoomError, 6, qrproved.draw, [symbol, qrproved.Symbol(1, 21, 0, EIGHT_DIGITS[:-1])])
+        with self.assertRaises(TypeError):
+            symbol.svg(margin=True)
 
     def test_what_is_no_number(self):
         for other in (True, 1.0, "1", None, b"1"):

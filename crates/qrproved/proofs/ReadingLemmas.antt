@@ -1,9 +1,18 @@
 -- What the statuses of a square that is refused say. U says which faults the square has.
-use Rattle.std.proofs.Common.{◌≡◌, ◌≢◌, ◌↔◌, ◌⊎◌, refl, ap, subst, inl, inr, arith}
+use Rattle.std.proofs.Common.{◌≡◌, ◌≢◌, ◌↔◌, ◌⊎◌, ℕ, ◌≤◌, Option, None, Some, MatchOption, refl, sym, ◌∙◌, ap, subst, inl, inr, arith}
 use Rattle.qr_bits.specs.declared.fault.ParseFault.{ParseFault}
 use Rattle.qr_symbol.specs.declared.fault.ReadFault.{ReadFault}
 use Rattle.qr_symbol.specs.declared.fault.ReadFault.TheVariants as unread
+use Rattle.qr_layout.specs.Version.{side_of}
+use Rattle.qrproved.specs.Reading.{IsSide}
 use Rattle.qrproved.specs.Steps.Status.{read_status}
+
+-- the version that has a side
+pub version-of : (o : Option ℕ) (n side : ℕ) → n ≡ side
+    → MatchOption o ((v : ℕ) → 1 ≤ v → v ≤ 40 → n ≡ side_of v → ⊥) (λ v. (1 ≤ v) × (v ≤ 40) × (n ≡ side_of v))
+    → MatchOption o (IsSide side → ⊥) (λ v. (1 ≤ v) × (v ≤ 40) × (side ≡ side_of v))
+version-of None n side e none = λ w. none w.0 w.1 w.2 (e ∙ w.3)
+version-of (Some v) n side e is = (is.0, is.1, sym e ∙ is.2)
 
 -- a square has one fault but for lack of memory
 abbrev pub FaultsAreOne : (ReadFault → Type 0) → Type 0

@@ -5,6 +5,7 @@ ghost use Rattle.qr_drawing.specs.Drawing.{drawn};
 ghost use Rattle.qrproved.specs.Drawing.{AreDrawingSettings, HasFewModules, HasNoTextRoom, HoldsText, drawing_of, drawing_of_bytes, squares_of_bytes};
 
 use crate::modules::{area, matrix_of};
+use crate::settings::between;
 use crate::status::{DONE, MEMORY, ROOM, SETTINGS};
 use qr_devices::Counted;
 use qr_drawing::{Drawing, draw};
@@ -37,24 +38,8 @@ fn drawing_of(number: u32) -> Option<Drawing>
     }
 }
 
-// This number, if it is neither below nor above these.
-fn between(number: u32, least: u8, most: u8) -> Option<u8>
-    ensures { SomeIff result ((least ≤ number) × (number ≤ most)) number }
-{
-    let byte = u8::try_from(number).ok()?;
-    if byte < least || byte > most {
-        return None;
-    }
-    Some(byte)
-}
-
 // The settings of these numbers, if they are those of a drawing.
-fn drawing_settings_of(
-    side: u32,
-    count: u32,
-    drawing: u32,
-    margin: u32,
-) -> Option<DrawingSettings>
+fn drawing_settings_of(side: u32, count: u32, drawing: u32, margin: u32) -> Option<DrawingSettings>
     ensures { SomeIff result (AreDrawingSettings side count drawing margin)
         (record { side = side; count = count; drawing = drawing_of drawing; margin = margin }) }
 {
@@ -67,12 +52,7 @@ fn drawing_settings_of(
 }
 
 // The squares whose modules have these bytes, one square after the other.
-fn squares_of(
-    alloc: Global,
-    modules: &[u8],
-    side: u8,
-    count: u8,
-) -> Result<Vec<Matrix>, AllocError>
+fn squares_of(alloc: Global, modules: &[u8], side: u8, count: u8) -> Result<Vec<Matrix>, AllocError>
     requires least { 1 ≤ side }
     requires most { side ≤ 177 }
     requires room { count * (side * side) ≤ length modules.now }
@@ -88,11 +68,7 @@ fn squares_of(
 }
 
 // The drawing of the squares whose modules have these bytes.
-fn drawn(
-    alloc: Global,
-    modules: &[u8],
-    asked: DrawingSettings,
-) -> Result<Vec<u8>, AllocError>
+fn drawn(alloc: Global, modules: &[u8], asked: DrawingSettings) -> Result<Vec<u8>, AllocError>
     requires least { 1 ≤ asked.side }
     requires most { asked.side ≤ 177 }
     requires some { 1 ≤ asked.count }
@@ -157,4 +133,84 @@ pub extern "C" fn qrproved_draw(
     }
     text[..len].copy_from_slice(&drawing);
     DONE
+}
+
+#[cfg(test)]
+mod tests {
+    use super::*;
+    use std::test::Fail;
+
+    // A square of two by two modules, then its opposite.
+    static SQUARES: [u8; 8] = [1, 0, 0, 200, 0, 1, 1, 0];
+
+    #[test]
+    fn two_squares_as_text(rt: HostRuntime) -> Result<(), Fail> {
+        let rows = [
+            (0u32, 0u32, &b"##  \n  ##\n  ##\n##  \n"[..]),
+            (1, 0, b"  ##\n##  \n##  \n  ##\n"),
+            (
+                2,
+                0,
+                b"\xE2\x96\x84\xE2\x96\x80\n\xE2\x96\x80\xE2\x96\x84\n",
+            ),
+            (
+                0,
+                1,
+                b"        \n  ##    \n    ##  \n        \n        \n    ##  \n  ##    \n        \n",
+            ),
+        ];
+        for (drawing, margin, wanted) in rows {
+            let mut text = [7u8; 80];
+            let mut written = 9;
+            let status = qrproved_draw(
+                rt.alloc(),
+                &SQUARES,
+                2,
+                2,
+                drawing,
+                margin,
+                &mut text,
+                &mut written,
+            );
+            assert_eq!(rt; (status, written), (DONE, wanted.len()));
+            assert!(rt; text.starts_with(wanted));
+            assert!(rt; text[wanted.len().min(80)..].iter().all(|byte| *byte == 7));
+        }
+        Ok(())
+    }
+
+    #[test]
+    fn refusals(rt: HostRuntime) -> Result<(), Fail> {
+        let rows = [
+            ("side 0", (0u32, 1u32, 0u32, 0u32), 8usize, SETTINGS, 9usize),
+            ("side 178", (178, 1, 0, 0), 8, SETTINGS, 9),
+            ("side 258", (258, 1, 0, 0), 8, SETTINGS, 9),
+            ("no square", (2, 0, 0, 0), 8, SETTINGS, 9),
+            ("17 squares", (1, 17, 0, 0), 8, SETTINGS, 9),
+            ("drawing 4", (2, 1, 4, 0), 8, SETTINGS, 9),
+            ("margin 101", (2, 1, 0, 101), 8, SETTINGS, 9),
+            ("three squares", (2, 3, 0, 0), 8, ROOM, 0),
+            ("no room", (2, 1, 0, 0), 0, ROOM, 10),
+            ("one byte too few", (2, 1, 0, 0), 9, ROOM, 10),
+        ];
+        for (name, (side, count, drawing, margin), room, wanted, told) in rows {
+            let mut text = [7u8; 10];
+            let mut written = 9;
+            assert!(rt; room <= text.len());
+            let status = qrproved_draw(
+                rt.alloc(),
+                &SQUARES,
+                side,
+                count,
+                drawing,
+                margin,
+                &mut text[..room],
+                &mut written,
+            );
+            assert_eq!(rt; status, wanted, "{name}");
+            assert_eq!(rt; written, told, "{name}");
+            assert!(rt; text.iter().all(|byte| *byte == 7), "{name}");
+        }
+        Ok(())
+    }
 }

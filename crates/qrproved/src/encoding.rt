@@ -35,9 +35,9 @@ pub struct QrprovedSymbol {
 pub extern "C" fn qrproved_encode(
     alloc: Global,
     input: &[u8],
-    version: u8,
-    level: u8,
-    rule: u8,
+    version: u32,
+    level: u32,
+    rule: u32,
     modules: &mut [u8],
     symbol: &mut QrprovedSymbol,
 ) -> u8
@@ -155,7 +155,7 @@ mod tests {
     fn numbers_of_levels_and_rules(rt: HostRuntime) -> Result<(), Fail> {
         let digits = [b'7'; 42];
         let rows = [
-            ("a letter at 1-Q", &b"g"[..], 1u8, 2u8, 0u8, 1u8, 0u8),
+            ("a letter at 1-Q", &b"g"[..], 1u32, 2u32, 0u32, 1u8, 0u8),
             ("five letters at 1-L", &b"hello"[..], 1, 0, 0, 1, 7),
         ];
         for (name, input, version, level, rule, least, mask) in rows {
@@ -175,7 +175,7 @@ mod tests {
         }
         // what version holds so many digits, or bytes, or kanji pairs (Table 7)
         let rows = [
-            ("41 digits at L", &digits[..41], 0u8, 0u8, 1u8),
+            ("41 digits at L", &digits[..41], 0u32, 0u32, 1u8),
             ("42 digits at L", &digits[..], 0, 0, 2),
             ("34 digits at M", &digits[..34], 1, 0, 1),
             ("35 digits at M", &digits[..35], 1, 0, 2),
@@ -208,7 +208,7 @@ mod tests {
     #[test]
     fn kanji_at_1_l(rt: HostRuntime) -> Result<(), Fail> {
         let kanji = [0x93, 0x5F].repeat(rt.alloc(), 10)?;
-        for (rule, version) in [(0u8, 2u8), (1, 2), (2, 1)] {
+        for (rule, version) in [(0u32, 2u8), (1, 2), (2, 1)] {
             let mut modules = [7u8; 625];
             let mut symbol = nothing();
             let status = qrproved_encode(rt.alloc(), &kanji, 1, 0, rule, &mut modules, &mut symbol);
@@ -222,7 +222,7 @@ mod tests {
     fn refusals(rt: HostRuntime) -> Result<(), Fail> {
         let digits = [b'7'; 7090];
         let rows = [
-            ("no byte", &digits[..0], 1u8, 0u8, 0u8, 441usize, EMPTY),
+            ("no byte", &digits[..0], 1u32, 0u32, 0u32, 441usize, EMPTY),
             ("7,090 digits", &digits[..], 1, 0, 0, 441, TOO_LONG),
             (
                 "2,954 digits as bytes",
@@ -235,7 +235,10 @@ mod tests {
             ),
             ("version 0", &digits[..1], 0, 0, 0, 441, SETTINGS),
             ("version 41", &digits[..1], 41, 0, 0, 441, SETTINGS),
+            ("version 257", &digits[..1], 257, 0, 0, 441, SETTINGS),
             ("level 4", &digits[..1], 1, 4, 0, 441, SETTINGS),
+            ("level 256", &digits[..1], 1, 256, 0, 441, SETTINGS),
+            ("rule 256", &digits[..1], 1, 0, 256, 441, SETTINGS),
             ("rule 3", &digits[..1], 1, 0, 3, 441, SETTINGS),
             ("no byte at level 4", &digits[..0], 1, 4, 0, 441, SETTINGS),
             ("440 bytes", &digits[..1], 1, 3, 0, 440, ROOM),

@@ -14,9 +14,11 @@ mod samples;
 mod series;
 mod settings;
 mod status;
+mod version;
 
 pub use drawing::qrproved_draw;
 pub use encoding::{QrprovedSymbol, qrproved_encode};
 pub use mending::{QrprovedMended, qrproved_mend};
 pub use reading::{QrprovedContent, qrproved_read};
 pub use series::{QrprovedSeries, qrproved_encode_series};
+pub use version::qrproved_version;

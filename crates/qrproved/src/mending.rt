@@ -111,7 +111,7 @@ fn mended_of(len: usize, mended: &Mended) -> QrprovedMended
 pub extern "C" fn qrproved_mend(
     alloc: Global,
     modules: &[u8],
-    side: u8,
+    side: u32,
     bytes: &mut [u8],
     mended: &mut QrprovedMended,
 ) -> u8
@@ -130,9 +130,10 @@ pub extern "C" fn qrproved_mend(
     ensures status { (result ≡ DONE) ⊎ (result ≡ MEMORY) ⊎ (result ≡ ROOM) ⊎ (result ≡ SIDE)
         ⊎ (result ≡ SETTINGS) ⊎ (result ≡ FORMAT) ⊎ (result ≡ CHECK) ⊎ (result ≡ SEGMENTS) }
 {
-    let Some(_) = version_of_side(side) else {
+    let Some(version) = version_of_side(side) else {
         return SIDE;
     };
+    let side = version.side();
     let area = area(side);
     if modules.len() < area {
         return ROOM;
@@ -292,9 +293,10 @@ mod tests {
         let mut unknown = drawn;
         unknown[440] = 2;
         let rows = [
-            ("no side", &drawn[..], 0u8, 8usize, SIDE),
+            ("no side", &drawn[..], 0u32, 8usize, SIDE),
             ("side 22", &drawn[..], 22, 8, SIDE),
             ("side 181", &drawn[..], 181, 8, SIDE),
+            ("side 277", &drawn[..], 277, 8, SIDE),
             ("440 modules", &drawn[..440], 21, 8, ROOM),
             ("room for 7 bytes", &drawn[..], 21, 7, ROOM),
             ("a byte of no module", &unknown[..], 21, 8, SETTINGS),

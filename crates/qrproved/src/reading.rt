@@ -7,6 +7,7 @@ ghost use Rattle.qr_symbol.specs.declared.fault.ReadFault.{ReadFault};
 ghost use Rattle.qrproved.specs.Reading.{HasMoreBytes, IsGiven, IsSide, IsUnreadAt, TellsHeader};
 
 use crate::modules::{area, matrix_of};
+use crate::settings::between;
 use crate::status::{CHECK, DONE, FORMAT, MEMORY, ROOM, SEGMENTS, SIDE, read_status};
 use qr_bits::Header;
 use qr_layout::Version;
@@ -33,14 +34,12 @@ pub struct QrprovedContent {
 }
 
 /// The version whose symbols have this side.
-pub(crate) fn version_of_side(side: u8) -> Option<Version>
+pub(crate) fn version_of_side(side: u32) -> Option<Version>
     ensures { MatchOption result (IsSide side → ⊥)
         (λ v. (1 ≤ v) × (v ≤ 40) × (side ≡ side_of v)) }
 {
-    if side < 21 || (side - 17) % 4 != 0 {
-        return None;
-    }
-    Version::new((side - 17) / 4)
+    let side = between(side, 21, 177)?;
+    Version::of_side(side)
 }
 
 /// What the struct tells of a symbol of this version that holds `len` bytes after this header or none.
@@ -74,7 +73,7 @@ pub(crate) fn content_of(len: usize, version: Version, header: Option<Header>) -
 pub extern "C" fn qrproved_read(
     alloc: Global,
     modules: &[u8],
-    side: u8,
+    side: u32,
     bytes: &mut [u8],
     content: &mut QrprovedContent,
 ) -> u8
@@ -95,6 +94,7 @@ pub extern "C" fn qrproved_read(
     let Some(version) = version_of_side(side) else {
         return SIDE;
     };
+    let side = version.side();
     if modules.len() < area(side) {
         return ROOM;
     }
@@ -195,10 +195,11 @@ mod tests {
         codeword[440] = 1 - codeword[440].min(1);
         let unparsed = another_mode(&rt)?;
         let rows = [
-            ("no side", &drawn[..], 0u8, 8usize, SIDE),
+            ("no side", &drawn[..], 0u32, 8usize, SIDE),
             ("side 20", &drawn[..], 20, 8, SIDE),
             ("side 22", &drawn[..], 22, 8, SIDE),
             ("side 181", &drawn[..], 181, 8, SIDE),
+            ("side 277", &drawn[..], 277, 8, SIDE),
             ("440 modules", &drawn[..440], 21, 8, ROOM),
             ("room for 7 bytes", &drawn[..], 21, 7, ROOM),
             ("another format information", &format[..], 21, 8, FORMAT),

@@ -33,9 +33,9 @@ pub struct QrprovedSeries {
 pub extern "C" fn qrproved_encode_series(
     alloc: Global,
     input: &[u8],
-    version: u8,
-    level: u8,
-    rule: u8,
+    version: u32,
+    level: u32,
+    rule: u32,
     modules: &mut [u8],
     series: &mut QrprovedSeries,
 ) -> u8
@@ -126,10 +126,11 @@ mod tests {
     fn refusals(rt: HostRuntime) -> Result<(), Fail> {
         let letters = [b'a'; 81];
         let rows = [
-            ("no byte", &letters[..0], 1u8, 3u8, 1u8, 882usize, EMPTY),
+            ("no byte", &letters[..0], 1u32, 3u32, 1u32, 882usize, EMPTY),
             ("81 letters", &letters[..], 1, 3, 1, 882, TOO_MANY),
             ("version 0", &letters[..8], 0, 3, 1, 882, SETTINGS),
             ("version 41", &letters[..8], 41, 3, 1, 882, SETTINGS),
+            ("version 257", &letters[..8], 257, 3, 1, 882, SETTINGS),
             ("level 4", &letters[..8], 1, 4, 1, 882, SETTINGS),
             ("rule 3", &letters[..8], 1, 3, 3, 882, SETTINGS),
             ("881 bytes", &letters[..8], 1, 3, 1, 881, ROOM),

@@ -1,6 +1,6 @@
 //! What the numbers of a call ask for: any number may come from C, and those that stand for nothing are refused.
 
-ghost use Rattle.std.specs.Prelude.{◌≡◌, ◌<◌, SomeIff};
+ghost use Rattle.std.specs.Prelude.{◌≡◌, ◌<◌, ◌≤◌, SomeIff};
 ghost use Rattle.qrproved.specs.Settings.{AreSettings, level_of, rule_of};
 
 use qr_bits::Rule;
@@ -17,20 +17,31 @@ pub(crate) struct Settings {
     pub rule: Rule,
 }
 
+/// This number, if it is neither below `least` nor above `most`.
+pub(crate) fn between(number: u32, least: u8, most: u8) -> Option<u8>
+    ensures { SomeIff result ((least ≤ number) × (number ≤ most)) number }
+{
+    let byte = u8::try_from(number).ok()?;
+    if byte < least || byte > most {
+        return None;
+    }
+    Some(byte)
+}
+
 /// The settings of these numbers, if they are those of a version, a level and a rule.
-pub(crate) fn settings_of(version: u8, level: u8, rule: u8) -> Option<Settings>
+pub(crate) fn settings_of(version: u32, level: u32, rule: u32) -> Option<Settings>
     ensures { SomeIff result (AreSettings version level rule)
         (record { version = version; level = level_of level; rule = rule_of rule }) }
 {
     Some(Settings {
-        version: Version::new(version)?,
+        version: Version::new(between(version, 1, 40)?)?,
         level: level_of(level)?,
         rule: rule_of(rule)?,
     })
 }
 
 // The level of this number.
-fn level_of(number: u8) -> Option<Level>
+fn level_of(number: u32) -> Option<Level>
     ensures { SomeIff result (number < 4) (level_of number) }
 {
     match number {
@@ -56,7 +67,7 @@ pub(crate) fn number_of(level: Level) -> u8
 }
 
 // The rule of this number.
-fn rule_of(number: u8) -> Option<Rule>
+fn rule_of(number: u32) -> Option<Rule>
     ensures { SomeIff result (number < 3) (rule_of number) }
 {
     match number {
