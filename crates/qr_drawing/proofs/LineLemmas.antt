@@ -1,5 +1,6 @@
 -- How the texts of places join while they are put.
-use Rattle.std.proofs.Common.{◌≡◌, ◌++◌, ◌∙◌, ◌<◌, ◌≤◌, ◌+◌, ◌-◌, ℕ, zero, suc, List, [], ◌∷◌, MatchResult, Result, Ok, Err, refl, sym, ap, subst, arith, append_assoc, append-nil, map, take, drop, length, get_or}
+use Rattle.std.proofs.Common.{◌≡◌, ◌++◌, ◌∙◌, ◌<◌, ◌≤◌, ◌+◌, ◌-◌, ℕ, zero, suc, List, [], ◌∷◌, MatchResult, Result, Ok, Err, refl, sym, ap, subst, arith, append_assoc, append-nil, map, take, drop, length, length-append, ◌*◌, get_or}
+use Rattle.std.proofs.Math.Nat.{suc-mul}
 use Rattle.std.specs.List.{flat_map, range_with_len}
 use Rattle.std.proofs.lemmas.Grind.{flat_map-append}
 use Rattle.std.proofs.lemmas.List.{take_more, take-append-drop}
@@ -50,6 +51,45 @@ texts_below-add n (suc d) text =
     ∙ (ap (λ l. l ++ text (n + d)) (texts_below-add n d text)
     ∙ (append_assoc (texts_below n text) (texts_below d (λ i. text (n + i))) (text (n + d))
     ∙ ap (λ l. texts_below n text ++ l) (sym (texts_below-more d (λ i. text (n + i))) ∙ ap (λ k. texts_below k (λ i. text (n + i))) f))))
+
+-- texts that are the same place by place
+pub texts_below-alike : (n : ℕ) (f g : ℕ → List ℕ) → ((k : ℕ) → k < n → f k ≡ g k) → texts_below n f ≡ texts_below n g
+unfolding texts_below
+texts_below-alike zero f g h = refl
+texts_below-alike (suc n) f g h =
+    let e : suc n ≡ n + 1 = omega arith in
+    ap (λ k. texts_below k f) e ∙ texts_below-more n f
+    ∙ (λ i. texts_below-alike n f g (λ k lt. h k (omega arith)) i ++ h n (omega arith) i)
+    ∙ sym (ap (λ k. texts_below k g) e ∙ texts_below-more n g)
+
+-- n texts of at most b bytes
+pub texts_below-length : (n b : ℕ) (text : ℕ → List ℕ) → ((k : ℕ) → length (text k) ≤ b) → length (texts_below n text) ≤ n * b
+unfolding texts_below
+texts_below-length zero b text most = omega arith
+texts_below-length (suc n) b text most =
+    let e : suc n ≡ n + 1 = omega arith in
+    let l = ap (λ l. length l) (ap (λ k. texts_below k text) e ∙ texts_below-more n text) ∙ length-append (texts_below n text) (text n) in
+    let m = most n in
+    let r = texts_below-length n b text most in
+    let p : suc n * b ≡ n * b + b = suc-mul n b in
+    omega arith
+
+-- the texts of d places more were added
+pub added_more : (h t u : List ℕ) (n d : ℕ) (f g : ℕ → List ℕ) → t ≡ h ++ texts_below n f → u ≡ t ++ texts_below d g
+    → texts_below d g ≡ texts_below d (λ i. f (n + i)) → u ≡ h ++ texts_below (n + d) f
+added_more h t u n d f g p q same =
+    q ∙ ap (λ l. l ++ texts_below d g) p ∙ append_assoc h (texts_below n f) (texts_below d g)
+    ∙ ap (λ l. h ++ (texts_below n f ++ l)) same ∙ ap (λ l. h ++ l) (sym (texts_below-add n d f))
+
+-- the text of the next place was added
+pub added_next : (h t u : List ℕ) (n : ℕ) (f : ℕ → List ℕ) → t ≡ h ++ texts_below n f → u ≡ t ++ f n → u ≡ h ++ texts_below (n + 1) f
+added_next h t u n f p q =
+    q ∙ ap (λ l. l ++ f n) p ∙ append_assoc h (texts_below n f) (f n) ∙ ap (λ l. h ++ l) (sym (texts_below-more n f))
+
+-- before the first place nothing was added
+pub added_none : (h : List ℕ) (f : ℕ → List ℕ) → h ≡ h ++ texts_below 0 f
+unfolding texts_below
+added_none h f = sym (append-nil h)
 
 -- before the first place nothing was put
 pub put_none : (a : Writer) (i : ℕ) (h : List ℕ) (text : ℕ → List ℕ) → Writes a a i i (h ++ texts_below 0 text) h
@@ -118,22 +158,3 @@ module _ {A : Type 0} (text : A → List ℕ) where
       append_assoc h0 (flat_map text (take (n + 1) xs)) (flat_map text (drop (n + 1) xs))
       ∙ ap (λ l. h0 ++ l) (sym (flat_map-append text (take (n + 1) xs) (drop (n + 1) xs)) ∙ ap (λ l. flat_map text l) (take-append-drop (n + 1) xs)) in
       subst (λ l. Stops a c i l) whole (stops_before a c i _ (flat_map text (drop (n + 1) xs)) s)
-
--- the texts of the next d places were put
-pub put_more : (a b c : Writer) (i j k m n d : ℕ) (h0 h1 h2 : List ℕ) (text : ℕ → List ℕ) → m ≡ n
-    → Writes a b i j (h0 ++ texts_below n text) h1 → Writes b c j k (h1 ++ texts_below d (λ i. text (m + i))) h2 → Writes a c i k (h0 ++ texts_below (n + d) text) h2
-put_more a b c i j k m n d h0 h1 h2 text e p q =
-    let r = subst (λ z. Writes b c j k (h1 ++ texts_below d (λ i. text (z + i))) h2) e q in
-    rw (texts_below-add n d text) (writes_on a b c i j k h0 h1 h2 (texts_below n text) (texts_below d (λ i. text (n + i))) p r)
-
--- the texts of the next d places of o stopped
-pub more_stops : (a b c : Writer) (i j m n d o : ℕ) (h0 h1 : List ℕ) (text : ℕ → List ℕ) → m ≡ n → n + d ≤ o
-    → Writes a b i j (h0 ++ texts_below n text) h1 → Stops b c j (h1 ++ texts_below d (λ i. text (m + i))) → Stops a c i (h0 ++ texts_below o text)
-more_stops a b c i j m n d o h0 h1 text e lt p q =
-    let r = subst (λ z. Stops b c j (h1 ++ texts_below d (λ i. text (z + i)))) e q in
-    let s : Stops a c i (h0 ++ texts_below (n + d) text) = rw (texts_below-add n d text) (writes_stop a b c i j h0 h1 (texts_below n text) (texts_below d (λ i. text (n + i))) p r) in
-    let rest = texts_below (o - (n + d)) (λ i. text (n + d + i)) in
-    let f : n + d + (o - (n + d)) ≡ o = omega arith in
-    let whole : (h0 ++ texts_below (n + d) text) ++ rest ≡ h0 ++ texts_below o text =
-    append_assoc h0 (texts_below (n + d) text) rest ∙ ap (λ l. h0 ++ l) (sym (texts_below-add (n + d) (o - (n + d)) text) ∙ ap (λ k. texts_below k text) f) in
-    subst (λ l. Stops a c i l) whole (stops_before a c i _ rest s)

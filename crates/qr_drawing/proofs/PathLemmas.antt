@@ -39,7 +39,7 @@ texts_below-none : (n : ℕ) (text : ℕ → List ℕ) → ((k : ℕ) → k < n 
 texts_below-none n text none = texts_below-same 0 n text (omega arith) (λ k _ b. none k b)
 
 -- a place of the symbol has its colour
-is_dark_at-inside : (margin row col : ℕ) (g : Grid) → row < g.side → col < g.side
+pub is_dark_at-inside : (margin row col : ℕ) (g : Grid) → row < g.side → col < g.side
     → is_dark_at margin g (margin + row) (margin + col) ≡ colour g row col
 unfolding is_dark_at
 is_dark_at-inside margin row col g a b =

@@ -98,6 +98,24 @@ writes_none a i h = record {
   flushes = refl;
 }
 
+-- a text was added to what is held, after some of that was written
+pub formed : (a b : Writer) (i j : ℕ) (h0 h1 h2 x : List ℕ) → Writes a b i j h0 h1 → h2 ≡ h1 ++ x → Writes a b i j (h0 ++ x) h2
+formed a b i j h0 h1 h2 x p e = record {
+  sends = record {
+    sent = p.sends.sent;
+    grows = p.sends.grows;
+    whole = ap (λ l. p.sends.sent ++ l) e ∙ sym (append_assoc p.sends.sent h1 x) ∙ ap (λ l. l ++ x) p.sends.whole;
+    many = p.sends.many;
+  };
+  well = p.well;
+  offered = p.offered;
+  flushes = p.flushes;
+}
+
+-- one part was written, and what was held of it stopped before the next
+pub stops_between : (a b c : Writer) (i j : ℕ) (h0 h1 x y : List ℕ) → Writes a b i j (h0 ++ x) h1 → Stops b c j h1 → Stops a c i (h0 ++ (x ++ y))
+stops_between a b c i j h0 h1 x y p q = writes_stop a b c i j h0 h1 x y p (stops_before b c j h1 y q)
+
 -- nothing was written, and what is held is the same
 pub writes_kept : (a : Writer) (i : ℕ) (h k : List ℕ) → k ≡ h → Writes a a i i (h ++ []) k
 writes_kept a i h k e = subst (λ z. Writes a a i i (h ++ []) z) (sym e) (writes_none a i h)
