@@ -18,17 +18,16 @@ none-set : all_below 4 (λ k. is_same (has_bit 0 k) false) ≡ true
 unfolding has_bit
 none-set = refl
 
--- four places above the square, or below it, are light
-pub dark-none : (margin : ℕ) (g : Grid) (row col : ℕ) → ((x : ℕ) → is_dark_at margin g row x ≡ false) → AreDark margin g row col 0
-dark-none margin g row col h k lt =
+-- four places of a row that shows none of the square
+pub dark-none : (margin : ℕ) (g : Grid) (y col : ℕ) → ((x : ℕ) → is_dark_at margin g y x ≡ false) → AreDark margin g y col 0
+dark-none margin g y col h k lt =
     same-same (has_bit 0 k) false (below-at 4 (λ k. is_same (has_bit 0 k) false) none-set k lt) ∙ sym (h (margin + (col + k)))
 
--- four places of a row of the square
-pub dark-four : (margin : ℕ) (g : Grid) (row col bits : ℕ) → margin ≤ row → row - margin < g.side → col + 4 ≤ g.side
-    → ((k : ℕ) → k < 4 → has_bit bits k ≡ colour g (row - margin) (col + k)) → AreDark margin g row col bits
-dark-four margin g row col bits low in_square fits h k lt =
-    let e : margin + (row - margin) ≡ row = omega arith in
-    h k lt ∙ sym (ap (λ r. is_dark_at margin g r (margin + (col + k))) (sym e) ∙ is_dark_at-inside margin (row - margin) (col + k) g in_square (omega arith))
+-- four places of a row that shows one of the square
+pub dark-four : (margin : ℕ) (g : Grid) (y row col bits : ℕ) → margin + row ≡ y → row < g.side → col + 4 ≤ g.side
+    → ((k : ℕ) → k < 4 → has_bit bits k ≡ colour g row (col + k)) → AreDark margin g y col bits
+dark-four margin g y row col bits e inside fits h k lt =
+    h k lt ∙ sym (ap (λ r. is_dark_at margin g r (margin + (col + k))) (sym e) ∙ is_dark_at-inside margin row (col + k) g inside (omega arith))
 
 -- four bits, each the other one, computed
 all-others : all_below 16 (λ b. all_below 4 (λ k. is_same (has_bit (15 - b) k) (not (has_bit b k)))) ≡ true

@@ -1,13 +1,13 @@
 //! Symbols as lines of text: two characters for a module, or one character for two modules, one above the other.
 
-ghost use Rattle.std.specs.Prelude.{◌≡◌, ℕ, ◌≤◌, ◌<◌, ◌+◌, ◌-◌, ◌*◌, ◌/◌, ◌%◌, ◌++◌, ◌∷◌, [], false, length};
+ghost use Rattle.std.specs.Prelude.{◌≡◌, ℕ, ◌≤◌, ◌<◌, ◌+◌, ◌-◌, ◌*◌, ◌/◌, ◌%◌, ◌++◌, ◌∷◌, [], false, IfSome};
 ghost use Rattle.std.specs.List.{flat_map};
 ghost use Rattle.arrayvec.specs.ArrayVec.{array_vec_len};
 ghost use Rattle.qr_matrix.specs.Line.{has_bit};
 ghost use Rattle.qr_symbol.specs.Series.{squares_of};
 ghost use Rattle.qr_drawing.specs.Raster.{texts_below};
 ghost use Rattle.qr_drawing.specs.Text.{ascii_module, half_blocks, line_count, cells_of_line, text_drawing};
-ghost use Rattle.qr_drawing.specs.Steps.Text.{AreDark, cell_at, cell_room, cell_text, quad_text, top_row};
+ghost use Rattle.qr_drawing.specs.Steps.Text.{AreDark, ShowsRow, cell_at, cell_room, cell_text, quad_text, top_row};
 ghost use Rattle.qr_drawing.specs.Steps.Pen.{Puts};
 ghost use Rattle.qr_drawing.specs.declared.text.TextStyle.TheVariants.{HalfBlocks, Plain};
 
@@ -114,22 +114,34 @@ fn push_light(text: &mut ArrayVec<u8, 1200>, style: TextStyle, count: u8)
     }
 }
 
-// Four places of a row of the raster, from a column of the square on that is a multiple of four: the first is the lowest
-// bit, and the bit of a dark place is set.
-fn dark_bits(matrix: &Matrix, margin: u8, row: u16, col: u8) -> u8
-    requires col_in { col + 4 ≤ matrix.now.side }
-    requires whole { col % 4 ≡ 0 }
-    ensures small { result < 16 }
-    ensures dark { AreDark margin matrix.now row col result }
+// The row of the square that a row of the raster shows, if any.
+fn square_row(matrix: &Matrix, margin: u8, row: u16) -> Option<u8>
+    ensures { ShowsRow margin matrix.now row result }
 {
     let first = u16::from(margin);
     if row < first {
-        return 0;
+        return None;
     }
     if row >= first + u16::from(matrix.side()) {
-        return 0;
+        return None;
     }
-    matrix.four((row - first) as u8, col)
+    Some((row - first) as u8)
+}
+
+// Four places of a row, from a column on that is a multiple of four: the first is the lowest bit, and the bit of a dark
+// place is set. All are light where there is no row.
+#[inline(always)]
+fn dark_bits(matrix: &Matrix, row: Option<u8>, col: u8) -> u8
+    requires row_in { IfSome row (λ r. r < matrix.now.side) }
+    requires col_in { col + 4 ≤ matrix.now.side }
+    requires whole { col % 4 ≡ 0 }
+    ensures small { result < 16 }
+    ensures dark { (margin y : ℕ) → ShowsRow margin matrix.now y row → AreDark margin matrix.now y col result }
+{
+    match row {
+        Some(row) => matrix.four(row, col),
+        None => 0,
+    }
 }
 
 // Four modules as two characters each, of which the first is the lowest bit.
@@ -204,11 +216,13 @@ fn push_quads(
     ensures { text.new.items
         ≡ text.old.items ++ texts_below (matrix.now.side / 4 * 4) (λ i. cell_at style margin matrix.now row (margin + i)) }
 {
+    let upper_row = square_row(matrix, margin, row);
+    let lower_row = square_row(matrix, margin, row + 1);
     let end = matrix.side() / 4 * 4;
     let mut col = 0;
     'quads: while col < end {
-        let upper = dark_bits(matrix, margin, row, col);
-        let lower = dark_bits(matrix, margin, row + 1, col);
+        let upper = dark_bits(matrix, upper_row, col);
+        let lower = dark_bits(matrix, lower_row, col);
         push_quad(text, style, upper, lower);
         col += 4;
     }

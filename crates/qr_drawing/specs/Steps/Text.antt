@@ -1,5 +1,5 @@
 -- The cells of a text by the bits of places, and the room that they take. Only private clauses cite this file.
-use Rattle.std.specs.Prelude.{◌≡◌, ℕ, ◌+◌, ◌*◌, ◌<◌, Bool, not, List}
+use Rattle.std.specs.Prelude.{◌≡◌, ℕ, ◌+◌, ◌*◌, ◌<◌, Bool, false, not, List, Option, Some, None}
 use Rattle.qr_matrix.specs.Grid.{Grid}
 use Rattle.qr_matrix.specs.Line.{has_bit}
 use Rattle.qr_drawing.specs.Raster.{is_dark_at, texts_below}
@@ -36,3 +36,8 @@ quad_text style upper lower = texts_below 4 (λ k. cell_text style (has_bit uppe
 -- each of four bits, the lowest first, is set where a place of that row is dark, from a column of the square on
 abbrev pub AreDark : ℕ → Grid → ℕ → ℕ → ℕ → Type 0
 AreDark margin g row col bits = (k : ℕ) → k < 4 → has_bit bits k ≡ is_dark_at margin g row (margin + (col + k))
+
+-- the row of the square that a row of the raster shows; where it shows none, all its places are light
+abbrev pub ShowsRow : ℕ → Grid → ℕ → Option ℕ → Type 0
+ShowsRow margin g row (Some r) = (margin + r ≡ row) × (r < g.side)
+ShowsRow margin g row None = (x : ℕ) → is_dark_at margin g row x ≡ false

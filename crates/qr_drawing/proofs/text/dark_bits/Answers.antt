@@ -1,18 +1,13 @@
-use Rattle.std.proofs.Common.{◌+◌, ◌-◌, ◌∙◌, ap, arith}
-use Rattle.qr_matrix.specs.Grid.{colour}
+use Rattle.std.proofs.Common.{ℕ, subst}
+use Rattle.qr_drawing.specs.Steps.Text.{ShowsRow}
 use Rattle.qr_drawing.proofs.CellLemmas.{dark-four, dark-none}
-use Rattle.qr_drawing.proofs.PathLemmas.{is_dark_at-above, is_dark_at-below}
 use Rattle.qr_drawing.proofs.text.dark_bits.Goals as goal
 
-pub returns-then-row-first-clause-dark : goal.returns-then-row-first-clause-dark
-returns-then-row-first-clause-dark c =
-    dark-none c.args.margin c.args.matrix.now c.args.row c.args.col (λ x. is_dark_at-above c.args.margin c.args.row x c.args.matrix.now (omega arith))
+pub returns-in-Some-clause-dark : goal.returns-in-Some-clause-dark
+returns-in-Some-clause-dark c = λ margin y shows.
+    let s = subst (ShowsRow margin c.args.matrix.now y) c.in-Some.is shows in
+    dark-four margin c.args.matrix.now y c.in-Some.row c.args.col c.four.result s.0 s.1 c.requires.col_in c.four.ensures.colours
 
-pub returns-then-row-first-2-clause-dark : goal.returns-then-row-first-2-clause-dark
-returns-then-row-first-2-clause-dark c =
-    dark-none c.args.margin c.args.matrix.now c.args.row c.args.col (λ x. is_dark_at-below c.args.margin c.args.row x c.args.matrix.now (omega arith))
-
-pub returns-clause-dark : goal.returns-clause-dark
-returns-clause-dark c =
-    dark-four c.args.margin c.args.matrix.now c.args.row c.args.col c.four.result (omega arith) (omega arith) c.requires.col_in
-    (λ k l. c.four.ensures.colours k l ∙ ap (λ z. colour c.args.matrix.now (c.args.row - z) (c.args.col + k)) c.from-first.ensures)
+pub returns-in-None-clause-dark : goal.returns-in-None-clause-dark
+returns-in-None-clause-dark c = λ margin y shows.
+    dark-none margin c.args.matrix.now y c.args.col (subst (ShowsRow margin c.args.matrix.now y) c.in-None.is shows)

@@ -33,5 +33,6 @@ quads-preserved c =
           (λ i. cell_at c.args.style c.args.margin c.args.matrix.now c.args.row (c.args.margin + i))
           (λ k. cell_text c.args.style (has_bit upper k) (has_bit lower k)) i.items c.push_quad.ensures
           (quad-cells c.args.style c.args.margin c.args.matrix.now c.args.row c.quads.col upper lower
-          c.dark_bits-upper.ensures.dark c.dark_bits-lower.ensures.dark);
+          (c.dark_bits-upper.ensures.dark c.args.margin c.args.row c.square_row-upper_row.ensures)
+          (c.dark_bits-lower.ensures.dark c.args.margin (c.args.row + 1) c.square_row-lower_row.ensures));
     }
