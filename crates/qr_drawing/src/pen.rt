@@ -72,9 +72,9 @@ pub(crate) fn push_all(text: &mut ArrayVec<u8, 1200>, bytes: &[u8])
 }
 
 impl Pen {
-    ghost use Rattle.std.specs.Prelude.{◌≡◌, ◌≤◌, ◌+◌, ◌∷◌, [], OnOk};
+    ghost use Rattle.std.specs.Prelude.{◌≡◌, ◌≤◌, ◌+◌, [], OnOk};
     ghost use Rattle.arrayvec.specs.ArrayVec.{array_vec_len};
-    ghost use Rattle.qr_drawing.specs.Steps.Pen.{Finishes, Puts, Reserves};
+    ghost use Rattle.qr_drawing.specs.Steps.Pen.{Finishes, Reserves};
 
     pub(crate) fn new() -> Self
         ensures piece { result.piece.items ≡ [] }
@@ -110,42 +110,6 @@ impl Pen {
             return self.empty(out);
         }
         Ok(())
-    }
-
-    /// Puts a byte after what is held, which is written first where there is no room.
-    pub(crate) fn put<W: Sink>(&mut self, out: &mut W, byte: u8) -> Result<(), DrawFault>
-        ensures { Puts (W.device out.old) (W.device out.new)
-            self.old self.new (byte ∷ []) result }
-    {
-        if self.piece.is_full() {
-            self.interrupted = send(out, self.piece.as_slice(), self.interrupted)?;
-            self.piece.clear();
-        }
-        self.piece.push(byte);
-        Ok(())
-    }
-
-    // Puts a text byte by byte, as where there is no room for it: seldom.
-    #[inline(never)]
-    fn put_each<W: Sink>(&mut self, out: &mut W, text: &[u8]) -> Result<(), DrawFault>
-        ensures { Puts (W.device out.old) (W.device out.new)
-            self.old self.new text.now result }
-    {
-        for byte in text {
-            self.put(out, *byte)?;
-        }
-        Ok(())
-    }
-
-    /// Puts a text, where there is room for it at once if it is not short.
-    pub(crate) fn put_all<W: Sink>(&mut self, out: &mut W, text: &[u8]) -> Result<(), DrawFault>
-        ensures { Puts (W.device out.old) (W.device out.new)
-            self.old self.new text.now result }
-    {
-        match self.piece.try_extend_from_slice(text) {
-            Ok(()) => Ok(()),
-            Err(_full) => self.put_each(out, text),
-        }
     }
 
     /// Writes what is held.

@@ -230,13 +230,7 @@ fn push_quads(
 
 // Adds the cells of the columns of the square after those.
 #[inline(always)]
-fn push_rest(
-    text: &mut ArrayVec<u8, 1200>,
-    style: TextStyle,
-    matrix: &Matrix,
-    margin: u8,
-    row: u16,
-)
+fn push_rest(text: &mut ArrayVec<u8, 1200>, style: TextStyle, matrix: &Matrix, margin: u8, row: u16)
     requires row_in { row < 2000 }
     requires room { array_vec_len text.old + matrix.now.side % 4 * cell_room style ≤ 1200 }
     ensures { text.new.items ≡ text.old.items

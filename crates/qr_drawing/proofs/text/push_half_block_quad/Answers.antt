@@ -11,8 +11,11 @@ loop-place-init c = added_none c.args.text.now.items _
 
 pub push_half_block-requires : goal.push_half_block-requires
 push_half_block-requires c =
-    omega (arith, room-left c.args.text.now.items _ _ 1 4 3 1200 (λ k. half_blocks (has_bit c.args.upper k) (has_bit c.args.lower k))
-    (λ k. cell-length HalfBlocks (has_bit c.args.upper k) (has_bit c.args.lower k)) c.loop-place.invariant (omega arith) c.requires.room)
+    omega (
+      arith,
+      room-left c.args.text.now.items _ _ 1 4 3 1200 (λ k. half_blocks (has_bit c.args.upper k) (has_bit c.args.lower k))
+          (λ k. cell-length HalfBlocks (has_bit c.args.upper k) (has_bit c.args.lower k)) c.loop-place.invariant (omega arith) c.requires.room,
+    )
 
 pub loop-place-preserved : goal.loop-place-preserved
 loop-place-preserved c =

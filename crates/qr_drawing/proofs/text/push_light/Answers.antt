@@ -9,8 +9,11 @@ loop-done-init c = added_none c.args.text.now.items _
 
 pub push_cell-requires : goal.push_cell-requires
 push_cell-requires c =
-    omega (arith, room-left c.args.text.now.items _ _ 1 c.args.count (cell_room c.args.style) 1200 (λ _. cell_text c.args.style false false)
-    (λ _. cell-length c.args.style false false) c.loop-done.invariant (omega arith) c.requires.room)
+    omega (
+      arith,
+      room-left c.args.text.now.items _ _ 1 c.args.count (cell_room c.args.style) 1200 (λ _. cell_text c.args.style false false)
+          (λ _. cell-length c.args.style false false) c.loop-done.invariant (omega arith) c.requires.room,
+    )
 
 pub loop-done-preserved : goal.loop-done-preserved
 loop-done-preserved c =

@@ -16,9 +16,12 @@ quads-init c = record {
 pub push_quad-requires-clause-room : goal.push_quad-requires-clause-room
 push_quad-requires-clause-room c =
     let i = c.quads.invariant in
-    omega (arith, room-left c.args.text.now.items _ _ 4 c.args.matrix.now.side (cell_room c.args.style) 1200
-    (λ i. cell_at c.args.style c.args.margin c.args.matrix.now c.args.row (c.args.margin + i)) (λ k. cell-length c.args.style _ _) i.items
-    (omega (arith, i.whole, i.end, c.quads-test.true)) c.requires.room)
+    omega (
+      arith,
+      room-left c.args.text.now.items _ _ 4 c.args.matrix.now.side (cell_room c.args.style) 1200
+          (λ i. cell_at c.args.style c.args.margin c.args.matrix.now c.args.row (c.args.margin + i)) (λ k. cell-length c.args.style _ _) i.items
+          (omega (arith, i.whole, i.end, c.quads-test.true)) c.requires.room,
+    )
 
 pub quads-preserved : goal.quads-preserved
 quads-preserved c =

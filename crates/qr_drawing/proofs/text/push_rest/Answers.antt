@@ -9,9 +9,12 @@ loop-rest-init c = added_none c.args.text.now.items _
 
 pub push_cell-requires : goal.push_cell-requires
 push_cell-requires c =
-    omega (arith, room-left c.args.text.now.items _ _ 1 (c.args.matrix.now.side % 4) (cell_room c.args.style) 1200
-    (λ i. cell_at c.args.style c.args.margin c.args.matrix.now c.args.row (c.args.margin + (c.args.matrix.now.side / 4 * 4 + i)))
-    (λ k. cell-length c.args.style _ _) c.loop-rest.invariant (omega arith) c.requires.room)
+    omega (
+      arith,
+      room-left c.args.text.now.items _ _ 1 (c.args.matrix.now.side % 4) (cell_room c.args.style) 1200
+          (λ i. cell_at c.args.style c.args.margin c.args.matrix.now c.args.row (c.args.margin + (c.args.matrix.now.side / 4 * 4 + i)))
+          (λ k. cell-length c.args.style _ _) c.loop-rest.invariant (omega arith) c.requires.room,
+    )
 
 pub loop-rest-preserved : goal.loop-rest-preserved
 loop-rest-preserved c =

@@ -2,8 +2,7 @@ use Rattle.std.proofs.Common.{◌≡◌, ◌≤◌, ◌+◌, ◌*◌, ◌++◌, 
 use Rattle.std.proofs.lemmas.Result.{err_from_is_err_and}
 use Rattle.qr_drawing.specs.Steps.Text.{cell_room, cell_text}
 use Rattle.qr_drawing.proofs.CellLemmas.{cell-length, line-parts, room-left}
-use Rattle.qr_drawing.proofs.LineLemmas.{stops_first}
-use Rattle.qr_drawing.proofs.WritingLemmas.{formed, stops_between, writes_on}
+use Rattle.qr_drawing.proofs.WritingLemmas.{formed, stops_between, stops_first, writes_on}
 use Rattle.qr_drawing.proofs.text.put_line.Goals as goal
 
 pub returns-in_err-reserve-2 : goal.returns-in_err-reserve-2
@@ -31,8 +30,11 @@ push-requires g c =
     let free : length c.reserve-3.new.self.piece.items + margin * cell_room c.args.style ≤ 1199 =
     let r = c.in_ok-reserve-3.ensures.room in omega arith in (
       omega arith,
-      omega (arith, room-left c.reserve-3.new.self.piece.items _ margin 0 margin (cell_room c.args.style) 1199 (λ _. cell_text c.args.style false false)
-          (λ _. cell-length c.args.style false false) c.push_light-2.ensures (omega arith) free),
+      omega (
+        arith,
+        room-left c.reserve-3.new.self.piece.items _ margin 0 margin (cell_room c.args.style) 1199 (λ _. cell_text c.args.style false false)
+            (λ _. cell-length c.args.style false false) c.push_light-2.ensures (omega arith) free,
+      ),
     )
 
 pub returns : goal.returns
