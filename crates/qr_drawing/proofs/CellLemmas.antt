@@ -1,5 +1,5 @@
 -- The cells of a line by the bits of their places, and the room that they take.
-use Rattle.std.proofs.Common.{◌≡◌, ◌++◌, ◌∙◌, ◌<◌, ◌≤◌, ◌+◌, ◌-◌, ◌*◌, ℕ, Bool, true, false, not, List, [], ◌∷◌, length, length-append, append_assoc, refl, sym, ap, arith}
+use Rattle.std.proofs.Common.{◌≡◌, ◌++◌, ◌∙◌, ◌<◌, ◌≤◌, ◌+◌, ◌-◌, ◌*◌, ◌/◌, ◌%◌, ℕ, Bool, true, false, not, List, [], ◌∷◌, length, length-append, append_assoc, refl, sym, ap, arith}
 use Rattle.std.proofs.Math.Nat.{add-mul, mul-le-mul_right}
 use Rattle.qr_matrix.specs.Grid.{Grid, colour}
 use Rattle.qr_matrix.specs.Line.{has_bit}
@@ -11,7 +11,7 @@ use Rattle.qr_drawing.specs.Steps.Text.{AreDark, cell_at, cell_room, cell_text, 
 use Rattle.qr_drawing.specs.declared.text.TextStyle.{TextStyle}
 use Rattle.qr_drawing.specs.declared.text.TextStyle.TheVariants.{Plain, Inverse, HalfBlocks}
 use Rattle.qr_drawing.proofs.LineLemmas.{texts_below-add, texts_below-alike, texts_below-length}
-use Rattle.qr_drawing.proofs.PathLemmas.{is_dark_at-above, is_dark_at-below, is_dark_at-inside, is_dark_at-left, is_dark_at-right}
+use Rattle.qr_drawing.proofs.PathLemmas.{is_dark_at-inside}
 
 -- no bit of 0 is set, computed
 none-set : all_below 4 (λ k. is_same (has_bit 0 k) false) ≡ true
@@ -82,22 +82,19 @@ cell-of Plain margin g y x = refl
 cell-of Inverse margin g y x = refl
 cell-of HalfBlocks margin g y x = refl
 
--- a line is the cells of the margin and of the square, and those of the margin and a newline
+-- a line is the cells of the margin and of the columns of the square by fours, and those after them and a newline
 pub line-parts : (style : TextStyle) (margin : ℕ) (g : Grid) (y : ℕ) → cells_of_line style margin g y ++ 10 ∷ []
-    ≡ (texts_below margin (λ _. cell_text style false false) ++ texts_below g.side (λ i. cell_at style margin g (top_row style y) (margin + i)))
-    ++ (texts_below margin (λ _. cell_text style false false) ++ 10 ∷ [])
+    ≡ (texts_below margin (λ i. cell_at style margin g (top_row style y) (0 + i))
+    ++ texts_below (g.side / 4 * 4) (λ i. cell_at style margin g (top_row style y) (margin + i)))
+    ++ (texts_below (g.side % 4 + margin) (λ i. cell_at style margin g (top_row style y) (margin + g.side / 4 * 4 + i)) ++ 10 ∷ [])
 line-parts style margin g y =
     let cell = λ (x : ℕ). cell_at style margin g (top_row style y) x in
-    let e : raster_width margin g ≡ margin + g.side + margin = omega arith in
-    let light : (x : ℕ) → ((r : ℕ) → is_dark_at margin g r x ≡ false) → cell x ≡ cell_text style false false =
-    λ x none. λ i. cell_text style (none (top_row style y) i) (none (top_row style y + 1) i) in
-    let left : texts_below margin cell ≡ texts_below margin (λ _. cell_text style false false) =
-    texts_below-alike margin cell (λ _. cell_text style false false) (λ k lt. light k (λ r. is_dark_at-left margin r k g lt)) in
-    let right : texts_below margin (λ i. cell (margin + g.side + i)) ≡ texts_below margin (λ _. cell_text style false false) =
-    texts_below-alike margin (λ i. cell (margin + g.side + i)) (λ _. cell_text style false false)
-    (λ k lt. light (margin + g.side + k) (λ r. is_dark_at-right margin r (margin + g.side + k) g (omega arith))) in
-    let square = texts_below g.side (λ i. cell (margin + i)) in
+    let fours = g.side / 4 * 4 in
+    let rest = texts_below (g.side % 4 + margin) (λ i. cell (margin + fours + i)) in
+    let e : raster_width margin g ≡ margin + fours + (g.side % 4 + margin) = omega arith in
+    let left : texts_below margin cell ≡ texts_below margin (λ i. cell (0 + i)) =
+    texts_below-alike margin cell (λ i. cell (0 + i)) (λ k lt. ap cell (omega arith)) in
     ap (λ l. l ++ 10 ∷ []) (texts_below-alike (raster_width margin g) (cell_of style margin g y) cell (λ k lt. cell-of style margin g y k)
-    ∙ ap (λ n. texts_below n cell) e ∙ texts_below-add (margin + g.side) margin cell
-    ∙ (λ i. (texts_below-add margin g.side cell ∙ ap (λ l. l ++ square) left) i ++ right i))
-    ∙ append_assoc (texts_below margin (λ _. cell_text style false false) ++ square) (texts_below margin (λ _. cell_text style false false)) (10 ∷ [])
+    ∙ ap (λ n. texts_below n cell) e ∙ texts_below-add (margin + fours) (g.side % 4 + margin) cell
+    ∙ ap (λ l. l ++ rest) (texts_below-add margin fours cell ∙ ap (λ l. l ++ texts_below fours (λ i. cell (margin + i))) left))
+    ∙ append_assoc (texts_below margin (λ i. cell (0 + i)) ++ texts_below fours (λ i. cell (margin + i))) rest (10 ∷ [])

@@ -53,26 +53,19 @@ unfolding run_path begins_run
 run_path-light top margin y x g e = rw e refl
 
 -- none begins to the right of a dark place
-begins_run-inner : (margin y x : ℕ) (g : Grid) → 0 < x → is_dark_at margin g y (x - 1) ≡ true → begins_run margin g y x ≡ false
-unfolding begins_run
-begins_run-inner margin y x g some dark = rw dark (grind (arith, nat_tests))
-
--- so none has its path there
 run_path-inner : (top margin y x : ℕ) (g : Grid) → 0 < x → is_dark_at margin g y (x - 1) ≡ true → run_path top margin g y x ≡ []
-unfolding run_path
-run_path-inner top margin y x g some dark = let e = begins_run-inner margin y x g some dark in rw e refl
+unfolding run_path begins_run
+run_path-inner top margin y x g some dark =
+    let e : begins_run margin g y x ≡ false = rw dark (grind (arith, nat_tests)) in
+    rw e refl
 
 -- one begins at a dark place with none to its left
-begins_run-first : (margin y x : ℕ) (g : Grid) → is_dark_at margin g y x ≡ true → (0 < x → is_dark_at margin g y (x - 1) ≡ false)
-    → begins_run margin g y x ≡ true
-unfolding begins_run
-begins_run-first margin y x g dark light = rw dark (grind (arith, nat_tests))
-
--- and its path stands there
 run_path-first : (top margin y x : ℕ) (g : Grid) → is_dark_at margin g y x ≡ true → (0 < x → is_dark_at margin g y (x - 1) ≡ false)
     → run_path top margin g y x ≡ box_path x (top + y) (run_length margin g y x)
-unfolding run_path
-run_path-first top margin y x g dark light = let e = begins_run-first margin y x g dark light in rw e refl
+unfolding run_path begins_run
+run_path-first top margin y x g dark light =
+    let e : begins_run margin g y x ≡ true = rw dark (grind (arith, nat_tests)) in
+    rw e refl
 
 -- how many numbers from x on pass a test, up to the first that does not
 prefix_len-range : (p : ℕ → Bool) (x d n : ℕ) → d ≤ n → ((k : ℕ) → x ≤ k → k < x + d → p k ≡ true) → (d < n → p (x + d) ≡ false)

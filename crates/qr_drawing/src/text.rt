@@ -1,6 +1,6 @@
 //! Symbols as lines of text: two characters for a module, or one character for two modules, one above the other.
 
-ghost use Rattle.std.specs.Prelude.{◌≡◌, ℕ, ◌≤◌, ◌<◌, ◌+◌, ◌-◌, ◌*◌, ◌/◌, ◌%◌, ◌++◌, ◌∷◌, [], false, IfSome};
+ghost use Rattle.std.specs.Prelude.{◌≡◌, ℕ, ◌≤◌, ◌<◌, ◌+◌, ◌-◌, ◌*◌, ◌/◌, ◌%◌, ◌++◌, ◌∷◌, [], IfSome};
 ghost use Rattle.std.specs.List.{flat_map};
 ghost use Rattle.arrayvec.specs.ArrayVec.{array_vec_len};
 ghost use Rattle.qr_matrix.specs.Line.{has_bit};
@@ -104,16 +104,6 @@ fn push_cell(text: &mut ArrayVec<u8, 1200>, style: TextStyle, upper: bool, lower
     }
 }
 
-// Adds so many light cells.
-fn push_light(text: &mut ArrayVec<u8, 1200>, style: TextStyle, count: u8)
-    requires room { array_vec_len text.old + count * cell_room style ≤ 1200 }
-    ensures { text.new.items ≡ text.old.items ++ texts_below count (λ _. cell_text style false false) }
-{
-    for done in 0..count {
-        push_cell(text, style, false, false);
-    }
-}
-
 // The row of the square that a row of the raster shows, if any.
 fn square_row(matrix: &Matrix, margin: u8, row: u16) -> Option<u8>
     ensures { ShowsRow margin matrix.now row result }
@@ -202,9 +192,102 @@ fn push_quad(text: &mut ArrayVec<u8, 1200>, style: TextStyle, upper: u8, lower: 
     }
 }
 
-// Adds the cells of the columns of the square, four at a time, as far as there are four.
+// Adds so many cells of a row of the raster, from a column on.
+fn push_cells(
+    text: &mut ArrayVec<u8, 1200>,
+    style: TextStyle,
+    matrix: &Matrix,
+    margin: u8,
+    row: u16,
+    first: u16,
+    count: u16,
+)
+    requires row_in { row < 2000 }
+    requires first_in { first < 1000 }
+    requires room { array_vec_len text.old + count * cell_room style ≤ 1200 }
+    ensures { text.new.items ≡ text.old.items ++ texts_below count (λ i. cell_at style margin matrix.now row (first + i)) }
+{
+    match style {
+        TextStyle::Plain => push_cells_of(
+            text,
+            TextStyle::Plain,
+            matrix,
+            margin,
+            row,
+            first,
+            count,
+        ),
+        TextStyle::Inverse => push_cells_of(
+            text,
+            TextStyle::Inverse,
+            matrix,
+            margin,
+            row,
+            first,
+            count,
+        ),
+        TextStyle::HalfBlocks => push_cells_of(
+            text,
+            TextStyle::HalfBlocks,
+            matrix,
+            margin,
+            row,
+            first,
+            count,
+        ),
+    }
+}
+
+// The same, in a copy for each style, so that the loop looks at no style.
 #[inline(always)]
+fn push_cells_of(
+    text: &mut ArrayVec<u8, 1200>,
+    style: TextStyle,
+    matrix: &Matrix,
+    margin: u8,
+    row: u16,
+    first: u16,
+    count: u16,
+)
+    requires row_in { row < 2000 }
+    requires first_in { first < 1000 }
+    requires room { array_vec_len text.old + count * cell_room style ≤ 1200 }
+    ensures { text.new.items ≡ text.old.items ++ texts_below count (λ i. cell_at style margin matrix.now row (first + i)) }
+{
+    for done in 0..count {
+        let upper = is_dark_at(matrix, margin, row, first + done);
+        push_cell(
+            text,
+            style,
+            upper,
+            is_dark_at(matrix, margin, row + 1, first + done),
+        );
+    }
+}
+
+// Adds the cells of the columns of the square, four at a time, as far as there are four.
 fn push_quads(
+    text: &mut ArrayVec<u8, 1200>,
+    style: TextStyle,
+    matrix: &Matrix,
+    margin: u8,
+    row: u16,
+)
+    requires row_in { row < 2000 }
+    requires room { array_vec_len text.old + matrix.now.side * cell_room style ≤ 1200 }
+    ensures { text.new.items
+        ≡ text.old.items ++ texts_below (matrix.now.side / 4 * 4) (λ i. cell_at style margin matrix.now row (margin + i)) }
+{
+    match style {
+        TextStyle::Plain => push_quads_of(text, TextStyle::Plain, matrix, margin, row),
+        TextStyle::Inverse => push_quads_of(text, TextStyle::Inverse, matrix, margin, row),
+        TextStyle::HalfBlocks => push_quads_of(text, TextStyle::HalfBlocks, matrix, margin, row),
+    }
+}
+
+// The same, in a copy for each style.
+#[inline(always)]
+fn push_quads_of(
     text: &mut ArrayVec<u8, 1200>,
     style: TextStyle,
     matrix: &Matrix,
@@ -228,61 +311,7 @@ fn push_quads(
     }
 }
 
-// Adds the cells of the columns of the square after those.
-#[inline(always)]
-fn push_rest(text: &mut ArrayVec<u8, 1200>, style: TextStyle, matrix: &Matrix, margin: u8, row: u16)
-    requires row_in { row < 2000 }
-    requires room { array_vec_len text.old + matrix.now.side % 4 * cell_room style ≤ 1200 }
-    ensures { text.new.items ≡ text.old.items
-        ++ texts_below (matrix.now.side % 4) (λ i. cell_at style margin matrix.now row (margin + (matrix.now.side / 4 * 4 + i))) }
-{
-    let first = u16::from(margin) + u16::from(matrix.side() / 4 * 4);
-    for rest in 0..matrix.side() % 4 {
-        let x = first + u16::from(rest);
-        let upper = is_dark_at(matrix, margin, row, x);
-        push_cell(text, style, upper, is_dark_at(matrix, margin, row + 1, x));
-    }
-}
-
-// Adds the cells of the columns of the square.
-#[inline(always)]
-fn push_columns(
-    text: &mut ArrayVec<u8, 1200>,
-    style: TextStyle,
-    matrix: &Matrix,
-    margin: u8,
-    row: u16,
-)
-    requires row_in { row < 2000 }
-    requires room { array_vec_len text.old + matrix.now.side * cell_room style ≤ 1200 }
-    ensures { text.new.items
-        ≡ text.old.items ++ texts_below matrix.now.side (λ i. cell_at style margin matrix.now row (margin + i)) }
-{
-    push_quads(text, style, matrix, margin, row);
-    push_rest(text, style, matrix, margin, row);
-}
-
-// The same, with a copy of the loops for each style, so that they look at no style.
-fn push_square(
-    text: &mut ArrayVec<u8, 1200>,
-    style: TextStyle,
-    matrix: &Matrix,
-    margin: u8,
-    row: u16,
-)
-    requires row_in { row < 2000 }
-    requires room { array_vec_len text.old + matrix.now.side * cell_room style ≤ 1200 }
-    ensures { text.new.items
-        ≡ text.old.items ++ texts_below matrix.now.side (λ i. cell_at style margin matrix.now row (margin + i)) }
-{
-    match style {
-        TextStyle::Plain => push_columns(text, TextStyle::Plain, matrix, margin, row),
-        TextStyle::Inverse => push_columns(text, TextStyle::Inverse, matrix, margin, row),
-        TextStyle::HalfBlocks => push_columns(text, TextStyle::HalfBlocks, matrix, margin, row),
-    }
-}
-
-// Puts a line: the margin, the square's cells, the margin again.
+// Puts a line: the margin, the columns of the square by fours, and the columns and the margin after those.
 fn put_line<W: Sink>(
     pen: &mut Pen,
     out: &mut W,
@@ -295,13 +324,24 @@ fn put_line<W: Sink>(
     ensures { Puts (W.device out.old) (W.device out.new)
         pen.old pen.new (cells_of_line style margin matrix.now y ++ 10 ∷ []) result }
 {
-    let light = usize::from(margin) * cell_room(style);
-    pen.reserve(out, light)?;
-    push_light(&mut pen.piece, style, margin);
-    pen.reserve(out, usize::from(matrix.side()) * cell_room(style))?;
-    push_square(&mut pen.piece, style, matrix, margin, top_row(style, y));
-    pen.reserve(out, light + 1)?;
-    push_light(&mut pen.piece, style, margin);
+    let room = cell_room(style);
+    let row = top_row(style, y);
+    let first = u16::from(margin);
+    let rest = u16::from(matrix.side() % 4) + first;
+    pen.reserve(out, usize::from(margin) * room)?;
+    push_cells(&mut pen.piece, style, matrix, margin, row, 0, first);
+    pen.reserve(out, usize::from(matrix.side()) * room)?;
+    push_quads(&mut pen.piece, style, matrix, margin, row);
+    pen.reserve(out, usize::from(rest) * room + 1)?;
+    push_cells(
+        &mut pen.piece,
+        style,
+        matrix,
+        margin,
+        row,
+        first + u16::from(matrix.side() / 4 * 4),
+        rest,
+    );
     pen.piece.push(b'\n');
     Ok(())
 }

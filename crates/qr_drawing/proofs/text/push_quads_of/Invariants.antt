@@ -1,7 +1,7 @@
 use Rattle.std.proofs.Common.{◌≡◌, ◌≤◌, ◌+◌, ◌-◌, ◌*◌, ◌/◌, ◌%◌, ◌++◌}
 use Rattle.qr_drawing.specs.Raster.{texts_below}
 use Rattle.qr_drawing.specs.Steps.Text.{cell_at}
-use Rattle.qr_drawing.proofs.text.push_quads.Given as goal
+use Rattle.qr_drawing.proofs.text.push_quads_of.Given as goal
 
 abbrev pub invariant-quads : goal.invariant-quads
 invariant-quads l = record {

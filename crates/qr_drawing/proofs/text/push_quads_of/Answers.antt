@@ -3,7 +3,7 @@ use Rattle.qr_matrix.specs.Line.{has_bit}
 use Rattle.qr_drawing.specs.Steps.Text.{cell_at, cell_room, cell_text}
 use Rattle.qr_drawing.proofs.LineLemmas.{added_more, added_none}
 use Rattle.qr_drawing.proofs.CellLemmas.{cell-length, quad-cells, room-left}
-use Rattle.qr_drawing.proofs.text.push_quads.Goals as goal
+use Rattle.qr_drawing.proofs.text.push_quads_of.Goals as goal
 
 pub quads-init : goal.quads-init
 quads-init c = record {
