@@ -255,13 +255,10 @@ fn push_cells_of(
     ensures { text.new.items ≡ text.old.items ++ texts_below count (λ i. cell_at style margin matrix.now row (first + i)) }
 {
     for done in 0..count {
-        let upper = is_dark_at(matrix, margin, row, first + done);
-        push_cell(
-            text,
-            style,
-            upper,
-            is_dark_at(matrix, margin, row + 1, first + done),
-        );
+        let x = first + done;
+        let upper = is_dark_at(matrix, margin, row, x);
+        let lower = is_dark_at(matrix, margin, row + 1, x);
+        push_cell(text, style, upper, lower);
     }
 }
 

@@ -19,4 +19,4 @@ push_cell-requires c =
 pub loop-done-preserved : goal.loop-done-preserved
 loop-done-preserved c =
     added_next c.args.text.now.items _ _ _ (λ i. cell_at c.args.style c.args.margin c.args.matrix.now c.args.row (c.args.first + i))
-    c.loop-done.invariant (rw (c.is_dark_at-upper.ensures, c.is_dark_at.ensures) at c.push_cell.ensures)
+    c.loop-done.invariant (rw (c.is_dark_at-upper.ensures, c.is_dark_at-lower.ensures) at c.push_cell.ensures)
