@@ -38,10 +38,6 @@ all-others = refl
 other-bit : (b k : ℕ) → b < 16 → k < 4 → has_bit (15 - b) k ≡ not (has_bit b k)
 other-bit b k l m = same-same (has_bit (15 - b) k) (not (has_bit b k)) (below-at 4 (λ k. is_same (has_bit (15 - b) k) (not (has_bit b k))) (below-at 16 (λ b. all_below 4 (λ k. is_same (has_bit (15 - b) k) (not (has_bit b k)))) all-others b l) k m)
 
--- four modules and no others below them
-pub quad-plain : (upper lower : ℕ) → quad_text Plain upper 0 ≡ quad_text Plain upper lower
-quad-plain upper lower = refl
-
 -- four modules of an inverse text
 pub quad-inverse : (upper lower : ℕ) → upper < 16 → quad_text Plain (15 - upper) 0 ≡ quad_text Inverse upper lower
 quad-inverse upper lower small =

@@ -99,12 +99,8 @@ module _ (top margin row col end : ℕ) (g : Grid) (row_in : row < g.side) (run 
 
   -- after a dark one is a light place
   run-stops : colour g row col ≡ true → is_dark_at margin g (margin + row) (margin + end) ≡ false
-  run-stops dark =
-      let none : g.side ≤ end → is_dark_at margin g (margin + row) (margin + end) ≡ false =
-      λ le. is_dark_at-right margin (margin + row) (margin + end) g (omega arith) in
-      let some : end < g.side → is_dark_at margin g (margin + row) (margin + end) ≡ false =
-      λ lt. is_dark_at-inside margin row end g row_in lt ∙ other _ _ (run.differs lt) dark in
-      ⊎_elim (λ (e : end ≡ g.side). none (omega arith)) some (eq-or-lt_of_le run.within)
+  run-stops dark = ⊎_elim (λ (e : end ≡ g.side). is_dark_at-right margin (margin + row) (margin + end) g (omega arith))
+      (λ (lt : end < g.side). is_dark_at-inside margin row end g row_in lt ∙ other _ _ (run.differs lt) dark) (eq-or-lt_of_le run.within)
 
   -- the places of a light one have no paths
   pub light_run : colour g row col ≡ false
@@ -128,12 +124,10 @@ module _ (top margin row col end : ℕ) (g : Grid) (row_in : row < g.side) (run 
   before-dark dark first some =
       let v = run.after in
       let w = run.within in
-      let none : col ≡ 0 → is_dark_at margin g (margin + row) (margin + col - 1) ≡ false =
-      λ e. is_dark_at-left margin (margin + row) (margin + col - 1) g (omega arith) in
-      let e : 0 < col → margin + (col - 1) ≡ margin + col - 1 = λ lt. omega arith in
-      let more : 0 < col → is_dark_at margin g (margin + row) (margin + col - 1) ≡ false =
-      λ lt. rw (← e lt) (is_dark_at-inside margin row (col - 1) g row_in (omega arith) ∙ other _ _ (first lt) dark) in
-      ⊎_elim (λ (z : 0 ≡ col). none (sym z)) more (eq-or-lt_of_le (omega arith))
+      let e : 0 < col → margin + col - 1 ≡ margin + (col - 1) = λ lt. omega arith in
+      ⊎_elim (λ (z : 0 ≡ col). is_dark_at-left margin (margin + row) (margin + col - 1) g (omega arith))
+      (λ (lt : 0 < col). ap (is_dark_at margin g (margin + row)) (e lt)
+      ∙ (is_dark_at-inside margin row (col - 1) g row_in (omega arith) ∙ other _ _ (first lt) dark)) (eq-or-lt_of_le (omega arith))
 
   -- a dark one is so long
   dark_length : colour g row col ≡ true → run_length margin g (margin + row) (margin + col) ≡ end - col
@@ -163,8 +157,7 @@ module _ (top margin row col end : ℕ) (g : Grid) (row_in : row < g.side) (run 
 -- the paths of a row to the left of the symbol are none
 pub row_begins : (top margin y : ℕ) (g : Grid) → texts_below (margin + 0) (run_path top margin g y) ≡ []
 row_begins top margin y g =
-    let e : margin + 0 ≡ margin = omega arith in
-    rw e (texts_below-none margin (run_path top margin g y) (λ k lt. run_path-light top margin y k g (is_dark_at-left margin y k g lt)))
+    texts_below-none (margin + 0) (run_path top margin g y) (λ k lt. run_path-light top margin y k g (is_dark_at-left margin y k g (omega arith)))
 
 -- nor are there any to its right
 pub row_ends : (top margin y col : ℕ) (g : Grid) → col ≡ g.side → row_path top margin g y ≡ texts_below (margin + col) (run_path top margin g y)
@@ -182,8 +175,7 @@ row_path-light top margin y g none =
 -- the paths of a symbol above its square are none
 pub symbol_begins : (top margin : ℕ) (g : Grid) → texts_below (margin + 0) (row_path top margin g) ≡ []
 symbol_begins top margin g =
-    let e : margin + 0 ≡ margin = omega arith in
-    rw e (texts_below-none margin (row_path top margin g) (λ k lt. row_path-light top margin k g (λ x. is_dark_at-above margin k x g lt)))
+    texts_below-none (margin + 0) (row_path top margin g) (λ k lt. row_path-light top margin k g (λ x. is_dark_at-above margin k x g (omega arith)))
 
 -- nor are there any below it
 pub symbol_ends : (top margin row : ℕ) (g : Grid) → row ≡ g.side → symbol_path top margin g ≡ texts_below (margin + row) (row_path top margin g)

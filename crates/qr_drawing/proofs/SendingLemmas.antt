@@ -41,22 +41,13 @@ flushes-after v w len (Err Failed) e = rw e refl
 -- a write after well ones is still within bounds
 within-after : (v w : WriteCounts) (len tries : ℕ) (r : Result ℕ Trouble) → w ≡ write_counted len r v → IsWell v tries → IsWrittenWithin w
 within-after v w len tries (Ok n) e h =
-    let f = h.failed in
-    let z = h.zeros in
-    let t = h.tried in
-    let few = h.few in
+    let f = h.failed in let z = h.zeros in let t = h.tried in let few = h.few in
     rw e (record { faults = rw (f, z) (grind (arith, nat_tests)); interrupted = rw t (omega arith) })
 within-after v w len tries (Err Interrupted) e h =
-    let f = h.failed in
-    let z = h.zeros in
-    let t = h.tried in
-    let few = h.few in
+    let f = h.failed in let z = h.zeros in let t = h.tried in let few = h.few in
     rw e (record { faults = rw (f, z) (omega arith); interrupted = rw t (omega arith) })
 within-after v w len tries (Err Failed) e h =
-    let f = h.failed in
-    let z = h.zeros in
-    let t = h.tried in
-    let few = h.few in
+    let f = h.failed in let z = h.zeros in let t = h.tried in let few = h.few in
     rw e (record { faults = rw (f, z) (omega arith); interrupted = rw t (omega arith) })
 
 -- the writes of n bytes, and of some more
@@ -81,9 +72,9 @@ sends_more a b c bytes at len n i j k p le short some same q e =
     rw (take-add at n bytes, ← take-offered n len (drop at bytes) le) (writes_on a b c i j k [] [] [] (take at bytes) (take n buf) p one)
 
 -- a write was interrupted, and is tried again
-pub sends_again : (a b c : Writer) (text : List ℕ) (len i j : ℕ) (t : Trouble) → t ≡ Interrupted → Writes a b i j text [] → len ≤ 1200 → j < 999
-    → Keeps b.taken c.taken → c.counts ≡ write_counted len (Err t) b.counts → Writes a c i (j + 1) text []
-sends_again a b c text len i j Interrupted is p short few q e =
+pub sends_again : (a b c : Writer) (text : List ℕ) (len i j : ℕ) → Writes a b i j text [] → len ≤ 1200 → j < 999
+    → Keeps b.taken c.taken → c.counts ≡ write_counted len (Err Interrupted) b.counts → Writes a c i (j + 1) text []
+sends_again a b c text len i j p short few q e =
     let one : Writes b c j (j + 1) [] [] = record {
       sends = record {
         sent = [];
@@ -96,7 +87,6 @@ sends_again a b c text len i j Interrupted is p short few q e =
       flushes = flushes-after b.counts c.counts len (Err Interrupted) e;
     } in
     rw (← append-nil text) (writes_on a b c i j (j + 1) [] [] [] text [] p one)
-sends_again a b c text len i j Failed is p short few q e = cc
 
 -- a write took nothing, and no other comes after it
 refused : (a b c : Writer) (text : List ℕ) (at len i j : ℕ) (r : Result ℕ Trouble) → Writes a b i j (take at text) [] → len ≤ 1200
@@ -122,16 +112,14 @@ refused-zero a b c text buf at n i j none p some short q e =
     (λ h. let f = h.failed in let z = h.zeros in rw (e, none, f, z) (grind (arith, nat_tests)))
 
 -- it failed
-pub refused-failed : (a b c : Writer) (text : List ℕ) (at len i j : ℕ) (t : Trouble) → t ≡ Failed → Writes a b i j (take at text) [] → len ≤ 1200
-    → Keeps b.taken c.taken → c.counts ≡ write_counted len (Err t) b.counts → Stops a c i text
-refused-failed a b c text at len i j Failed is p short q e =
+pub refused-failed : (a b c : Writer) (text : List ℕ) (at len i j : ℕ) → Writes a b i j (take at text) [] → len ≤ 1200
+    → Keeps b.taken c.taken → c.counts ≡ write_counted len (Err Failed) b.counts → Stops a c i text
+refused-failed a b c text at len i j p short q e =
     refused a b c text at len i j (Err Failed) p short q e (λ fits. rw e (omega arith)) (λ h. let f = h.failed in rw (e, f) refl)
-refused-failed a b c text at len i j Interrupted is p short q e = cc
 
 -- it was interrupted for the 1,000th time
-pub refused-tried : (a b c : Writer) (text : List ℕ) (at len i j : ℕ) (t : Trouble) → t ≡ Interrupted → j ≡ 999 → Writes a b i j (take at text) [] → len ≤ 1200
-    → Keeps b.taken c.taken → c.counts ≡ write_counted len (Err t) b.counts → Stops a c i text
-refused-tried a b c text at len i j Interrupted is last p short q e =
+pub refused-tried : (a b c : Writer) (text : List ℕ) (at len i j : ℕ) → j ≡ 999 → Writes a b i j (take at text) [] → len ≤ 1200
+    → Keeps b.taken c.taken → c.counts ≡ write_counted len (Err Interrupted) b.counts → Stops a c i text
+refused-tried a b c text at len i j last p short q e =
     refused a b c text at len i j (Err Interrupted) p short q e (λ fits. rw e (omega arith))
     (λ h. let f = h.failed in let z = h.zeros in let i : b.counts.interrupted ≡ 999 = h.tried ∙ last in rw (e, f, z, i) refl)
-refused-tried a b c text at len i j Failed is last p short q e = cc

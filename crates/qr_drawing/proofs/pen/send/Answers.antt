@@ -28,17 +28,17 @@ offers-preserved g c =
     record {
       within = c.offers.invariant.within;
       few = omega arith;
-      writes = sends_again _ _ _ _ _ _ _ _ c.in-Err-Interrupted.field-0-is c.offers.invariant.writes (grind (arith, common_steps)) (omega arith)
-          c.in-Err-Interrupted.ensures.bytes c.in-Err-Interrupted.ensures.counted;
+      writes = sends_again _ _ _ _ _ _ _ c.offers.invariant.writes (grind (arith, common_steps)) (omega arith)
+          c.in-Err-Interrupted.ensures.bytes (rw c.in-Err-Interrupted.field-0-is at c.in-Err-Interrupted.ensures.counted);
     }
 
 pub returns-then-tries-eq-INTERRUPTIONS_MAX-clause-writes :
     goal.returns-then-tries-eq-INTERRUPTIONS_MAX-clause-writes
 returns-then-tries-eq-INTERRUPTIONS_MAX-clause-writes g c =
-    refused-tried _ _ _ _ _ _ _ _ _ c.in-Err-Interrupted.field-0-is c.if-tries-eq-INTERRUPTIONS_MAX.true c.offers.invariant.writes
-    (grind (arith, common_steps)) c.in-Err-Interrupted.ensures.bytes c.in-Err-Interrupted.ensures.counted
+    refused-tried _ _ _ _ _ _ _ _ c.if-tries-eq-INTERRUPTIONS_MAX.true c.offers.invariant.writes
+    (grind (arith, common_steps)) c.in-Err-Interrupted.ensures.bytes (rw c.in-Err-Interrupted.field-0-is at c.in-Err-Interrupted.ensures.counted)
 
 pub returns-in-Err-Failed-clause-writes : goal.returns-in-Err-Failed-clause-writes
 returns-in-Err-Failed-clause-writes g c =
-    refused-failed _ _ _ _ _ _ _ _ _ c.in-Err-Failed.field-0-is c.offers.invariant.writes (grind (arith, common_steps))
-    c.in-Err-Failed.ensures.bytes c.in-Err-Failed.ensures.counted
+    refused-failed _ _ _ _ _ _ _ _ c.offers.invariant.writes (grind (arith, common_steps))
+    c.in-Err-Failed.ensures.bytes (rw c.in-Err-Failed.field-0-is at c.in-Err-Failed.ensures.counted)
