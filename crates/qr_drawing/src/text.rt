@@ -76,7 +76,8 @@ fn push_module(text: &mut ArrayVec<u8, 1200>, dark: bool)
 // Adds two modules as a character of half blocks, whose filled parts are light.
 fn push_half_block(text: &mut ArrayVec<u8, 1200>, upper: bool, lower: bool)
     requires room { array_vec_len text.old + 3 ≤ 1200 }
-    ensures { text.new.items ≡ text.old.items ++ half_blocks upper lower }
+    ensures items { text.new.items ≡ text.old.items ++ half_blocks upper lower }
+    ensures len { array_vec_len text.new ≤ array_vec_len text.old + 3 }
 {
     let last = match (upper, lower) {
         (true, true) => {
@@ -161,6 +162,7 @@ fn ascii_quad(bits: u8) -> [u8; 8]
 }
 
 // Whether one of the lowest four bits is set.
+#[tactic(auto, using(std::proofs::lemmas::Nat::Bits::shr_and_one), unfolding(qr_matrix::specs::Line::has_bit))]
 fn is_set(bits: u8, place: u8) -> bool
     requires { place < 4 }
     ensures { result ≡ has_bit bits place }
@@ -173,9 +175,10 @@ fn push_half_block_quad(text: &mut ArrayVec<u8, 1200>, upper: u8, lower: u8)
     requires room { array_vec_len text.old + 12 ≤ 1200 }
     ensures { text.new.items ≡ text.old.items ++ quad_text HalfBlocks upper lower }
 {
-    for place in 0..4u8 {
-        push_half_block(text, is_set(upper, place), is_set(lower, place));
-    }
+    push_half_block(text, is_set(upper, 0), is_set(lower, 0));
+    push_half_block(text, is_set(upper, 1), is_set(lower, 1));
+    push_half_block(text, is_set(upper, 2), is_set(lower, 2));
+    push_half_block(text, is_set(upper, 3), is_set(lower, 3));
 }
 
 // Adds four cells, of which the first is the lowest bit.
