@@ -1,6 +1,6 @@
 -- Decimal digits that are put one after the other.
 use Rattle.std.proofs.Common.{◌≡◌, ℕ, ◌+◌, ◌/◌, ◌%◌, ◌<◌, ◌≤◌, ◌^◌, List, [], ◌∷◌, ◌++◌, sym, ◌∙◌, ap, append_assoc}
-use Rattle.std.specs.Prelude.{decimal}
+use Rattle.std.specs.Prelude.{codes, decimal}
 use Rattle.std.proofs.lemmas.Fmt.{decimal_digit, decimal_step}
 use Rattle.qr_drawing.specs.Svg.{box_path, numbered}
 
@@ -13,13 +13,14 @@ pub more-digits : (h s t : List ℕ) (n : ℕ) → 10 ≤ n → n < 2 ^ 64 → s
 more-digits h s t n le small e f =
     f ∙ (ap (λ l. l ++ (48 + n % 10) ∷ []) e ∙ (append_assoc h (decimal (n / 10)) ((48 + n % 10) ∷ []) ∙ ap (λ l. h ++ l) (sym (decimal_step n le small))))
 
--- twelve pieces, put one after the other after a text
-pieces : (t e a f b g c h i j k l m : List ℕ)
-    → (((((((((((t ++ e) ++ a) ++ f) ++ b) ++ g) ++ c) ++ h) ++ i) ++ j) ++ k) ++ l) ++ m ≡ t ++ (((((e ++ a) ++ (f ++ b)) ++ (g ++ c)) ++ ((h ++ (i ++ (j ++ k))) ++ l)) ++ m)
-pieces t e a f b g c h i j k l m = simp append_assoc
+-- nine pieces, added one after the other to a text
+pieces : (t e a f b g c h l m : List ℕ)
+    → ((((((((t ++ e) ++ a) ++ f) ++ b) ++ g) ++ c) ++ h) ++ l) ++ m ≡ t ++ (((((e ++ a) ++ (f ++ b)) ++ (g ++ c)) ++ (h ++ l)) ++ m)
+pieces t e a f b g c h l m = simp append_assoc
 
 -- the path round a run, piece by piece
 pub box-joined : (t : List ℕ) (x y m : ℕ)
-    → (((((((((((t ++ 77 ∷ []) ++ decimal x) ++ 32 ∷ []) ++ decimal y) ++ 104 ∷ []) ++ decimal m) ++ 118 ∷ []) ++ 49 ∷ []) ++ 104 ∷ []) ++ 45 ∷ []) ++ decimal m) ++ 122 ∷ [] ≡ t ++ box_path x y m
+    → ((((((((t ++ codes "M") ++ decimal x) ++ codes " ") ++ decimal y) ++ codes "h") ++ decimal m) ++ codes "v1h-") ++ decimal m) ++ codes "z"
+    ≡ t ++ box_path x y m
 unfolding box_path numbered
-box-joined t x y m = pieces t (77 ∷ []) (decimal x) (32 ∷ []) (decimal y) (104 ∷ []) (decimal m) (118 ∷ []) (49 ∷ []) (104 ∷ []) (45 ∷ []) (decimal m) (122 ∷ [])
+box-joined t x y m = pieces t (codes "M") (decimal x) (codes " ") (decimal y) (codes "h") (decimal m) (codes "v1h-") (decimal m) (codes "z")

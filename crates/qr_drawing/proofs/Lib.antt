@@ -1,6 +1,6 @@
+mod CellLemmas
+mod DigitLemmas
 mod LineLemmas
 mod PathLemmas
 mod SendingLemmas
 mod WritingLemmas
-pub mod FourCellLemmas
-pub mod DigitLemmas

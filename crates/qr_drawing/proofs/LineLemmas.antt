@@ -1,13 +1,13 @@
--- How the texts of places join while they are put.
-use Rattle.std.proofs.Common.{◌≡◌, ◌++◌, ◌∙◌, ◌<◌, ◌≤◌, ◌+◌, ◌-◌, ℕ, zero, suc, List, [], ◌∷◌, MatchResult, Result, Ok, Err, refl, sym, ap, subst, arith, append_assoc, append-nil, map, take, drop, length, get_or}
+-- How the texts of places join while they are formed and put.
+use Rattle.std.proofs.Common.{◌≡◌, ◌++◌, ◌∙◌, ◌<◌, ◌≤◌, ◌+◌, ◌-◌, ◌*◌, ℕ, zero, suc, List, [], ◌∷◌, refl, sym, ap, arith, append_assoc, append-nil, take, length, length-append, get_or}
+use Rattle.std.proofs.Math.Nat.{suc-mul}
 use Rattle.std.specs.List.{flat_map, range_with_len}
 use Rattle.std.proofs.lemmas.Grind.{flat_map-append}
-use Rattle.std.proofs.lemmas.List.{take_more, take-append-drop}
+use Rattle.std.proofs.lemmas.List.{take_all, take_more}
 use Rattle.qr_devices.specs.Device.{Writer}
 use Rattle.qr_drawing.specs.Raster.{texts_below}
 use Rattle.qr_drawing.specs.Steps.Writing.{Stops, Writes}
-use Rattle.qr_drawing.specs.declared.pen.DrawFault.{DrawFault}
-use Rattle.qr_drawing.proofs.WritingLemmas.{stops_before, writes_none, writes_on, writes_stop}
+use Rattle.qr_drawing.proofs.WritingLemmas.{stops_first, writes_none, writes_on, writes_stop}
 
 -- n + 1 numbers are n numbers and one more
 range-more : (a n : ℕ) → range_with_len a (n + 1) ≡ range_with_len a n ++ (a + n) ∷ []
@@ -18,24 +18,15 @@ range-more a (suc n) =
     rw (e, f) (ap (λ l. a ∷ l) (range-more (a + 1) n))
 
 -- the texts of n + 1 places are those of n places and one more
-pub texts_below-more : (n : ℕ) (text : ℕ → List ℕ) → texts_below (n + 1) text ≡ texts_below n text ++ text n
+texts_below-more : (n : ℕ) (text : ℕ → List ℕ) → texts_below (n + 1) text ≡ texts_below n text ++ text n
 unfolding texts_below
 texts_below-more n text =
     let e : 0 + n ≡ n = omega arith in
     rw (range-more 0 n, e) (flat_map-append text (range_with_len 0 n) (n ∷ []) ∙ ap (λ l. flat_map text (range_with_len 0 n) ++ l) (append-nil (text n)))
 
--- the texts of n places begin with those of the places up to k
-pub texts_below-split : (k d : ℕ) (text : ℕ → List ℕ) → (rest : List ℕ) × (texts_below (k + 1 + d) text ≡ (texts_below k text ++ text k) ++ rest)
-texts_below-split k zero text =
-    let e : k + 1 + 0 ≡ k + 1 = omega arith in
-    ([], rw e (texts_below-more k text ∙ sym (append-nil (texts_below k text ++ text k))))
-texts_below-split k (suc d) text =
-    let e : k + 1 + suc d ≡ k + 1 + d + 1 = omega arith in
-    let r = texts_below-split k d text in (
-      r.0 ++ text (k + 1 + d),
-      rw e (texts_below-more (k + 1 + d) text ∙ ap (λ l. l ++ text (k + 1 + d)) r.1
-          ∙ append_assoc (texts_below k text ++ text k) r.0 (text (k + 1 + d))),
-    )
+-- the same with the successor as it is matched
+texts_below-suc : (n : ℕ) (text : ℕ → List ℕ) → texts_below (suc n) text ≡ texts_below n text ++ text n
+texts_below-suc n text = let e : suc n ≡ n + 1 = omega arith in ap (λ k. texts_below k text) e ∙ texts_below-more n text
 
 -- the texts of n places and of d more
 pub texts_below-add : (n d : ℕ) (text : ℕ → List ℕ) → texts_below (n + d) text ≡ texts_below n text ++ texts_below d (λ i. text (n + i))
@@ -45,95 +36,104 @@ texts_below-add n zero text =
     rw e (sym (append-nil (texts_below n text)))
 texts_below-add n (suc d) text =
     let e : n + suc d ≡ n + d + 1 = omega arith in
-    let f : d + 1 ≡ suc d = omega arith in
     ap (λ k. texts_below k text) e ∙ (texts_below-more (n + d) text
     ∙ (ap (λ l. l ++ text (n + d)) (texts_below-add n d text)
     ∙ (append_assoc (texts_below n text) (texts_below d (λ i. text (n + i))) (text (n + d))
-    ∙ ap (λ l. texts_below n text ++ l) (sym (texts_below-more d (λ i. text (n + i))) ∙ ap (λ k. texts_below k (λ i. text (n + i))) f))))
+    ∙ ap (λ l. texts_below n text ++ l) (sym (texts_below-suc d (λ i. text (n + i)))))))
 
--- before the first place nothing was put
-pub put_none : (a : Writer) (i : ℕ) (h : List ℕ) (text : ℕ → List ℕ) → Writes a a i i (h ++ texts_below 0 text) h
+-- there are no texts where all are empty
+pub texts_below-none : (n : ℕ) (text : ℕ → List ℕ) → ((k : ℕ) → k < n → text k ≡ []) → texts_below n text ≡ []
 unfolding texts_below
-put_none a i h text = writes_none a i h
+texts_below-none zero text none = refl
+texts_below-none (suc n) text none =
+    texts_below-suc n text ∙ (λ i. texts_below-none n text (λ k lt. none k (omega arith)) i ++ none n (omega arith) i)
 
--- the text of the next place was put
-pub put_next : (a b c : Writer) (i j k n : ℕ) (h0 h1 h2 : List ℕ) (text : ℕ → List ℕ)
-    → Writes a b i j (h0 ++ texts_below n text) h1 → Writes b c j k (h1 ++ text n) h2 → Writes a c i k (h0 ++ texts_below (n + 1) text) h2
-put_next a b c i j k n h0 h1 h2 text p q = rw (texts_below-more n text) (writes_on a b c i j k h0 h1 h2 (texts_below n text) (text n) p q)
+-- the texts below n are those below m, where those between are empty
+pub texts_below-same : (m n : ℕ) (text : ℕ → List ℕ) → m ≤ n → ((k : ℕ) → m ≤ k → k < n → text k ≡ []) → texts_below n text ≡ texts_below m text
+texts_below-same m n text le none =
+    let e : n ≡ m + (n - m) = omega arith in
+    ap (λ k. texts_below k text) e ∙ texts_below-add m (n - m) text
+    ∙ ap (λ l. texts_below m text ++ l) (texts_below-none (n - m) (λ i. text (m + i)) (λ k lt. none (m + k) (omega arith) (omega arith)))
+    ∙ append-nil (texts_below m text)
 
--- the text of the next place of m stopped
-pub put_stops : (a b c : Writer) (i j n m : ℕ) (h0 h1 : List ℕ) (text : ℕ → List ℕ) → n < m
-    → Writes a b i j (h0 ++ texts_below n text) h1 → Stops b c j (h1 ++ text n) → Stops a c i (h0 ++ texts_below m text)
-put_stops a b c i j n m h0 h1 text lt p q =
-    let s : Stops a c i (h0 ++ (texts_below n text ++ text n)) = writes_stop a b c i j h0 h1 (texts_below n text) (text n) p q in
-    let r = texts_below-split n (m - (n + 1)) text in
-    let e : n + 1 + (m - (n + 1)) ≡ m = omega arith in
-    let whole : (h0 ++ (texts_below n text ++ text n)) ++ r.0 ≡ h0 ++ texts_below m text =
-    append_assoc h0 (texts_below n text ++ text n) r.0 ∙ ap (λ l. h0 ++ l) (sym r.1 ∙ ap (λ k. texts_below k text) e) in
-    subst (λ l. Stops a c i l) whole (stops_before a c i _ r.0 s)
+-- texts that are the same place by place
+pub texts_below-alike : (n : ℕ) (f g : ℕ → List ℕ) → ((k : ℕ) → k < n → f k ≡ g k) → texts_below n f ≡ texts_below n g
+unfolding texts_below
+texts_below-alike zero f g h = refl
+texts_below-alike (suc n) f g h =
+    texts_below-suc n f ∙ (λ i. texts_below-alike n f g (λ k lt. h k (omega arith)) i ++ h n (omega arith) i) ∙ sym (texts_below-suc n g)
 
--- a text was put after another, or stopped
-pub put_then : {T : Type 0} (a b c : Writer) (i j k : ℕ) (h0 h1 h2 x y : List ℕ) (r : Result T DrawFault) → Writes a b i j (h0 ++ x) h1
-    → MatchResult r (λ _. Writes b c j k (h1 ++ y) h2) (λ _. Stops b c j (h1 ++ y))
-    → MatchResult r (λ _. Writes a c i k (h0 ++ (x ++ y)) h2) (λ _. Stops a c i (h0 ++ (x ++ y)))
-put_then a b c i j k h0 h1 h2 x y (Ok t) p q = writes_on a b c i j k h0 h1 h2 x y p q
-put_then a b c i j k h0 h1 h2 x y (Err e) p q = writes_stop a b c i j h0 h1 x y p q
+-- n texts of at most b bytes
+pub texts_below-length : (n b : ℕ) (text : ℕ → List ℕ) → ((k : ℕ) → length (text k) ≤ b) → length (texts_below n text) ≤ n * b
+unfolding texts_below
+texts_below-length zero b text most = omega arith
+texts_below-length (suc n) b text most =
+    let l = ap (λ l. length l) (texts_below-suc n text) ∙ length-append (texts_below n text) (text n) in
+    let m = most n in
+    let r = texts_below-length n b text most in
+    let p : suc n * b ≡ n * b + b = suc-mul n b in
+    omega arith
 
--- what stopped in the first of two texts stopped in both
-pub stops_first : (a b : Writer) (i : ℕ) (h x y : List ℕ) → Stops a b i (h ++ x) → Stops a b i (h ++ (x ++ y))
-stops_first a b i h x y p = subst (λ l. Stops a b i l) (append_assoc h x y) (stops_before a b i (h ++ x) y p)
+-- the texts of the first n items of a list
+texts-of-first : {A : Type 0} (text : A → List ℕ) (xs : List A) (d : A) (n : ℕ) → n ≤ length xs
+    → flat_map text (take n xs) ≡ texts_below n (λ k. text (get_or xs k d))
+unfolding texts_below
+texts-of-first text xs d zero le = refl
+texts-of-first text xs d (suc n) le =
+    let e : suc n ≡ n + 1 = omega arith in
+    ap (λ k. flat_map text (take k xs)) e ∙ ap (λ l. flat_map text l) (take_more xs n d (omega arith))
+    ∙ flat_map-append text (take n xs) (get_or xs n d ∷ [])
+    ∙ (λ i. texts-of-first text xs d n (omega arith) i ++ append-nil (text (get_or xs n d)) i)
+    ∙ sym (texts_below-suc n (λ k. text (get_or xs k d)))
 
--- the texts of images are those of what they are images of
-pub flat_map-map : {A B : Type 0} (f : A → B) (text : B → List ℕ) (xs : List A)
-    → flat_map text (map f xs) ≡ flat_map (λ x. text (f x)) xs
-flat_map-map f text [] = refl
-flat_map-map f text (x ∷ xs) = ap (λ l. text (f x) ++ l) (flat_map-map f text xs)
+-- the texts of a list's items, place by place
+pub texts-of-items : {A : Type 0} (text : A → List ℕ) (xs : List A) (d : A) → flat_map text xs ≡ texts_below (length xs) (λ k. text (get_or xs k d))
+texts-of-items text xs d =
+    ap (λ l. flat_map text l) (sym (take_all (length xs) xs (omega arith))) ∙ texts-of-first text xs d (length xs) (omega arith)
 
-module _ {A : Type 0} (text : A → List ℕ) where
-  -- the texts of n + 1 items are those of n items and the next one's
-  items-more : (xs : List A) (n : ℕ) (x : A) → n < length xs → x ≡ get_or xs n x
-      → flat_map text (take (n + 1) xs) ≡ flat_map text (take n xs) ++ text x
-  items-more xs n x lt e =
-      ap (λ l. flat_map text l) (take_more xs n x lt ∙ ap (λ y. take n xs ++ y ∷ []) (sym e))
-      ∙ flat_map-append text (take n xs) (x ∷ []) ∙ ap (λ l. flat_map text (take n xs) ++ l) (append-nil (text x))
+-- ---- texts that are formed
 
-  -- before the first item nothing was put
-  pub items_none : (a : Writer) (i : ℕ) (h : List ℕ) (xs : List A) → Writes a a i i (h ++ flat_map text (take 0 xs)) h
-  items_none a i h xs = writes_none a i h
+-- before the first place nothing was added
+pub added_none : (h : List ℕ) (f : ℕ → List ℕ) → h ≡ h ++ texts_below 0 f
+unfolding texts_below
+added_none h f = sym (append-nil h)
 
-  -- the text of the next item was put
-  pub items_next : (a b c : Writer) (i j k n : ℕ) (h0 h1 h2 : List ℕ) (xs : List A) (x : A) → n < length xs → x ≡ get_or xs n x
-      → Writes a b i j (h0 ++ flat_map text (take n xs)) h1 → Writes b c j k (h1 ++ text x) h2
-      → Writes a c i k (h0 ++ flat_map text (take (n + 1) xs)) h2
-  items_next a b c i j k n h0 h1 h2 xs x lt e p q =
-      rw (items-more xs n x lt e) (writes_on a b c i j k h0 h1 h2 (flat_map text (take n xs)) (text x) p q)
+-- the texts of d places more were added
+pub added_more : (h t u : List ℕ) (n d : ℕ) (f g : ℕ → List ℕ) → t ≡ h ++ texts_below n f → u ≡ t ++ texts_below d g
+    → texts_below d g ≡ texts_below d (λ i. f (n + i)) → u ≡ h ++ texts_below (n + d) f
+added_more h t u n d f g p q same =
+    q ∙ ap (λ l. l ++ texts_below d g) p ∙ append_assoc h (texts_below n f) (texts_below d g)
+    ∙ ap (λ l. h ++ (texts_below n f ++ l)) same ∙ ap (λ l. h ++ l) (sym (texts_below-add n d f))
 
-  -- the text of the next item stopped
-  pub items_stop : (a b c : Writer) (i j n : ℕ) (h0 h1 : List ℕ) (xs : List A) (x : A) → n < length xs → x ≡ get_or xs n x
-      → Writes a b i j (h0 ++ flat_map text (take n xs)) h1 → Stops b c j (h1 ++ text x) → Stops a c i (h0 ++ flat_map text xs)
-  items_stop a b c i j n h0 h1 xs x lt e p q =
-      let s : Stops a c i (h0 ++ flat_map text (take (n + 1) xs)) =
-      rw (items-more xs n x lt e) (writes_stop a b c i j h0 h1 (flat_map text (take n xs)) (text x) p q) in
-      let whole : (h0 ++ flat_map text (take (n + 1) xs)) ++ flat_map text (drop (n + 1) xs) ≡ h0 ++ flat_map text xs =
-      append_assoc h0 (flat_map text (take (n + 1) xs)) (flat_map text (drop (n + 1) xs))
-      ∙ ap (λ l. h0 ++ l) (sym (flat_map-append text (take (n + 1) xs) (drop (n + 1) xs)) ∙ ap (λ l. flat_map text l) (take-append-drop (n + 1) xs)) in
-      subst (λ l. Stops a c i l) whole (stops_before a c i _ (flat_map text (drop (n + 1) xs)) s)
+-- the text of the next place was added
+pub added_next : (h t u : List ℕ) (n : ℕ) (f : ℕ → List ℕ) → t ≡ h ++ texts_below n f → u ≡ t ++ f n → u ≡ h ++ texts_below (n + 1) f
+added_next h t u n f p q =
+    q ∙ ap (λ l. l ++ f n) p ∙ append_assoc h (texts_below n f) (f n) ∙ ap (λ l. h ++ l) (sym (texts_below-more n f))
 
--- the texts of the next d places were put
-pub put_more : (a b c : Writer) (i j k m n d : ℕ) (h0 h1 h2 : List ℕ) (text : ℕ → List ℕ) → m ≡ n
-    → Writes a b i j (h0 ++ texts_below n text) h1 → Writes b c j k (h1 ++ texts_below d (λ i. text (m + i))) h2 → Writes a c i k (h0 ++ texts_below (n + d) text) h2
-put_more a b c i j k m n d h0 h1 h2 text e p q =
-    let r = subst (λ z. Writes b c j k (h1 ++ texts_below d (λ i. text (z + i))) h2) e q in
-    rw (texts_below-add n d text) (writes_on a b c i j k h0 h1 h2 (texts_below n text) (texts_below d (λ i. text (n + i))) p r)
+-- ---- texts that are put
 
--- the texts of the next d places of o stopped
-pub more_stops : (a b c : Writer) (i j m n d o : ℕ) (h0 h1 : List ℕ) (text : ℕ → List ℕ) → m ≡ n → n + d ≤ o
-    → Writes a b i j (h0 ++ texts_below n text) h1 → Stops b c j (h1 ++ texts_below d (λ i. text (m + i))) → Stops a c i (h0 ++ texts_below o text)
-more_stops a b c i j m n d o h0 h1 text e lt p q =
-    let r = subst (λ z. Stops b c j (h1 ++ texts_below d (λ i. text (z + i)))) e q in
-    let s : Stops a c i (h0 ++ texts_below (n + d) text) = rw (texts_below-add n d text) (writes_stop a b c i j h0 h1 (texts_below n text) (texts_below d (λ i. text (n + i))) p r) in
-    let rest = texts_below (o - (n + d)) (λ i. text (n + d + i)) in
-    let f : n + d + (o - (n + d)) ≡ o = omega arith in
-    let whole : (h0 ++ texts_below (n + d) text) ++ rest ≡ h0 ++ texts_below o text =
-    append_assoc h0 (texts_below (n + d) text) rest ∙ ap (λ l. h0 ++ l) (sym (texts_below-add (n + d) (o - (n + d)) text) ∙ ap (λ k. texts_below k text) f) in
-    subst (λ l. Stops a c i l) whole (stops_before a c i _ rest s)
+-- before the first text that is not empty nothing was put
+pub put_none : (a : Writer) (i n : ℕ) (h : List ℕ) (text : ℕ → List ℕ) → texts_below n text ≡ [] → Writes a a i i (h ++ texts_below n text) h
+put_none a i n h text e = rw e (writes_none a i h)
+
+-- no places have no text
+pub no-texts : (text : ℕ → List ℕ) → texts_below 0 text ≡ []
+unfolding texts_below
+no-texts text = refl
+
+-- the text of place m was put, after which there is none before n
+pub put_next : (a b c : Writer) (i j k m n : ℕ) (h0 h1 h2 piece : List ℕ) (text : ℕ → List ℕ) → text m ≡ piece
+    → texts_below n text ≡ texts_below (m + 1) text
+    → Writes a b i j (h0 ++ texts_below m text) h1 → Writes b c j k (h1 ++ piece) h2 → Writes a c i k (h0 ++ texts_below n text) h2
+put_next a b c i j k m n h0 h1 h2 piece text here same p q =
+    rw (same, texts_below-more m text) (writes_on a b c i j k h0 h1 h2 (texts_below m text) (text m) p (rw here q))
+
+-- the text of place m of n stopped
+pub put_stops : (a b c : Writer) (i j m n : ℕ) (h0 h1 piece : List ℕ) (text : ℕ → List ℕ) → text m ≡ piece → m < n
+    → Writes a b i j (h0 ++ texts_below m text) h1 → Stops b c j (h1 ++ piece) → Stops a c i (h0 ++ texts_below n text)
+put_stops a b c i j m n h0 h1 piece text here lt p q =
+    let rest = texts_below (n - (m + 1)) (λ i. text (m + 1 + i)) in
+    let e : m + 1 + (n - (m + 1)) ≡ n = omega arith in
+    let whole : (texts_below m text ++ text m) ++ rest ≡ texts_below n text =
+    ap (λ l. l ++ rest) (sym (texts_below-more m text)) ∙ sym (texts_below-add (m + 1) (n - (m + 1)) text) ∙ ap (λ k. texts_below k text) e in
+    rw (← whole) (stops_first a c i h0 (texts_below m text ++ text m) rest (writes_stop a b c i j h0 h1 (texts_below m text) (text m) p (rw here q)))

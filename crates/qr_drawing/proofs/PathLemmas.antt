@@ -1,8 +1,8 @@
 -- Which paths stand in the rows of a raster, and how they join while they are put.
-use Rattle.std.proofs.Common.{◌≡◌, ◌≢◌, ◌≤◌, ◌<◌, ◌+◌, ◌-◌, ◌*◌, ◌++◌, ◌∙◌, ℕ, zero, suc, Bool, true, false, List, [], length, map, get_or, refl, sym, ap, arith, append-nil, ⊎_elim}
+use Rattle.std.proofs.Common.{◌≡◌, ◌≢◌, ◌≤◌, ◌<◌, ◌+◌, ◌-◌, ◌*◌, ◌++◌, ◌∙◌, ℕ, zero, suc, Bool, true, false, List, [], length, map, get_or, refl, sym, ap, arith, append_assoc, ⊎_elim}
 use Rattle.std.specs.Prelude.{codes}
 use Rattle.std.proofs.Math.Nat.{eq-or-lt_of_le, suc-mul}
-use Rattle.std.specs.List.{prefix_len, range_with_len}
+use Rattle.std.specs.List.{flat_map, prefix_len, range_with_len}
 use Rattle.std.proofs.lemmas.Bool.Decides.{nat_tests}
 use Rattle.std.proofs.lemmas.List.{get_or-map, length-map}
 use Rattle.std.proofs.lemmas.List.Elements.{All-get_or}
@@ -13,31 +13,11 @@ use Rattle.qr_drawing.specs.Drawing.{HaveOneSide}
 use Rattle.qr_drawing.specs.Raster.{is_dark_at, raster_width, texts_below}
 use Rattle.qr_drawing.specs.Svg.{background, begins_run, box_path, closing, declaration, foreground, numbered, opening, row_path, run_length, run_path, square_at, stack_path, svg_document, symbol_path}
 use Rattle.qr_drawing.specs.Steps.Writing.{Stops, Writes}
-use Rattle.qr_drawing.proofs.LineLemmas.{put_next, put_stops, texts_below-more}
-use Rattle.qr_drawing.proofs.WritingLemmas.{writes_none}
-
--- places with no text add none
-texts_below-silent : (m d : ℕ) (text : ℕ → List ℕ) → ((k : ℕ) → m ≤ k → k < m + d → text k ≡ []) → texts_below (m + d) text ≡ texts_below m text
-texts_below-silent m zero text none = let e : m + 0 ≡ m = omega arith in rw e refl
-texts_below-silent m (suc d) text none =
-    let e : m + suc d ≡ m + d + 1 = omega arith in
-    rw e (texts_below-more (m + d) text
-    ∙ ap (λ l. texts_below (m + d) text ++ l) (none (m + d) (omega arith) (omega arith))
-    ∙ append-nil (texts_below (m + d) text)
-    ∙ texts_below-silent m d text (λ k a b. none k a (omega arith)))
-
--- the texts below n are those below m, where those between are empty
-texts_below-same : (m n : ℕ) (text : ℕ → List ℕ) → m ≤ n → ((k : ℕ) → m ≤ k → k < n → text k ≡ []) → texts_below n text ≡ texts_below m text
-texts_below-same m n text le none =
-    let e : m + (n - m) ≡ n = omega arith in
-    rw (← e) (texts_below-silent m (n - m) text (λ k a b. none k a (omega arith)))
-
--- there are no texts where all are empty
-texts_below-none : (n : ℕ) (text : ℕ → List ℕ) → ((k : ℕ) → k < n → text k ≡ []) → texts_below n text ≡ texts_below 0 text
-texts_below-none n text none = texts_below-same 0 n text (omega arith) (λ k _ b. none k b)
+use Rattle.qr_drawing.specs.Steps.Svg.{head, tail}
+use Rattle.qr_drawing.proofs.LineLemmas.{texts_below-none, texts_below-same, texts-of-items}
 
 -- a place of the symbol has its colour
-is_dark_at-inside : (margin row col : ℕ) (g : Grid) → row < g.side → col < g.side
+pub is_dark_at-inside : (margin row col : ℕ) (g : Grid) → row < g.side → col < g.side
     → is_dark_at margin g (margin + row) (margin + col) ≡ colour g row col
 unfolding is_dark_at
 is_dark_at-inside margin row col g a b =
@@ -71,26 +51,19 @@ unfolding run_path begins_run
 run_path-light top margin y x g e = rw e refl
 
 -- none begins to the right of a dark place
-begins_run-inner : (margin y x : ℕ) (g : Grid) → 0 < x → is_dark_at margin g y (x - 1) ≡ true → begins_run margin g y x ≡ false
-unfolding begins_run
-begins_run-inner margin y x g some dark = rw dark (grind (arith, nat_tests))
-
--- so none has its path there
 run_path-inner : (top margin y x : ℕ) (g : Grid) → 0 < x → is_dark_at margin g y (x - 1) ≡ true → run_path top margin g y x ≡ []
-unfolding run_path
-run_path-inner top margin y x g some dark = let e = begins_run-inner margin y x g some dark in rw e refl
+unfolding run_path begins_run
+run_path-inner top margin y x g some dark =
+    let e : begins_run margin g y x ≡ false = rw dark (grind (arith, nat_tests)) in
+    rw e refl
 
 -- one begins at a dark place with none to its left
-begins_run-first : (margin y x : ℕ) (g : Grid) → is_dark_at margin g y x ≡ true → (0 < x → is_dark_at margin g y (x - 1) ≡ false)
-    → begins_run margin g y x ≡ true
-unfolding begins_run
-begins_run-first margin y x g dark light = rw dark (grind (arith, nat_tests))
-
--- and its path stands there
 run_path-first : (top margin y x : ℕ) (g : Grid) → is_dark_at margin g y x ≡ true → (0 < x → is_dark_at margin g y (x - 1) ≡ false)
     → run_path top margin g y x ≡ box_path x (top + y) (run_length margin g y x)
-unfolding run_path
-run_path-first top margin y x g dark light = let e = begins_run-first margin y x g dark light in rw e refl
+unfolding run_path begins_run
+run_path-first top margin y x g dark light =
+    let e : begins_run margin g y x ≡ true = rw dark (grind (arith, nat_tests)) in
+    rw e refl
 
 -- how many numbers from x on pass a test, up to the first that does not
 prefix_len-range : (p : ℕ → Bool) (x d n : ℕ) → d ≤ n → ((k : ℕ) → x ≤ k → k < x + d → p k ≡ true) → (d < n → p (x + d) ≡ false)
@@ -124,12 +97,8 @@ module _ (top margin row col end : ℕ) (g : Grid) (row_in : row < g.side) (run 
 
   -- after a dark one is a light place
   run-stops : colour g row col ≡ true → is_dark_at margin g (margin + row) (margin + end) ≡ false
-  run-stops dark =
-      let none : g.side ≤ end → is_dark_at margin g (margin + row) (margin + end) ≡ false =
-      λ le. is_dark_at-right margin (margin + row) (margin + end) g (omega arith) in
-      let some : end < g.side → is_dark_at margin g (margin + row) (margin + end) ≡ false =
-      λ lt. is_dark_at-inside margin row end g row_in lt ∙ other _ _ (run.differs lt) dark in
-      ⊎_elim (λ (e : end ≡ g.side). none (omega arith)) some (eq-or-lt_of_le run.within)
+  run-stops dark = ⊎_elim (λ (e : end ≡ g.side). is_dark_at-right margin (margin + row) (margin + end) g (omega arith))
+      (λ (lt : end < g.side). is_dark_at-inside margin row end g row_in lt ∙ other _ _ (run.differs lt) dark) (eq-or-lt_of_le run.within)
 
   -- the places of a light one have no paths
   pub light_run : colour g row col ≡ false
@@ -153,12 +122,10 @@ module _ (top margin row col end : ℕ) (g : Grid) (row_in : row < g.side) (run 
   before-dark dark first some =
       let v = run.after in
       let w = run.within in
-      let none : col ≡ 0 → is_dark_at margin g (margin + row) (margin + col - 1) ≡ false =
-      λ e. is_dark_at-left margin (margin + row) (margin + col - 1) g (omega arith) in
-      let e : 0 < col → margin + (col - 1) ≡ margin + col - 1 = λ lt. omega arith in
-      let more : 0 < col → is_dark_at margin g (margin + row) (margin + col - 1) ≡ false =
-      λ lt. rw (← e lt) (is_dark_at-inside margin row (col - 1) g row_in (omega arith) ∙ other _ _ (first lt) dark) in
-      ⊎_elim (λ (z : 0 ≡ col). none (sym z)) more (eq-or-lt_of_le (omega arith))
+      let e : 0 < col → margin + col - 1 ≡ margin + (col - 1) = λ lt. omega arith in
+      ⊎_elim (λ (z : 0 ≡ col). is_dark_at-left margin (margin + row) (margin + col - 1) g (omega arith))
+      (λ (lt : 0 < col). ap (is_dark_at margin g (margin + row)) (e lt)
+      ∙ (is_dark_at-inside margin row (col - 1) g row_in (omega arith) ∙ other _ _ (first lt) dark)) (eq-or-lt_of_le (omega arith))
 
   -- a dark one is so long
   dark_length : colour g row col ≡ true → run_length margin g (margin + row) (margin + col) ≡ end - col
@@ -186,10 +153,9 @@ module _ (top margin row col end : ℕ) (g : Grid) (row_in : row < g.side) (run 
   run_border lt = λ e. let v = run.after in run.differs lt (sym e ∙ run.same (end - 1) (omega arith) (omega arith))
 
 -- the paths of a row to the left of the symbol are none
-pub row_begins : (top margin y : ℕ) (g : Grid) → texts_below (margin + 0) (run_path top margin g y) ≡ texts_below 0 (run_path top margin g y)
+pub row_begins : (top margin y : ℕ) (g : Grid) → texts_below (margin + 0) (run_path top margin g y) ≡ []
 row_begins top margin y g =
-    let e : margin + 0 ≡ margin = omega arith in
-    rw e (texts_below-none margin (run_path top margin g y) (λ k lt. run_path-light top margin y k g (is_dark_at-left margin y k g lt)))
+    texts_below-none (margin + 0) (run_path top margin g y) (λ k lt. run_path-light top margin y k g (is_dark_at-left margin y k g (omega arith)))
 
 -- nor are there any to its right
 pub row_ends : (top margin y col : ℕ) (g : Grid) → col ≡ g.side → row_path top margin g y ≡ texts_below (margin + col) (run_path top margin g y)
@@ -205,10 +171,9 @@ row_path-light top margin y g none =
     texts_below-none (raster_width margin g) (run_path top margin g y) (λ k lt. run_path-light top margin y k g (none k))
 
 -- the paths of a symbol above its square are none
-pub symbol_begins : (top margin : ℕ) (g : Grid) → texts_below (margin + 0) (row_path top margin g) ≡ texts_below 0 (row_path top margin g)
+pub symbol_begins : (top margin : ℕ) (g : Grid) → texts_below (margin + 0) (row_path top margin g) ≡ []
 symbol_begins top margin g =
-    let e : margin + 0 ≡ margin = omega arith in
-    rw e (texts_below-none margin (row_path top margin g) (λ k lt. row_path-light top margin k g (λ x. is_dark_at-above margin k x g lt)))
+    texts_below-none (margin + 0) (row_path top margin g) (λ k lt. row_path-light top margin k g (λ x. is_dark_at-above margin k x g (omega arith)))
 
 -- nor are there any below it
 pub symbol_ends : (top margin row : ℕ) (g : Grid) → row ≡ g.side → symbol_path top margin g ≡ texts_below (margin + row) (row_path top margin g)
@@ -217,29 +182,8 @@ symbol_ends top margin row g e =
     rw e (texts_below-same (margin + g.side) (raster_width margin g) (row_path top margin g) (omega arith)
     (λ k a b. row_path-light top margin k g (λ x. is_dark_at-below margin k x g a)))
 
--- the path of a run was put after those before it
-pub put_run : (a b c : Writer) (i j k m n : ℕ) (h0 h1 h2 path : List ℕ) (text : ℕ → List ℕ) → text m ≡ path
-    → texts_below n text ≡ texts_below (m + 1) text
-    → Writes a b i j (h0 ++ texts_below m text) h1 → Writes b c j k (h1 ++ path) h2 → Writes a c i k (h0 ++ texts_below n text) h2
-put_run a b c i j k m n h0 h1 h2 path text here same p q = rw same (put_next a b c i j k m h0 h1 h2 text p (rw here q))
-
--- the path of a run stopped
-pub run_stops : (a b c : Writer) (i j m n : ℕ) (h0 h1 path : List ℕ) (text : ℕ → List ℕ) → text m ≡ path → m < n
-    → Writes a b i j (h0 ++ texts_below m text) h1 → Stops b c j (h1 ++ path) → Stops a c i (h0 ++ texts_below n text)
-run_stops a b c i j m n h0 h1 path text here lt p q = put_stops a b c i j m n h0 h1 text lt p (rw here q)
-
--- before the first text that is not empty nothing was put
-pub put_nothing : (a : Writer) (i n : ℕ) (h : List ℕ) (text : ℕ → List ℕ) → texts_below n text ≡ texts_below 0 text
-    → Writes a a i i (h ++ texts_below n text) h
-unfolding texts_below
-put_nothing a i n h text e = rw e (writes_none a i h)
-
--- what was put is the same text in other words
-pub put_same : (a b : Writer) (i j : ℕ) (h0 h1 text same : List ℕ) → same ≡ text → Writes a b i j (h0 ++ text) h1 → Writes a b i j (h0 ++ same) h1
-put_same a b i j h0 h1 text same e p = rw e p
-
 -- the square of the symbol at k
-square_at-item : {T : Type 0} (grid : T → Grid) (xs : List T) (k : ℕ) (x : T) → k < length xs → x ≡ get_or xs k x → square_at (map grid xs) k ≡ grid x
+pub square_at-item : {T : Type 0} (grid : T → Grid) (xs : List T) (k : ℕ) (x : T) → k < length xs → x ≡ get_or xs k x → square_at (map grid xs) k ≡ grid x
 square_at-item grid xs k x lt is = get_or-map grid xs k x (light 0) lt ∙ ap grid (sym is)
 
 -- the rasters of symbols of one side are as wide as the first
@@ -250,6 +194,13 @@ one_width grid margin k xs x one lt is =
     let here : (square_at (map grid xs) k).side ≡ (square_at (map grid xs) 0).side =
     All-get_or (λ g. g.side ≡ (square_at (map grid xs) 0).side) (map grid xs) k (light 0) (omega arith) one in
     ap (λ m. 2 * margin + m) (ap (λ g. g.side) (sym (square_at-item grid xs k x lt is)) ∙ here)
+
+-- the texts of k symbols, all told
+pub texts-of-symbols : {T : Type 0} (grid : T → Grid) (text : Grid → List ℕ) (xs : List T) (k : ℕ) → k ≡ length xs
+    → flat_map text (map grid xs) ≡ texts_below k (λ n. text (square_at (map grid xs) n))
+texts-of-symbols grid text xs k e =
+    texts-of-items text (map grid xs) (light 0)
+    ∙ ap (λ m. texts_below m (λ n. text (square_at (map grid xs) n))) (length-map xs grid ∙ sym e)
 
 -- the paths of k symbols, all told
 pub stack_ends : {T : Type 0} (grid : T → Grid) (margin k : ℕ) (xs : List T) → k ≡ length xs → stack_path margin (map grid xs)
@@ -279,24 +230,9 @@ next_top grid margin k top width xs x one lt is e f =
     let w = f ∙ one_width grid margin k xs x one lt is in
     rw (e, w) (next-multiple k (raster_width margin (square_at (map grid xs) 0)))
 
--- the parts of the line that opens a picture
-pub opening-parts : (width height : ℕ) → opening width height
-    ≡ numbered (codes "<svg xmlns=\"http://www.w3.org/2000/svg\" version=\"1.1\" viewBox=\"0 0 ") width
-    ++ numbered (codes " ") height ++ codes "\" shape-rendering=\"crispEdges\">\n"
-unfolding opening
-opening-parts width height = refl
-
--- the parts of the line that makes it white
-pub background-parts : (width height : ℕ) → background width height
-    ≡ numbered (codes "<rect x=\"0\" y=\"0\" width=\"") width ++ numbered (codes "\" height=\"") height ++ codes "\" fill=\"#ffffff\"/>\n"
-unfolding background
-background-parts width height = refl
-
--- the parts of the line that makes the dark modules black
-pub foreground-parts : (margin : ℕ) (squares : List Grid) → foreground margin squares
-    ≡ codes "<path fill=\"#000000\" d=\"" ++ stack_path margin squares ++ codes "\"/>\n"
-unfolding foreground
-foreground-parts margin squares = refl
+-- seven pieces of a document, as they are defined and as they are put
+pieces : (a b c d e f g : List ℕ) → a ++ b ++ c ++ (d ++ e ++ f) ++ g ≡ ((a ++ b ++ c ++ d) ++ e) ++ (f ++ g)
+pieces a b c d e f g = simp append_assoc
 
 -- the document of a picture of this size
 lines_of : ℕ → ℕ → ℕ → List Grid → List ℕ
@@ -306,14 +242,13 @@ lines_of width height margin squares =
 -- the parts of the document
 pub document-parts : {T : Type 0} (grid : T → Grid) (margin width height : ℕ) (xs : List T) (x : T) → 0 < length xs
     → width ≡ raster_width margin (grid (get_or xs 0 x)) → height ≡ width * length xs
-    → svg_document margin (map grid xs)
-    ≡ declaration ++ opening width height ++ background width height ++ foreground margin (map grid xs) ++ closing
-unfolding svg_document lines_of
+    → svg_document margin (map grid xs) ≡ (head width height ++ stack_path margin (map grid xs)) ++ tail
+unfolding svg_document foreground head tail lines_of
 document-parts grid margin width height xs x some e f =
     let n : length (map grid xs) ≡ length xs = length-map xs grid in
     let w : raster_width margin (square_at (map grid xs) 0) ≡ width =
     ap (raster_width margin) (get_or-map grid xs 0 x (light 0) some) ∙ sym e in
-    let h : raster_width margin (square_at (map grid xs) 0) * length (map grid xs) ≡ height =
-    ap (λ m. m * length (map grid xs)) w ∙ ap (λ m. width * m) n ∙ sym f in
-    ap (λ m. lines_of m (raster_width margin (square_at (map grid xs) 0) * length (map grid xs)) margin (map grid xs)) w
-    ∙ ap (λ m. lines_of width m margin (map grid xs)) h
+    let h : raster_width margin (square_at (map grid xs) 0) * length (map grid xs) ≡ height = (λ i. w i * n i) ∙ sym f in
+    (λ i. lines_of (w i) (h i) margin (map grid xs))
+    ∙ pieces declaration (opening width height) (background width height) (codes "<path fill=\"#000000\" d=\"") (stack_path margin (map grid xs))
+    (codes "\"/>\n") closing

@@ -1,6 +1,5 @@
 -- How what was written of parts of a text joins.
-use Rattle.std.proofs.Common.{◌≡◌, ◌++◌, ◌∙◌, ℕ, List, [], OnErr, Option, Result, Ok, Err, append_assoc, append-nil, refl, sym, ap, arith, ◌∷◌, ◌<◌, ◌≤◌, ◌+◌, ◌^◌, length, length-append, get_or, take, drop, subst}
-use Rattle.std.proofs.lemmas.List.{take_more, take-append-drop}
+use Rattle.std.proofs.Common.{◌≡◌, ◌++◌, ◌∙◌, ℕ, List, [], OnErr, Option, Result, Ok, Err, append_assoc, append-nil, refl, sym, ap, arith, ◌<◌, ◌≤◌, ◌+◌, ◌^◌, length, length-append, subst}
 use Rattle.std.proofs.KnownBytes.{Appends-trans, Appends-nil}
 use Rattle.qr_devices.specs.Device.{AppendsBeginning, Writer, counted}
 use Rattle.qr_drawing.specs.Steps.Pen.{Finishes}
@@ -84,6 +83,10 @@ stops_before a b i x y p = record {
   flushes = p.flushes;
 }
 
+-- what stopped in the first of two texts stopped in both
+pub stops_first : (a b : Writer) (i : ℕ) (h x y : List ℕ) → Stops a b i (h ++ x) → Stops a b i (h ++ (x ++ y))
+stops_first a b i h x y p = subst (λ l. Stops a b i l) (append_assoc h x y) (stops_before a b i (h ++ x) y p)
+
 -- nothing was written
 pub writes_none : (a : Writer) (i : ℕ) (h : List ℕ) → Writes a a i i (h ++ []) h
 writes_none a i h = record {
@@ -98,26 +101,23 @@ writes_none a i h = record {
   flushes = refl;
 }
 
--- nothing was written, and what is held is the same
-pub writes_kept : (a : Writer) (i : ℕ) (h k : List ℕ) → k ≡ h → Writes a a i i (h ++ []) k
-writes_kept a i h k e = subst (λ z. Writes a a i i (h ++ []) z) (sym e) (writes_none a i h)
+-- a text was added to what is held, after some of that was written
+pub formed : (a b : Writer) (i j : ℕ) (h0 h1 h2 x : List ℕ) → Writes a b i j h0 h1 → h2 ≡ h1 ++ x → Writes a b i j (h0 ++ x) h2
+formed a b i j h0 h1 h2 x p e = record {
+  sends = record {
+    sent = p.sends.sent;
+    grows = p.sends.grows;
+    whole = ap (λ l. p.sends.sent ++ l) e ∙ sym (append_assoc p.sends.sent h1 x) ∙ ap (λ l. l ++ x) p.sends.whole;
+    many = p.sends.many;
+  };
+  well = p.well;
+  offered = p.offered;
+  flushes = p.flushes;
+}
 
--- a byte after the first n of a text
-pub writes_next : (a b c : Writer) (i j k n : ℕ) (h0 h1 h2 text : List ℕ) (x : ℕ)
-    → n < length text → x ≡ get_or text n 0
-    → Writes a b i j (h0 ++ take n text) h1 → Writes b c j k (h1 ++ x ∷ []) h2 → Writes a c i k (h0 ++ take (n + 1) text) h2
-writes_next a b c i j k n h0 h1 h2 text x lt e p q =
-    rw (take_more text n 0 lt, ← e) (writes_on a b c i j k h0 h1 h2 (take n text) (x ∷ []) p q)
-
--- the byte after the first n of a text stopped
-pub stops_next : (a b c : Writer) (i j n : ℕ) (h0 h1 text : List ℕ) (x : ℕ)
-    → n < length text → x ≡ get_or text n 0
-    → Writes a b i j (h0 ++ take n text) h1 → Stops b c j (h1 ++ x ∷ []) → Stops a c i (h0 ++ text)
-stops_next a b c i j n h0 h1 text x lt e p q =
-    let s : Stops a c i (h0 ++ take (n + 1) text) = rw (take_more text n 0 lt, ← e) (writes_stop a b c i j h0 h1 (take n text) (x ∷ []) p q) in
-    let whole : (h0 ++ take (n + 1) text) ++ drop (n + 1) text ≡ h0 ++ text =
-    append_assoc h0 (take (n + 1) text) (drop (n + 1) text) ∙ ap (λ l. h0 ++ l) (take-append-drop (n + 1) text) in
-    subst (λ l. Stops a c i l) whole (stops_before a c i _ (drop (n + 1) text) s)
+-- one part was written, and what was held of it stopped before the next
+pub stops_between : (a b c : Writer) (i j : ℕ) (h0 h1 x y : List ℕ) → Writes a b i j (h0 ++ x) h1 → Stops b c j h1 → Stops a c i (h0 ++ (x ++ y))
+stops_between a b c i j h0 h1 x y p q = writes_stop a b c i j h0 h1 x y p (stops_before b c j h1 y q)
 
 -- a text of which a part is held, and then that part stopped
 last_stops : (a b c : Writer) (held text : List ℕ) → Sends a b text held → AppendsBeginning b.taken c.taken held → AppendsBeginning a.taken c.taken text

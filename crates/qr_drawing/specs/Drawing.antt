@@ -6,7 +6,7 @@ use Rattle.qr_drawing.specs.declared.drawing.Drawing.{Drawing}
 use Rattle.qr_drawing.specs.declared.drawing.Drawing.TheVariants.{Ascii, AsciiInverse, Utf8, Svg}
 use Rattle.qr_drawing.specs.Svg.{square_at, svg_document}
 use Rattle.qr_drawing.specs.Text.{text_drawing}
-use Rattle.qr_drawing.specs.declared.text.Cells.TheVariants.{Plain, Inverse, HalfBlocks}
+use Rattle.qr_drawing.specs.declared.text.TextStyle.TheVariants.{Plain, Inverse, HalfBlocks}
 
 -- the squares are of one side, that of the first [own]
 abbrev pub HaveOneSide : List Grid → Type 0

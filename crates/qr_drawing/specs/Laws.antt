@@ -1,7 +1,7 @@
 -- The characters of the drawings. Public laws cite this file.
 use Rattle.std.specs.Prelude.{◌≡◌, [], ◌∷◌, codes, true, false}
 use Rattle.qr_drawing.specs.Text.{ascii_module, half_blocks, line_count}
-use Rattle.qr_drawing.specs.declared.text.Cells.TheVariants.{HalfBlocks}
+use Rattle.qr_drawing.specs.declared.text.TextStyle.TheVariants.{HalfBlocks}
 
 -- The characters of a dark and a light module; those of two modules, one above the other: the space, U+2584, U+2580 and
 -- U+2588 in UTF-8; and how many lines of the latter 29 rows make [own].

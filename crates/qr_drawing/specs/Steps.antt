@@ -2,3 +2,4 @@
 pub mod Pen
 pub mod Writing
 pub mod Text
+pub mod Svg

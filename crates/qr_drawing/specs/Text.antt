@@ -2,8 +2,8 @@
 use Rattle.std.specs.Prelude.{ℕ, ◌+◌, ◌*◌, ◌/◌, Bool, not, if◌then◌else◌, List, [], ◌∷◌, ◌++◌}
 use Rattle.qr_matrix.specs.Grid.{Grid}
 use Rattle.qr_drawing.specs.Raster.{is_dark_at, raster_width, texts_below}
-use Rattle.qr_drawing.specs.declared.text.Cells.{Cells}
-use Rattle.qr_drawing.specs.declared.text.Cells.TheVariants.{Plain, Inverse, HalfBlocks}
+use Rattle.qr_drawing.specs.declared.text.TextStyle.{TextStyle}
+use Rattle.qr_drawing.specs.declared.text.TextStyle.TheVariants.{Plain, Inverse, HalfBlocks}
 
 -- a dark module is `##`, a light one two spaces [own]
 abbrev pub ascii_module : Bool → List ℕ
@@ -17,22 +17,22 @@ half_blocks upper lower =
     else (if lower then 0xE2 ∷ 0x96 ∷ 0x80 ∷ [] else 0xE2 ∷ 0x96 ∷ 0x88 ∷ [])
 
 -- the text of cell x in line y: a module, or two modules of which the lower is light past the last row [own]
-abbrev pub cell_of : Cells → ℕ → Grid → ℕ → ℕ → List ℕ
+abbrev pub cell_of : TextStyle → ℕ → Grid → ℕ → ℕ → List ℕ
 cell_of Plain margin g y x = ascii_module (is_dark_at margin g y x)
 cell_of Inverse margin g y x = ascii_module (not (is_dark_at margin g y x))
 cell_of HalfBlocks margin g y x = half_blocks (is_dark_at margin g (2 * y) x) (is_dark_at margin g (2 * y + 1) x)
 
 -- how many lines the rows of a raster make, a last row alone being a line too [own]
-abbrev pub line_count : Cells → ℕ → ℕ
+abbrev pub line_count : TextStyle → ℕ → ℕ
 line_count Plain rows = rows
 line_count Inverse rows = rows
 line_count HalfBlocks rows = (rows + 1) / 2
 
 -- the cells of line y [own]
-abbrev pub cells_of_line : Cells → ℕ → Grid → ℕ → List ℕ
-cells_of_line cells margin g y = texts_below (raster_width margin g) (cell_of cells margin g y)
+abbrev pub cells_of_line : TextStyle → ℕ → Grid → ℕ → List ℕ
+cells_of_line style margin g y = texts_below (raster_width margin g) (cell_of style margin g y)
 
 -- the drawing of a symbol as a text: its lines, each with a newline [own]
-abbrev pub text_drawing : Cells → ℕ → Grid → List ℕ
-text_drawing cells margin g =
-    texts_below (line_count cells (raster_width margin g)) (λ y. cells_of_line cells margin g y ++ 10 ∷ [])
+abbrev pub text_drawing : TextStyle → ℕ → Grid → List ℕ
+text_drawing style margin g =
+    texts_below (line_count style (raster_width margin g)) (λ y. cells_of_line style margin g y ++ 10 ∷ [])

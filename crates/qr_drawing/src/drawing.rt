@@ -10,7 +10,7 @@ ghost use Rattle.qr_drawing.specs.Raster.{is_dark_at, raster_width};
 
 use crate::pen::{DrawFault, Pen, WRITE_MAX};
 use crate::svg::put_document;
-use crate::text::{Cells, put_texts};
+use crate::text::{TextStyle, put_texts};
 use qr_devices::Sink;
 use qr_symbol::{Matrix, Symbol};
 
@@ -94,9 +94,9 @@ fn put_drawing<S: HasSquare, W: Sink>(
         pen.old pen.new (drawn kind margin (map S.grid symbols.now)) result }
 {
     match kind {
-        Drawing::Ascii => put_texts(pen, out, Cells::Plain, symbols, margin),
-        Drawing::AsciiInverse => put_texts(pen, out, Cells::Inverse, symbols, margin),
-        Drawing::Utf8 => put_texts(pen, out, Cells::HalfBlocks, symbols, margin),
+        Drawing::Ascii => put_texts(pen, out, TextStyle::Plain, symbols, margin),
+        Drawing::AsciiInverse => put_texts(pen, out, TextStyle::Inverse, symbols, margin),
+        Drawing::Utf8 => put_texts(pen, out, TextStyle::HalfBlocks, symbols, margin),
         Drawing::Svg => put_document(pen, out, symbols, margin),
     }
 }

@@ -1,8 +1,9 @@
 //! Writing a text in pieces of at most 1,200 bytes, with no memory taken.
 
-ghost use Rattle.std.specs.Prelude.{◌≡◌, ◌+◌, ◌<◌, ◌≤◌, ◌∷◌, [], max, is_err, length, MatchResult, OnOk, OnErr};
+ghost use Rattle.std.specs.Prelude.{◌≡◌, ◌+◌, ◌<◌, ◌≤◌, ◌++◌, [], max, is_err, length, MatchResult, OnOk, OnErr};
 ghost use Rattle.std.specs.Io.KnownBytes.{Appends};
 ghost use Rattle.qr_devices.specs.Device.{AppendsBeginning, IsWrittenWithin, counted, is_write_fault, no_writes};
+ghost use Rattle.arrayvec.specs.ArrayVec.{array_vec_len};
 ghost use Rattle.qr_drawing.specs.Steps.Writing.{Stops, Writes};
 
 use arrayvec::ArrayVec;
@@ -11,9 +12,6 @@ use thiserror::Error;
 
 /// The most bytes that one write offers.
 pub const WRITE_MAX: usize = 1200;
-
-// A text of fewer bytes is put byte by byte.
-const SHORT: usize = 8;
 
 /// Why a drawing stopped.
 #[derive(Clone, Copy, Debug, PartialEq, Eq, Error)]
@@ -31,10 +29,9 @@ pub(crate) struct Pen {
     ghost few: { interrupted < 1000 },
 }
 
-// Offers the bytes until all are taken, and answers how many writes were interrupted by then.
+// Offers the bytes, at most 1,200 at a time, until all are taken, and returns how many writes were interrupted by then.
 fn send<W: Sink>(out: &mut W, bytes: &[u8], interrupted: u16) -> Result<u16, DrawFault>
-    requires few { interrupted < 1000 }
-    requires short { length bytes.now ≤ 1200 }
+    requires { interrupted < 1000 }
     ensures writes { MatchResult result
         (λ tries. Writes (W.device out.old) (W.device out.new)
         interrupted tries bytes.now [])
@@ -45,7 +42,8 @@ fn send<W: Sink>(out: &mut W, bytes: &[u8], interrupted: u16) -> Result<u16, Dra
     let mut at: usize = 0;
     let mut tries = interrupted;
     'offers: while at < bytes.len() {
-        match out.write(&bytes[at..]) {
+        let len = (bytes.len() - at).min(WRITE_MAX);
+        match out.write(&bytes[at..at + len]) {
             Ok(taken) => {
                 if taken == 0 {
                     return Err(DrawFault::Write);
@@ -64,9 +62,19 @@ fn send<W: Sink>(out: &mut W, bytes: &[u8], interrupted: u16) -> Result<u16, Dra
     Ok(tries)
 }
 
+/// Adds bytes to a text that has room for them.
+#[inline(always)]
+pub(crate) fn push_all(text: &mut ArrayVec<u8, 1200>, bytes: &[u8])
+    requires room { array_vec_len text.old + length bytes.now ≤ 1200 }
+    ensures { text.new.items ≡ text.old.items ++ bytes.now }
+{
+    let _ = text.try_extend_from_slice(bytes);
+}
+
 impl Pen {
-    ghost use Rattle.std.specs.Prelude.{◌≡◌, ◌∷◌, []};
-    ghost use Rattle.qr_drawing.specs.Steps.Pen.{Finishes, Puts};
+    ghost use Rattle.std.specs.Prelude.{◌≡◌, ◌≤◌, ◌+◌, [], OnOk};
+    ghost use Rattle.arrayvec.specs.ArrayVec.{array_vec_len};
+    ghost use Rattle.qr_drawing.specs.Steps.Pen.{Finishes, Reserves};
 
     pub(crate) fn new() -> Self
         ensures piece { result.piece.items ≡ [] }
@@ -78,59 +86,30 @@ impl Pen {
         }
     }
 
-    /// Puts a byte after what is held, which is written first where there is no room.
-    pub(crate) fn put<W: Sink>(&mut self, out: &mut W, byte: u8) -> Result<(), DrawFault>
-        ensures { Puts (W.device out.old) (W.device out.new)
-            self.old self.new (byte ∷ []) result }
-    {
-        if self.piece.is_full() {
-            self.interrupted = send(out, self.piece.as_slice(), self.interrupted)?;
-            self.piece.clear();
-        }
-        self.piece.push(byte);
-        Ok(())
-    }
-
-    // Puts a text byte by byte, as where there is no room for it: seldom.
+    // Writes what is held, and then holds nothing.
     #[inline(never)]
-    fn put_each<W: Sink>(&mut self, out: &mut W, text: &[u8]) -> Result<(), DrawFault>
-        ensures { Puts (W.device out.old) (W.device out.new)
-            self.old self.new text.now result }
+    fn empty<W: Sink>(&mut self, out: &mut W) -> Result<(), DrawFault>
+        ensures writes { Reserves (W.device out.old) (W.device out.new)
+            self.old self.new result }
+        ensures empty { OnOk result (self.new.piece.items ≡ []) }
     {
-        for byte in text {
-            self.put(out, *byte)?;
-        }
+        self.interrupted = send(out, self.piece.as_slice(), self.interrupted)?;
+        self.piece.clear();
         Ok(())
     }
 
-    /// Puts a text, where there is room for it at once if it is not short.
-    pub(crate) fn put_all<W: Sink>(&mut self, out: &mut W, text: &[u8]) -> Result<(), DrawFault>
-        ensures { Puts (W.device out.old) (W.device out.new)
-            self.old self.new text.now result }
-    {
-        if text.len() < SHORT {
-            return self.put_each(out, text);
-        }
-        match self.piece.try_extend_from_slice(text) {
-            Ok(()) => Ok(()),
-            Err(_full) => self.put_each(out, text),
-        }
-    }
-
-    /// Puts a text of eight bytes.
+    /// Makes room for so many bytes: writes what is held where fewer are free.
     #[inline(always)]
-    pub(crate) fn put_eight<W: Sink>(&mut self, out: &mut W, text: [u8; 8]) -> Result<(), DrawFault>
-        ensures { Puts (W.device out.old) (W.device out.new)
-            self.old self.new text result }
+    pub(crate) fn reserve<W: Sink>(&mut self, out: &mut W, room: usize) -> Result<(), DrawFault>
+        requires { room ≤ 1200 }
+        ensures writes { Reserves (W.device out.old) (W.device out.new)
+            self.old self.new result }
+        ensures room { OnOk result (array_vec_len self.new.piece + room ≤ 1200) }
     {
-        match self.piece.try_extend_from_slice(&text) {
-            Ok(()) => Ok(()),
-            Err(_full) => {
-                // A copy, so that the text itself need not stand in memory.
-                let copy = text;
-                self.put_each(out, &copy)
-            }
+        if self.piece.len() + room > WRITE_MAX {
+            return self.empty(out);
         }
+        Ok(())
     }
 
     /// Writes what is held.
@@ -154,7 +133,6 @@ pub fn write_text<W: Sink>(text: &[u8], out: &mut W) -> Result<(), DrawFault>
     ensures offered { (W.device out.new).counts.offered ≤ max (W.device out.old).counts.offered WRITE_MAX }
     ensures flushes { (W.device out.new).counts.flushes ≡ (W.device out.old).counts.flushes }
 {
-    let mut pen = Pen::new();
-    pen.put_all(out, text)?;
-    pen.finish(out)
+    send(out, text, 0)?;
+    Ok(())
 }

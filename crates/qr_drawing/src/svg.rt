@@ -4,31 +4,26 @@ ghost use Rattle.std.specs.Prelude.{◌≡◌, ◌≤◌, ◌<◌, ◌+◌, ◌*
 ghost use Rattle.arrayvec.specs.ArrayVec.{array_vec_len};
 ghost use Rattle.qr_drawing.specs.Drawing.{HaveOneSide};
 ghost use Rattle.qr_drawing.specs.Steps.Pen.{Puts};
-ghost use Rattle.qr_drawing.specs.Svg.{background, box_path, foreground, numbered, opening, row_path, stack_path, svg_document, symbol_path};
+ghost use Rattle.qr_drawing.specs.Steps.Svg.{head};
+ghost use Rattle.qr_drawing.specs.Svg.{background, box_path, numbered, opening, row_path, stack_path, svg_document, symbol_path};
 
 use crate::drawing::{HasSquare, raster_width};
-use crate::pen::{DrawFault, Pen, WRITE_MAX};
+use crate::pen::{DrawFault, Pen, push_all};
 use arrayvec::ArrayVec;
 use itoa::Buffer;
 use qr_devices::Sink;
 use qr_symbol::Matrix;
 
-// Puts a text, and a number in decimal digits after it.
-fn put_numbered<W: Sink>(
-    pen: &mut Pen,
-    out: &mut W,
-    text: &[u8],
-    number: u16,
-) -> Result<(), DrawFault>
-    ensures { Puts (W.device out.old) (W.device out.new)
-        pen.old pen.new (numbered text.now number) result }
-{
-    let mut digits = Buffer::new();
-    pen.put_all(out, text)?;
-    pen.put_all(out, digits.format(number).as_bytes())
-}
+// The most bytes of the path round a run.
+const BOX_MAX: usize = 32;
 
-// Adds a digit.
+// The most bytes before the paths.
+const HEAD_MAX: usize = 300;
+
+// The bytes after the paths.
+const TAIL: usize = 11;
+
+// Adds a digit. The numbers of a path are added digit by digit: by `itoa` the largest symbol would take 36 % more instructions.
 fn push_digit(text: &mut ArrayVec<u8, 1200>, digit: u16)
     requires digit { digit < 10 }
     requires room { array_vec_len text.old < 1200 }
@@ -94,33 +89,54 @@ fn push_box(text: &mut ArrayVec<u8, 1200>, x: u16, y: u16, modules: u16)
     push_number(text, y);
     text.push(b'h');
     push_number(text, modules);
-    text.push(b'v');
-    text.push(b'1');
-    text.push(b'h');
-    text.push(b'-');
+    push_all(text, b"v1h-");
     push_number(text, modules);
     text.push(b'z');
 }
 
-// Puts the path round a run of so many modules, whose first stands in column x of row y, where there is room for it
-// straight into the piece.
-fn put_box<W: Sink>(
-    pen: &mut Pen,
-    out: &mut W,
-    x: u16,
-    y: u16,
-    modules: u16,
-) -> Result<(), DrawFault>
-    ensures { Puts (W.device out.old) (W.device out.new)
-        pen.old pen.new (box_path x y modules) result }
+// Adds bytes, and a number in decimal digits after them.
+fn push_numbered(text: &mut ArrayVec<u8, 1200>, bytes: &[u8], number: u16)
+    requires room { array_vec_len text.old + length bytes.now + 5 ≤ 1200 }
+    ensures items { text.new.items ≡ text.old.items ++ numbered bytes.now number }
+    ensures len { array_vec_len text.new ≤ array_vec_len text.old + length bytes.now + 5 }
 {
-    if pen.piece.len() + 32 <= WRITE_MAX {
-        push_box(&mut pen.piece, x, y, modules);
-        return Ok(());
-    }
-    let mut text = ArrayVec::new();
-    push_box(&mut text, x, y, modules);
-    pen.put_all(out, text.as_slice())
+    let mut digits = Buffer::new();
+    push_all(text, bytes);
+    push_all(text, digits.format(number).as_bytes());
+}
+
+// Adds the line that opens a picture of so many modules.
+fn push_opening(text: &mut ArrayVec<u8, 1200>, width: u16, height: u16)
+    requires room { array_vec_len text.old + 120 ≤ 1200 }
+    ensures items { text.new.items ≡ text.old.items ++ opening width height }
+    ensures len { array_vec_len text.new ≤ array_vec_len text.old + 120 }
+{
+    let width_after = b"<svg xmlns=\"http://www.w3.org/2000/svg\" version=\"1.1\" viewBox=\"0 0 ";
+    push_numbered(text, width_after, width);
+    push_numbered(text, b" ", height);
+    push_all(text, b"\" shape-rendering=\"crispEdges\">\n");
+}
+
+// Adds the line that makes a picture of so many modules white.
+fn push_background(text: &mut ArrayVec<u8, 1200>, width: u16, height: u16)
+    requires room { array_vec_len text.old + 80 ≤ 1200 }
+    ensures items { text.new.items ≡ text.old.items ++ background width height }
+    ensures len { array_vec_len text.new ≤ array_vec_len text.old + 80 }
+{
+    push_numbered(text, b"<rect x=\"0\" y=\"0\" width=\"", width);
+    push_numbered(text, b"\" height=\"", height);
+    push_all(text, b"\" fill=\"#ffffff\"/>\n");
+}
+
+// Adds what is before the paths of a picture of so many modules.
+fn push_head(text: &mut ArrayVec<u8, 1200>, width: u16, height: u16)
+    requires room { array_vec_len text.old + 300 ≤ 1200 }
+    ensures { text.new.items ≡ text.old.items ++ head width height }
+{
+    push_all(text, b"<?xml version=\"1.0\" encoding=\"UTF-8\"?>\n");
+    push_opening(text, width, height);
+    push_background(text, width, height);
+    push_all(text, b"<path fill=\"#000000\" d=\"");
 }
 
 // Puts the paths of a row of a symbol; `top` is the height of the rasters above it.
@@ -142,8 +158,15 @@ fn put_row<W: Sink>(
     let mut col = 0;
     while col < matrix.side() {
         let end = matrix.run_end(row, col);
-        if matrix.dark(row, col) {
-            put_box(pen, out, left + u16::from(col), y, u16::from(end - col))?;
+        let dark = matrix.dark(row, col);
+        if dark {
+            pen.reserve(out, BOX_MAX)?;
+            push_box(
+                &mut pen.piece,
+                left + u16::from(col),
+                y,
+                u16::from(end - col),
+            );
         }
         col = end;
     }
@@ -189,58 +212,6 @@ fn put_stack<S: HasSquare, W: Sink>(
     Ok(())
 }
 
-// Puts the line that opens a picture of so many modules.
-fn put_opening<W: Sink>(
-    pen: &mut Pen,
-    out: &mut W,
-    width: u16,
-    height: u16,
-) -> Result<(), DrawFault>
-    ensures { Puts (W.device out.old) (W.device out.new)
-        pen.old pen.new (opening width height) result }
-{
-    put_numbered(
-        pen,
-        out,
-        b"<svg xmlns=\"http://www.w3.org/2000/svg\" version=\"1.1\" viewBox=\"0 0 ",
-        width,
-    )?;
-    put_numbered(pen, out, b" ", height)?;
-    pen.put_all(out, b"\" shape-rendering=\"crispEdges\">\n")
-}
-
-// Puts the line that makes a picture of so many modules white.
-fn put_background<W: Sink>(
-    pen: &mut Pen,
-    out: &mut W,
-    width: u16,
-    height: u16,
-) -> Result<(), DrawFault>
-    ensures { Puts (W.device out.old) (W.device out.new)
-        pen.old pen.new (background width height) result }
-{
-    put_numbered(pen, out, b"<rect x=\"0\" y=\"0\" width=\"", width)?;
-    put_numbered(pen, out, b"\" height=\"", height)?;
-    pen.put_all(out, b"\" fill=\"#ffffff\"/>\n")
-}
-
-// Puts the line that makes the dark modules black.
-fn put_foreground<S: HasSquare, W: Sink>(
-    pen: &mut Pen,
-    out: &mut W,
-    symbols: &[S],
-    margin: u8,
-) -> Result<(), DrawFault>
-    requires few { length symbols.now ≤ 16 }
-    requires one_side { HaveOneSide (map S.grid symbols.now) }
-    ensures { Puts (W.device out.old) (W.device out.new)
-        pen.old pen.new (foreground margin (map S.grid symbols.now)) result }
-{
-    pen.put_all(out, b"<path fill=\"#000000\" d=\"")?;
-    put_stack(pen, out, symbols, margin)?;
-    pen.put_all(out, b"\"/>\n")
-}
-
 /// Puts the document of symbols of one side, one below the other.
 pub(crate) fn put_document<S: HasSquare, W: Sink>(
     pen: &mut Pen,
@@ -256,9 +227,10 @@ pub(crate) fn put_document<S: HasSquare, W: Sink>(
 {
     let width = raster_width(symbols[0].square(), margin);
     let height = width * symbols.len() as u16;
-    pen.put_all(out, b"<?xml version=\"1.0\" encoding=\"UTF-8\"?>\n")?;
-    put_opening(pen, out, width, height)?;
-    put_background(pen, out, width, height)?;
-    put_foreground(pen, out, symbols, margin)?;
-    pen.put_all(out, b"</svg>\n")
+    pen.reserve(out, HEAD_MAX)?;
+    push_head(&mut pen.piece, width, height);
+    put_stack(pen, out, symbols, margin)?;
+    pen.reserve(out, TAIL)?;
+    push_all(&mut pen.piece, b"\"/>\n</svg>\n");
+    Ok(())
 }

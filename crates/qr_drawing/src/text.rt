@@ -1,24 +1,24 @@
-//! Drawing symbols as lines of text: two characters for a module, or one for two modules, one above
-//! the other.
+//! Symbols as lines of text: two characters for a module, or one character for two modules, one above the other.
 
-ghost use Rattle.std.specs.Prelude.{◌≡◌, ◌≢◌, ℕ, true, ◌≤◌, ◌<◌, ◌+◌, ◌%◌, ◌++◌, ◌∷◌, [], map, IfSome};
+ghost use Rattle.std.specs.Prelude.{◌≡◌, ℕ, ◌≤◌, ◌<◌, ◌+◌, ◌-◌, ◌*◌, ◌/◌, ◌%◌, ◌++◌, ◌∷◌, [], map, IfSome};
 ghost use Rattle.std.specs.List.{flat_map};
 ghost use Rattle.arrayvec.specs.ArrayVec.{array_vec_len};
-ghost use Rattle.qr_drawing.specs.Text.{ascii_module, cell_of, half_blocks, line_count, cells_of_line, text_drawing};
-ghost use Rattle.qr_drawing.specs.Steps.Text.{AreDark, cells_from, four_halves, four_modules, fours_of};
+ghost use Rattle.qr_matrix.specs.Line.{has_bit};
+ghost use Rattle.qr_drawing.specs.Raster.{texts_below};
+ghost use Rattle.qr_drawing.specs.Text.{ascii_module, half_blocks, line_count, cells_of_line, text_drawing};
+ghost use Rattle.qr_drawing.specs.Steps.Text.{AreDark, ShowsRow, cell_at, cell_room, cell_text, quad_text, top_row};
 ghost use Rattle.qr_drawing.specs.Steps.Pen.{Puts};
-ghost use Rattle.qr_drawing.specs.declared.text.Cells.TheVariants.{HalfBlocks};
-ghost use Rattle.qr_drawing.specs.Raster.{raster_width};
+ghost use Rattle.qr_drawing.specs.declared.text.TextStyle.TheVariants.{HalfBlocks, Plain};
 
 use crate::drawing::{HasSquare, is_dark_at, raster_width};
-use crate::pen::{DrawFault, Pen};
+use crate::pen::{DrawFault, Pen, push_all};
 use arrayvec::ArrayVec;
 use qr_devices::Sink;
 use qr_symbol::Matrix;
 
 /// How a text shows modules.
 #[derive(Clone, Copy)]
-pub(crate) enum Cells {
+pub(crate) enum TextStyle {
     /// Two `#` for a dark module, two spaces for a light one.
     Plain,
     /// Two spaces for a dark module, two `#` for a light one.
@@ -27,17 +27,118 @@ pub(crate) enum Cells {
     HalfBlocks,
 }
 
-// A module of an ASCII drawing.
-fn ascii_module(dark: bool) -> &'static [u8]
-    ensures { result.now ≡ ascii_module dark }
+// The most bytes of a cell.
+fn cell_room(style: TextStyle) -> usize
+    ensures value { result ≡ cell_room style }
+    ensures most { result ≤ 3 }
 {
-    if dark { b"##" } else { b"  " }
+    match style {
+        TextStyle::Plain | TextStyle::Inverse => 2,
+        TextStyle::HalfBlocks => 3,
+    }
 }
 
-// Four modules of an ASCII drawing, of which the first is the lowest bit.
-fn four_modules(bits: u8) -> [u8; 8]
+// The row of the raster that line y shows, or the upper one of two.
+fn top_row(style: TextStyle, y: u16) -> u16
+    requires { y < 1000 }
+    ensures value { result ≡ top_row style y }
+    ensures most { result < 2000 }
+{
+    match style {
+        TextStyle::Plain | TextStyle::Inverse => y,
+        TextStyle::HalfBlocks => 2 * y,
+    }
+}
+
+// How many lines the rows of a raster make.
+fn line_count(style: TextStyle, rows: u16) -> u16
+    requires { rows < 1000 }
+    ensures value { result ≡ line_count style rows }
+    ensures most { result ≤ rows }
+{
+    match style {
+        TextStyle::Plain | TextStyle::Inverse => rows,
+        TextStyle::HalfBlocks => rows.div_ceil(2),
+    }
+}
+
+// Adds a module as two characters.
+fn push_module(text: &mut ArrayVec<u8, 1200>, dark: bool)
+    requires room { array_vec_len text.old + 2 ≤ 1200 }
+    ensures { text.new.items ≡ text.old.items ++ ascii_module dark }
+{
+    let character = if dark { b'#' } else { b' ' };
+    text.push(character);
+    text.push(character);
+}
+
+// Adds two modules as a character of half blocks, whose filled parts are light.
+fn push_half_block(text: &mut ArrayVec<u8, 1200>, upper: bool, lower: bool)
+    requires room { array_vec_len text.old + 3 ≤ 1200 }
+    ensures items { text.new.items ≡ text.old.items ++ half_blocks upper lower }
+    ensures len { array_vec_len text.new ≤ array_vec_len text.old + 3 }
+{
+    let last = match (upper, lower) {
+        (true, true) => {
+            text.push(b' ');
+            return;
+        }
+        (true, false) => 0x84,
+        (false, true) => 0x80,
+        (false, false) => 0x88,
+    };
+    text.push(0xE2);
+    text.push(0x96);
+    text.push(last);
+}
+
+// Adds a cell: a module, or in half blocks that module and the one below it.
+fn push_cell(text: &mut ArrayVec<u8, 1200>, style: TextStyle, upper: bool, lower: bool)
+    requires room { array_vec_len text.old + cell_room style ≤ 1200 }
+    ensures { text.new.items ≡ text.old.items ++ cell_text style upper lower }
+{
+    match style {
+        TextStyle::Plain => push_module(text, upper),
+        TextStyle::Inverse => push_module(text, !upper),
+        TextStyle::HalfBlocks => push_half_block(text, upper, lower),
+    }
+}
+
+// The row of the square that a row of the raster shows, if any.
+fn square_row(matrix: &Matrix, margin: u8, row: u16) -> Option<u8>
+    ensures { ShowsRow margin matrix.now row result }
+{
+    let first = u16::from(margin);
+    if row < first {
+        return None;
+    }
+    if row >= first + u16::from(matrix.side()) {
+        return None;
+    }
+    Some((row - first) as u8)
+}
+
+// Four places of a row, from a column on that is a multiple of four: the first is the lowest bit, and the bit of a dark
+// place is set. All are light where there is no row.
+#[inline(always)]
+fn dark_bits(matrix: &Matrix, row: Option<u8>, col: u8) -> u8
+    requires row_in { IfSome row (λ r. r < matrix.now.side) }
+    requires col_in { col + 4 ≤ matrix.now.side }
+    requires whole { col % 4 ≡ 0 }
+    ensures small { result < 16 }
+    ensures dark { (margin y : ℕ) → ShowsRow margin matrix.now y row → AreDark margin matrix.now y col result }
+{
+    match row {
+        Some(row) => matrix.four(row, col),
+        None => 0,
+    }
+}
+
+// Four modules as two characters each, of which the first is the lowest bit.
+#[tactic(auto, unfolding(qr_matrix::specs::Line::has_bit, crate::specs::Raster::texts_below))]
+fn ascii_quad(bits: u8) -> [u8; 8]
     requires { bits < 16 }
-    ensures { result ≡ four_modules bits }
+    ensures { result ≡ quad_text Plain bits 0 }
 {
     match bits {
         0 => *b"        ",
@@ -59,277 +160,204 @@ fn four_modules(bits: u8) -> [u8; 8]
     }
 }
 
-// Two modules, one above the other; what is filled is light.
-fn half_blocks(upper: bool, lower: bool) -> &'static [u8]
-    ensures { result.now ≡ half_blocks upper lower }
+// Whether one of the lowest four bits is set.
+#[tactic(auto, using(std::proofs::lemmas::Nat::Bits::shr_and_one), unfolding(qr_matrix::specs::Line::has_bit))]
+fn is_set(bits: u8, place: u8) -> bool
+    requires { place < 4 }
+    ensures { result ≡ has_bit bits place }
 {
-    match (upper, lower) {
-        (true, true) => b" ",
-        (true, false) => b"\xE2\x96\x84",
-        (false, true) => b"\xE2\x96\x80",
-        (false, false) => b"\xE2\x96\x88",
-    }
+    bits >> place & 1 == 1
 }
 
-// The text of a cell of a line.
-fn cell(cells: Cells, matrix: &Matrix, margin: u8, y: u16, x: u16) -> &'static [u8]
-    requires { y < 1000 }
-    ensures { result.now ≡ cell_of cells margin matrix.now y x }
+// Adds four modules and the four below them as characters of half blocks, of which the first is the lowest bit.
+fn push_half_block_quad(text: &mut ArrayVec<u8, 1200>, upper: u8, lower: u8)
+    requires room { array_vec_len text.old + 12 ≤ 1200 }
+    ensures { text.new.items ≡ text.old.items ++ quad_text HalfBlocks upper lower }
 {
-    match cells {
-        Cells::Plain => ascii_module(is_dark_at(matrix, margin, y, x)),
-        Cells::Inverse => ascii_module(!is_dark_at(matrix, margin, y, x)),
-        Cells::HalfBlocks => {
-            let upper = is_dark_at(matrix, margin, 2 * y, x);
-            half_blocks(upper, is_dark_at(matrix, margin, 2 * y + 1, x))
-        }
-    }
+    push_half_block(text, is_set(upper, 0), is_set(lower, 0));
+    push_half_block(text, is_set(upper, 1), is_set(lower, 1));
+    push_half_block(text, is_set(upper, 2), is_set(lower, 2));
+    push_half_block(text, is_set(upper, 3), is_set(lower, 3));
 }
 
-// Whether a line has two characters a module and shows a row of modules.
-fn shows_row(cells: Cells, matrix: &Matrix, margin: u8, y: u16) -> bool
-    ensures cells { result ≡ true → cells ≢ HalfBlocks }
-    ensures top { result ≡ true → margin ≤ y }
-    ensures bottom { result ≡ true → y < margin + matrix.now.side }
-{
-    let first = u16::from(margin);
-    match cells {
-        Cells::HalfBlocks => false,
-        Cells::Plain | Cells::Inverse => y >= first && y < first + u16::from(matrix.side()),
-    }
-}
-
-// The text of four modules of a row, of two characters each.
-fn four_of_row(cells: Cells, matrix: &Matrix, row: u8, col: u8) -> [u8; 8]
-    requires cells { cells ≢ HalfBlocks }
-    requires row_in { row < matrix.now.side }
-    requires col_in { col + 4 ≤ matrix.now.side }
-    requires whole { col % 4 ≡ 0 }
-    ensures { (margin : ℕ) → result ≡ cells_from cells margin matrix.now (margin + row) (margin + col) }
-{
-    let bits = matrix.four(row, col);
-    match cells {
-        Cells::Plain => four_modules(bits),
-        Cells::Inverse | Cells::HalfBlocks => four_modules(15 - bits),
-    }
-}
-
-// Four places of a row of a raster, of which the first is the lowest bit and a dark one a bit that is set, where they can
-// be taken at once.
-fn four_places(matrix: &Matrix, margin: u8, y: u16, x: u16) -> Option<u8>
-    requires y_in { y < 3000 }
-    requires x_in { x < 1000 }
-    ensures small { IfSome result (λ b. b < 16) }
-    ensures dark { IfSome result (λ b. AreDark margin matrix.now y x b) }
-{
-    let first = u16::from(margin);
-    let end = first + u16::from(matrix.side());
-    if y < first {
-        return Some(0);
-    }
-    if y >= end {
-        return Some(0);
-    }
-    if x + 4 <= first {
-        return Some(0);
-    }
-    if x >= end {
-        return Some(0);
-    }
-    if x < first || x + 4 > end || (x - first) % 4 != 0 {
-        return None;
-    }
-    Some(matrix.four((y - first) as u8, (x - first) as u8))
-}
-
-// The text of four cells of a line, where they can be taken at once.
-fn four_cells(cells: Cells, matrix: &Matrix, margin: u8, y: u16, x: u16) -> Option<[u8; 8]>
-    requires y_in { y < 1000 }
-    requires x_in { x < 1000 }
-    ensures text { IfSome result (λ t. t ≡ cells_from cells margin matrix.now y x) }
-{
-    match cells {
-        Cells::Plain => match four_places(matrix, margin, y, x) {
-            Some(bits) => Some(four_modules(bits)),
-            None => None,
-        },
-        Cells::Inverse => match four_places(matrix, margin, y, x) {
-            Some(bits) => Some(four_modules(15 - bits)),
-            None => None,
-        },
-        Cells::HalfBlocks => None,
-    }
-}
-
-// Puts the modules of a row from its first on, four at a time, as far as there are four.
+// Adds four cells, of which the first is the lowest bit.
 #[inline(always)]
-fn put_fours<W: Sink>(
-    pen: &mut Pen,
-    out: &mut W,
-    cells: Cells,
+fn push_quad(text: &mut ArrayVec<u8, 1200>, style: TextStyle, upper: u8, lower: u8)
+    requires small { upper < 16 }
+    requires room { array_vec_len text.old + 4 * cell_room style ≤ 1200 }
+    ensures { text.new.items ≡ text.old.items ++ quad_text style upper lower }
+{
+    match style {
+        TextStyle::Plain => push_all(text, &ascii_quad(upper)),
+        TextStyle::Inverse => push_all(text, &ascii_quad(15 - upper)),
+        TextStyle::HalfBlocks => push_half_block_quad(text, upper, lower),
+    }
+}
+
+// Adds so many cells of a row of the raster, from a column on.
+fn push_cells(
+    text: &mut ArrayVec<u8, 1200>,
+    style: TextStyle,
     matrix: &Matrix,
     margin: u8,
-    row: u8,
-) -> Result<(), DrawFault>
-    requires cells { cells ≢ HalfBlocks }
-    requires row_in { row < matrix.now.side }
-    ensures { Puts (W.device out.old) (W.device out.new)
-        pen.old pen.new (fours_of cells margin matrix.now (margin + row)) result }
+    row: u16,
+    first: u16,
+    count: u16,
+)
+    requires row_in { row < 2000 }
+    requires first_in { first < 1000 }
+    requires room { array_vec_len text.old + count * cell_room style ≤ 1200 }
+    ensures { text.new.items ≡ text.old.items ++ texts_below count (λ i. cell_at style margin matrix.now row (first + i)) }
 {
+    match style {
+        TextStyle::Plain => push_cells_of(
+            text,
+            TextStyle::Plain,
+            matrix,
+            margin,
+            row,
+            first,
+            count,
+        ),
+        TextStyle::Inverse => push_cells_of(
+            text,
+            TextStyle::Inverse,
+            matrix,
+            margin,
+            row,
+            first,
+            count,
+        ),
+        TextStyle::HalfBlocks => push_cells_of(
+            text,
+            TextStyle::HalfBlocks,
+            matrix,
+            margin,
+            row,
+            first,
+            count,
+        ),
+    }
+}
+
+// The same, in a copy for each style, so that the loop looks at no style.
+#[inline(always)]
+fn push_cells_of(
+    text: &mut ArrayVec<u8, 1200>,
+    style: TextStyle,
+    matrix: &Matrix,
+    margin: u8,
+    row: u16,
+    first: u16,
+    count: u16,
+)
+    requires row_in { row < 2000 }
+    requires first_in { first < 1000 }
+    requires room { array_vec_len text.old + count * cell_room style ≤ 1200 }
+    ensures { text.new.items ≡ text.old.items ++ texts_below count (λ i. cell_at style margin matrix.now row (first + i)) }
+{
+    for done in 0..count {
+        let x = first + done;
+        let upper = is_dark_at(matrix, margin, row, x);
+        let lower = is_dark_at(matrix, margin, row + 1, x);
+        push_cell(text, style, upper, lower);
+    }
+}
+
+// Adds the cells of the columns of the square, four at a time, as far as there are four.
+fn push_quads(
+    text: &mut ArrayVec<u8, 1200>,
+    style: TextStyle,
+    matrix: &Matrix,
+    margin: u8,
+    row: u16,
+)
+    requires row_in { row < 2000 }
+    requires room { array_vec_len text.old + matrix.now.side * cell_room style ≤ 1200 }
+    ensures { text.new.items
+        ≡ text.old.items ++ texts_below (matrix.now.side / 4 * 4) (λ i. cell_at style margin matrix.now row (margin + i)) }
+{
+    match style {
+        TextStyle::Plain => push_quads_of(text, TextStyle::Plain, matrix, margin, row),
+        TextStyle::Inverse => push_quads_of(text, TextStyle::Inverse, matrix, margin, row),
+        TextStyle::HalfBlocks => push_quads_of(text, TextStyle::HalfBlocks, matrix, margin, row),
+    }
+}
+
+// The same, in a copy for each style.
+#[inline(always)]
+fn push_quads_of(
+    text: &mut ArrayVec<u8, 1200>,
+    style: TextStyle,
+    matrix: &Matrix,
+    margin: u8,
+    row: u16,
+)
+    requires row_in { row < 2000 }
+    requires room { array_vec_len text.old + matrix.now.side * cell_room style ≤ 1200 }
+    ensures { text.new.items
+        ≡ text.old.items ++ texts_below (matrix.now.side / 4 * 4) (λ i. cell_at style margin matrix.now row (margin + i)) }
+{
+    let upper_row = square_row(matrix, margin, row);
+    let lower_row = square_row(matrix, margin, row + 1);
     let end = matrix.side() / 4 * 4;
     let mut col = 0;
-    'fours: while col < end {
-        pen.put_eight(out, four_of_row(cells, matrix, row, col))?;
+    'quads: while col < end {
+        let upper = dark_bits(matrix, upper_row, col);
+        let lower = dark_bits(matrix, lower_row, col);
+        push_quad(text, style, upper, lower);
         col += 4;
     }
-    Ok(())
 }
 
-// Adds two modules, one above the other, to a text.
-fn push_half(text: &mut ArrayVec<u8, 12>, upper: bool, lower: bool)
-    requires room { array_vec_len text.old + 3 ≤ 12 }
-    ensures items { text.new.items ≡ text.old.items ++ half_blocks upper lower }
-    ensures len { array_vec_len text.new ≤ array_vec_len text.old + 3 }
-{
-    if upper && lower {
-        text.push(b' ');
-        return;
-    }
-    text.push(0xE2);
-    text.push(0x96);
-    if upper {
-        text.push(0x84);
-    } else if lower {
-        text.push(0x80);
-    } else {
-        text.push(0x88);
-    }
-}
-
-// Four modules of a row and the four below them, of which the first is the lowest bit.
-fn four_halves(upper: u8, lower: u8) -> ArrayVec<u8, 12>
-    ensures { result.items ≡ four_halves upper lower }
-{
-    let mut text = ArrayVec::new();
-    push_half(&mut text, upper % 2 == 1, lower % 2 == 1);
-    push_half(&mut text, upper / 2 % 2 == 1, lower / 2 % 2 == 1);
-    push_half(&mut text, upper / 4 % 2 == 1, lower / 4 % 2 == 1);
-    push_half(&mut text, upper / 8 % 2 == 1, lower / 8 % 2 == 1);
-    text
-}
-
-// The text of four cells of a line of half blocks, where they can be taken at once.
-fn four_blocks(
-    cells: Cells,
-    matrix: &Matrix,
-    margin: u8,
-    y: u16,
-    x: u16,
-) -> Option<ArrayVec<u8, 12>>
-    requires y_in { y < 1000 }
-    requires x_in { x < 1000 }
-    ensures text { IfSome result (λ t. t.items ≡ cells_from cells margin matrix.now y x) }
-{
-    match cells {
-        Cells::Plain | Cells::Inverse => None,
-        Cells::HalfBlocks => {
-            let upper = four_places(matrix, margin, 2 * y, x)?;
-            let lower = four_places(matrix, margin, 2 * y + 1, x)?;
-            Some(four_halves(upper, lower))
-        }
-    }
-}
-
-// How many lines the rows of a raster make.
-fn line_count(cells: Cells, rows: u16) -> u16
-    requires { rows < 1000 }
-    ensures value { result ≡ line_count cells rows }
-    ensures most { result ≤ rows }
-{
-    match cells {
-        Cells::Plain | Cells::Inverse => rows,
-        Cells::HalfBlocks => rows.div_ceil(2),
-    }
-}
-
-// Puts the cells of a line.
-fn put_cells<W: Sink>(
-    pen: &mut Pen,
-    out: &mut W,
-    cells: Cells,
-    matrix: &Matrix,
-    margin: u8,
-    y: u16,
-) -> Result<(), DrawFault>
-    requires { y < 1000 }
-    ensures { Puts (W.device out.old) (W.device out.new)
-        pen.old pen.new (cells_of_line cells margin matrix.now y) result }
-{
-    let width = raster_width(matrix, margin);
-    let first = u16::from(margin);
-    let fours = u16::from(matrix.side() / 4 * 4);
-    let is_row = shows_row(cells, matrix, margin, y);
-    let mut x = 0;
-    'cells: while x < width {
-        if is_row && x == first && fours > 0 {
-            put_fours(pen, out, cells, matrix, margin, (y - first) as u8)?;
-            x += fours;
-            continue;
-        }
-        if x + 4 <= width {
-            match four_cells(cells, matrix, margin, y, x) {
-                Some(text) => {
-                    pen.put_eight(out, text)?;
-                    x += 4;
-                    continue;
-                }
-                None => {}
-            }
-            match four_blocks(cells, matrix, margin, y, x) {
-                Some(text) => {
-                    pen.put_all(out, text.as_slice())?;
-                    x += 4;
-                    continue;
-                }
-                None => {}
-            }
-        }
-        pen.put_all(out, cell(cells, matrix, margin, y, x))?;
-        x += 1;
-    }
-    Ok(())
-}
-
-// Puts a line.
+// Puts a line: the margin, the columns of the square by fours, and the columns and the margin after those.
 fn put_line<W: Sink>(
     pen: &mut Pen,
     out: &mut W,
-    cells: Cells,
+    style: TextStyle,
     matrix: &Matrix,
     margin: u8,
     y: u16,
 ) -> Result<(), DrawFault>
     requires { y < 1000 }
     ensures { Puts (W.device out.old) (W.device out.new)
-        pen.old pen.new (cells_of_line cells margin matrix.now y ++ 10 ∷ []) result }
+        pen.old pen.new (cells_of_line style margin matrix.now y ++ 10 ∷ []) result }
 {
-    put_cells(pen, out, cells, matrix, margin, y)?;
-    pen.put(out, b'\n')
+    let room = cell_room(style);
+    let row = top_row(style, y);
+    let first = u16::from(margin);
+    let rest = u16::from(matrix.side() % 4) + first;
+    pen.reserve(out, usize::from(margin) * room)?;
+    push_cells(&mut pen.piece, style, matrix, margin, row, 0, first);
+    pen.reserve(out, usize::from(matrix.side()) * room)?;
+    push_quads(&mut pen.piece, style, matrix, margin, row);
+    pen.reserve(out, usize::from(rest) * room + 1)?;
+    push_cells(
+        &mut pen.piece,
+        style,
+        matrix,
+        margin,
+        row,
+        first + u16::from(matrix.side() / 4 * 4),
+        rest,
+    );
+    pen.piece.push(b'\n');
+    Ok(())
 }
 
 // Puts the lines of a symbol.
 fn put_lines<W: Sink>(
     pen: &mut Pen,
     out: &mut W,
-    cells: Cells,
+    style: TextStyle,
     matrix: &Matrix,
     margin: u8,
 ) -> Result<(), DrawFault>
     ensures { Puts (W.device out.old) (W.device out.new)
-        pen.old pen.new (text_drawing cells margin matrix.now) result }
+        pen.old pen.new (text_drawing style margin matrix.now) result }
 {
-    for y in 0..line_count(cells, raster_width(matrix, margin)) {
-        put_line(pen, out, cells, matrix, margin, y)?;
+    for y in 0..line_count(style, raster_width(matrix, margin)) {
+        put_line(pen, out, style, matrix, margin, y)?;
     }
     Ok(())
 }
@@ -338,15 +366,15 @@ fn put_lines<W: Sink>(
 pub(crate) fn put_texts<S: HasSquare, W: Sink>(
     pen: &mut Pen,
     out: &mut W,
-    cells: Cells,
+    style: TextStyle,
     symbols: &[S],
     margin: u8,
 ) -> Result<(), DrawFault>
     ensures { Puts (W.device out.old) (W.device out.new)
-        pen.old pen.new (flat_map (text_drawing cells margin) (map S.grid symbols.now)) result }
+        pen.old pen.new (flat_map (text_drawing style margin) (map S.grid symbols.now)) result }
 {
     for symbol in symbols {
-        put_lines(pen, out, cells, symbol.square(), margin)?;
+        put_lines(pen, out, style, symbol.square(), margin)?;
     }
     Ok(())
 }

@@ -11,6 +11,12 @@ Puts old new before after text r = MatchResult r
     (λ _. Writes old new before.interrupted after.interrupted (before.piece.items ++ text) after.piece.items)
     (λ _. Stops old new before.interrupted (before.piece.items ++ text))
 
+-- the pen wrote what it held, or held it still
+abbrev pub Reserves : Writer → Writer → Pen → Pen → {T : Type 0} → Result T DrawFault → Type 0
+Reserves old new before after r = MatchResult r
+    (λ _. Writes old new before.interrupted after.interrupted before.piece.items after.piece.items)
+    (λ _. Stops old new before.interrupted before.piece.items)
+
 -- the pen wrote what it held
 abbrev pub Finishes : Writer → Writer → Pen → {T : Type 0} → Result T DrawFault → Type 0
 Finishes old new pen r = MatchResult r (λ _. (tries : ℕ) × Writes old new pen.interrupted tries pen.piece.items [])

@@ -1,11 +1,11 @@
 use Rattle.std.proofs.Common.{refl, arith}
 use Rattle.std.proofs.lemmas.Result.{err_from_is_err_and}
-use Rattle.qr_drawing.proofs.LineLemmas.{put_none}
-use Rattle.qr_drawing.proofs.PathLemmas.{next_top, put_run, put_same, run_stops, stack_at, stack_ends}
+use Rattle.qr_drawing.proofs.LineLemmas.{no-texts, put_next, put_none, put_stops}
+use Rattle.qr_drawing.proofs.PathLemmas.{next_top, stack_at, stack_ends}
 use Rattle.qr_drawing.proofs.svg.put_stack.Goals as goal
 
 pub loop-symbol-init : goal.loop-symbol-init
-loop-symbol-init g c = record { top = omega arith; low = omega arith; writes = put_none _ _ _ _ }
+loop-symbol-init g c = record { top = omega arith; low = omega arith; writes = put_none _ _ _ _ _ (no-texts _) }
 
 pub returns-in_err-put_symbol : goal.returns-in_err-put_symbol
 returns-in_err-put_symbol g c =
@@ -13,7 +13,7 @@ returns-in_err-put_symbol g c =
     let here = stack_at g.S.HasSquare.grid c.args.margin c.loop-symbol.symbol-index c.loop-symbol.top c.args.symbols.now c.symbol-item.result
     c.requires.one_side c.loop-symbol-test.true c.symbol-item.is c.loop-symbol.invariant.top in
     rw (p.1, stack_ends g.S.HasSquare.grid c.args.margin _ c.args.symbols.now refl)
-    (run_stops _ _ _ _ _ _ _ _ _ _ _ here c.loop-symbol-test.true c.loop-symbol.invariant.writes (rw c.square-square.ensures at c.in_err-put_symbol.ensures))
+    (put_stops _ _ _ _ _ _ _ _ _ _ _ here c.loop-symbol-test.true c.loop-symbol.invariant.writes (rw c.square-square.ensures at c.in_err-put_symbol.ensures))
 
 pub loop-symbol-preserved : goal.loop-symbol-preserved
 loop-symbol-preserved g c =
@@ -24,9 +24,8 @@ loop-symbol-preserved g c =
       top = next_top g.S.HasSquare.grid c.args.margin c.loop-symbol.symbol-index c.loop-symbol.top _ c.args.symbols.now c.symbol-item.result
           c.requires.one_side c.loop-symbol-test.true c.symbol-item.is c.loop-symbol.invariant.top (rw c.square-square.ensures at c.raster_width-top.ensures.value);
       low = let m = c.raster_width-top.ensures.most in omega arith;
-      writes = put_run _ _ _ _ _ _ _ _ _ _ _ _ _ here refl c.loop-symbol.invariant.writes (rw c.square-square.ensures at c.in_ok-put_symbol.ensures);
+      writes = put_next _ _ _ _ _ _ _ _ _ _ _ _ _ here refl c.loop-symbol.invariant.writes (rw c.square-square.ensures at c.in_ok-put_symbol.ensures);
     }
 
 pub returns : goal.returns
-returns g c =
-    put_same _ _ _ _ _ _ _ _ (stack_ends g.S.HasSquare.grid c.args.margin c.loop-symbol.symbol-index c.args.symbols.now (omega arith)) c.loop-symbol.invariant.writes
+returns g c = rw (stack_ends g.S.HasSquare.grid c.args.margin c.loop-symbol.symbol-index c.args.symbols.now (omega arith)) c.loop-symbol.invariant.writes

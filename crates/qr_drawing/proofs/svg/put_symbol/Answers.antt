@@ -1,25 +1,25 @@
-use Rattle.std.proofs.Common.{ap, refl, arith}
+use Rattle.std.proofs.Common.{◌++◌, ap, refl, subst, arith}
 use Rattle.std.proofs.lemmas.Result.{err_from_is_err_and}
 use Rattle.qr_drawing.specs.Raster.{texts_below}
 use Rattle.qr_drawing.specs.Svg.{row_path}
-use Rattle.qr_drawing.proofs.PathLemmas.{put_nothing, put_run, put_same, run_stops, symbol_begins, symbol_ends}
+use Rattle.qr_drawing.proofs.LineLemmas.{put_next, put_none, put_stops}
+use Rattle.qr_drawing.proofs.PathLemmas.{symbol_begins, symbol_ends}
 use Rattle.qr_drawing.proofs.svg.put_symbol.Goals as goal
 
 pub loop-row-init : goal.loop-row-init
-loop-row-init g c = put_nothing _ _ _ _ _ (symbol_begins c.args.top c.args.margin c.args.matrix.now)
+loop-row-init g c = put_none _ _ _ _ _ (symbol_begins c.args.top c.args.margin c.args.matrix.now)
 
 pub returns-in_err-put_row : goal.returns-in_err-put_row
 returns-in_err-put_row g c =
     let p = err_from_is_err_and c.from_residual.result c.from_residual.ensures.1 in
     rw (p.1, symbol_ends c.args.top c.args.margin _ c.args.matrix.now refl)
-    (run_stops _ _ _ _ _ _ _ _ _ _ (row_path c.args.top c.args.margin c.args.matrix.now) refl (omega arith) c.loop-row.invariant
+    (put_stops _ _ _ _ _ _ _ _ _ _ (row_path c.args.top c.args.margin c.args.matrix.now) refl (omega arith) c.loop-row.invariant
     c.in_err-put_row.ensures)
 
 pub loop-row-preserved : goal.loop-row-preserved
 loop-row-preserved g c =
-    put_run _ _ _ _ _ _ _ _ _ _ _ _ (row_path c.args.top c.args.margin c.args.matrix.now) refl
+    put_next _ _ _ _ _ _ _ _ _ _ _ _ (row_path c.args.top c.args.margin c.args.matrix.now) refl
     (ap (λ k. texts_below k (row_path c.args.top c.args.margin c.args.matrix.now)) (omega arith)) c.loop-row.invariant c.in_ok-put_row.ensures
 
 pub returns : goal.returns
-returns g c =
-    put_same _ _ _ _ _ _ _ _ (symbol_ends c.args.top c.args.margin c.loop-row.row c.args.matrix.now (omega arith)) c.loop-row.invariant
+returns g c = rw (symbol_ends c.args.top c.args.margin c.loop-row.row c.args.matrix.now (omega arith)) c.loop-row.invariant

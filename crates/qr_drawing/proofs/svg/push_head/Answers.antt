@@ -1,0 +1,8 @@
+use Rattle.std.proofs.Common.{append_assoc}
+use Rattle.qr_drawing.specs.Svg.{declaration}
+use Rattle.qr_drawing.specs.Steps.Svg.{head}
+use Rattle.qr_drawing.proofs.svg.push_head.Goals as goal
+
+pub returns : goal.returns
+unfolding declaration head
+returns c = rw (c.push_all-2.ensures, c.push_background.ensures.items, c.push_opening.ensures.items, c.push_all.ensures) (simp append_assoc)
