@@ -95,6 +95,7 @@ fn push_box(text: &mut ArrayVec<u8, 1200>, x: u16, y: u16, modules: u16)
 }
 
 // Adds bytes, and a number in decimal digits after them.
+#[tactic(auto, unfolding(crate::specs::Svg::numbered))]
 fn push_numbered(text: &mut ArrayVec<u8, 1200>, bytes: &[u8], number: u16)
     requires room { array_vec_len text.old + length bytes.now + 5 ≤ 1200 }
     ensures items { text.new.items ≡ text.old.items ++ numbered bytes.now number }
@@ -118,6 +119,7 @@ fn push_opening(text: &mut ArrayVec<u8, 1200>, width: u16, height: u16)
 }
 
 // Adds the line that makes a picture of so many modules white.
+#[tactic(auto, unfolding(crate::specs::Svg::background))]
 fn push_background(text: &mut ArrayVec<u8, 1200>, width: u16, height: u16)
     requires room { array_vec_len text.old + 80 ≤ 1200 }
     ensures items { text.new.items ≡ text.old.items ++ background width height }
