@@ -81,6 +81,10 @@ static: all
 check:
 	@tests/all
 
+# What proves anew: the library and the program for aarch64.
+check-packages:
+	tests/aarch64 --build
+
 # The page calls the program by its name in its head and its examples; the lines of faults begin with qrencode under each name.
 install: $(if $(STATIC),static,all)
 	install -D -m 755 $(PROGRAM)$(if $(STATIC),-static) "$(BINARY)"
@@ -154,4 +158,4 @@ bench: all lib
 	bench/instructions
 	bench/library
 
-.PHONY: all bench check cross install install-lib lib print-pc prove-lib static uninstall uninstall-lib wheel
+.PHONY: all bench check check-packages cross install install-lib lib print-pc prove-lib static uninstall uninstall-lib wheel
