@@ -157,5 +157,6 @@ wheel:
 bench: all lib
 	bench/instructions
 	bench/library
+	bench/memory
 
 .PHONY: all bench check check-packages cross install install-lib lib print-pc prove-lib static uninstall uninstall-lib wheel
