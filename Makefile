@@ -1,6 +1,6 @@
 # Builds the proved program, tests it, counts its instructions, and puts it and its manual page under PREFIX, by the name NAME.
 # Also builds the library for C, puts it and its header there, and packs it into a wheel for Python. STRIP=1 leaves the names
-# of functions out of what is installed.
+# of functions out of what is installed, and STATIC=1 installs the program that holds its C library.
 VERSION := $(shell cat VERSION)
 PREFIX = /usr/local
 BINDIR = $(PREFIX)/bin
@@ -8,35 +8,86 @@ LIBDIR = $(PREFIX)/lib
 INCLUDEDIR = $(PREFIX)/include
 MANDIR = $(PREFIX)/share/man
 STRIP =
+STATIC =
 
-LD ?= ld
-AR ?= ar
-OBJCOPY ?= objcopy
+# The machine that is built for, and the processors of its kind. The first is each of them: x86-64, or generic for aarch64.
+TARGET = x86_64-unknown-linux-gnu
+ifeq ($(TARGET),x86_64-unknown-linux-gnu)
+CPU = x86-64
+CROSS =
+KIND = $(CPU)
+else ifeq ($(TARGET),aarch64-unknown-linux-gnu)
+CPU = generic
+CROSS = aarch64-linux-gnu-
+KIND = aarch64-$(CPU)
+else
+$(error TARGET is x86_64-unknown-linux-gnu or aarch64-unknown-linux-gnu, and not $(TARGET))
+endif
+
+# The tools of the target, where the caller names no others.
+tool = $(if $(filter default undefined,$(origin $(1))),$(eval $(1) = $(2)))
+$(call tool,CC,$(if $(CROSS),$(CROSS)gcc,cc))
+$(call tool,LD,$(CROSS)ld)
+$(call tool,AR,$(CROSS)ar)
+$(call tool,OBJCOPY,$(CROSS)objcopy)
 
 NAME = qrencode
-PROGRAM = crates/qrencode/out/qrencode
+OUT = out/$(KIND)
+PROGRAM = $(OUT)/qrencode
 BINARY = $(DESTDIR)$(BINDIR)/$(NAME)
 MANUAL = $(DESTDIR)$(MANDIR)/man1/$(NAME).1
 
 LIBRARY = crates/qrproved
-# For all processors of the kind, since a static library does not test what it runs on. Without it, those from 2009 on.
-LIBRARY_FLAGS = --cpu x86-64
-LIBRARY_OUT = $(LIBRARY)/out/lib
+LIBRARY_FLAGS = --cpu $(CPU)
+LIBRARY_OUT = $(if $(CROSS),$(OUT)/lib,$(LIBRARY)/out/lib)
 SONAME = libqrproved.so.0
 LIBRARIES = $(DESTDIR)$(LIBDIR)
 INCLUDES = $(DESTDIR)$(INCLUDEDIR)
 PYTHON = python3
 WHEELS = python/out
 
+# The C below what is proved: the kit's, or for its other targets ours.
+KIT_C = $(shell dirname "$$(rt doc)")/c
+GLUE = $(if $(CROSS),$(wildcard ports/*.c),$(KIT_C)/libos_c.a $(KIT_C)/liblibc_c.a)
+
+# Something if a file is missing or a source is newer. Proofs are no sources: another proof makes no other code.
+SOURCES = crates.txt $(wildcard crates/*/src crates/*/specs) $(if $(CROSS),ports)
+is_old = $(shell test -e '$(1)' && find $(SOURCES) \( -type d -o -name '*.rt' -o -name '*.antt' -o -name '*.c' -o -name '*.txt' \) \
+    -newer '$(1)' | head -n 1 || echo missing)
+
+ifndef CROSS
 all:
-	./qrencode -t ASCII A >/dev/null
+	QRENCODE_CPU=$(CPU) ./qrencode -t ASCII A >/dev/null
+else
+all: $(if $(call is_old,$(PROGRAM)),cross)
+endif
+
+# Proves the program for another target. The kit has no linker for it, and so ends by an error; but it writes an object file,
+# and only of a program that is proved.
+cross:
+	mkdir -p $(OUT)
+	rm -f crates/qrencode/out/qrencode.o
+	touch $(OUT)/start
+	cd crates/qrencode && rt run --target $(TARGET) --cpu $(CPU) -- -h >"$(CURDIR)/$(OUT)/build.log" 2>&1 </dev/null || test -e out/qrencode.o
+	cp crates/qrencode/out/qrencode.o $(OUT)/qrencode.o
+	$(CC) -O2 -o $(OUT)/qrencode.new $(OUT)/qrencode.o $(GLUE)
+	touch -r $(OUT)/start $(OUT)/qrencode.new
+	mv $(OUT)/qrencode.new $(PROGRAM)
+
+# The same program, linked with the C library's archive. The kit's own checks see the other one.
+static: all
+	$(CC) -O2 -static -o $(PROGRAM)-static $(OUT)/qrencode.o $(GLUE)
 
 check:
 	@tests/all
 
+# What proves anew: the library and the program for aarch64.
+check-packages:
+	tests/aarch64 --build
+
 # The page calls the program by its name in its head and its examples; the lines of faults begin with qrencode under each name.
-install: all
-	install -D -m 755 $(PROGRAM) "$(BINARY)"
+install: $(if $(STATIC),static,all)
+	install -D -m 755 $(PROGRAM)$(if $(STATIC),-static) "$(BINARY)"
 	$(if $(STRIP),$(OBJCOPY) --strip-all "$(BINARY)")
 	mkdir -p "$$(dirname "$(MANUAL)")"
 	sed -e "s/^\.Dt QRENCODE /.Dt $$(echo '$(NAME)' | tr '[:lower:]' '[:upper:]') /" -e 's/^\.Nm qrencode$$/.Nm $(NAME)/' \
@@ -46,19 +97,30 @@ install: all
 uninstall:
 	rm -f "$(BINARY)" "$(MANUAL)"
 
-# Proves the crate, and joins it with the kit's calls of malloc, realloc and free. All other names than those of the header
-# become local, so that two such libraries do not clash in a program.
-lib:
-	cd $(LIBRARY) && rt lib $(LIBRARY_FLAGS)
+# Builds the library, unless the last build was by the same flags and no source is newer than it.
+library_is_old = $(shell test "$$(cat '$(LIBRARY_OUT)/flags' 2>/dev/null)" = '$(LIBRARY_FLAGS)' || echo flags)$(call \
+    is_old,$(LIBRARY_OUT)/flags)
+lib: $(if $(library_is_old),prove-lib)
+
+# Proves the crate, and joins it with the glue for malloc, realloc and free. All other names than those of the header become
+# local, so that two such libraries do not clash in a program.
+prove-lib:
 	mkdir -p "$(LIBRARY_OUT)"
+	rm -f "$(LIBRARY_OUT)/flags"
+	echo '$(LIBRARY_FLAGS)' >"$(LIBRARY_OUT)/flags.new"
+	cd $(LIBRARY) && rt lib --target $(TARGET) $(LIBRARY_FLAGS)
 	cp $(LIBRARY)/out/libqrproved.a "$(LIBRARY_OUT)/proved.a"
-	cd "$(LIBRARY_OUT)" && $(AR) x "$$(dirname "$$(rt doc)")/c/liblibc_c.a" heap.pic.o
+ifdef CROSS
+	$(CC) -O2 -fPIC -c -o "$(LIBRARY_OUT)/heap.pic.o" ports/heap.c
+else
+	cd "$(LIBRARY_OUT)" && $(AR) x "$(KIT_C)/liblibc_c.a" heap.pic.o
+endif
 	cd "$(LIBRARY_OUT)" && $(LD) -r -o joined.o --whole-archive proved.a --no-whole-archive heap.pic.o
 	cd "$(LIBRARY_OUT)" && $(OBJCOPY) --wildcard --keep-global-symbol="qrproved_*" joined.o
 	cd "$(LIBRARY_OUT)" && rm -f libqrproved.a && $(AR) rcsD libqrproved.a joined.o
 	cd "$(LIBRARY_OUT)" && $(CC) -shared -o $(SONAME) -Wl,-soname,$(SONAME) -Wl,--no-undefined -Wl,-z,relro,-z,now \
 	    -Wl,--whole-archive libqrproved.a -Wl,--no-whole-archive
-	cd "$(LIBRARY_OUT)" && rm -f proved.a heap.pic.o joined.o
+	cd "$(LIBRARY_OUT)" && rm -f proved.a heap.pic.o joined.o && mv flags.new flags
 
 # Installs what `make lib` built.
 install-lib:
@@ -95,5 +157,6 @@ wheel:
 bench: all lib
 	bench/instructions
 	bench/library
+	bench/memory
 
-.PHONY: all bench check install install-lib lib print-pc uninstall uninstall-lib wheel
+.PHONY: all bench check check-packages cross install install-lib lib print-pc prove-lib static uninstall uninstall-lib wheel

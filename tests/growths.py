@@ -13,10 +13,12 @@ def allocator_in(room, compiler):
     return allocator
 
 
-def run(allocator, growth, words, given):
-    """Runs a program with one growth refused. Returns its status, what it wrote, and whether a growth was refused."""
+def run(allocator, growth, words, given, is_emulated=False):
+    """Runs a program with one growth refused. Returns its status, what it wrote, and whether a growth was refused. If the words
+    begin with an emulator, the allocator is the program's and not the emulator's."""
     at, to = os.pipe()
-    how = {"LD_PRELOAD": allocator, "REFUSED_GROWTH": str(growth), "REFUSAL_TOLD_TO": str(to)}
+    loaded = {"QEMU_SET_ENV": f"LD_PRELOAD={allocator}"} if is_emulated else {"LD_PRELOAD": allocator}
+    how = {**loaded, "REFUSED_GROWTH": str(growth), "REFUSAL_TOLD_TO": str(to)}
     try:
         ran = subprocess.run(words, input=given, capture_output=True, env=how, pass_fds=[to], timeout=60)
     finally:

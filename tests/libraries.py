@@ -1,12 +1,14 @@
 """The library for C, built by both compilers and called from Python, and the counts of what was checked."""
 import ctypes
 import os
+import shutil
 import subprocess
 
 from growths import TOP
 
 STRICT = ["-std=c11", "-O1", "-Wall", "-Wextra", "-pedantic", "-Werror", f"-I{TOP}/include"]
-BUILDS = {"LLVM": "--cpu x86-64", "Rattle's own compiler": "--cpu x86-64 --backend rattle"}
+# The library that is installed, and another one; what `make` is told of them.
+BUILDS = {"LLVM": [], "Rattle's own compiler": ["LIBRARY_FLAGS=--cpu x86-64 --backend rattle", "LIBRARY_OUT=out/by-rattle/lib"]}
 LONG = 7200  # seconds: what stands below the library is proved again if no earlier run kept it
 MARGIN = 4
 LEVELS = "LMQH"
@@ -35,13 +37,16 @@ def said(*words, given=b"", env=None):
 
 
 def built(name, room):
-    """Builds the library by a compiler into a folder of `room`, and returns the folder; or None."""
+    """Builds the library by a compiler, unless it is built, copies it into a folder of `room`, and returns the folder; or None."""
     out = f"{room}/{'llvm' if name == 'LLVM' else 'rattle'}"
-    made = subprocess.run(["make", "-s", "-C", TOP, "lib", f"LIBRARY_FLAGS={BUILDS[name]}", f"LIBRARY_OUT={out}"], capture_output=True,
-                          timeout=LONG)
+    made = subprocess.run(["make", "-s", "-C", TOP, "lib", *BUILDS[name]], capture_output=True, timeout=LONG)
     check(f"{name}: make lib", (made.returncode, made.stderr[-300:] if made.returncode else b""), (0, b""))
     if made.returncode:
         return None
+    place = dict(it.split("=", 1) for it in BUILDS[name]).get("LIBRARY_OUT", "crates/qrproved/out/lib")
+    os.mkdir(out)
+    for file in ("libqrproved.a", "libqrproved.so.0"):
+        shutil.copy(f"{TOP}/{place}/{file}", out)
     os.symlink(f"{out}/libqrproved.so.0", f"{out}/libqrproved.so")
     return out
 

@@ -1,0 +1,105 @@
+//! The calls of include/qrproved.h.
+use std::os::raw::c_uchar;
+
+/// What C takes for a version, a level, a rule, a side, and each other number of that kind.
+pub type Setting = u32;
+
+pub const SYMBOL_MAX: usize = 31329;
+pub const BYTES_MAX: usize = 7089;
+
+#[repr(C)]
+#[derive(Default)]
+pub struct Symbol {
+    pub version: u8,
+    pub side: u8,
+    pub mask: u8,
+}
+
+#[repr(C)]
+#[derive(Default)]
+pub struct Series {
+    pub count: u8,
+    pub side: u8,
+}
+
+#[repr(C)]
+#[derive(Default)]
+pub struct Content {
+    pub len: usize,
+    pub version: u8,
+    pub has_header: u8,
+    pub position: u8,
+    pub last: u8,
+    pub parity: u8,
+}
+
+#[repr(C)]
+#[derive(Default)]
+pub struct Mended {
+    pub len: usize,
+    pub wrong_modules: u32,
+    pub version: u8,
+    pub has_header: u8,
+    pub position: u8,
+    pub last: u8,
+    pub parity: u8,
+    pub level: u8,
+    pub mask: u8,
+    pub wrong_format_modules: u8,
+    pub changed_most: u8,
+    pub changed_allowed: u8,
+}
+
+extern "C" {
+    pub fn qrproved_encode(
+        input: *const c_uchar,
+        input_len: usize,
+        version: Setting,
+        level: Setting,
+        rule: Setting,
+        modules: *mut c_uchar,
+        modules_len: usize,
+        symbol: *mut Symbol,
+    ) -> u8;
+
+    pub fn qrproved_encode_series(
+        input: *const c_uchar,
+        input_len: usize,
+        version: Setting,
+        level: Setting,
+        rule: Setting,
+        modules: *mut c_uchar,
+        modules_len: usize,
+        series: *mut Series,
+    ) -> u8;
+
+    pub fn qrproved_read(
+        modules: *const c_uchar,
+        modules_len: usize,
+        side: Setting,
+        bytes: *mut c_uchar,
+        bytes_len: usize,
+        content: *mut Content,
+    ) -> u8;
+
+    pub fn qrproved_mend(
+        modules: *const c_uchar,
+        modules_len: usize,
+        side: Setting,
+        bytes: *mut c_uchar,
+        bytes_len: usize,
+        mended: *mut Mended,
+    ) -> u8;
+
+    pub fn qrproved_draw(
+        modules: *const c_uchar,
+        modules_len: usize,
+        side: Setting,
+        count: Setting,
+        drawing: Setting,
+        margin: Setting,
+        text: *mut c_uchar,
+        text_len: usize,
+        written: *mut usize,
+    ) -> u8;
+}

@@ -1,0 +1,93 @@
+use std::fmt;
+
+/// Why a call did not do what was asked of it. The numbers are the statuses of the library.
+#[derive(Clone, Copy, Debug, PartialEq, Eq, Hash)]
+#[non_exhaustive]
+pub enum Error {
+    /// The input has no byte.
+    Empty = 1,
+    /// No version from the smallest one on holds the input.
+    TooLong = 2,
+    /// The input takes more than 16 symbols of the version.
+    TooMany = 3,
+    /// Memory was refused.
+    Memory = 4,
+    /// A number is out of its range, or a module is that of none.
+    Settings = 5,
+    /// There are fewer modules than the square has.
+    Room = 6,
+    /// No version has the side.
+    Side = 7,
+    /// The format information is that of no level and mask, or too damaged.
+    Format = 8,
+    /// A block's error correction codewords are not its own, or it has more wrong codewords than can be mended.
+    Check = 9,
+    /// The data codewords cannot be parsed.
+    Segments = 10,
+}
+
+impl Error {
+    const ALL: [Error; 10] = [
+        Error::Empty,
+        Error::TooLong,
+        Error::TooMany,
+        Error::Memory,
+        Error::Settings,
+        Error::Room,
+        Error::Side,
+        Error::Format,
+        Error::Check,
+        Error::Segments,
+    ];
+
+    /// Returns the error of a status; `None` for 0.
+    ///
+    /// # Panics
+    ///
+    /// If the library has no such status.
+    pub(crate) fn of_status(status: u8) -> Option<Error> {
+        let place = usize::from(status).checked_sub(1)?;
+        Some(
+            *Error::ALL
+                .get(place)
+                .unwrap_or_else(|| panic!("libqrproved has no status {status}")),
+        )
+    }
+
+    /// Returns the number that the library has for it.
+    pub fn status(self) -> u8 {
+        self as u8
+    }
+}
+
+impl fmt::Display for Error {
+    fn fmt(&self, to: &mut fmt::Formatter<'_>) -> fmt::Result {
+        to.write_str(match self {
+            Error::Empty => "the input has no byte",
+            Error::TooLong => "no version holds the input",
+            Error::TooMany => "the input takes more than 16 symbols",
+            Error::Memory => "memory was refused",
+            Error::Settings => "a number is out of its range, or a module is that of none",
+            Error::Room => "there are fewer modules than the square has",
+            Error::Side => "no version has this side",
+            Error::Format => "the format information cannot be read",
+            Error::Check => "a block is damaged",
+            Error::Segments => "the data codewords cannot be parsed",
+        })
+    }
+}
+
+impl std::error::Error for Error {}
+
+#[cfg(test)]
+mod tests {
+    use super::Error;
+
+    #[test]
+    fn each_error_has_its_status() {
+        assert_eq!(Error::of_status(0), None);
+        for status in 1..=10 {
+            assert_eq!(Error::of_status(status).map(Error::status), Some(status));
+        }
+    }
+}

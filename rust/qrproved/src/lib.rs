@@ -1,0 +1,428 @@
+//! QR Code symbols (ISO/IEC 18004:2015, QR Code Model 2) by the library `libqrproved`, whose calls are proved to meet their
+//! contracts. This crate is not proved: it passes what it is given, and takes what comes back.
+//!
+//! ```
+//! use qrproved::{draw, encode, mend, Drawing, Level, Rule, Version};
+//!
+//! let symbol = encode(b"Shelf 12", Version::MIN, Level::M, Rule::Auto)?;
+//! assert_eq!((symbol.version(), symbol.side()), (Version::MIN, 21));
+//! assert!(symbol.is_dark(0, 0)); // the corner of a finder pattern
+//!
+//! let document = draw(&[symbol.clone()], Drawing::Svg, 4)?;
+//! assert!(document.starts_with(b"<?xml"));
+//!
+//! let mended = mend(symbol.modules(), symbol.side())?;
+//! assert_eq!(mended.content.data, b"Shelf 12");
+//! assert!(mended.is_sound());
+//! # Ok::<(), qrproved::Error>(())
+//! ```
+//!
+//! Modules are bytes, row by row from the top left, 1 for a dark module and 0 for a light one, without the quiet zone of four
+//! light modules that a drawing needs on each side.
+//!
+//! Calls may be made from any number of threads at once.
+
+mod c;
+mod error;
+
+pub use error::Error;
+
+use std::fmt;
+
+/// A version of symbols, from 1 to 40: a symbol of version v has 17 + 4v modules on a side.
+#[derive(Clone, Copy, Debug, PartialEq, Eq, PartialOrd, Ord, Hash)]
+pub struct Version(u8);
+
+impl Version {
+    /// Version 1, of 21 modules on a side.
+    pub const MIN: Version = Version(1);
+    /// Version 40, of 177 modules on a side.
+    pub const MAX: Version = Version(40);
+
+    /// Returns the version of a number, or `None` if it is not from 1 to 40.
+    pub fn new(number: u8) -> Option<Version> {
+        (1..=40).contains(&number).then_some(Version(number))
+    }
+
+    /// Returns the number, from 1 to 40.
+    pub fn number(self) -> u8 {
+        self.0
+    }
+
+    /// Returns the modules on a side: 17 + 4 times the number.
+    pub fn side(self) -> usize {
+        17 + 4 * usize::from(self.0)
+    }
+}
+
+impl fmt::Display for Version {
+    fn fmt(&self, to: &mut fmt::Formatter<'_>) -> fmt::Result {
+        self.0.fmt(to)
+    }
+}
+
+/// How much of a damaged symbol can be restored: about 7, 15, 25 or 30 % of the codewords.
+#[derive(Clone, Copy, Debug, PartialEq, Eq, PartialOrd, Ord, Hash)]
+pub enum Level {
+    L,
+    M,
+    Q,
+    H,
+}
+
+impl Level {
+    const ALL: [Level; 4] = [Level::L, Level::M, Level::Q, Level::H];
+}
+
+/// Which modes the segments of an input may have.
+#[derive(Clone, Copy, Debug, Default, PartialEq, Eq, Hash)]
+pub enum Rule {
+    /// Numeric, alphanumeric and byte mode, whatever takes the least bits.
+    #[default]
+    Auto,
+    /// The whole input in byte mode.
+    BytesOnly,
+    /// Also kanji mode, for pairs of bytes that are Shift JIS characters.
+    WithKanji,
+}
+
+/// How modules are drawn, as the command `qrencode` draws them.
+#[derive(Clone, Copy, Debug, PartialEq, Eq, Hash)]
+pub enum Drawing {
+    /// Two `#` for a dark module, two spaces for a light one.
+    Ascii,
+    /// The other way round.
+    AsciiInverse,
+    /// A character of half blocks for two modules, one above the other, light on a dark terminal.
+    Utf8,
+    /// A document of its own, one unit of length for a module.
+    Svg,
+}
+
+/// A symbol: its modules, and what it was made with.
+#[derive(Clone, Debug, PartialEq, Eq, Hash)]
+pub struct Symbol {
+    version: Version,
+    modules: Vec<u8>,
+}
+
+impl Symbol {
+    pub fn version(&self) -> Version {
+        self.version
+    }
+
+    /// Returns the modules on a side, from 21 to 177.
+    pub fn side(&self) -> usize {
+        self.version.side()
+    }
+
+    /// Returns the modules, row by row: 1 for a dark module, 0 for a light one.
+    pub fn modules(&self) -> &[u8] {
+        &self.modules
+    }
+
+    /// Returns the rows of modules, from the top.
+    pub fn rows(&self) -> impl ExactSizeIterator<Item = &[u8]> {
+        self.modules.chunks_exact(self.side())
+    }
+
+    /// Returns whether the module at a row and a column, both from 0, is dark.
+    ///
+    /// # Panics
+    ///
+    /// If the row or the column is not below the side.
+    pub fn is_dark(&self, row: usize, column: usize) -> bool {
+        let side = self.side();
+        assert!(
+            row < side && column < side,
+            "no module at row {row} and column {column}: the side is {side}"
+        );
+        self.modules[row * side + column] != 0
+    }
+}
+
+/// Which symbol of a series it is.
+#[derive(Clone, Copy, Debug, PartialEq, Eq, Hash)]
+pub struct Header {
+    /// Its position in the series, from 0.
+    pub position: u8,
+    /// How many symbols the series has, from 1 to 16.
+    pub count: u8,
+    /// The exclusive or of all bytes of the series.
+    pub parity: u8,
+}
+
+/// What a symbol says.
+#[derive(Clone, Debug, PartialEq, Eq, Hash)]
+pub struct Content {
+    /// The bytes that it holds.
+    pub data: Vec<u8>,
+    pub version: Version,
+    /// Which symbol of its series it is; `None` for a plain symbol.
+    pub header: Option<Header>,
+}
+
+/// What a damaged symbol says, and how damaged it is.
+#[derive(Clone, Debug, PartialEq, Eq, Hash)]
+pub struct Mended {
+    pub content: Content,
+    pub level: Level,
+    /// The mask, from 0 to 7.
+    pub mask: u8,
+    /// How many modules of the whole square are not those of the symbol.
+    pub wrong_modules: u32,
+    /// How many of the 30 modules of format information are wrong.
+    pub wrong_format_modules: u8,
+    /// How many codewords were wrong in the block with the most of them.
+    pub changed_most: u8,
+    /// How many may be wrong in each block, from 2 to 15.
+    pub changed_allowed: u8,
+}
+
+impl Mended {
+    /// Returns whether the square is the symbol, module by module.
+    pub fn is_sound(&self) -> bool {
+        self.wrong_modules == 0
+    }
+
+    /// Returns the share of the correction that is spent in the worst block, from 0 to 1.
+    pub fn spent(&self) -> f64 {
+        f64::from(self.changed_most) / f64::from(self.changed_allowed)
+    }
+}
+
+/// Encodes an input as the symbol of the least version from `smallest` on that holds it.
+///
+/// # Errors
+///
+/// [`Error::Empty`] for no byte, [`Error::TooLong`] if no version from `smallest` on holds the input, [`Error::Memory`].
+pub fn encode(input: &[u8], smallest: Version, level: Level, rule: Rule) -> Result<Symbol, Error> {
+    let mut symbol = c::Symbol::default();
+    let modules = filled(c::SYMBOL_MAX, |modules, len| {
+        let (version, level, rule) = settings(smallest, level, rule);
+        // SAFETY: each pointer is to as many bytes as the length beside it, and the struct is C's.
+        let status = unsafe {
+            c::qrproved_encode(
+                input.as_ptr(),
+                input.len(),
+                version,
+                level,
+                rule,
+                modules,
+                len,
+                &mut symbol,
+            )
+        };
+        (status, usize::from(symbol.side).pow(2))
+    })?;
+    Ok(Symbol {
+        version: Version(symbol.version),
+        modules,
+    })
+}
+
+/// Encodes an input as the series of symbols of one version that holds it, by structured append: at most 16 of them. An input
+/// that fits one symbol is one plain symbol.
+///
+/// # Errors
+///
+/// [`Error::Empty`] for no byte, [`Error::TooMany`] if the input takes more than 16 symbols, [`Error::Memory`].
+pub fn encode_series(
+    input: &[u8],
+    version: Version,
+    level: Level,
+    rule: Rule,
+) -> Result<Vec<Symbol>, Error> {
+    let mut series = c::Series::default();
+    // 16 symbols are the longest series.
+    let most = 16 * version.side().pow(2);
+    let modules = filled(most, |modules, len| {
+        let (version, level, rule) = settings(version, level, rule);
+        // SAFETY: each pointer is to as many bytes as the length beside it, and the struct is C's.
+        let status = unsafe {
+            c::qrproved_encode_series(
+                input.as_ptr(),
+                input.len(),
+                version,
+                level,
+                rule,
+                modules,
+                len,
+                &mut series,
+            )
+        };
+        (
+            status,
+            usize::from(series.count) * usize::from(series.side).pow(2),
+        )
+    })?;
+    Ok(modules
+        .chunks_exact(version.side().pow(2))
+        .map(|it| Symbol {
+            version,
+            modules: it.to_vec(),
+        })
+        .collect())
+}
+
+/// Reads a symbol that is as it was drawn: no errors are corrected. Each byte but 0 is a dark module, and bytes past the last
+/// module are ignored.
+///
+/// # Errors
+///
+/// [`Error::Side`] if no version has the side, [`Error::Room`] if there are fewer modules than its square has,
+/// [`Error::Format`], [`Error::Check`] and [`Error::Segments`] if it cannot be read, [`Error::Memory`].
+pub fn read(modules: &[u8], side: usize) -> Result<Content, Error> {
+    let mut content = c::Content::default();
+    let side = setting(side)?;
+    let data = filled(c::BYTES_MAX, |bytes, len| {
+        // SAFETY: each pointer is to as many bytes as the length beside it, and the struct is C's.
+        let status = unsafe {
+            c::qrproved_read(
+                modules.as_ptr(),
+                modules.len(),
+                side,
+                bytes,
+                len,
+                &mut content,
+            )
+        };
+        (status, content.len)
+    })?;
+    let header = header(
+        content.has_header,
+        content.position,
+        content.last,
+        content.parity,
+    );
+    Ok(Content {
+        data,
+        version: Version(content.version),
+        header,
+    })
+}
+
+/// Reads a symbol, mends its damage, and tells how damaged it is. Each module is 0 or 1, and bytes past the last module are
+/// ignored.
+///
+/// # Errors
+///
+/// As [`read`]; [`Error::Settings`] if a module is neither 0 nor 1; [`Error::Format`] and [`Error::Check`] only if there is
+/// more damage than can be mended.
+pub fn mend(modules: &[u8], side: usize) -> Result<Mended, Error> {
+    let mut mended = c::Mended::default();
+    let side = setting(side)?;
+    let data = filled(c::BYTES_MAX, |bytes, len| {
+        // SAFETY: each pointer is to as many bytes as the length beside it, and the struct is C's.
+        let status = unsafe {
+            c::qrproved_mend(
+                modules.as_ptr(),
+                modules.len(),
+                side,
+                bytes,
+                len,
+                &mut mended,
+            )
+        };
+        (status, mended.len)
+    })?;
+    let header = header(
+        mended.has_header,
+        mended.position,
+        mended.last,
+        mended.parity,
+    );
+    Ok(Mended {
+        content: Content {
+            data,
+            version: Version(mended.version),
+            header,
+        },
+        level: Level::ALL[usize::from(mended.level)],
+        mask: mended.mask,
+        wrong_modules: mended.wrong_modules,
+        wrong_format_modules: mended.wrong_format_modules,
+        changed_most: mended.changed_most,
+        changed_allowed: mended.changed_allowed,
+    })
+}
+
+/// Returns the drawing of symbols of one version: as text one after the other, as SVG one below the other. Each has `margin`
+/// light modules on each side; a scanner needs 4.
+///
+/// # Errors
+///
+/// [`Error::Settings`] if there are not 1 to 16 symbols, or not all of one version, or if the margin is above 100;
+/// [`Error::Memory`].
+pub fn draw(symbols: &[Symbol], drawing: Drawing, margin: u8) -> Result<Vec<u8>, Error> {
+    let first = symbols.first().ok_or(Error::Settings)?;
+    if symbols.iter().any(|it| it.version != first.version) {
+        return Err(Error::Settings);
+    }
+    let modules: Vec<u8> = symbols.iter().flat_map(|it| &it.modules).copied().collect();
+    let count = symbols.len().try_into().map_err(|_| Error::Settings)?;
+    let call = |text: *mut u8, len: usize| {
+        let mut written = 0;
+        // SAFETY: each pointer is to as many bytes as the length beside it, and `written` is a number of ours.
+        let status = unsafe {
+            c::qrproved_draw(
+                modules.as_ptr(),
+                modules.len(),
+                first.side() as c::Setting,
+                count,
+                drawing as c::Setting,
+                c::Setting::from(margin),
+                text,
+                len,
+                &mut written,
+            )
+        };
+        (status, written)
+    };
+    match call(std::ptr::null_mut(), 0) {
+        (status, needed) if status == Error::Room.status() => filled(needed, call),
+        (status, _) => Err(Error::of_status(status).unwrap_or(Error::Settings)),
+    }
+}
+
+/// Makes a call with a buffer, and returns what the call wrote to it, or its status.
+fn filled(room: usize, call: impl FnOnce(*mut u8, usize) -> (u8, usize)) -> Result<Vec<u8>, Error> {
+    let mut buffer = Vec::new();
+    buffer.try_reserve_exact(room).map_err(|_| Error::Memory)?;
+    buffer.resize(room, 0);
+    let (status, written) = call(buffer.as_mut_ptr(), room);
+    match Error::of_status(status) {
+        Some(error) => Err(error),
+        None => {
+            buffer.truncate(written);
+            buffer.shrink_to_fit();
+            Ok(buffer)
+        }
+    }
+}
+
+/// Returns a version, a level and a rule as C takes them.
+fn settings(version: Version, level: Level, rule: Rule) -> (c::Setting, c::Setting, c::Setting) {
+    (
+        version.0 as c::Setting,
+        level as c::Setting,
+        rule as c::Setting,
+    )
+}
+
+/// Returns a side as C takes it. One that is too large for C is that of no version.
+fn setting(side: usize) -> Result<c::Setting, Error> {
+    side.try_into().map_err(|_| Error::Side)
+}
+
+fn header(has_header: u8, position: u8, last: u8, parity: u8) -> Option<Header> {
+    (has_header != 0).then_some(Header {
+        position,
+        count: last + 1,
+        parity,
+    })
+}
+
+#[cfg(doctest)]
+#[doc = include_str!("../README.md")]
+struct Readme;

@@ -1,0 +1,256 @@
+//! What the crate adds to the library: its types, and its refusals. The symbols themselves are compared by tests/library.
+use qrproved::{
+    draw, encode, encode_series, mend, read, Content, Drawing, Error, Header, Level, Rule, Version,
+};
+
+/// The symbol of 01234567 of version 1 and level M under mask 0 (ISO/IEC 18004:2015, Annex I).
+const EIGHT_DIGITS: &str = "
+    111111100011101111111
+    100000101110001000001
+    101110100110001011101
+    101110100101101011101
+    101110101101101011101
+    100000100001001000001
+    111111101010101111111
+    000000000000000000000
+    101010100010100010010
+    110100001011010100010
+    000110111011011101110
+    110011010101110110010
+    001001110111011100001
+    000000001010001000010
+    111111100000100010001
+    100000100010001001011
+    101110101110101011101
+    101110100101010101110
+    101110101101011100101
+    100000100001110111000
+    111111101001011100101";
+
+fn eight_digits() -> Vec<u8> {
+    EIGHT_DIGITS
+        .bytes()
+        .filter(|it| !it.is_ascii_whitespace())
+        .map(|it| it - b'0')
+        .collect()
+}
+
+fn plain(data: &[u8]) -> Content {
+    Content {
+        data: data.to_vec(),
+        version: Version::MIN,
+        header: None,
+    }
+}
+
+#[test]
+fn a_symbol_of_the_standard_is_read() {
+    assert_eq!(read(&eight_digits(), 21), Ok(plain(b"01234567")));
+    let mended = mend(&eight_digits(), 21).unwrap();
+    assert_eq!(mended.content, plain(b"01234567"));
+    assert_eq!(
+        (mended.level, mended.mask, mended.changed_allowed),
+        (Level::M, 0, 4)
+    );
+    assert!(mended.is_sound());
+}
+
+#[test]
+fn damage_is_measured() {
+    let mut modules = eight_digits();
+    modules[20 * 21 + 20] ^= 1; // of the first codeword
+    modules[6 * 21 + 10] ^= 1; // of a timing pattern
+    assert_eq!(read(&modules, 21), Err(Error::Check));
+    let mended = mend(&modules, 21).unwrap();
+    assert_eq!(mended.content, plain(b"01234567"));
+    assert_eq!(
+        (
+            mended.wrong_modules,
+            mended.changed_most,
+            mended.wrong_format_modules
+        ),
+        (2, 1, 0)
+    );
+    assert_eq!(mended.spent(), 0.25);
+    assert!(!mended.is_sound());
+}
+
+#[test]
+fn a_symbol_has_rows_and_columns() {
+    let symbol = encode(b"01234567", Version::MIN, Level::M, Rule::Auto).unwrap();
+    assert_eq!(
+        (symbol.version(), symbol.side(), symbol.modules().len()),
+        (Version::MIN, 21, 441)
+    );
+    assert_eq!(
+        symbol.rows().map(|row| row.len()).collect::<Vec<_>>(),
+        [21; 21]
+    );
+    assert_eq!(
+        [
+            symbol.is_dark(0, 6),
+            symbol.is_dark(0, 7),
+            symbol.is_dark(6, 0),
+            symbol.is_dark(7, 0)
+        ],
+        [true, false, true, false]
+    );
+    assert_eq!(
+        read(symbol.modules(), symbol.side()),
+        Ok(plain(b"01234567"))
+    );
+}
+
+#[test]
+#[should_panic(expected = "no module at row 0 and column 21")]
+fn a_column_past_the_side_is_none() {
+    encode(b"A", Version::MIN, Level::L, Rule::Auto)
+        .unwrap()
+        .is_dark(0, 21);
+}
+
+#[test]
+fn version_level_and_rule_reach_the_library() {
+    let version_of = |input: &[u8], level, rule| {
+        encode(input, Version::MIN, level, rule)
+            .unwrap()
+            .version()
+            .number()
+    };
+    assert_eq!(
+        encode(b"A", Version::new(7).unwrap(), Level::L, Rule::Auto)
+            .unwrap()
+            .side(),
+        45
+    );
+    assert_eq!(version_of(&[b'7'; 7089], Level::L, Rule::Auto), 40);
+    assert_eq!(version_of(&[b'7'; 41], Level::L, Rule::Auto), 1); // Table 7
+    assert_eq!(version_of(&[b'7'; 42], Level::L, Rule::Auto), 2);
+    assert_eq!(version_of(&[b'7'; 18], Level::L, Rule::BytesOnly), 2);
+    assert_eq!(
+        version_of(&b"\x93\x5f".repeat(10), Level::L, Rule::WithKanji),
+        1
+    );
+    for level in [Level::L, Level::M, Level::Q, Level::H] {
+        let symbol = encode(b"A", Version::MIN, level, Rule::Auto).unwrap();
+        assert_eq!(mend(symbol.modules(), symbol.side()).unwrap().level, level);
+    }
+}
+
+#[test]
+fn a_series_is_read_and_joined() {
+    let data = b"ABCDEFGH".repeat(6);
+    let series = encode_series(&data, Version::MIN, Level::L, Rule::Auto).unwrap();
+    let contents: Vec<_> = series
+        .iter()
+        .map(|it| read(it.modules(), it.side()).unwrap())
+        .collect();
+    let count = series.len() as u8;
+    assert!(count > 1);
+    assert_eq!(
+        contents
+            .iter()
+            .flat_map(|it| it.data.clone())
+            .collect::<Vec<_>>(),
+        data
+    );
+    for (position, content) in (0..).zip(&contents) {
+        assert_eq!(
+            content.header,
+            Some(Header {
+                position,
+                count,
+                parity: 0
+            })
+        );
+    }
+    assert_eq!(
+        encode_series(b"A", Version::MAX, Level::H, Rule::Auto)
+            .unwrap()
+            .len(),
+        1
+    );
+}
+
+#[test]
+fn each_refusal_has_its_error() {
+    let letters = |count| vec![b'a'; count];
+    assert_eq!(
+        encode(b"", Version::MIN, Level::L, Rule::Auto),
+        Err(Error::Empty)
+    );
+    assert_eq!(
+        encode(&letters(2954), Version::MIN, Level::L, Rule::BytesOnly),
+        Err(Error::TooLong)
+    );
+    assert_eq!(
+        encode_series(&letters(81), Version::MIN, Level::H, Rule::BytesOnly),
+        Err(Error::TooMany)
+    );
+    assert_eq!(read(&eight_digits(), 22), Err(Error::Side));
+    for side in [0, 256, 277, usize::MAX] {
+        assert_eq!(
+            (read(&eight_digits(), side), mend(&eight_digits(), side)),
+            (Err(Error::Side), Err(Error::Side))
+        );
+    }
+    assert_eq!(read(&eight_digits()[..440], 21), Err(Error::Room));
+    assert_eq!(mend(&[2; 441], 21), Err(Error::Settings));
+    assert_eq!(read(&[1; 441], 21), Err(Error::Format));
+    assert_eq!(Version::new(0), None);
+    assert_eq!(Version::new(41), None);
+}
+
+#[test]
+fn calls_run_side_by_side() {
+    let wanted = encode(b"Shelf 12", Version::MIN, Level::M, Rule::Auto).unwrap();
+    std::thread::scope(|scope| {
+        for _ in 0..8 {
+            scope.spawn(|| {
+                assert_eq!(
+                    encode(b"Shelf 12", Version::MIN, Level::M, Rule::Auto).as_ref(),
+                    Ok(&wanted)
+                )
+            });
+        }
+    });
+}
+
+#[test]
+fn symbols_are_drawn() {
+    let symbol = encode(b"A", Version::MIN, Level::L, Rule::Auto).unwrap();
+    let lines: String = symbol
+        .rows()
+        .map(|row| {
+            row.iter()
+                .map(|&it| if it == 1 { "##" } else { "  " })
+                .collect::<String>()
+                + "\n"
+        })
+        .collect();
+    let drawn = draw(std::slice::from_ref(&symbol), Drawing::Ascii, 0).unwrap();
+    assert_eq!(String::from_utf8(drawn).unwrap(), lines);
+    let two = draw(&[symbol.clone(), symbol.clone()], Drawing::Ascii, 0).unwrap();
+    assert_eq!(String::from_utf8(two).unwrap(), lines.repeat(2));
+    let blank = draw(std::slice::from_ref(&symbol), Drawing::Utf8, 100).unwrap();
+    assert!(String::from_utf8(blank)
+        .unwrap()
+        .starts_with(&"\u{2588}".repeat(221)));
+    let document = draw(std::slice::from_ref(&symbol), Drawing::Svg, 4).unwrap();
+    assert!(String::from_utf8(document)
+        .unwrap()
+        .contains("viewBox=\"0 0 29 29\""));
+
+    let other = encode(b"A", Version::MAX, Level::L, Rule::Auto).unwrap();
+    let none: &[qrproved::Symbol] = &[];
+    assert_eq!(draw(none, Drawing::Utf8, 4), Err(Error::Settings));
+    assert_eq!(
+        draw(&vec![symbol.clone(); 17], Drawing::Utf8, 4),
+        Err(Error::Settings)
+    );
+    assert_eq!(
+        draw(&[symbol.clone(), other], Drawing::Utf8, 4),
+        Err(Error::Settings)
+    );
+    assert_eq!(draw(&[symbol], Drawing::Utf8, 101), Err(Error::Settings));
+}

@@ -1,0 +1,101 @@
+/* Measures what a call of the library takes of the stack and of the heap, for bench/memory: memory_of_calls CALL NUMBER LEVEL
+ *
+ * CALL is encode, encode_series, read or mend; standard input is the input, or the modules; NUMBER is a version or a side. Prints
+ * the bytes of stack, the most bytes of the heap at a time, and how often malloc and realloc were called. */
+#define _GNU_SOURCE
+#include "qrproved.h"
+#include <malloc.h>
+#include <pthread.h>
+#include <stdio.h>
+#include <stdlib.h>
+#include <string.h>
+
+enum { STACK = 1 << 20, MARK = 0xA5 };
+
+void *__libc_malloc(size_t size);
+void *__libc_realloc(void *old, size_t size);
+void __libc_free(void *block);
+
+static size_t held, most, calls;
+static int counts;
+
+static void *counted(void *block, size_t before)
+{
+	if (counts && block) {
+		calls += 1;
+		held += malloc_usable_size(block) - before;
+		most = held > most ? held : most;
+	}
+	return block;
+}
+
+void *malloc(size_t size) { return counted(__libc_malloc(size), 0); }
+
+void *realloc(void *old, size_t size)
+{
+	size_t before = old && counts ? malloc_usable_size(old) : 0;
+	return counted(__libc_realloc(old, size), before);
+}
+
+void free(void *block)
+{
+	if (counts && block)
+		held -= malloc_usable_size(block);
+	__libc_free(block);
+}
+
+static uint8_t input[600000], out[QRPROVED_SERIES_MAX];
+static size_t input_len, deepest;
+static uint8_t number, level, status;
+static const char *call;
+
+/* Marks the stack below, so that what a call wrote of it can be seen. Its own frame is the least that a call has. */
+static __attribute__((noinline)) void mark(void)
+{
+	volatile uint8_t below[STACK / 2];
+	for (size_t i = 0; i < sizeof below; i++)
+		below[i] = MARK;
+}
+
+static __attribute__((noinline)) void make(void)
+{
+	struct qrproved_symbol symbol;
+	struct qrproved_series series;
+	struct qrproved_content content;
+	struct qrproved_mended mended;
+	if (!strcmp(call, "encode"))
+		status = qrproved_encode(input, input_len, number, level, QRPROVED_RULE_AUTO, out, sizeof out, &symbol);
+	else if (!strcmp(call, "encode_series"))
+		status = qrproved_encode_series(input, input_len, number, level, QRPROVED_RULE_AUTO, out, sizeof out, &series);
+	else if (!strcmp(call, "read"))
+		status = qrproved_read(input, input_len, number, out, sizeof out, &content);
+	else
+		status = qrproved_mend(input, input_len, number, out, sizeof out, &mended);
+}
+
+static void *measured(void *bottom)
+{
+	uint8_t here;
+	mark();
+	counts = 1, make(), counts = 0;
+	const uint8_t *lowest = &here - STACK / 2 + 4096;
+	while (lowest < &here && *lowest == MARK)
+		lowest++;
+	deepest = (size_t)(&here - lowest);
+	return bottom;
+}
+
+int main(int argc, char **argv)
+{
+	pthread_attr_t how;
+	pthread_t thread;
+	if (argc != 4)
+		return 2;
+	call = argv[1], number = (uint8_t)atoi(argv[2]), level = (uint8_t)atoi(argv[3]);
+	input_len = fread(input, 1, sizeof input, stdin);
+	if (pthread_attr_init(&how) || pthread_attr_setstacksize(&how, 2 * STACK) || pthread_create(&thread, &how, measured, NULL))
+		return 2;
+	pthread_join(thread, NULL);
+	printf("%zu %zu %zu\n", deepest, most, calls);
+	return status;
+}

@@ -1,0 +1,77 @@
+"""The crate for Cargo, rust/qrproved: its declarations beside those of the header, and its tests over the built library."""
+import os
+import re
+import shutil
+import subprocess
+
+from growths import TOP
+from libraries import check, counts
+
+TYPES = {"u8": "uint8_t", "c_uchar": "uint8_t", "u32": "uint32_t", "usize": "size_t"}
+CASES = 4  # where there is cargo
+
+
+def snake(name):
+    return re.sub(r"(?<!^)([A-Z])", r"_\1", name).lower()
+
+
+def in_c(name, rust):
+    """Returns a parameter or a field as C declares it."""
+    for pointer, c in (("*const ", "const {} *{}"), ("*mut ", "{} *{}")):
+        if rust.startswith(pointer):
+            kind = rust[len(pointer):]
+            return c.format(TYPES.get(kind, f"struct qrproved_{snake(kind)}"), name)
+    return f"{TYPES[rust]} {name}"
+
+
+def declared():
+    """Returns the calls and the structs of the crate, as C declares them."""
+    with open(f"{TOP}/rust/qrproved/src/c.rs", encoding="utf-8") as it:
+        text = re.sub(r"//[^\n]*", "", it.read())
+    setting = re.search(r"pub type Setting = (\w+);", text).group(1)
+    text = re.sub(r"\bSetting\b", setting, text)
+    calls = {name: (TYPES[result], [in_c(*row.split(": ")) for row in re.findall(r"(\w+: [^,]+),", listed)])
+             for name, listed, result in re.findall(r"pub fn (\w+)\((.*?)\) -> (\w+);", text, re.DOTALL)}
+    structs = {f"qrproved_{snake(name)}": [in_c(*row) for row in re.findall(r"pub (\w+): (\w+),", listed)]
+               for name, listed in re.findall(r"#\[repr\(C\)\].*?pub struct (\w+) \{(.*?)\}", text, re.DOTALL)}
+    return calls, structs
+
+
+def of_rust_header(header):
+    """Compares the crate's declarations with those of the header. That the version is told is of no use to the crate."""
+    calls, structs = declared()
+    check("rust: the calls are the header's", calls, {name: it for name, it in header[0].items() if name != "qrproved_version"})
+    check("rust: the structs are the header's", structs, header[1])
+
+
+def tested(room, env):
+    """Returns why the tests of a copy of the crate fail, or what ended well."""
+    ran = subprocess.run(["cargo", "test", "--offline", "--quiet"], cwd=f"{room}/crate", capture_output=True, text=True, timeout=600,
+                         env={**os.environ, "CARGO_TARGET_DIR": f"{room}/target", "CARGO_NET_OFFLINE": "true", **env})
+    results = re.findall(r"test result: (\w+)\. (\d+) passed; (\d+) failed", ran.stdout)
+    if ran.returncode:
+        return f"{ran.stdout[-600:]} {ran.stderr[-1500:]}"
+    return len(results), all(int(passed) and result == "ok" for result, passed, _ in results)
+
+
+def of_rust(shared, room):
+    """Builds and tests the crate with the archive, and with the shared library as it is installed; and without a library, where
+    the build has to fail."""
+    if not shutil.which("cargo"):
+        counts["skipped"] += CASES
+        print("not tried: the crate for Cargo: there is no cargo")
+        return
+    room = f"{room}/rust"
+    shutil.copytree(f"{TOP}/rust/qrproved", f"{room}/crate", ignore=shutil.ignore_patterns("target", "Cargo.lock"))
+    check("rust: the tests pass with the archive", tested(room, {"QRPROVED_LIB_DIR": os.path.dirname(shared), "QRPROVED_STATIC": "1"}), (3, True))
+    prefix, none = f"{room}/prefix", {"PKG_CONFIG_PATH": f"{room}/none", "PKG_CONFIG_LIBDIR": f"{room}/none"}
+    said = tested(room, none)
+    check("rust: without a library the build fails", "the library is not found" in said if isinstance(said, str) else said)
+    if not shutil.which("pkg-config"):
+        counts["skipped"] += 2
+        print("not tried: the crate for Cargo by pkg-config: there is no pkg-config")
+        return
+    made = subprocess.run(["make", "-s", "-C", TOP, "install-lib", f"PREFIX={prefix}"], capture_output=True, text=True)
+    check("rust: make install-lib", (made.returncode, made.stderr), (0, ""))
+    found = {"PKG_CONFIG_PATH": f"{prefix}/lib/pkgconfig", "LD_LIBRARY_PATH": f"{prefix}/lib"}
+    check("rust: the tests pass with the library that pkg-config finds", tested(room, found), (3, True))
