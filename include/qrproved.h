@@ -90,7 +90,7 @@ struct qrproved_content {
 /* What a damaged symbol says, and how damaged it is. */
 struct qrproved_mended {
 	size_t len;                   /* bytes that it holds */
-	uint32_t wrong_modules;       /* modules of the whole square that are not the symbol's; 0: the square is the symbol */
+	uint32_t wrong_modules;       /* modules of the whole square that are not the symbol's, or not known; 0: it is the symbol */
 	uint8_t version;              /* from 1 to 40 */
 	uint8_t has_header;           /* 1 if it is one of a series; 0 if it is a plain symbol, and then the next three are 0 */
 	uint8_t position;             /* which symbol of its series, from 0 to 15 */
@@ -98,8 +98,8 @@ struct qrproved_mended {
 	uint8_t parity;               /* the exclusive or of all bytes of the input */
 	uint8_t level;                /* QRPROVED_LEVEL_L to QRPROVED_LEVEL_H */
 	uint8_t mask;                 /* from 0 to 7 */
-	uint8_t wrong_format_modules; /* of the 30 modules of format information, those that are wrong */
-	uint8_t changed_most;         /* the most codewords that were changed in a block */
+	uint8_t wrong_format_modules; /* of the 30 modules of format information, those that are wrong or not known */
+	uint8_t changed_most;         /* the most codewords that were wrong in a block, beside those with a module not known */
 	uint8_t changed_allowed;      /* how many may be changed in each block, from 2 to 15 */
 };
 
@@ -221,18 +221,21 @@ uint8_t qrproved_read(const uint8_t *modules, size_t modules_len, uint32_t side,
                       struct qrproved_content *content);
 
 /* Reads the symbol whose modules stand in a buffer as qrproved_encode writes them, 0 for a light module and 1 for a dark one,
- * mends its damage, and tells how damaged it is. Bytes past the last module are not looked at. What the symbol says goes to
- * the start of the second buffer, and the rest of that stays as it was. What qrproved_read reads of such bytes is read the
- * same.
+ * mends its damage, and tells how damaged it is. A module that is not known is 2: a smudge, a fold, or one that the camera did
+ * not see. Bytes past the last module are not looked at. What the symbol says goes to the start of the second buffer, and the
+ * rest of that stays as it was. What qrproved_read reads of bytes 0 and 1 is read the same.
  *
  * side   modules on a side: 21, 25, and so on to 177
  * bytes  QRPROVED_BYTES_MAX bytes hold what any symbol says
  *
  * The format information, which is the level and the mask, stands in a symbol twice. The first copy, beside the top left
  * finder pattern, is believed if at most three of its 15 modules are wrong; if it is not, or if some block cannot be mended
- * under what it says, the second copy is, on the same condition. In each block at most changed_allowed codewords are mended,
- * as many as the standard allows. Of all other modules (finder, timing and alignment patterns, version information,
- * remainder bits) none has to be right: they say nothing of the content. But they count in wrong_modules.
+ * under what it says, the second copy is, on the same condition. In it a module that is not known is taken as a dark one.
+ *
+ * In each block at most changed_allowed codewords are mended, as many as the standard allows. A codeword with a module that is
+ * not known takes half as much of that as a wrong one: in each block all such codewords, and twice the wrong ones among the
+ * others, may be at most twice changed_allowed. Of all other modules (finder, timing and alignment patterns, version
+ * information, remainder bits) none has to be right: they say nothing of the content. But they count in wrong_modules.
  *
  * Before a label is sold: the square is sound if wrong_modules is 0, for then it is, module by module, the symbol that the
  * standard has for what it says, in its version, level and mask. After that: it is readable as long as DONE is returned, and
@@ -245,10 +248,10 @@ uint8_t qrproved_read(const uint8_t *modules, size_t modules_len, uint32_t side,
  * Returns, and looks for the causes in this order:
  *   SIDE      no version has this side
  *   ROOM      modules_len is below side times side
- *   SETTINGS  one of the first side times side bytes is neither 0 nor 1
+ *   SETTINGS  one of the first side times side bytes is more than 2
  *   FORMAT    for each level and mask, both copies of the format information have more than three wrong modules
- *   CHECK     under each level and mask that a copy is near enough to, some block has more wrong codewords than can be
- *             mended
+ *   CHECK     under each level and mask that a copy is near enough to, some block has more codewords that are wrong or not
+ *             known than can be mended
  *   SEGMENTS  what was mended cannot be parsed
  *   ROOM      bytes_len is below the bytes that the symbol holds
  *   DONE

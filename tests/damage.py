@@ -66,6 +66,14 @@ def inverted(square, places):
     return bytes(result)
 
 
+def unread(square, places):
+    """Returns the square with the modules in these places not known."""
+    result = bytearray(square)
+    for place in places:
+        result[place] = 2
+    return bytes(result)
+
+
 def places_of(version, wrong):
     """Returns the modules that make codewords wrong: a number other than 0 for each."""
     region = layout(version).region
@@ -184,6 +192,35 @@ class Case:
                   "wrong_modules": differences(square, square_of(self.version, self.level, self.mask, other))}
         return square, wanted
 
+    def not_known(self, more=0):
+        """In each block some codewords have modules that are not known, and others are wrong: as many as can be mended. In the
+        first block, so many more are not known."""
+        region, wrong, unknown, most = layout(self.version).region, {}, [], 0
+        for k, block in enumerate(squares.blocks(self.version, self.level)):
+            count = self.numbers.below(self.bound + 1)
+            chosen = self.numbers.some(block, count + 2 * (self.bound - count) + (more if k == 0 else 0))
+            wrong.update((i, 1 + self.numbers.below(255)) for i in chosen[:count])
+            for i in chosen[count:]:
+                unknown += self.numbers.some(region[8 * i:8 * i + 8], 1 + self.numbers.below(8))
+            most = max(most, count)
+        square, wanted = self.damaged(places_of(self.version, wrong), 0, most)
+        return unread(square, unknown), {**wanted, "wrong_modules": wanted["wrong_modules"] + len(unknown)}
+
+    def one_more_not_known(self):
+        """One more codeword of the first block has modules that are not known: what the decoder says is wanted."""
+        square, _ = self.not_known(1)
+        return square, reading(square, self.version)
+
+    def first_copy_not_known(self):
+        """No module of the first copy of the format information is known: what the model says is wanted."""
+        square = unread(self.square, self.first)
+        return square, reading(square, self.version)
+
+    def outside_not_known(self):
+        """No function pattern, no version information and no remainder bit is known."""
+        places = sum(self.outside.values(), [])
+        return unread(self.square, places), {**self.wanted, "wrong_modules": len(places)}
+
     def no_format(self):
         """Both copies are near to no word."""
         return inverted(self.square, to_word(self.square, self.version, 0, far_word(self.numbers))
@@ -209,6 +246,10 @@ class Case:
         yield "damaged to the bound, the first copy near to a wrong word, three modules of the second", self.by_a_wrong_first_copy()
         yield "one more codeword wrong", self.one_more()
         yield "one more codeword wrong, nearer to another message", self.nearer_to_another()
+        yield "modules not known and codewords wrong to the bound", self.not_known()
+        yield "modules of one more codeword not known", self.one_more_not_known()
+        yield "the first copy of the format information not known", self.first_copy_not_known()
+        yield "all modules outside the codewords and the format information not known", self.outside_not_known()
         yield "both copies near to no word", self.no_format()
         yield "one module of a codeword wrong", self.one_codeword()
         yield "one module outside the codewords wrong", self.one_outside()

@@ -331,16 +331,23 @@ def near_format(square, version, copy):
     return None
 
 
-def mended_codewords(square, version, level, mask):
-    """Returns the codewords of a square with each block mended, and how many were wrong in each; or None."""
+def erased_in(square, version):
+    """Returns the numbers of the codewords that have a module that is not known: its byte is 2."""
+    return {k // 8 for k, place in enumerate(layout(version).region) if square[place] == 2}
+
+
+def mended_codewords(square, version, level, mask, erased=frozenset()):
+    """Returns the codewords of a square with each block mended, and how many were wrong in each beside the erased ones; or
+    None."""
     received = codewords_of(square, version, mask)
     result, changed = bytearray(received), []
     for block in blocks(version, level):
         part = bytes(received[i] for i in block)
-        whole = mended(part, correction_len(version, level), spendable(version, level))
+        unread = [k for k, i in enumerate(block) if i in erased]
+        whole = mended(part, correction_len(version, level), spendable(version, level), unread)
         if whole is None:
             return None
-        changed.append(sum(a != b for a, b in zip(part, whole)))
+        changed.append(sum(a != b for i, a, b in zip(block, part, whole) if i not in erased))
         for i, codeword in zip(block, whole):
             result[i] = codeword
     return bytes(result), changed
@@ -356,13 +363,15 @@ def differences(a, b):
     return sum(map(operator.ne, a, b))
 
 
-def reading(square, version):
-    """Returns what a damaged square of 0 and 1 says, in the words of the library's struct; or the name of the status."""
+def reading(given, version):
+    """Returns what a damaged square says, in the words of the library's struct; or the name of the status. A module is 0, 1, or
+    2 if it is not known; in the format information it is then taken as 1."""
+    erased, square = erased_in(given, version), bytes(min(module, 1) for module in given)
     near = [near_format(square, version, copy) for copy in (0, 1)]
     if near == [None, None]:
         return "FORMAT"
     for level, mask in dict.fromkeys(it for it in near if it):
-        found = mended_codewords(square, version, level, mask)
+        found = mended_codewords(square, version, level, mask, erased)
         if found:
             break
     else:
@@ -377,7 +386,7 @@ def reading(square, version):
     return {
         "bytes": text, "len": len(text), "version": version, "level": LEVELS.index(level), "mask": mask,
         "has_header": int(header is not None), **dict(zip(("position", "last", "parity"), header or (0, 0, 0))),
-        "wrong_modules": differences(square, whole),
-        "wrong_format_modules": sum(square[place] != whole[place] for place in formats),
+        "wrong_modules": differences(given, whole),
+        "wrong_format_modules": sum(given[place] != whole[place] for place in formats),
         "changed_most": max(changed), "changed_allowed": allowed(version, level),
     }

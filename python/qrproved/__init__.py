@@ -131,11 +131,11 @@ class Mended:
     mask: int
     """From 0 to 7."""
     wrong_modules: int
-    """Modules of the whole square that are not the symbol's."""
+    """Modules of the whole square that are not the symbol's, or not known."""
     wrong_format_modules: int
-    """Of the 30 modules of format information, those that are wrong."""
+    """Of the 30 modules of format information, those that are wrong or not known."""
     changed_most: int
-    """The most codewords that were changed in a block."""
+    """The most codewords that were changed in a block, beside those with a module that is not known."""
     changed_allowed: int
     """How many codewords may be changed in each block, from 2 to 15."""
 
@@ -146,7 +146,8 @@ class Mended:
 
     @property
     def spent(self) -> float:
-        """The share of the correction that the block with the most wrong codewords has spent, from 0.0 to 1.0."""
+        """The share of the correction that the block with the most wrong codewords has spent, from 0.0 to 1.0. Codewords with
+        a module that is not known are not counted."""
         return self.changed_most / self.changed_allowed
 
 
@@ -238,13 +239,14 @@ def read(modules: Bytes, side: int) -> Content:
 def mend(modules: Bytes, side: int) -> Mended:
     """Returns what a damaged symbol says, and how damaged it is.
 
-    modules  side * side bytes, row by row: 0 is light, 1 is dark; bytes past the last module are ignored
+    modules  side * side bytes, row by row: 0 is light, 1 is dark, 2 is not known; bytes past the last module are ignored
     side     modules on a side: 21, 25, and so on to SIDE_MAX
 
-    In each block at most changed_allowed codewords are mended. One copy of the format information has to have at most three
+    In each block at most changed_allowed codewords are mended. A codeword with a module that is not known takes half as much of
+    the correction as a wrong one, and such a module of the format information is taken as a dark one. One copy of the format information has to have at most three
     wrong modules. No other module has to be right.
 
-    Raises SideError, RoomError if there are too few modules, SettingsError if one is neither 0 nor 1, FormatError if both
+    Raises SideError, RoomError if there are too few modules, SettingsError if one is more than 2, FormatError if both
     copies of the format information are too damaged, CheckError if a block is, SegmentsError, and OutOfMemoryError.
     """
     checked, given = _side(side), _copied(modules)

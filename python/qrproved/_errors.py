@@ -43,10 +43,10 @@ class OutOfMemoryError(Error, MemoryError):
 
 
 class SettingsError(Error, ValueError):
-    """A number is out of range, or a module to mend is neither 0 nor 1."""
+    """A number is out of range, or a module to mend is more than 2."""
 
     status = 5
-    text = "a module is neither 0 nor 1"
+    text = "a module is more than 2"
 
 
 class RoomError(Error, ValueError):

@@ -115,6 +115,13 @@ class Calls(unittest.TestCase):
         self.assertEqual(runs, {(row + 4, column + 4) for row in range(21) for column in range(21) if symbol[row, column]})
         self.assertIn(b"viewBox=\"0 0 21 42\"", qrproved.draw([symbol] * 2, drawing=Drawing.SVG, margin=0))
 
+    def test_modules_that_are_not_known(self):
+        modules = bytearray(EIGHT_DIGITS)
+        for row in range(9, 21):  # six codewords, of which eight can be mended
+            modules[row * 21 + 18] = modules[row * 21 + 20] = 2
+        mended = qrproved.mend(modules, 21)
+        self.assertEqual(mended, qrproved.Mended(qrproved.Content(b"01234567", 1, None), Level.M, 0, 24, 0, 0, 4))
+
     def test_all_kinds_of_bytes_are_taken(self):
         wanted = qrproved.encode(b"AB12")
         for data in (bytearray(b"AB12"), memoryview(b"AB12"), memoryview(b"A?B?1?2?")[::2], array.array("B", b"AB12")):
@@ -178,7 +185,7 @@ class Refusals(unittest.TestCase):
         for call in (qrproved.read, qrproved.mend):
             self.refused(qrproved.RoomError, 6, call, EIGHT_DIGITS[:-1], 21)
             self.refused(qrproved.RoomError, 6, call, b"", 177)
-        self.refused(qrproved.SettingsError, 5, qrproved.mend, EIGHT_DIGITS[:-1] + b"\2", 21)
+        self.refused(qrproved.SettingsError, 5, qrproved.mend, EIGHT_DIGITS[:-1] + b"\3", 21)
         self.refused(qrproved.FormatError, 8, qrproved.read, bytes(441), 21)
         self.refused(qrproved.CheckError, 9, qrproved.read, inverted(EIGHT_DIGITS, 440), 21)
         region = range(9 * 21 + 9, 16 * 21)

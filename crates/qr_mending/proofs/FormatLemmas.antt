@@ -8,6 +8,7 @@ use Rattle.qr_layout.specs.declared.level.Level.{Level}
 use Rattle.qr_layout.specs.Format.{remainder_of, format_with, five_bits, format_word_of}
 use Rattle.qr_layout.proofs.Facts.{below, below-at}
 use Rattle.qr_matrix.specs.Grid.{Grid}
+use Rattle.qr_matrix.specs.Penalty.{sum_below}
 use Rattle.qr_symbol.specs.Symbol.{word_bit}
 use Rattle.qr_mending.specs.declared.format.FormatCopy.{FormatCopy}
 use Rattle.qr_mending.specs.declared.format.FormatCopy.TheVariants.{First, Second}
@@ -113,6 +114,13 @@ count-agrees n count new p q a b e f h m c =
     let d : bit_difference (p n) (q n) ≡ 0 =
     ap (λ z. bit_difference z (q n)) (sym e) ∙ (ap (bit_difference a) (sym f) ∙ agrees a b h) in
     omega (arith, d, m, c, bits-more n p q)
+
+-- one module more
+pub sum-more : (n count b new : ℕ) (f : ℕ → ℕ) → count ≡ sum_below n f → b ≡ f n → new ≡ count + b → new ≡ sum_below (n + 1) f
+sum-more n count b new f c e h =
+    let next : n + 1 ≡ suc n = omega arith in
+    let more : sum_below (n + 1) f ≡ f n + sum_below n f = ap (λ k. sum_below k f) next in
+    omega (arith, c, e, h, more)
 
 -- ---- both copies
 

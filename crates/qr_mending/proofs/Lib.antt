@@ -7,6 +7,8 @@ pub mod BlockLemmas
 mod ErasureLemmas
 mod FormatLemmas
 mod MessageLemmas
+mod MarkLemmas
+mod UnreadLemmas
 mod MendingLemmas
 mod UndamagedLemmas
 mod DamageLemmas

@@ -35,7 +35,7 @@ part-len c d i h l =
     omega (arith, length-take (block_len c i) (drop (start_of c i) d), length-drop (start_of c i) d, n, m, h)
 
 -- a block stays where others come after it
-part-grown : (c : Cut) (xs es : List ℕ) (i k : ℕ) → length xs ≡ start_of c k → i < k →
+pub part-grown : (c : Cut) (xs es : List ℕ) (i k : ℕ) → length xs ≡ start_of c k → i < k →
     part_of c (xs ++ es) i ≡ part_of c xs i
 part-grown c xs es i k h l =
     let n = start-next c i in
@@ -46,7 +46,7 @@ part-grown c xs es i k h l =
     ∙ take-append-le (block_len c i) (drop (start_of c i) xs) es rest
 
 -- the block that comes last
-part-last : (c : Cut) (xs es : List ℕ) (k : ℕ) → length xs ≡ start_of c k → length es ≡ block_len c k →
+pub part-last : (c : Cut) (xs es : List ℕ) (k : ℕ) → length xs ≡ start_of c k → length es ≡ block_len c k →
     part_of c (xs ++ es) k ≡ es
 part-last c xs es k h l =
     ap (take (block_len c k)) (drop_at xs es (start_of c k) h) ∙ take_all (block_len c k) es (omega arith)

@@ -1,6 +1,6 @@
 -- Damaged squares are mended one by one, and joined as the squares they were.
 use Rattle.std.proofs.Common.{◌≡◌, ℕ, List, [], ◌∷◌, sym, ◌∙◌, ap}
-use Rattle.std.specs.Prelude.{Result, Ok, Err, MatchResult}
+use Rattle.std.specs.Prelude.{None, Result, Ok, Err, MatchResult}
 use Rattle.qr_bits.specs.Bits.{bits_of}
 use Rattle.qr_bits.specs.Parsing.{Content, parse}
 use Rattle.qr_matrix.specs.Grid.{Grid}
@@ -15,11 +15,11 @@ use Rattle.qr_mending.proofs.MendingLemmas.{mended-reading-one, mended-not-refus
 
 -- a square is mended as one content
 pub content-one : (g : Grid) (c d : Content) → IsMendedContent g c → IsMendedContent g d → c ≡ d
-content-one g c d h k = (mended-reading-one g h.0 k.0 h.1 k.1 h.2 k.2 c d h.3 k.3 h.4 k.4).3
+content-one g c d h k = (mended-reading-one None g h.0 k.0 h.1 k.1 h.2 k.2 c d h.3 k.3 h.4 k.4).3
 
 -- a square that is mended is refused for lack of memory alone
 pub content-refused : (g : Grid) (c : Content) (e : ReadFault) → IsMendedContent g c → IsUnmended g e → e ≡ fault.Memory
-content-refused g c e h u = mended-not-refused g h.0 h.1 h.2 c h.3 e h.4 u
+content-refused g c e h u = mended-not-refused None g h.0 h.1 h.2 c h.3 e h.4 u
 
 -- a damaged square is mended as what the whole one is read as
 damaged-content : (d w : Grid) (c : Content) → IsDamagedSquare d w → IsReading w c → IsMendedContent d c

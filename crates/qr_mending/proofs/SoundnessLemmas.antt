@@ -1,6 +1,6 @@
 -- How many modules of a square are wrong, and that none is exactly if the square is the symbol.
 use Rattle.std.proofs.Common.{◌≡◌, ℕ, List, sym, ◌∙◌, ap, subst, arith}
-use Rattle.std.specs.Prelude.{◌↔◌}
+use Rattle.std.specs.Prelude.{◌↔◌, Option}
 use Rattle.qr_layout.specs.declared.level.Level.{Level}
 use Rattle.qr_layout.specs.Blocks.{blocks_of}
 use Rattle.qr_layout.specs.Version.{side_of}
@@ -10,13 +10,13 @@ use Rattle.qr_matrix.proofs.Facts.{colour-square, no-difference, square-same}
 use Rattle.qr_symbol.specs.Interleaving.{IsInterleaved}
 use Rattle.qr_symbol.specs.Symbol.{colour_of, grid_of}
 use Rattle.qr_symbol.proofs.Facts.{final-one}
-use Rattle.qr_mending.specs.Mending.{DiffersFromSymbol, HasWrongModules}
+use Rattle.qr_mending.specs.Mending.{wrong_modules_without, DiffersFromSymbolWithout, HasWrongModules, HasWrongModulesWithout}
 use Rattle.qr_mending.proofs.MendingLemmas.{form-one}
 
 -- a message has one symbol, from which a square differs in one number of modules
-pub differs-one : (g : Grid) (v w : ℕ) (l k : Level) (m n : ℕ) (p q : List ℕ) (a b : ℕ) → v ≡ w → l ≡ k → m ≡ n → p ≡ q →
-    DiffersFromSymbol g v l m p a → DiffersFromSymbol g w k n q b → a ≡ b
-differs-one g v w l k m n p q a b ev el em ep h j =
+pub differs-one : (unknown : Option Grid) (g : Grid) (v w : ℕ) (l k : Level) (m n : ℕ) (p q : List ℕ) (a b : ℕ) → v ≡ w → l ≡ k → m ≡ n → p ≡ q →
+    DiffersFromSymbolWithout unknown g v l m p a → DiffersFromSymbolWithout unknown g w k n q b → a ≡ b
+differs-one unknown g v w l k m n p q a b ev el em ep h j =
     let here : IsInterleaved v l p j.codewords =
     subst (λ (z : ℕ). IsInterleaved z l p j.codewords) (sym ev)
     (subst (λ (z : Level). IsInterleaved w z p j.codewords) (sym el)
@@ -26,14 +26,14 @@ differs-one g v w l k m n p q a b ev el em ep h j =
     ap (λ (z : ℕ). grid_of z l m h.codewords) ev
     ∙ (ap (λ (z : Level). grid_of w z m h.codewords) el
     ∙ (ap (λ (z : ℕ). grid_of w k z h.codewords) em ∙ ap (grid_of w k n) same)) in
-    h.count ∙ (ap (difference_count g) grids ∙ sym j.count)
+    h.count ∙ (ap (wrong_modules_without unknown g) grids ∙ sym j.count)
 
 -- a square has one number of wrong modules
-pub wrong-one : (g : Grid) (v w : ℕ) (l k : Level) (m n : ℕ) (x y : List ℕ) (a b : ℕ) → HasWrongModules g v l m x a →
-    HasWrongModules g w k n y b → a ≡ b
-wrong-one g v w l k m n x y a b h j =
-    let o = form-one g v w l k m n h.message j.message x y h.form j.form in
-    differs-one g v w l k m n h.message j.message a b o.0 o.1 o.2 o.3 h.differs j.differs
+pub wrong-one : (unknown : Option Grid) (g : Grid) (v w : ℕ) (l k : Level) (m n : ℕ) (x y : List ℕ) (a b : ℕ) → HasWrongModulesWithout unknown g v l m x a →
+    HasWrongModulesWithout unknown g w k n y b → a ≡ b
+wrong-one unknown g v w l k m n x y a b h j =
+    let o = form-one unknown g v w l k m n h.message j.message x y h.form j.form in
+    differs-one unknown g v w l k m n h.message j.message a b o.0 o.1 o.2 o.3 h.differs j.differs
 
 -- a square of the side of a symbol is it exactly if no module differs
 same-square : (g : Grid) (v : ℕ) (l : Level) (mask : ℕ) (cw : List ℕ) → IsSquare g.side g → g.side ≡ side_of v →

@@ -6,6 +6,7 @@ use Rattle.qr_layout.specs.Format.{format_word_of}
 use Rattle.qr_layout.specs.declared.region.Module.{Module}
 use Rattle.qr_layout.specs.Role.{first_place, second_place}
 use Rattle.qr_matrix.specs.Grid.{Grid, colour}
+use Rattle.qr_matrix.specs.Penalty.{sum_below}
 use Rattle.qr_symbol.specs.Symbol.{word_bit}
 use Rattle.qr_mending.specs.declared.format.FormatCopy.{FormatCopy}
 use Rattle.qr_mending.specs.declared.format.FormatCopy.TheVariants.{First, Second}
@@ -35,6 +36,16 @@ copy_bit copy g i = colour g (copy_place copy g.side i).row (copy_place copy g.s
 -- how many modules of a copy of the format information are not those of the level and the mask (ISO/IEC 18004:2015, 7.9.1)
 abbrev pub wrong_bits : FormatCopy → Grid → Level → ℕ → ℕ
 wrong_bits copy g l mask = bit_differences 15 (copy_bit copy g) (word_bit (format_word_of l mask))
+
+-- 1 where a module was not read, or has another colour than it should have, and 0 elsewhere [own]
+abbrev pub wrong_bit : Bool → Bool → Bool → ℕ
+wrong_bit true shown wanted = 1
+wrong_bit false shown wanted = bit_difference shown wanted
+
+-- how many modules of a copy of the format information are not those of the level and the mask, or are dark in the square of
+-- those that were not read (ISO/IEC 18004:2015, 7.9.1)
+abbrev pub wrong_bits_without : Grid → FormatCopy → Grid → Level → ℕ → ℕ
+wrong_bits_without unknown copy g l mask = sum_below 15 (λ i. wrong_bit (copy_bit copy unknown i) (copy_bit copy g i) (word_bit (format_word_of l mask) i))
 
 -- at most three modules of a copy of the format information are not those of the level and the mask
 -- (ISO/IEC 18004:2015, 7.9.1, Annex C)

@@ -3,3 +3,4 @@ pub mod Sums
 pub mod Polynomial
 pub mod Errors
 pub mod Roots
+pub mod Marks

@@ -1,14 +1,15 @@
 //! The format information of a damaged symbol: the level and the mask that a copy of it is near to (ISO/IEC 18004:2015, 7.9.1
 //! and Annex C).
 
-ghost use Rattle.std.specs.Prelude.{◌≡◌, ℕ, ◌+◌, ◌<◌, ◌≤◌, MatchOption};
+ghost use Rattle.std.specs.Prelude.{◌≡◌, ℕ, ◌+◌, ◌<◌, ◌≤◌, Some, MatchOption};
 ghost use Rattle.qr_layout.specs.declared.level.Level.{Level};
 ghost use Rattle.qr_layout.specs.Format.{format_word_of};
 ghost use Rattle.qr_layout.specs.Version.{side_of};
+ghost use Rattle.qr_matrix.specs.Penalty.{sum_below};
 ghost use Rattle.qr_symbol.specs.Symbol.{word_bit};
 ghost use Rattle.qr_mending.specs.declared.format.FormatCopy.{FormatCopy};
-ghost use Rattle.qr_mending.specs.Format.{bit_differences, copy_place, copy_bit, wrong_bits, IsNearFormat};
-ghost use Rattle.qr_mending.specs.Mending.{wrong_format_modules};
+ghost use Rattle.qr_mending.specs.Format.{bit_differences, copy_place, copy_bit, wrong_bit, wrong_bits, IsNearFormat};
+ghost use Rattle.qr_mending.specs.Mending.{wrong_format_modules, wrong_format_modules_without};
 
 use qr_layout::{Level, Module, Version, format_place, format_word, second_format_place};
 use qr_matrix::Matrix;
@@ -76,6 +77,59 @@ pub(crate) fn wrong_format_modules(matrix: &Matrix, version: Version, level: Lev
     let word = u32::from(format_word(level, mask));
     wrong_bits(matrix, version, FormatCopy::First, word)
         + wrong_bits(matrix, version, FormatCopy::Second, word)
+}
+
+// Returns 1 if a module was not read or has another colour than it should have, and 0 otherwise.
+pub(crate) fn wrong_bit(is_unknown: bool, dark: bool, wanted: bool) -> u8
+    ensures value { result ≡ wrong_bit is_unknown dark wanted }
+    ensures most { result ≤ 1 }
+{
+    if is_unknown {
+        return 1;
+    }
+    u8::from(dark != wanted)
+}
+
+// Counts the modules of a copy that are not those of a word, or were not read.
+fn wrong_bits_without(
+    matrix: &Matrix,
+    unknown: &Matrix,
+    version: Version,
+    copy: FormatCopy,
+    word: u32,
+) -> u8
+    requires side { matrix.now.side ≡ side_of version }
+    requires unknown_side { unknown.now.side ≡ side_of version }
+    ensures value { result
+        ≡ sum_below 15 (λ i. wrong_bit (copy_bit copy unknown.now i) (copy_bit copy matrix.now i) (word_bit word i)) }
+    ensures most { result ≤ 15 }
+{
+    let mut wrong = 0u8;
+    for i in 0..FORMAT_BITS {
+        let place = copy.place(version, i);
+        let is_unknown = unknown.dark(place.row, place.col);
+        let dark = matrix.dark(place.row, place.col);
+        wrong += wrong_bit(is_unknown, dark, is_bit_set(word, i));
+    }
+    wrong
+}
+
+// Counts the modules of both copies that are not those of the level and the mask, or were not read.
+pub(crate) fn wrong_format_modules_without(
+    matrix: &Matrix,
+    unknown: &Matrix,
+    version: Version,
+    level: Level,
+    mask: u8,
+) -> u8
+    requires side { matrix.now.side ≡ side_of version }
+    requires unknown_side { unknown.now.side ≡ side_of version }
+    requires mask_in { mask < 8 }
+    ensures { result ≡ wrong_format_modules_without (Some unknown.now) matrix.now level mask }
+{
+    let word = u32::from(format_word(level, mask));
+    let first = wrong_bits_without(matrix, unknown, version, FormatCopy::First, word);
+    first + wrong_bits_without(matrix, unknown, version, FormatCopy::Second, word)
 }
 
 // Returns the mask that a copy is near to beside this level.

@@ -1,7 +1,7 @@
 //! The laws of mending: what is mended is one thing at most, and nothing that can be mended is refused. But for those
 //! that mend, each function does nothing: its contract is the law.
 
-ghost use Rattle.std.specs.Prelude.{◌≡◌, ◌≢◌, ◌↔◌, ◌⊎◌, Err, ℕ, ◌*◌, ◌/◌, ◌≤◌, false, List, length, replicate, Option, None, MatchResult};
+ghost use Rattle.std.specs.Prelude.{◌≡◌, ◌≢◌, ◌↔◌, ◌⊎◌, Err, ℕ, ◌*◌, ◌/◌, ◌≤◌, false, List, length, replicate, Option, None, Some, MatchResult};
 ghost use Rattle.std.specs.List.{All};
 ghost use Rattle.qr_layout.specs.declared.level.Level.{Level};
 ghost use Rattle.qr_bits.specs.declared.modes.Rule.{Rule};
@@ -22,12 +22,13 @@ ghost use Rattle.qr_mending.specs.Distance.{SymbolsLieApart};
 ghost use Rattle.qr_mending.specs.declared.format.FormatCopy.{FormatCopy};
 ghost use Rattle.qr_mending.specs.Format.{IsNearFormat};
 ghost use Rattle.qr_mending.specs.Message.{protection_of, tolerance_of, IsMendedIn};
-ghost use Rattle.qr_mending.specs.Mending.{wrong_format_modules, HasFormat, HasWrongModules, HoldsDamaged, IsMendedReading, IsUnmended};
+ghost use Rattle.qr_mending.specs.Mending.{wrong_count, wrong_format_modules, wrong_format_modules_without, HasFormat, HasFormatWithout, HasWrongModules, HasWrongModulesWithout, HoldsDamaged, HoldsDamagedWithout, IsMendedReading, IsMendedReadingWithout, IsUnmended, IsUnmendedWithout};
 ghost use Rattle.qr_mending.specs.Modules.{DifferInFewModules};
 ghost use Rattle.qr_mending.specs.Series.{AreDamagedSquares, IsUnmendedSeries};
 
 use crate::mending::{Mended, mend_symbol};
 use crate::series::mend_series;
+use crate::without::mend_symbol_without;
 use qr_bits::Rule;
 use qr_layout::{Level, Version};
 use qr_matrix::Matrix;
@@ -77,17 +78,18 @@ pub fn mended_messages_are_one(version: Version, level: Level)
         → (m ≡ n) × (x ≡ y) }
 {}
 
-/// A square is read with its damage mended as one content at most, in one version, level and mask, with one list of changes.
+/// A square is read with its damage mended as one content at most, in one version, level and mask, with one list of changes,
+/// whether each of its modules was read or not.
 pub fn mended_readings_are_one()
-    ensures { (g : Grid) (v w : ℕ) (l k : Level) (m n : ℕ) (p q : Content) (x y : List ℕ)
-        → IsMendedReading g v l m p x → IsMendedReading g w k n q y
+    ensures { (unknown : Option Grid) (g : Grid) (v w : ℕ) (l k : Level) (m n : ℕ) (p q : Content) (x y : List ℕ)
+        → IsMendedReadingWithout unknown g v l m p x → IsMendedReadingWithout unknown g w k n q y
         → (v ≡ w) × (l ≡ k) × (m ≡ n) × (p ≡ q) × (x ≡ y) }
 {}
 
 /// A square has one number of wrong modules at most.
 pub fn wrong_modules_are_one()
-    ensures { (g : Grid) (v w : ℕ) (l k : Level) (m n : ℕ) (x y : List ℕ) (a b : ℕ)
-        → HasWrongModules g v l m x a → HasWrongModules g w k n y b → a ≡ b }
+    ensures { (unknown : Option Grid) (g : Grid) (v w : ℕ) (l k : Level) (m n : ℕ) (x y : List ℕ) (a b : ℕ)
+        → HasWrongModulesWithout unknown g v l m x a → HasWrongModulesWithout unknown g w k n y b → a ≡ b }
 {}
 
 /// A square has no wrong module exactly if it is the symbol of which it is a damaged form.
@@ -106,22 +108,23 @@ pub fn readings_are_mended_readings()
 /// A mended square has a count for one block at least, and no count is more than the codewords of a block that may be changed,
 /// which are 2 to 15.
 pub fn changes_are_bounded()
-    ensures some { (g : Grid) (v : ℕ) (l : Level) (m : ℕ) (p : Content) (x : List ℕ) → IsMendedReading g v l m p x
-        → 1 ≤ length x }
-    ensures few { (g : Grid) (v : ℕ) (l : Level) (m : ℕ) (p : Content) (x : List ℕ) → IsMendedReading g v l m p x
-        → All (λ n. n ≤ tolerance_of v l) x }
+    ensures some { (unknown : Option Grid) (g : Grid) (v : ℕ) (l : Level) (m : ℕ) (p : Content) (x : List ℕ)
+        → IsMendedReadingWithout unknown g v l m p x → 1 ≤ length x }
+    ensures few { (unknown : Option Grid) (g : Grid) (v : ℕ) (l : Level) (m : ℕ) (p : Content) (x : List ℕ)
+        → IsMendedReadingWithout unknown g v l m p x → All (λ n. n ≤ tolerance_of v l) x }
     ensures tolerance { (v : ℕ) (l : Level) → 1 ≤ v → v ≤ 40 → (2 ≤ tolerance_of v l) × (tolerance_of v l ≤ 15) }
 {}
 
 /// A square that is read with its damage mended can only be refused for lack of memory.
 pub fn mended_readings_are_not_refused()
-    ensures { (g : Grid) (v : ℕ) (l : Level) (m : ℕ) (p : Content) (x : List ℕ) (e : ReadFault)
-        → IsMendedReading g v l m p x → IsUnmended g e → e ≡ ReadFault.Memory }
+    ensures { (unknown : Option Grid) (g : Grid) (v : ℕ) (l : Level) (m : ℕ) (p : Content) (x : List ℕ) (e : ReadFault)
+        → IsMendedReadingWithout unknown g v l m p x → IsUnmendedWithout unknown g e → e ≡ ReadFault.Memory }
 {}
 
 /// A square is refused for one fault at most, beside lack of memory.
 pub fn mending_refusals_are_one()
-    ensures { (g : Grid) (e f : ReadFault) → IsUnmended g e → IsUnmended g f
+    ensures { (unknown : Option Grid) (g : Grid) (e f : ReadFault) → IsUnmendedWithout unknown g e
+        → IsUnmendedWithout unknown g f
         → (e ≡ ReadFault.Memory) ⊎ (f ≡ ReadFault.Memory) ⊎ (e ≡ f) }
 {}
 
@@ -131,6 +134,20 @@ pub fn mendings_are_refused_exactly(alloc: Global, damaged: &Matrix) -> Result<M
         → (result ≡ Err e) ↔ ((result ≢ Err ReadFault.Memory) × IsUnmended damaged.now e) }
 {
     mend_symbol(alloc, damaged)
+}
+
+/// A square of which some modules could not be read is refused for each fault but lack of memory exactly if the fault is its
+/// own, unless memory is refused.
+pub fn mendings_without_are_refused_exactly(
+    alloc: Global,
+    damaged: &Matrix,
+    unknown: &Matrix,
+) -> Result<Mended, ReadFault>
+    requires { unknown.now.side ≡ damaged.now.side }
+    ensures { (e : ReadFault) → e ≢ ReadFault.Memory
+        → (result ≡ Err e) ↔ ((result ≢ Err ReadFault.Memory) × IsUnmendedWithout (Some unknown.now) damaged.now e) }
+{
+    mend_symbol_without(alloc, damaged, unknown)
 }
 
 /// Two symbols of a version that say different things, or have different levels, lie far apart: in each copy of the format
@@ -154,6 +171,30 @@ pub fn damaged_symbols_are_mended(alloc: Global, damaged: &Matrix) -> Result<Men
         × (m.wrong_format_modules ≡ wrong_format_modules damaged.now l mask)) (λ e. e ≡ ReadFault.Memory) }
 {
     mend_symbol(alloc, damaged)
+}
+
+/// A damaged symbol of an input, of which some modules could not be read, is mended to exactly the input, unless memory is
+/// refused: any square of its side and any modules that were not read, if in each block the erased codewords and twice the
+/// misread ones are at most those that may be used, and at most three modules of the first copy of the format information are
+/// wrong, or at most three of the second if the first is of no use. The counts are those of the damage.
+pub fn damaged_symbols_without_modules_are_mended(
+    alloc: Global,
+    damaged: &Matrix,
+    unknown: &Matrix,
+) -> Result<Mended, ReadFault>
+    requires { unknown.now.side ≡ damaged.now.side }
+    ensures { (smallest : ℕ) (l : Level) (rule : Rule) (x : List ℕ) (v mask : ℕ) (g : Grid) (misread : List ℕ)
+        → 1 ≤ smallest → (s : IsSymbol smallest l rule x v mask g) → damaged.now.side ≡ g.side
+        → HasFormatWithout (Some unknown.now) v damaged.now l mask
+        → HoldsDamagedWithout (Some unknown.now) v l mask damaged.now s.made.message misread
+        → MatchResult result
+        (λ m. (m.version ≡ v) × (m.level ≡ l) × (m.mask ≡ mask)
+        × (m.parsed ≡ record { header = None; segments = s.made.segments; bytes = x })
+        × (m.changed.items ≡ misread) × (m.wrong_modules ≡ wrong_count unknown.now damaged.now g)
+        × (m.wrong_format_modules ≡ wrong_format_modules_without (Some unknown.now) damaged.now l mask))
+        (λ e. e ≡ ReadFault.Memory) }
+{
+    mend_symbol_without(alloc, damaged, unknown)
 }
 
 /// The symbol of an input is mended to exactly the input, unless memory is refused, if few of its modules are wrong: in each

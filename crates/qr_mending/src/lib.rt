@@ -16,9 +16,12 @@ mod roots;
 mod samples;
 mod series;
 mod sums;
+mod unread;
+mod without;
 
 pub use block::mend;
 pub use erasures::mend_with_erasures;
 pub use mending::{Mended, mend_symbol};
 pub use message::changed_max;
 pub use series::mend_series;
+pub use without::mend_symbol_without;

@@ -1,15 +1,18 @@
 //! The reading of a damaged symbol (ISO/IEC 18004:2015, 7.5.1, 7.9.1 and 12).
 
-ghost use Rattle.std.specs.Prelude.{◌≡◌, ◌<◌, length, IfErr, IfOk, MatchOption, MatchResult};
+ghost use Rattle.std.specs.Prelude.{◌≡◌, ◌<◌, ◌⊎◌, length, IfErr, IfOk, Option, MatchOption, MatchResult};
 ghost use Rattle.qr_layout.specs.Blocks.{data_codewords_of};
-ghost use Rattle.qr_layout.specs.Version.{side_of};
+ghost use Rattle.qr_layout.specs.Version.{side_of, total_codewords_of};
+ghost use Rattle.qr_matrix.specs.Grid.{Grid};
 ghost use Rattle.qr_symbol.specs.declared.fault.ReadFault.{ReadFault};
 ghost use Rattle.qr_mending.specs.declared.format.FormatCopy.{FormatCopy};
 ghost use Rattle.qr_mending.specs.Format.{IsNearFormat};
-ghost use Rattle.qr_mending.specs.Mending.{wrong_format_modules, DiffersFromSymbol, HasFormat, HasWrongModules, HoldsDamaged, IsMendedReading, IsOfNoUse, IsUnmended};
+ghost use Rattle.qr_mending.specs.Mending.{wrong_format_modules, DiffersFromSymbol, HasFormat, HasFormatWithout, HasWrongModules, HoldsDamaged, HoldsDamagedWithout, IsMendedReading, IsOfNoUse, IsOfNoUseWithout, IsUnmended};
+ghost use Rattle.qr_mending.specs.Steps.Marks.{HasMarks};
 
 use crate::format::{FormatCopy, near_format_of, near_format_of_either, wrong_format_modules};
-use crate::message::{MendedMessage, mend_message};
+use crate::message::MendedMessage;
+use crate::unread::mend_codewords;
 use qr_bits::{Parsed, parse};
 use qr_layout::{Level, Version};
 use qr_matrix::{Matrix, differences};
@@ -18,25 +21,28 @@ use std::alloc::{AllocError, Global};
 
 // The message of a damaged symbol, with the level and the mask that it was mended under.
 #[derive(Drop)]
-struct MendedSquare {
-    level: Level,
-    mask: u8,
-    message: Vec<u8>,
-    changed: Vec<usize>,
+pub(crate) struct MendedSquare {
+    pub level: Level,
+    pub mask: u8,
+    pub message: Vec<u8>,
+    pub changed: Vec<usize>,
 }
 
-// Mends the square under the level and the mask that a copy of its format information is near to. Returns nothing if the
-// copy is of no use.
+// Mends the square under the level and the mask that a copy of its format information is near to. Without marks each codeword
+// was read; otherwise those whose mark is not 0 are erased. Returns nothing if the copy is of no use.
 fn mend_by(
     alloc: Global,
     version: Version,
     copy: FormatCopy,
     matrix: &Matrix,
+    marks: &[u8],
 ) -> Result<Option<MendedSquare>, ReadFault>
-    requires { matrix.now.side ≡ side_of version }
-    ensures mended { IfOk result (λ o. MatchOption o (IsOfNoUse copy version matrix.now)
+    requires side { matrix.now.side ≡ side_of version }
+    requires marks { (length marks.now ≡ 0) ⊎ (length marks.now ≡ total_codewords_of version) }
+    ensures mended { (unknown : Option Grid) → HasMarks unknown version marks.now → IfOk result
+        (λ o. MatchOption o (IsOfNoUseWithout unknown copy version matrix.now)
         (λ m. IsNearFormat copy matrix.now m.level m.mask
-        × HoldsDamaged version m.level m.mask matrix.now m.message.items m.changed.items
+        × HoldsDamagedWithout unknown version m.level m.mask matrix.now m.message.items m.changed.items
         × (length m.message.items ≡ data_codewords_of version m.level))) }
     ensures fault { IfErr result (λ e. e ≡ ReadFault.Memory) }
 {
@@ -44,7 +50,7 @@ fn mend_by(
         return Ok(None);
     };
     let codewords = read_codewords(alloc, version, mask, matrix)?;
-    match mend_message(alloc, version, level, &codewords) {
+    match mend_codewords(alloc, version, level, &codewords, marks) {
         Ok(MendedMessage { message, changed }) => Ok(Some(MendedSquare {
             level,
             mask,
@@ -57,7 +63,29 @@ fn mend_by(
 }
 
 // Mends the square by the first copy of its format information, or by the second if the first is of no use.
-fn mend_by_either(
+pub(crate) fn mend_by_either(
+    alloc: Global,
+    version: Version,
+    matrix: &Matrix,
+    marks: &[u8],
+) -> Result<Option<MendedSquare>, ReadFault>
+    requires side { matrix.now.side ≡ side_of version }
+    requires marks { (length marks.now ≡ 0) ⊎ (length marks.now ≡ total_codewords_of version) }
+    ensures mended { (unknown : Option Grid) → HasMarks unknown version marks.now → IfOk result
+        (λ o. MatchOption o ((any : FormatCopy) → IsOfNoUseWithout unknown any version matrix.now)
+        (λ m. HasFormatWithout unknown version matrix.now m.level m.mask
+        × HoldsDamagedWithout unknown version m.level m.mask matrix.now m.message.items m.changed.items
+        × (length m.message.items ≡ data_codewords_of version m.level))) }
+    ensures fault { IfErr result (λ e. e ≡ ReadFault.Memory) }
+{
+    match mend_by(alloc, version, FormatCopy::First, matrix, marks)? {
+        Some(mended) => Ok(Some(mended)),
+        None => mend_by(alloc, version, FormatCopy::Second, matrix, marks),
+    }
+}
+
+// Mends the square, each of whose modules was read.
+fn mend_square(
     alloc: Global,
     version: Version,
     matrix: &Matrix,
@@ -69,10 +97,7 @@ fn mend_by_either(
         × (length m.message.items ≡ data_codewords_of version m.level))) }
     ensures fault { IfErr result (λ e. e ≡ ReadFault.Memory) }
 {
-    match mend_by(alloc, version, FormatCopy::First, matrix)? {
-        Some(mended) => Ok(Some(mended)),
-        None => mend_by(alloc, version, FormatCopy::Second, matrix),
-    }
+    mend_by_either(alloc, version, matrix, &[])
 }
 
 // How many modules of the square are not those of the symbol that the message has. The symbol is drawn.
@@ -138,7 +163,7 @@ pub fn mend_symbol(alloc: Global, matrix: &Matrix) -> Result<Mended, ReadFault>
     let Some(_) = near_format_of_either(matrix, version) else {
         return Err(ReadFault::Format);
     };
-    let Some(mended) = mend_by_either(alloc, version, matrix)? else {
+    let Some(mended) = mend_square(alloc, version, matrix)? else {
         return Err(ReadFault::Check);
     };
     let MendedSquare {

@@ -8,6 +8,7 @@ ghost use Rattle.qr_layout.specs.Version.{total_codewords_of};
 ghost use Rattle.qr_symbol.specs.declared.fault.ReadFault.{ReadFault};
 ghost use Rattle.qr_symbol.specs.Interleaving.{block_count, cut_len, data_cut, correction_cut};
 ghost use Rattle.qr_mending.specs.Message.{protection_of, tolerance_of, AreMended, IsMendedIn, IsMendedMessage};
+ghost use Rattle.qr_mending.specs.Unread.{spare_of};
 
 use crate::block::mend;
 use qr_field::Divisor;
@@ -17,9 +18,9 @@ use std::alloc::Global;
 
 // The data codewords of a mended block, and how many codewords of the block were changed.
 #[derive(Drop)]
-struct MendedBlock {
-    message: Vec<u8>,
-    changed: usize,
+pub(crate) struct MendedBlock {
+    pub message: Vec<u8>,
+    pub changed: usize,
 }
 
 // Mends a block of which at most `t` codewords have been changed.
@@ -131,13 +132,20 @@ fn protection(version: Version, level: Level) -> u8
     }
 }
 
+// How many error correction codewords of a block may be used.
+pub(crate) fn spare(version: Version, level: Level) -> u8
+    ensures { result ≡ spare_of version level }
+{
+    let count = version.blocks(level).ec_len;
+    count.saturating_sub(protection(version, level))
+}
+
 /// Returns how many codewords of each block may be changed in a symbol of a version and a level, from 2 to 15: half of the
 /// block's error correction codewords, or for some levels of versions 1 to 3 less (ISO/IEC 18004:2015, 7.5.1, Table 9).
 pub fn changed_max(version: Version, level: Level) -> u8
     ensures { result ≡ tolerance_of version level }
 {
-    let count = version.blocks(level).ec_len;
-    count.saturating_sub(protection(version, level)) / 2
+    spare(version, level) / 2
 }
 
 // The message of which the codewords are a damaged form, in the blocks of a version and a level.

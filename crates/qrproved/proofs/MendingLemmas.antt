@@ -1,6 +1,8 @@
 -- What the struct tells of a square that is mended, and which statuses its bytes rule out.
-use Rattle.std.proofs.Common.{◌≡◌, ℕ, ◌*◌, ◌<◌, ◌≤◌, List, ◌++◌, drop, length, take, sym, ◌∙◌, ap, subst, arith}
-use Rattle.std.specs.List.{All}
+use Rattle.std.proofs.Common.{◌≡◌, ℕ, ◌*◌, ◌<◌, ◌≤◌, ◌==◌, Option, None, Some, true, false, List, ◌++◌, drop, length, take, sym, ◌∙◌, ap, subst, arith}
+use Rattle.std.proofs.lemmas.Bool.Decides.{nat_tests}
+use Rattle.std.specs.Prelude.{if◌then◌else◌, Bool}
+use Rattle.std.specs.List.{All, count_by}
 use Rattle.std.proofs.lemmas.List.Elements.{All-weaker}
 use Rattle.qr_layout.specs.declared.level.Level.{Level}
 use Rattle.qr_bits.specs.Parsing.{Content}
@@ -8,19 +10,19 @@ use Rattle.qr_matrix.specs.Grid.{Grid}
 use Rattle.qr_symbol.specs.declared.fault.ReadFault.{ReadFault}
 use Rattle.qr_symbol.specs.declared.fault.ReadFault.TheVariants as unread
 use Rattle.qr_mending.specs.declared.mending.Mended.{Mended}
-use Rattle.qr_mending.specs.Mending.{wrong_format_modules, HasWrongModules, IsMendedReading, IsUnmended}
+use Rattle.qr_mending.specs.Mending.{wrong_format_modules_without, HasWrongModulesWithout, IsMendedReadingWithout, IsUnmendedWithout}
 use Rattle.qr_mending.specs.Message.{tolerance_of}
 use Rattle.qrproved.specs.declared.mending.QrprovedMended.{QrprovedMended}
 use Rattle.qrproved.specs.Modules.{square_of_bytes}
 use Rattle.qrproved.specs.Reading.{TellsHeader}
 use Rattle.qrproved.specs.Settings.{level_of}
-use Rattle.qrproved.specs.Mending.{AreModules, HasMoreMendedBytes, HasOtherByte, IsGivenMended, IsGreatest}
+use Rattle.qrproved.specs.Mending.{square_of_unknown, unknown_in, AreModules, HasMoreMendedBytes, HasOtherByte, IsGivenMended, IsGreatest}
 
--- as many bytes as the square has modules, each 0 or 1, are modules
-pub all-modules : (modules : List ℕ) (side area : ℕ) → area ≡ side * side → area ≤ length modules → All (λ b. b ≤ 1) (take area modules) → AreModules modules side
+-- as many bytes as the square has modules, each 0, 1 or 2, are modules
+pub all-modules : (modules : List ℕ) (side area : ℕ) → area ≡ side * side → area ≤ length modules → All (λ b. b ≤ 2) (take area modules) → AreModules modules side
 all-modules modules side area e long each = record {
   whole = omega (arith, e);
-  each = subst (λ (n : ℕ). All (λ b. b ≤ 1) (take n modules)) e each;
+  each = subst (λ (n : ℕ). All (λ b. b ≤ 2) (take n modules)) e each;
 }
 
 -- then none is another byte
@@ -33,31 +35,31 @@ few-changes x t most few = All-weaker (λ n. n ≤ t) (λ n. n ≤ 15) (λ n h. 
 
 -- a square that is mended has no fault but lack of memory
 abbrev pub MendedExclude : Type 0
-MendedExclude = (g : Grid) (v : ℕ) (l : Level) (m : ℕ) (p : Content) (x : List ℕ) (e : ReadFault) → IsMendedReading g v l m p x → IsUnmended g e → e ≡ unread.Memory
+MendedExclude = (u : Option Grid) (g : Grid) (v : ℕ) (l : Level) (m : ℕ) (p : Content) (x : List ℕ) (e : ReadFault) → IsMendedReadingWithout u g v l m p x → IsUnmendedWithout u g e → e ≡ unread.Memory
 
 -- a square that is mended has no fault that is told
-pub not-unmended : (g : Grid) (v : ℕ) (l : Level) (m : ℕ) (p : Content) (x : List ℕ) (e : ReadFault) → MendedExclude → IsMendedReading g v l m p x → IsUnmended g e → (e ≡ unread.Memory → ⊥) → ⊥
-not-unmended g v l m p x e law r u known = known (law g v l m p x e r u)
+pub not-unmended : (u : Option Grid) (g : Grid) (v : ℕ) (l : Level) (m : ℕ) (p : Content) (x : List ℕ) (e : ReadFault) → MendedExclude → IsMendedReadingWithout u g v l m p x → IsUnmendedWithout u g e → (e ≡ unread.Memory → ⊥) → ⊥
+not-unmended u g v l m p x e law r f known = known (law u g v l m p x e r f)
 
 -- the reading in the version, the level and the mask that the struct tells
-read-told : (g : Grid) (v w : ℕ) (l k : Level) (m n : ℕ) (p : Content) (x : List ℕ) → w ≡ v → k ≡ l → n ≡ m → IsMendedReading g v l m p x → IsMendedReading g w k n p x
-read-told g v w l k m n p x ev el em r =
-    subst (λ (z : ℕ). IsMendedReading g z k n p x) (sym ev)
-    (subst (λ (z : Level). IsMendedReading g v z n p x) (sym el) (subst (λ (z : ℕ). IsMendedReading g v l z p x) (sym em) r))
+read-told : (u : Option Grid) (g : Grid) (v w : ℕ) (l k : Level) (m n : ℕ) (p : Content) (x : List ℕ) → w ≡ v → k ≡ l → n ≡ m → IsMendedReadingWithout u g v l m p x → IsMendedReadingWithout u g w k n p x
+read-told u g v w l k m n p x ev el em r =
+    subst (λ (z : ℕ). IsMendedReadingWithout u g z k n p x) (sym ev)
+    (subst (λ (z : Level). IsMendedReadingWithout u g v z n p x) (sym el) (subst (λ (z : ℕ). IsMendedReadingWithout u g v l z p x) (sym em) r))
 
 -- the wrong modules likewise
-wrong-told : (g : Grid) (v w : ℕ) (l k : Level) (m n : ℕ) (x : List ℕ) (a b : ℕ) → w ≡ v → k ≡ l → n ≡ m → b ≡ a → HasWrongModules g v l m x a → HasWrongModules g w k n x b
-wrong-told g v w l k m n x a b ev el em e r =
-    subst (λ (z : ℕ). HasWrongModules g z k n x b) (sym ev)
-    (subst (λ (z : Level). HasWrongModules g v z n x b) (sym el)
-    (subst (λ (z : ℕ). HasWrongModules g v l z x b) (sym em) (subst (λ (z : ℕ). HasWrongModules g v l m x z) (sym e) r)))
+wrong-told : (u : Option Grid) (g : Grid) (v w : ℕ) (l k : Level) (m n : ℕ) (x : List ℕ) (a b : ℕ) → w ≡ v → k ≡ l → n ≡ m → b ≡ a → HasWrongModulesWithout u g v l m x a → HasWrongModulesWithout u g w k n x b
+wrong-told u g v w l k m n x a b ev el em e r =
+    subst (λ (z : ℕ). HasWrongModulesWithout u g z k n x b) (sym ev)
+    (subst (λ (z : Level). HasWrongModulesWithout u g v z n x b) (sym el)
+    (subst (λ (z : ℕ). HasWrongModulesWithout u g v l z x b) (sym em) (subst (λ (z : ℕ). HasWrongModulesWithout u g v l m x z) (sym e) r)))
 
 -- the struct tells what is read and the damage
 pub given-mended : (modules : List ℕ) (side : ℕ) (before put : List ℕ) (m : Mended) (t : QrprovedMended) (len : ℕ)
     → AreModules modules side
-    → IsMendedReading (square_of_bytes side modules) m.version m.level m.mask m.parsed m.changed.items
-    → m.wrong_format_modules ≡ wrong_format_modules (square_of_bytes side modules) m.level m.mask
-    → HasWrongModules (square_of_bytes side modules) m.version m.level m.mask m.changed.items m.wrong_modules
+    → IsMendedReadingWithout (unknown_in side modules) (square_of_bytes side modules) m.version m.level m.mask m.parsed m.changed.items
+    → m.wrong_format_modules ≡ wrong_format_modules_without (unknown_in side modules) (square_of_bytes side modules) m.level m.mask
+    → HasWrongModulesWithout (unknown_in side modules) (square_of_bytes side modules) m.version m.level m.mask m.changed.items m.wrong_modules
     → len ≡ length m.parsed.bytes → len ≤ length before → put ≡ m.parsed.bytes
     → t.len ≡ len → t.wrong_modules ≡ m.wrong_modules → t.version ≡ m.version
     → TellsHeader m.parsed.header t.has_header t.position t.last t.parity
@@ -66,19 +68,20 @@ pub given-mended : (modules : List ℕ) (side : ℕ) (before put : List ℕ) (m 
     → IsGivenMended modules side before (put ++ drop len before) t
 given-mended modules side before put m t len all r format whole long room same elen ewrong ev header small el em eformat most allowed =
     let g = square_of_bytes side modules in
+    let u = unknown_in side modules in
     record {
-      all_known = all;
+      all_modules = all;
       content = m.parsed;
       changed = m.changed.items;
       level = small;
-      read = read-told g m.version t.version m.level (level_of t.level) m.mask t.mask m.parsed m.changed.items ev el em r;
+      read = read-told u g m.version t.version m.level (level_of t.level) m.mask t.mask m.parsed m.changed.items ev el em r;
       room = omega arith;
       holds = ap (λ (z : List ℕ). z ++ drop len before) same ∙ ap (λ (z : ℕ). m.parsed.bytes ++ drop z before) long;
       len = elen ∙ long;
       header = header;
       damage = record {
-        whole = wrong-told g m.version t.version m.level (level_of t.level) m.mask t.mask m.changed.items m.wrong_modules t.wrong_modules ev el em ewrong whole;
-        format = eformat ∙ (format ∙ (ap (λ (z : Level). wrong_format_modules g z m.mask) (sym el) ∙ ap (λ (z : ℕ). wrong_format_modules g (level_of t.level) z) (sym em)));
+        whole = wrong-told u g m.version t.version m.level (level_of t.level) m.mask t.mask m.changed.items m.wrong_modules t.wrong_modules ev el em ewrong whole;
+        format = eformat ∙ (format ∙ (ap (λ (z : Level). wrong_format_modules_without u g z m.mask) (sym el) ∙ ap (λ (z : ℕ). wrong_format_modules_without u g (level_of t.level) z) (sym em)));
         most = most;
         allowed = allowed ∙ (ap (λ (z : ℕ). tolerance_of z m.level) (sym ev) ∙ ap (λ (z : Level). tolerance_of t.version z) (sym el));
       };
@@ -86,10 +89,10 @@ given-mended modules side before put m t len all r format whole long room same e
 
 -- a square that is mended as more bytes than the buffer has
 pub more-bytes : (modules : List ℕ) (side : ℕ) (buffer : List ℕ) (m : Mended) (len : ℕ) → AreModules modules side
-    → IsMendedReading (square_of_bytes side modules) m.version m.level m.mask m.parsed m.changed.items
+    → IsMendedReadingWithout (unknown_in side modules) (square_of_bytes side modules) m.version m.level m.mask m.parsed m.changed.items
     → len ≡ length m.parsed.bytes → length buffer < len → HasMoreMendedBytes modules side buffer
 more-bytes modules side buffer m len all r long short = record {
-  all_known = all;
+  all_modules = all;
   content = m.parsed;
   version = m.version;
   level = m.level;
@@ -98,3 +101,24 @@ more-bytes modules side buffer m len all r long short = record {
   read = r;
   room = omega arith;
 }
+
+-- the test that a number is 0
+is-zero : (k : ℕ) → k ≡ 0 → true ≡ (k == 0)
+is-zero k h = grind (arith, nat_tests)
+
+not-zero : (k : ℕ) → (k ≡ 0 → ⊥) → false ≡ (k == 0)
+not-zero k h = grind (arith, nat_tests)
+
+-- where no byte is 2 each module is known
+pub none-unknown : (P : Option Grid → Type 0) (side area n : ℕ) (bytes : List ℕ) → area ≡ side * side →
+    n ≡ count_by (λ b. b == 2) (take area bytes) → n ≡ 0 → P None → P (unknown_in side bytes)
+none-unknown P side area n bytes a e t p =
+    let none : count_by (λ b. b == 2) (take (side * side) bytes) ≡ 0 = ap (λ k. count_by (λ b. b == 2) (take k bytes)) (sym a) ∙ (sym e ∙ t) in
+    subst (λ (b : Bool). P (if b then None else Some (square_of_unknown side bytes))) (is-zero (count_by (λ b. b == 2) (take (side * side) bytes)) none) p
+
+-- otherwise those with the byte 2 are not
+pub some-unknown : (P : Option Grid → Type 0) (side area n : ℕ) (bytes : List ℕ) → area ≡ side * side →
+    n ≡ count_by (λ b. b == 2) (take area bytes) → (n ≡ 0 → ⊥) → P (Some (square_of_unknown side bytes)) → P (unknown_in side bytes)
+some-unknown P side area n bytes a e t p =
+    let same : count_by (λ b. b == 2) (take (side * side) bytes) ≡ n = ap (λ k. count_by (λ b. b == 2) (take k bytes)) (sym a) ∙ sym e in
+    subst (λ (b : Bool). P (if b then None else Some (square_of_unknown side bytes))) (not-zero (count_by (λ b. b == 2) (take (side * side) bytes)) (λ h. t (sym same ∙ h))) p

@@ -1,25 +1,35 @@
--- What the call that mends a symbol gives, and why it gives nothing. Public clauses cite this file.
-use Rattle.std.specs.Prelude.{◌≡◌, ℕ, ◌*◌, ◌<◌, ◌≤◌, List, ◌++◌, drop, length, take}
-use Rattle.std.specs.List.{All, Any, Contains}
+-- What the call that mends a symbol gives, and why it gives nothing. A module whose byte is 2 is not known. Public clauses cite
+-- this file.
+use Rattle.std.specs.Prelude.{◌≡◌, ℕ, ◌+◌, ◌*◌, ◌<◌, ◌≤◌, ◌==◌, if◌then◌else◌, Option, None, Some, List, ◌++◌, drop, length, slice_index_or, take}
+use Rattle.std.specs.List.{All, Any, Contains, count_by}
 use Rattle.qr_layout.specs.declared.level.Level.{Level}
 use Rattle.qr_bits.specs.Parsing.{Content}
+use Rattle.qr_matrix.specs.Grid.{Grid, square}
 use Rattle.qr_symbol.specs.declared.fault.ReadFault.{ReadFault}
-use Rattle.qr_mending.specs.Mending.{wrong_format_modules, HasWrongModules, IsMendedReading, IsUnmended}
+use Rattle.qr_mending.specs.Mending.{wrong_format_modules_without, HasWrongModulesWithout, IsMendedReadingWithout, IsUnmendedWithout}
 use Rattle.qr_mending.specs.Message.{tolerance_of}
 use Rattle.qrproved.specs.declared.mending.QrprovedMended.{QrprovedMended}
 use Rattle.qrproved.specs.Modules.{square_of_bytes}
 use Rattle.qrproved.specs.Reading.{TellsHeader}
 use Rattle.qrproved.specs.Settings.{level_of}
 
--- the buffer has a byte for each module of a square of this side, and each of these is 0 or 1 [own]
+-- the square of this side whose modules are dark where their bytes are 2, row by row [own]
+abbrev pub square_of_unknown : ℕ → List ℕ → Grid
+square_of_unknown side bytes = square side (λ row col. slice_index_or bytes (row * side + col) 0 == 2)
+
+-- the square of the modules that are not known, if there is one: their bytes are 2 [own]
+abbrev pub unknown_in : ℕ → List ℕ → Option Grid
+unknown_in side bytes = if count_by (λ b. b == 2) (take (side * side) bytes) == 0 then None else Some (square_of_unknown side bytes)
+
+-- the buffer has a byte for each module of a square of this side, and each of these is 0, 1 or 2 [own]
 pub record AreModules (modules : List ℕ) (side : ℕ) : Type 0 where
   pub whole : side * side ≤ length modules
-  pub each : All (λ b. b ≤ 1) (take (side * side) modules)
+  pub each : All (λ b. b ≤ 2) (take (side * side) modules)
 
--- the buffer has a byte for each module of a square of this side, and one of these is neither 0 nor 1 [own]
+-- the buffer has a byte for each module of a square of this side, and one of these is more than 2 [own]
 pub record HasOtherByte (modules : List ℕ) (side : ℕ) : Type 0 where
   pub whole : side * side ≤ length modules
-  pub one : Any (λ b. 1 < b) (take (side * side) modules)
+  pub one : Any (λ b. 2 < b) (take (side * side) modules)
 
 -- the number is the greatest of the list [own]
 pub record IsGreatest (xs : List ℕ) (n : ℕ) : Type 0 where
@@ -27,22 +37,22 @@ pub record IsGreatest (xs : List ℕ) (n : ℕ) : Type 0 where
   pub most : All (λ x. x ≤ n) xs
 
 -- the struct tells the damage of a square that is mended in its version, level and mask, where as many codewords of each block
--- were changed as `changed` lists: the wrong modules of the whole square and of the format information, the most codewords
--- changed in a block, and how many may be (ISO/IEC 18004:2015, 7.5.1, 7.9.1)
+-- were changed as `changed` lists, beside those with a module that is not known: the wrong modules of the whole square and of
+-- the format information, the most codewords changed in a block, and how many may be (ISO/IEC 18004:2015, 7.5.1, 7.9.1)
 pub record TellsDamage (m : QrprovedMended) (changed : List ℕ) (side : ℕ) (modules : List ℕ) : Type 0 where
-  pub whole : HasWrongModules (square_of_bytes side modules) m.version (level_of m.level) m.mask changed m.wrong_modules
-  pub format : m.wrong_format_modules ≡ wrong_format_modules (square_of_bytes side modules) (level_of m.level) m.mask
+  pub whole : HasWrongModulesWithout (unknown_in side modules) (square_of_bytes side modules) m.version (level_of m.level) m.mask changed m.wrong_modules
+  pub format : m.wrong_format_modules ≡ wrong_format_modules_without (unknown_in side modules) (square_of_bytes side modules) (level_of m.level) m.mask
   pub most : IsGreatest changed m.changed_most
   pub allowed : m.changed_allowed ≡ tolerance_of m.version (level_of m.level)
 
 -- the square of the modules is read with its damage mended: its bytes stand at the start of the buffer, the rest of which is as
 -- it was, and the struct tells how many they are, the version, level and mask, the header and the damage [own]
 pub record IsGivenMended (modules : List ℕ) (side : ℕ) (before after : List ℕ) (m : QrprovedMended) : Type 0 where
-  pub all_known : AreModules modules side
+  pub all_modules : AreModules modules side
   pub content : Content
   pub changed : List ℕ
   pub level : m.level < 4
-  pub read : IsMendedReading (square_of_bytes side modules) m.version (level_of m.level) m.mask content changed
+  pub read : IsMendedReadingWithout (unknown_in side modules) (square_of_bytes side modules) m.version (level_of m.level) m.mask content changed
   pub room : length content.bytes ≤ length before
   pub holds : after ≡ content.bytes ++ drop (length content.bytes) before
   pub len : m.len ≡ length content.bytes
@@ -51,15 +61,15 @@ pub record IsGivenMended (modules : List ℕ) (side : ℕ) (before after : List 
 
 -- the square of the modules is read with its damage mended, as more bytes than the buffer has [own]
 pub record HasMoreMendedBytes (modules : List ℕ) (side : ℕ) (buffer : List ℕ) : Type 0 where
-  pub all_known : AreModules modules side
+  pub all_modules : AreModules modules side
   pub content : Content
   pub version : ℕ
   pub level : Level
   pub mask : ℕ
   pub changed : List ℕ
-  pub read : IsMendedReading (square_of_bytes side modules) version level mask content changed
+  pub read : IsMendedReadingWithout (unknown_in side modules) (square_of_bytes side modules) version level mask content changed
   pub room : length buffer < length content.bytes
 
 -- the square of the modules is not mended, for this fault [own]
 abbrev pub IsUnmendedAt : List ℕ → ℕ → ReadFault → Type 0
-IsUnmendedAt modules side fault = AreModules modules side × IsUnmended (square_of_bytes side modules) fault
+IsUnmendedAt modules side fault = AreModules modules side × IsUnmendedWithout (unknown_in side modules) (square_of_bytes side modules) fault

@@ -1,12 +1,14 @@
 //! The call that reads a damaged symbol and tells how damaged it is (ISO/IEC 18004:2015, 7.5.1, 7.9.1 and 12).
 
-ghost use Rattle.std.specs.Prelude.{◌≡◌, ◌≢◌, ◌*◌, ◌<◌, ◌≤◌, ◌↔◌, ◌⊎◌, length, MatchBool};
-ghost use Rattle.std.specs.List.{All, Any};
+ghost use Rattle.std.specs.Prelude.{◌≡◌, ◌≢◌, ◌*◌, ◌<◌, ◌≤◌, ◌==◌, ◌↔◌, ◌⊎◌, length, IfOk, MatchBool, MatchResult};
+ghost use Rattle.std.specs.List.{All, Any, count_by};
 ghost use Rattle.qr_bits.specs.declared.fault.ParseFault.{ParseFault};
 ghost use Rattle.qr_symbol.specs.declared.fault.ReadFault.{ReadFault};
+ghost use Rattle.qr_mending.specs.Mending.{wrong_format_modules_without, HasWrongModulesWithout, IsMendedReadingWithout, IsUnmendedWithout};
 ghost use Rattle.qr_mending.specs.Message.{tolerance_of};
+ghost use Rattle.qrproved.specs.Modules.{square_of_bytes};
 ghost use Rattle.qrproved.specs.Reading.{IsSide, TellsHeader};
-ghost use Rattle.qrproved.specs.Mending.{HasMoreMendedBytes, HasOtherByte, IsGivenMended, IsGreatest, IsUnmendedAt};
+ghost use Rattle.qrproved.specs.Mending.{square_of_unknown, unknown_in, HasMoreMendedBytes, HasOtherByte, IsGivenMended, IsGreatest, IsUnmendedAt};
 ghost use Rattle.qrproved.specs.Settings.{level_of};
 
 use crate::modules::{area, matrix_of};
@@ -17,8 +19,9 @@ use qr_mending::laws::{
     changes_are_bounded, mended_readings_are_not_refused, mended_readings_are_one,
     mending_refusals_are_one,
 };
-use qr_mending::{Mended, changed_max, mend_symbol};
-use std::alloc::Global;
+use qr_mending::{Mended, changed_max, mend_symbol, mend_symbol_without};
+use qr_symbol::{Matrix, ReadFault};
+use std::alloc::{AllocError, Global};
 
 /// What a damaged symbol says, and how damaged it is.
 #[repr(C)]
@@ -26,7 +29,8 @@ use std::alloc::Global;
 pub struct QrprovedMended {
     /// How many bytes it holds.
     pub len: usize,
-    /// How many modules of the whole square are not those of the symbol; 0 exactly if the square is the symbol.
+    /// How many modules of the whole square are not known, or are not those of the symbol; 0 exactly if the square is the
+    /// symbol.
     pub wrong_modules: u32,
     /// The version, from 1 to 40.
     pub version: u8,
@@ -43,19 +47,73 @@ pub struct QrprovedMended {
     pub level: u8,
     /// The mask, from 0 to 7.
     pub mask: u8,
-    /// How many of the 30 modules of format information are wrong.
+    /// How many of the 30 modules of format information are wrong or not known.
     pub wrong_format_modules: u8,
-    /// The most codewords that were changed in a block.
+    /// The most codewords that were changed in a block, beside those with a module that is not known.
     pub changed_most: u8,
     /// How many codewords of a block may be changed, from 2 to 15.
     pub changed_allowed: u8,
 }
 
-// Whether each byte is that of a light or a dark module.
+// The byte of a module that is not known.
+const NOT_KNOWN: u8 = 2;
+
+// Whether each byte is that of a light or a dark module, or of one that is not known.
 fn are_modules(modules: &[u8]) -> bool
-    ensures { MatchBool result (All (λ b. b ≤ 1) modules.now) (Any (λ b. 1 < b) modules.now) }
+    ensures { MatchBool result (All (λ b. b ≤ 2) modules.now) (Any (λ b. 2 < b) modules.now) }
 {
-    modules.iter().all(|module| *module <= 1)
+    modules.iter().all(|module| *module <= NOT_KNOWN)
+}
+
+// The number of modules that are not known.
+fn count_unknown(modules: &[u8]) -> usize
+    ensures { result ≡ count_by (λ b. b == 2) modules.now }
+{
+    modules
+        .iter()
+        .filter(|module| **module == NOT_KNOWN)
+        .count()
+}
+
+// The square of this side whose dark modules are those that are not known.
+fn unknown_of(alloc: Global, modules: &[u8], side: u8) -> Result<Matrix, AllocError>
+    requires least { 1 ≤ side }
+    requires most { side ≤ 177 }
+    requires room { side * side ≤ length modules.now }
+    ensures { IfOk result (λ m. m ≡ square_of_unknown side modules.now) }
+{
+    let mut unknown = Matrix::new(alloc, side)?;
+    let mut start = 0;
+    for row in 0..side {
+        for col in 0..side {
+            let module = modules[start + usize::from(col)];
+            unknown.set(row, col, module == NOT_KNOWN);
+        }
+        start += usize::from(side);
+    }
+    Ok(unknown)
+}
+
+// Mends the square of the modules, of which some may not be known.
+fn mend_modules(alloc: Global, modules: &[u8], side: u8) -> Result<Mended, ReadFault>
+    requires least { 1 ≤ side }
+    requires most { side ≤ 177 }
+    requires room { side * side ≤ length modules.now }
+    ensures mended { MatchResult result
+        (λ m. IsMendedReadingWithout (unknown_in side modules.now) (square_of_bytes side modules.now) m.version m.level
+        m.mask m.parsed m.changed.items)
+        (IsUnmendedWithout (unknown_in side modules.now) (square_of_bytes side modules.now)) }
+    ensures format { IfOk result (λ m. m.wrong_format_modules
+        ≡ wrong_format_modules_without (unknown_in side modules.now) (square_of_bytes side modules.now) m.level m.mask) }
+    ensures modules { IfOk result (λ m. HasWrongModulesWithout (unknown_in side modules.now)
+        (square_of_bytes side modules.now) m.version m.level m.mask m.changed.items m.wrong_modules) }
+{
+    let matrix = matrix_of(alloc, modules, side)?;
+    if count_unknown(&modules[..area(side)]) == 0 {
+        return mend_symbol(alloc, &matrix);
+    }
+    let unknown = unknown_of(alloc, modules, side)?;
+    mend_symbol_without(alloc, &matrix, &unknown)
 }
 
 // The greatest of some numbers.
@@ -101,11 +159,12 @@ fn mended_of(len: usize, mended: &Mended) -> QrprovedMended
 }
 
 /// Reads the symbol whose modules stand in a buffer as `qrproved_encode` writes them, 0 for a light module and 1 for a dark
-/// one, and mends its damage. Its bytes go to the second buffer. What its header says, and how damaged it is, goes to the
-/// struct.
+/// one, and mends its damage. A module that is not known has the byte 2: a codeword with such a module takes half as much of
+/// the error correction as one that was misread. Its bytes go to the second buffer. What its header says, and how damaged it
+/// is, goes to the struct.
 ///
-/// The causes of a refusal are looked for in this order: the side, a buffer of fewer modules, a byte of these that is neither 0
-/// nor 1, the format information, the codewords, what they say, a second buffer that is too short. The first three are found
+/// The causes of a refusal are looked for in this order: the side, a buffer of fewer modules, a byte of these that is more than
+/// 2, the format information, the codewords, what they say, a second buffer that is too short. The first three are found
 /// without any memory.
 #[unsafe(no_mangle)]
 pub extern "C" fn qrproved_mend(
@@ -141,14 +200,11 @@ pub extern "C" fn qrproved_mend(
     if !are_modules(&modules[..area]) {
         return SETTINGS;
     }
-    let Ok(matrix) = matrix_of(alloc, modules, side) else {
-        return MEMORY;
-    };
     mended_readings_are_one();
     mended_readings_are_not_refused();
     mending_refusals_are_one();
     changes_are_bounded();
-    match mend_symbol(alloc, &matrix) {
+    match mend_modules(alloc, modules, side) {
         Err(fault) => read_status(fault),
         Ok(found) => {
             let len = found.parsed.bytes.len();
@@ -255,6 +311,52 @@ mod tests {
         Ok(())
     }
 
+    // In version 1-M eight error correction codewords of the ten may be used: five codewords that are not known take five, and
+    // one that was misread two.
+    #[test]
+    fn modules_that_are_not_known(rt: HostRuntime) -> Result<(), Fail> {
+        let drawn = eight_digits(&rt)?;
+        let rows = [
+            ("five", &FORMATS[..0], DONE, (5, 0, 0)),
+            (
+                "five, and one misread",
+                &[(20u8, 16u8)][..],
+                DONE,
+                (6, 0, 1),
+            ),
+            (
+                "five, and two misread",
+                &[(20, 16), (16, 16)][..],
+                CHECK,
+                (99, 9, 9),
+            ),
+            (
+                "five, and a module of the format information",
+                &FORMATS[..1],
+                DONE,
+                (6, 1, 0),
+            ),
+        ];
+        for (name, places, wanted, (wrong, wrong_format, changed)) in rows {
+            let mut modules = inverted(drawn, places)?;
+            for (row, col) in CODEWORDS {
+                let place = 21 * usize::from(row) + usize::from(col);
+                if place >= modules.len() {
+                    return Err("no such module".into());
+                }
+                modules[place] = 2;
+            }
+            let mut bytes = [7u8; 8];
+            let mut mended = nothing();
+            let status = qrproved_mend(rt.alloc(), &modules, 21, &mut bytes, &mut mended);
+            assert_eq!(rt; status, wanted, "{name}");
+            assert_eq!(rt; mended.wrong_modules, wrong, "{name}");
+            assert_eq!(rt; mended.wrong_format_modules, wrong_format, "{name}");
+            assert_eq!(rt; mended.changed_most, changed, "{name}");
+        }
+        Ok(())
+    }
+
     #[test]
     fn a_part_of_a_series_is_mended(rt: HostRuntime) -> Result<(), Fail> {
         let mut modules = [0u8; 882];
@@ -291,7 +393,7 @@ mod tests {
         let codewords = inverted(drawn, &CODEWORDS)?;
         let unparsed = another_mode(&rt)?;
         let mut unknown = drawn;
-        unknown[440] = 2;
+        unknown[440] = 3;
         let rows = [
             ("no side", &drawn[..], 0u32, 8usize, SIDE),
             ("side 22", &drawn[..], 22, 8, SIDE),

@@ -302,12 +302,13 @@ pub fn read(modules: &[u8], side: usize) -> Result<Content, Error> {
     })
 }
 
-/// Reads a symbol, mends its damage, and tells how damaged it is. Each module is 0 or 1, and bytes past the last module are
+/// Reads a symbol, mends its damage, and tells how damaged it is. Each module is 0, 1, or 2 where it is not known: its codeword
+/// takes half as much of the correction as a wrong one. Bytes past the last module are
 /// ignored.
 ///
 /// # Errors
 ///
-/// As [`read`]; [`Error::Settings`] if a module is neither 0 nor 1; [`Error::Format`] and [`Error::Check`] only if there is
+/// As [`read`]; [`Error::Settings`] if a module is more than 2; [`Error::Format`] and [`Error::Check`] only if there is
 /// more damage than can be mended.
 pub fn mend(modules: &[u8], side: usize) -> Result<Mended, Error> {
     let mut mended = c::Mended::default();

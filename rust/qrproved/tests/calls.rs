@@ -195,7 +195,7 @@ fn each_refusal_has_its_error() {
         );
     }
     assert_eq!(read(&eight_digits()[..440], 21), Err(Error::Room));
-    assert_eq!(mend(&[2; 441], 21), Err(Error::Settings));
+    assert_eq!(mend(&[3; 441], 21), Err(Error::Settings));
     assert_eq!(read(&[1; 441], 21), Err(Error::Format));
     assert_eq!(Version::new(0), None);
     assert_eq!(Version::new(41), None);

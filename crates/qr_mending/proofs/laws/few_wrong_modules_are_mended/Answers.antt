@@ -12,5 +12,5 @@ returns c = λ smallest l rule x v mask g least s side few.
     let damaged = c.args.damaged.now in
     let f = few-format v l mask damaged g (symbol-format v l rule x None mask g (omega (arith, least, first)) w.most s.made) few in
     let d = few-held v l mask damaged g s.made.message (omega (arith, least, first)) w.most (symbol-holds v l rule x None mask g (omega (arith, least, first)) w.most s.made) few in
-    symbol-mended-as damaged v l mask (record { header = None; segments = s.made.segments; bytes = x }) d.0 c.mend_symbol.result
-    (symbol-mended smallest l rule x v mask g damaged d.0 least s side (inl f) d.1) c.mend_symbol.ensures.mended
+    symbol-mended-as None damaged v l mask (record { header = None; segments = s.made.segments; bytes = x }) d.0 c.mend_symbol.result
+    (symbol-mended None smallest l rule x v mask g damaged d.0 least s side (inl f) d.1) c.mend_symbol.ensures.mended

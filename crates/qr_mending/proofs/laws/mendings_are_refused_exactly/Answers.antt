@@ -1,3 +1,4 @@
+use Rattle.std.specs.Prelude.{None}
 use Rattle.qr_mending.specs.Mending.{IsMendedReading, IsUnmended}
 use Rattle.qr_symbol.proofs.Facts.{exactly}
 use Rattle.qr_mending.proofs.MendingLemmas.{mended-not-refused, unmended-one}
@@ -7,4 +8,4 @@ pub returns : goal.returns
 returns c =
     let g = c.args.damaged.now in
     exactly (λ m. IsMendedReading g m.version m.level m.mask m.parsed m.changed.items) (IsUnmended g) c.mend_symbol.result
-    c.mend_symbol.ensures.mended (λ m e. mended-not-refused g m.version m.level m.mask m.parsed m.changed.items e) (unmended-one g)
+    c.mend_symbol.ensures.mended (λ m e. mended-not-refused None g m.version m.level m.mask m.parsed m.changed.items e) (unmended-one None g)

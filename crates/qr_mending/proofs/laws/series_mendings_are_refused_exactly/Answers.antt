@@ -1,3 +1,4 @@
+use Rattle.std.specs.Prelude.{None}
 use Rattle.qr_symbol.proofs.Facts.{exactly, joined-refused, unjoined-one}
 use Rattle.qr_mending.specs.Mending.{IsUnmended}
 use Rattle.qr_mending.specs.Series.{IsMendedContent, IsMendedSeries, IsUnmendedSeries}
@@ -10,4 +11,4 @@ returns c =
     let gs = c.args.damaged.now in
     exactly (λ bytes. IsMendedSeries gs bytes.items) (IsUnmendedSeries gs) c.mend_series.result c.mend_series.ensures
     (λ bytes e. joined-refused IsMendedContent IsUnmended content-one content-refused gs bytes.items e)
-    (unjoined-one IsMendedContent IsUnmended content-refused unmended-one gs)
+    (unjoined-one IsMendedContent IsUnmended content-refused (unmended-one None) gs)

@@ -6,6 +6,7 @@ use Rattle.qr_mending.proofs.mending.mend_by.Goals as goal
 
 pub returns-in-Err-Check-clause-mended : goal.returns-in-Err-Check-clause-mended
 returns-in-Err-Check-clause-mended c =
-    no-use c.args.copy c.args.matrix.now c.args.version c.in-Some.level c.in-Some.mask c.deref.result.now c.in-Some.ensures
+    λ unknown h.
+    no-use unknown c.args.copy c.args.matrix.now c.args.version c.in-Some.level c.in-Some.mask c.deref.result.now c.in-Some.ensures
     (subst (IsRead c.args.version c.in-Some.mask c.args.matrix.now) (sym c.deref.ensures.value) c.in_ok-codewords.ensures.read)
-    (c.in-Err-Check.ensures.refused (ap (λ (f : ReadFault). Err f) c.in-Err-Check.field-0-is))
+    (c.in-Err-Check.ensures.refused unknown h (ap (λ (f : ReadFault). Err f) c.in-Err-Check.field-0-is))

@@ -1,0 +1,116 @@
+-- The marks that are read along the walk, and which codewords are erased by them.
+use Rattle.std.proofs.Common.{◌≡◌, ℕ, ◌+◌, ◌-◌, ◌*◌, ◌<◌, ◌≤◌, ◌==◌, not, Bool, true, false, Option, None, Some, List, [], ◌∷◌, ◌++◌, map, take, drop, length, length-append, get_or, refl, sym, ◌∙◌, ap, subst, ltb, arith}
+use Rattle.std.specs.List.{All}
+use Rattle.std.proofs.lemmas.List.{append-nil, length-map, length-take, map-append, take-append-drop, take_more}
+use Rattle.std.proofs.lemmas.Bool.Decides.{nat_tests}
+use borrow.Author.Tests.{ltb-true}
+use Rattle.qr_layout.specs.declared.region.Module.{Module}
+use Rattle.qr_layout.specs.Version.{total_codewords_of, remainder_bits_of}
+use Rattle.qr_layout.specs.Order.{IsOrder}
+use Rattle.qr_layout.proofs.Facts.{order-length, below, below-at}
+use Rattle.qr_bits.specs.Bits.{field, bits_of}
+use Rattle.qr_bits.proofs.Facts.{length-field, length-bits_of}
+use Rattle.qr_matrix.specs.Grid.{Grid, colour}
+use Rattle.qr_symbol.proofs.MessageLemmas.{append-front}
+use Rattle.qr_mending.specs.Unread.{colour_at, AreMarks}
+use Rattle.qr_mending.specs.Steps.Marks.{HasMarks}
+
+-- one more module is read
+pub mark-read : (g : Grid) (ms : List Module) (m : Module) (dark : Bool) (front : List Bool) → dark ≡ colour g m.row m.col →
+    front ≡ map (colour_at g) ms → front ++ dark ∷ [] ≡ map (colour_at g) (ms ++ m ∷ [])
+mark-read g ms m dark front d e =
+    ap (λ (bs : List Bool). bs ++ dark ∷ []) e
+    ∙ (ap (λ (z : Bool). map (colour_at g) ms ++ z ∷ []) d ∙ sym (map-append (colour_at g) ms (m ∷ [])))
+
+-- the forty numbers of remainder bits are less than a codeword's, computed
+remainder-small : below 40 (λ i. ltb (remainder_bits_of (i + 1)) 8) ≡ true
+unfolding remainder_bits_of
+remainder-small = refl
+
+few-left : (v : ℕ) → 1 ≤ v → v ≤ 40 → remainder_bits_of v < 8
+few-left v l h =
+    let e : v - 1 + 1 ≡ v = omega arith in
+    ltb-true _ _ (subst (λ (k : ℕ). ltb (remainder_bits_of k) 8 ≡ true) e (below-at 40 (λ i. ltb (remainder_bits_of (i + 1)) 8) remainder-small (v - 1) (omega arith)))
+
+-- the whole marks before fewer than eight bits are those of all codewords
+pub marks-many : (v : ℕ) (g : Grid) (ms rest : List Module) (marks : List ℕ) (width begun : ℕ) → 1 ≤ v → v ≤ 40 → rest ≡ [] →
+    IsOrder v (ms ++ rest) → width < 8 → bits_of marks ++ field width begun ≡ map (colour_at g) ms →
+    length marks ≡ total_codewords_of v
+marks-many v g ms rest marks width begun p q e o w bits =
+    let whole : IsOrder v ms = subst (IsOrder v) (ap (λ (xs : List Module). ms ++ xs) e ∙ append-nil ms) o in
+    let many = order-length v ms p q whole in
+    let few = few-left v p q in
+    let long = ap length bits in
+    let a = length-append (bits_of marks) (field width begun) in
+    let b = length-map ms (colour_at g) in
+    let c = length-bits_of marks in
+    let d = length-field width begun in
+    omega arith
+
+-- they are the marks of the square
+pub marks-whole : (v : ℕ) (g : Grid) (ms rest : List Module) (marks : List ℕ) (width begun : ℕ) → 1 ≤ v → v ≤ 40 → rest ≡ [] →
+    IsOrder v (ms ++ rest) → All (λ x. x < 256) marks → width < 8 → bits_of marks ++ field width begun ≡ map (colour_at g) ms →
+    AreMarks v g marks
+marks-whole v g ms rest marks width begun p q e o bytes w bits =
+    let whole : IsOrder v ms = subst (IsOrder v) (ap (λ (xs : List Module). ms ++ xs) e ∙ append-nil ms) o in
+    let many = order-length v ms p q whole in
+    let all = marks-many v g ms rest marks width begun p q e o w bits in
+    let t = 8 * total_codewords_of v in
+    let f = colour_at g in
+    let cut : map f ms ≡ map f (take t ms) ++ map f (drop t ms) = ap (map f) (sym (take-append-drop t ms)) ∙ map-append f (take t ms) (drop t ms) in
+    let a = length-bits_of marks in
+    let b = length-map (take t ms) f in
+    let c = length-take t ms in
+    let front = append-front (bits_of marks) (map f (take t ms)) (field width begun) (map f (drop t ms)) (omega arith) (bits ∙ cut) in
+    record { bytes = bytes; places = ms; order = whole; bits = front.0 }
+
+-- one codeword more is erased, or is not
+pub erased-more : (marks : List ℕ) (items new : List Bool) (i : ℕ) (b : Bool) → i < length marks →
+    items ≡ map (λ mark. not (mark == 0)) (take i marks) → b ≡ not (get_or marks i 0 == 0) → new ≡ items ++ b ∷ [] →
+    new ≡ map (λ mark. not (mark == 0)) (take (i + 1) marks)
+erased-more marks items new i b l h e push =
+    push
+    ∙ (ap (λ (z : List Bool). z ++ b ∷ []) h
+    ∙ (ap (λ (z : Bool). map (λ mark. not (mark == 0)) (take i marks) ++ z ∷ []) e
+    ∙ (sym (map-append (λ mark. not (mark == 0)) (take i marks) (get_or marks i 0 ∷ []))
+    ∙ ap (map (λ mark. not (mark == 0))) (sym (take_more marks i 0 l)))))
+
+-- ---- marks, or none
+
+-- in each of the forty versions there is a codeword, computed
+codewords-some : below 40 (λ i. ltb 0 (total_codewords_of (i + 1))) ≡ true
+unfolding total_codewords_of
+codewords-some = refl
+
+-- so there is a mark
+marks-some : (v : ℕ) (unknown : Grid) (marks : List ℕ) → 1 ≤ v → v ≤ 40 → AreMarks v unknown marks → 0 < length marks
+marks-some v unknown marks l h m =
+    let t = 8 * total_codewords_of v in
+    let e : v - 1 + 1 ≡ v = omega arith in
+    let some : 0 < total_codewords_of v =
+    ltb-true _ _ (subst (λ (k : ℕ). ltb 0 (total_codewords_of k) ≡ true) e (below-at 40 (λ i. ltb 0 (total_codewords_of (i + 1))) codewords-some (v - 1) (omega arith))) in
+    let many = order-length v m.places l h m.order in
+    let a = length-bits_of marks in
+    let b = ap (length {A = Bool}) m.bits in
+    let c = length-map (take t m.places) (colour_at unknown) in
+    let d = length-take t m.places in
+    omega (arith, a, b, c, d, many, some)
+
+-- the test that there is no mark
+pub is-none : (n : ℕ) → true ≡ (n == 0) → n ≡ 0
+is-none n h = grind (arith, nat_tests)
+
+pub is-some : (n : ℕ) → false ≡ (n == 0) → n ≡ 0 → ⊥
+is-some n h e = grind (arith, nat_tests)
+
+-- without marks each module was read
+pub no-marks : (P : Option Grid → Type 0) (v : ℕ) (marks : List ℕ) → 1 ≤ v → v ≤ 40 → length marks ≡ 0 → P None →
+    (unknown : Option Grid) → HasMarks unknown v marks → P unknown
+no-marks P v marks l h e p None m = p
+no-marks P v marks l h e p (Some unknown) m = absurd (omega (arith, marks-some v unknown marks l h m, e))
+
+-- with marks some may not have been read
+pub with-marks : (P : Option Grid → Type 0) (v : ℕ) (marks : List ℕ) → (length marks ≡ 0 → ⊥) →
+    ((unknown : Grid) → AreMarks v unknown marks → P (Some unknown)) → (unknown : Option Grid) → HasMarks unknown v marks → P unknown
+with-marks P v marks n p None m = absurd (n m)
+with-marks P v marks n p (Some unknown) m = p unknown m

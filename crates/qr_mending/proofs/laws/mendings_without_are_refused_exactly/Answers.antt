@@ -1,0 +1,12 @@
+use Rattle.std.specs.Prelude.{Some}
+use Rattle.qr_mending.specs.Mending.{IsMendedReadingWithout, IsUnmendedWithout}
+use Rattle.qr_symbol.proofs.Facts.{exactly}
+use Rattle.qr_mending.proofs.MendingLemmas.{mended-not-refused, unmended-one}
+use Rattle.qr_mending.proofs.laws.mendings_without_are_refused_exactly.Goals as goal
+
+pub returns : goal.returns
+returns c =
+    let g = c.args.damaged.now in
+    let u = Some c.args.unknown.now in
+    exactly (λ m. IsMendedReadingWithout u g m.version m.level m.mask m.parsed m.changed.items) (IsUnmendedWithout u g) c.mend_symbol_without.result
+    c.mend_symbol_without.ensures.mended (λ m e. mended-not-refused u g m.version m.level m.mask m.parsed m.changed.items e) (unmended-one u g)

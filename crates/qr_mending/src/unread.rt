@@ -1,0 +1,241 @@
+//! The message of a damaged symbol of which some modules could not be read: a codeword with such a module is erased
+//! (ISO/IEC 18004:2015, 7.5.1, 7.6 and 7.7.3).
+
+ghost use Rattle.std.specs.Prelude.{◌≡◌, ℕ, ◌+◌, ◌*◌, ◌<◌, ◌≤◌, ◌==◌, ◌⊎◌, ◌++◌, not, map, List, length, Err, IfOk, IfErr, IfSome, IfNone, Option};
+ghost use Rattle.qr_field.specs.Polynomial.{IsCorrection};
+ghost use Rattle.qr_field.specs.Distance.{erasures, errors};
+ghost use Rattle.qr_layout.specs.Blocks.{blocks_of, data_codewords_of};
+ghost use Rattle.qr_layout.specs.Version.{side_of, total_codewords_of};
+ghost use Rattle.qr_matrix.specs.Grid.{Grid};
+ghost use Rattle.qr_symbol.specs.declared.fault.ReadFault.{ReadFault};
+ghost use Rattle.qr_symbol.specs.Interleaving.{block_count, block_len, cut_len, data_cut, correction_cut};
+ghost use Rattle.qr_mending.specs.Erasures.{read_of};
+ghost use Rattle.qr_mending.specs.Message.{received};
+ghost use Rattle.qr_mending.specs.Unread.{spare_of, AreInBlocks, AreMarks, AreMendedWithout, IsMendedInWithout, IsMendedMessageWithout};
+ghost use Rattle.qr_mending.specs.Steps.Marks.{HasMarks};
+
+use crate::erasures::mend_with_erasures;
+use crate::message::{MendedBlock, MendedMessage, mend_message, spare};
+use qr_field::Divisor;
+use qr_layout::{Blocks, Level, Version, walk};
+use qr_matrix::Matrix;
+use qr_symbol::{Cut, ReadFault};
+use std::alloc::{AllocError, Global};
+
+// Reads a square whose dark modules are those that were not read, as codewords are read but without a mask: so a codeword was
+// read as a whole exactly if its mark is 0.
+pub(crate) fn read_marks(
+    alloc: Global,
+    version: Version,
+    unknown: &Matrix,
+) -> Result<Vec<u8>, AllocError>
+    requires { unknown.now.side ≡ side_of version }
+    ensures marks { IfOk result (λ marks. AreMarks version unknown.now marks.items) }
+    ensures many { IfOk result (λ marks. length marks.items ≡ total_codewords_of version) }
+{
+    let mut marks = Vec::with_capacity(alloc, usize::from(version.total_codewords()))?;
+    let mut begun = 0u8;
+    let mut width = 0u8;
+    for module in walk(version) {
+        begun = 2 * begun + u8::from(unknown.dark(module.row, module.col));
+        width += 1;
+        if width == 8 {
+            marks.push(begun)?;
+            begun = 0;
+            width = 0;
+        }
+    }
+    Ok(marks)
+}
+
+// The codewords of a symbol, or their marks, block after block.
+#[derive(Drop)]
+struct InBlocks {
+    data: Vec<u8>,
+    checks: Vec<u8>,
+}
+
+// Puts what was sent interleaved back into blocks.
+fn in_blocks(alloc: Global, blocks: Blocks, sent: &[u8]) -> Result<InBlocks, AllocError>
+    requires { length sent.now ≡ cut_len (data_cut blocks) + cut_len (correction_cut blocks) }
+    ensures { IfOk result (λ b. AreInBlocks blocks sent.now b.data.items b.checks.items) }
+{
+    let data = Cut::of_data(blocks).gather(alloc, sent)?;
+    let checks = Cut::of_corrections(blocks).gather(alloc, &sent[data.len()..])?;
+    Ok(InBlocks { data, checks })
+}
+
+// A block: its data codewords, and after them its error correction codewords.
+fn block_of(
+    alloc: Global,
+    blocks: Blocks,
+    parts: &InBlocks,
+    block: usize,
+) -> Result<Vec<u8>, AllocError>
+    requires within { block < block_count (data_cut blocks) }
+    requires data { length parts.now.data.items ≡ cut_len (data_cut blocks) }
+    requires checks { length parts.now.checks.items ≡ cut_len (correction_cut blocks) }
+    ensures value { IfOk result
+        (λ codewords. codewords.items ≡ received blocks parts.now.data.items parts.now.checks.items block) }
+    ensures len { IfOk result (λ codewords. length codewords.items ≡ block_len (data_cut blocks) block + blocks.ec_len) }
+{
+    let data = Cut::of_data(blocks).part(&parts.data, block);
+    let checks = Cut::of_corrections(blocks).part(&parts.checks, block);
+    let mut codewords = Vec::new(alloc);
+    codewords.extend_from_slice(data)?;
+    codewords.extend_from_slice(checks)?;
+    Ok(codewords)
+}
+
+// Which codewords are erased: those whose mark is not 0.
+fn erased_of(alloc: Global, marks: &[u8]) -> Result<Vec<bool>, AllocError>
+    ensures { IfOk result (λ erased. erased.items ≡ map (λ mark. not (mark == 0)) marks.now) }
+{
+    let mut erased = Vec::with_capacity(alloc, marks.len())?;
+    for i in 0..marks.len() {
+        erased.push(marks[i] != 0)?;
+    }
+    Ok(erased)
+}
+
+// Mends a block of which some codewords are erased.
+fn mend_block(
+    divisor: &Divisor,
+    spare: usize,
+    erased: &[bool],
+    mut codewords: Vec<u8>,
+) -> Option<MendedBlock>
+    requires spare { spare ≤ divisor.now }
+    requires least { divisor.now ≤ length codewords.items }
+    requires most { length codewords.items ≤ 255 }
+    requires marks { length erased.now ≡ length codewords.items }
+    ensures long { IfSome result (λ m. length m.message.items + divisor.now ≡ length codewords.items) }
+    ensures near { IfSome result (λ m. erasures (read_of codewords.items erased.now) + 2 * m.changed ≤ spare) }
+    ensures mended { IfSome result (λ m. (e : List ℕ) × IsCorrection m.message.items divisor.now e
+        × (m.changed ≡ errors (read_of codewords.items erased.now) (m.message.items ++ e))) }
+    ensures refused { IfNone result ((d e : List ℕ) → length d + divisor.now ≡ length codewords.items
+        → IsCorrection d divisor.now e
+        → erasures (read_of codewords.items erased.now) + 2 * errors (read_of codewords.items erased.now) (d ++ e) ≤ spare
+        → ⊥) }
+{
+    let len = codewords.len() - divisor.count();
+    let Some(changed) = mend_with_erasures(divisor, spare, erased, codewords.as_mut_slice()) else {
+        return None;
+    };
+    codewords.truncate(len);
+    Some(MendedBlock {
+        message: codewords,
+        changed,
+    })
+}
+
+// Mends blocks of which some codewords are erased.
+fn mend_parts(
+    alloc: Global,
+    blocks: Blocks,
+    spare: usize,
+    received: &InBlocks,
+    marks: &InBlocks,
+) -> Result<MendedMessage, ReadFault>
+    requires codewords { length received.now.data.items ≡ cut_len (data_cut blocks) }
+    requires checks { length received.now.checks.items ≡ cut_len (correction_cut blocks) }
+    requires marks { length marks.now.data.items ≡ cut_len (data_cut blocks) }
+    requires check_marks { length marks.now.checks.items ≡ cut_len (correction_cut blocks) }
+    requires least { 1 ≤ blocks.ec_len }
+    requires most { blocks.ec_len ≤ 30 }
+    requires few { blocks.short_len + 1 + blocks.ec_len ≤ 255 }
+    requires spare { spare ≤ blocks.ec_len }
+    ensures mended { IfOk result (λ m. AreMendedWithout blocks spare received.now.data.items received.now.checks.items
+        marks.now.data.items marks.now.checks.items (block_count (data_cut blocks)) m.message.items m.changed.items) }
+    ensures refused { result ≡ Err ReadFault.Check → (message misread : List ℕ)
+        → AreMendedWithout blocks spare received.now.data.items received.now.checks.items
+        marks.now.data.items marks.now.checks.items (block_count (data_cut blocks)) message misread → ⊥ }
+    ensures fault { IfErr result (λ e. (e ≡ ReadFault.Memory) ⊎ (e ≡ ReadFault.Check)) }
+{
+    let count = Cut::of_data(blocks).count();
+    let divisor = Divisor::new(usize::from(blocks.ec_len));
+    let mut message = Vec::with_capacity(alloc, received.data.len())?;
+    let mut changed = Vec::with_capacity(alloc, count)?;
+    for block in 0..count {
+        let codewords = block_of(alloc, blocks, received, block)?;
+        let erased = erased_of(alloc, &block_of(alloc, blocks, marks, block)?)?;
+        let Some(mended) = mend_block(&divisor, spare, &erased, codewords) else {
+            return Err(ReadFault::Check);
+        };
+        message.extend_from_slice(&mended.message)?;
+        changed.push(mended.changed)?;
+    }
+    Ok(MendedMessage { message, changed })
+}
+
+// The message of which the codewords are the final sequence, but for those that are erased or misread.
+fn mend_blocks(
+    alloc: Global,
+    blocks: Blocks,
+    spare: usize,
+    codewords: &[u8],
+    marks: &[u8],
+) -> Result<MendedMessage, ReadFault>
+    requires whole { length codewords.now ≡ cut_len (data_cut blocks) + cut_len (correction_cut blocks) }
+    requires marks { length marks.now ≡ cut_len (data_cut blocks) + cut_len (correction_cut blocks) }
+    requires least { 1 ≤ blocks.ec_len }
+    requires most { blocks.ec_len ≤ 30 }
+    requires few { blocks.short_len + 1 + blocks.ec_len ≤ 255 }
+    requires spare { spare ≤ blocks.ec_len }
+    ensures mended { IfOk result (λ m. IsMendedMessageWithout blocks spare codewords.now marks.now m.message.items m.changed.items) }
+    ensures refused { result ≡ Err ReadFault.Check → (message misread : List ℕ)
+        → IsMendedMessageWithout blocks spare codewords.now marks.now message misread → ⊥ }
+    ensures fault { IfErr result (λ e. (e ≡ ReadFault.Memory) ⊎ (e ≡ ReadFault.Check)) }
+{
+    let received = in_blocks(alloc, blocks, codewords)?;
+    let unread = in_blocks(alloc, blocks, marks)?;
+    mend_parts(alloc, blocks, spare, &received, &unread)
+}
+
+// The message of which the codewords are a damaged form, in the blocks of a version and a level, where those whose mark is not
+// 0 are erased.
+pub(crate) fn mend_message_without(
+    alloc: Global,
+    version: Version,
+    level: Level,
+    codewords: &[u8],
+    marks: &[u8],
+) -> Result<MendedMessage, ReadFault>
+    requires codewords { length codewords.now ≡ total_codewords_of version }
+    requires marks { length marks.now ≡ total_codewords_of version }
+    ensures mended { IfOk result (λ m. IsMendedMessageWithout (blocks_of version level) (spare_of version level)
+        codewords.now marks.now m.message.items m.changed.items) }
+    ensures many { IfOk result (λ m. length m.message.items ≡ data_codewords_of version level) }
+    ensures refused { result ≡ Err ReadFault.Check → (message misread : List ℕ)
+        → IsMendedMessageWithout (blocks_of version level) (spare_of version level) codewords.now marks.now message misread
+        → ⊥ }
+    ensures fault { IfErr result (λ e. (e ≡ ReadFault.Memory) ⊎ (e ≡ ReadFault.Check)) }
+{
+    let blocks = version.blocks(level);
+    let most = usize::from(spare(version, level));
+    mend_blocks(alloc, blocks, most, codewords, marks)
+}
+
+// The message of which the codewords are a damaged form. Without marks each codeword was read; otherwise those whose mark is
+// not 0 are erased.
+pub(crate) fn mend_codewords(
+    alloc: Global,
+    version: Version,
+    level: Level,
+    codewords: &[u8],
+    marks: &[u8],
+) -> Result<MendedMessage, ReadFault>
+    requires codewords { length codewords.now ≡ total_codewords_of version }
+    requires marks { (length marks.now ≡ 0) ⊎ (length marks.now ≡ total_codewords_of version) }
+    ensures mended { (unknown : Option Grid) → HasMarks unknown version marks.now → IfOk result
+        (λ m. IsMendedInWithout unknown version level codewords.now m.message.items m.changed.items) }
+    ensures many { IfOk result (λ m. length m.message.items ≡ data_codewords_of version level) }
+    ensures refused { (unknown : Option Grid) → HasMarks unknown version marks.now → result ≡ Err ReadFault.Check
+        → (message changed : List ℕ) → IsMendedInWithout unknown version level codewords.now message changed → ⊥ }
+    ensures fault { IfErr result (λ e. (e ≡ ReadFault.Memory) ⊎ (e ≡ ReadFault.Check)) }
+{
+    if marks.is_empty() {
+        return mend_message(alloc, version, level, codewords);
+    }
+    mend_message_without(alloc, version, level, codewords, marks)
+}

@@ -1,0 +1,241 @@
+//! The reading of a damaged symbol of which some modules could not be read (ISO/IEC 18004:2015, 7.5.1, 7.9.1 and 12).
+
+ghost use Rattle.std.specs.Prelude.{◌≡◌, ◌<◌, ◌≤◌, length, IfErr, IfOk, Some, MatchOption, MatchResult};
+ghost use Rattle.qr_layout.specs.Blocks.{data_codewords_of};
+ghost use Rattle.qr_layout.specs.Version.{side_of};
+ghost use Rattle.qr_matrix.specs.Grid.{colour};
+ghost use Rattle.qr_matrix.specs.Penalty.{sum_below};
+ghost use Rattle.qr_symbol.specs.declared.fault.ReadFault.{ReadFault};
+ghost use Rattle.qr_mending.specs.declared.format.FormatCopy.{FormatCopy};
+ghost use Rattle.qr_mending.specs.Format.{wrong_bit};
+ghost use Rattle.qr_mending.specs.Mending.{wrong_count, wrong_format_modules_without, DiffersFromSymbolWithout, HasFormatWithout, HasWrongModulesWithout, HoldsDamagedWithout, IsMendedReadingWithout, IsOfNoUseWithout, IsUnmendedWithout};
+
+use crate::format::{near_format_of_either, wrong_bit, wrong_format_modules_without};
+use crate::mending::{Mended, MendedSquare, mend_by_either};
+use crate::unread::read_marks;
+use qr_bits::parse;
+use qr_layout::{Level, Version};
+use qr_matrix::Matrix;
+use qr_symbol::{ReadFault, draw_symbol, interleave};
+use std::alloc::{AllocError, Global};
+
+// Mends the square, where a codeword with a module that was not read is erased.
+fn mend_square_without(
+    alloc: Global,
+    version: Version,
+    matrix: &Matrix,
+    unknown: &Matrix,
+) -> Result<Option<MendedSquare>, ReadFault>
+    requires side { matrix.now.side ≡ side_of version }
+    requires unknown_side { unknown.now.side ≡ side_of version }
+    ensures mended { IfOk result (λ o.
+        MatchOption o ((any : FormatCopy) → IsOfNoUseWithout (Some unknown.now) any version matrix.now)
+        (λ m. HasFormatWithout (Some unknown.now) version matrix.now m.level m.mask
+        × HoldsDamagedWithout (Some unknown.now) version m.level m.mask matrix.now m.message.items m.changed.items
+        × (length m.message.items ≡ data_codewords_of version m.level))) }
+    ensures fault { IfErr result (λ e. e ≡ ReadFault.Memory) }
+{
+    let marks = read_marks(alloc, version, unknown)?;
+    mend_by_either(alloc, version, matrix, &marks)
+}
+
+// Counts the modules of a row that were not read, or have another colour in the symbol.
+fn wrong_in_row(unknown: &Matrix, matrix: &Matrix, symbol: &Matrix, row: u8) -> u32
+    requires unknown_side { unknown.now.side ≡ matrix.now.side }
+    requires side { symbol.now.side ≡ matrix.now.side }
+    requires row_in { row < matrix.now.side }
+    ensures value { result ≡ sum_below matrix.now.side
+        (λ c. wrong_bit (colour unknown.now row c) (colour matrix.now row c) (colour symbol.now row c)) }
+    ensures most { result ≤ matrix.now.side }
+{
+    let mut wrong = 0u32;
+    for col in 0..matrix.side() {
+        let is_unknown = unknown.dark(row, col);
+        let dark = matrix.dark(row, col);
+        wrong += u32::from(wrong_bit(is_unknown, dark, symbol.dark(row, col)));
+    }
+    wrong
+}
+
+// Counts the modules that were not read, or have another colour in the symbol.
+fn count_wrong(unknown: &Matrix, matrix: &Matrix, symbol: &Matrix) -> u32
+    requires unknown_side { unknown.now.side ≡ matrix.now.side }
+    requires side { symbol.now.side ≡ matrix.now.side }
+    ensures { result ≡ wrong_count unknown.now matrix.now symbol.now }
+{
+    let mut wrong = 0u32;
+    for row in 0..matrix.side() {
+        wrong += wrong_in_row(unknown, matrix, symbol, row);
+    }
+    wrong
+}
+
+// How many modules of the square are not those of the symbol that the message has, or were not read. The symbol is drawn.
+fn count_wrong_modules_without(
+    alloc: Global,
+    version: Version,
+    level: Level,
+    mask: u8,
+    message: &[u8],
+    matrix: &Matrix,
+    unknown: &Matrix,
+) -> Result<u32, AllocError>
+    requires whole { length message.now ≡ data_codewords_of version level }
+    requires mask_in { mask < 8 }
+    requires side { matrix.now.side ≡ side_of version }
+    requires unknown_side { unknown.now.side ≡ side_of version }
+    ensures { IfOk result (DiffersFromSymbolWithout (Some unknown.now) matrix.now version level mask message.now) }
+{
+    let codewords = interleave(alloc, version, level, message)?;
+    let symbol = draw_symbol(alloc, version, level, &codewords, mask)?;
+    Ok(count_wrong(unknown, matrix, &symbol))
+}
+
+/// Reads a symbol of which some modules could not be read, and mends its damage (ISO/IEC 18004:2015, 7.5.1, 7.9.1 and 12).
+/// `unknown` is a square of the same side, whose dark modules are those that could not be read: a codeword with such a module
+/// is erased. An erased codeword takes half as much of the error correction as one that was misread: in each block those that
+/// are erased, and twice those that were misread, may be at most twice `changed_max`. In a copy of the format information a
+/// module that could not be read counts as `matrix` has it.
+///
+/// The counts of changed codewords are those of misread ones. A module that could not be read is a wrong one, whatever colour
+/// `matrix` has there. Otherwise all is as in `mend_symbol`.
+///
+/// # Errors
+///
+/// As in `mend_symbol`: `Check` if in some block more codewords are erased and misread than can be mended.
+pub fn mend_symbol_without(
+    alloc: Global,
+    matrix: &Matrix,
+    unknown: &Matrix,
+) -> Result<Mended, ReadFault>
+    requires { unknown.now.side ≡ matrix.now.side }
+    ensures mended { MatchResult result
+        (λ m. IsMendedReadingWithout (Some unknown.now) matrix.now m.version m.level m.mask m.parsed m.changed.items)
+        (IsUnmendedWithout (Some unknown.now) matrix.now) }
+    ensures format { IfOk result
+        (λ m. m.wrong_format_modules ≡ wrong_format_modules_without (Some unknown.now) matrix.now m.level m.mask) }
+    ensures modules { IfOk result (λ m. HasWrongModulesWithout (Some unknown.now) matrix.now m.version m.level m.mask
+        m.changed.items m.wrong_modules) }
+{
+    let Some(version) = Version::of_side(matrix.side()) else {
+        return Err(ReadFault::Side);
+    };
+    let Some(_) = near_format_of_either(matrix, version) else {
+        return Err(ReadFault::Format);
+    };
+    let Some(mended) = mend_square_without(alloc, version, matrix, unknown)? else {
+        return Err(ReadFault::Check);
+    };
+    let MendedSquare {
+        level,
+        mask,
+        message,
+        changed,
+    } = mended;
+    let parsed = parse(alloc, &message, version)?;
+    let wrong_format_modules = wrong_format_modules_without(matrix, unknown, version, level, mask);
+    let wrong_modules = count_wrong_modules_without(
+        alloc, version, level, mask, &message, matrix, unknown,
+    )?;
+    Ok(Mended {
+        version,
+        level,
+        mask,
+        parsed,
+        wrong_format_modules,
+        wrong_modules,
+        changed,
+    })
+}
+
+#[cfg(test)]
+mod tests {
+    use super::*;
+    use crate::samples::EIGHT_DIGITS;
+    use qr_symbol::build_masked;
+    use std::test::Fail;
+
+    // Modules of nine codewords at 1-M.
+    static CODEWORDS: [(u8, u8); 9] = [
+        (20, 20),
+        (16, 20),
+        (12, 20),
+        (9, 18),
+        (13, 18),
+        (17, 18),
+        (20, 16),
+        (16, 16),
+        (12, 16),
+    ];
+
+    // Inverts some modules of the symbol of `01234567` at 1-M, of which the first are told as not known. Returns how many
+    // codewords were misread, how many modules of format information were wrong, and how many modules in all, or why it is not
+    // mended.
+    fn mend_inverted(
+        rt: &HostRuntime,
+        modules: &[(u8, u8)],
+        unread: usize,
+    ) -> Result<Result<(usize, u8, u32), ReadFault>, Fail> {
+        let version = Version::FIRST;
+        if version.total_codewords() != 26 {
+            return Err("26 codewords".into());
+        }
+        let mut symbol = build_masked(rt.alloc(), version, Level::M, &EIGHT_DIGITS, 0)?;
+        let mut unknown = Matrix::new(rt.alloc(), 21)?;
+        if symbol.matrix.side() != 21 {
+            return Err("21 modules on a side".into());
+        }
+        for (i, (row, col)) in modules.iter().enumerate() {
+            if *row >= 21 || *col >= 21 {
+                return Err("no such module".into());
+            }
+            let dark = symbol.matrix.dark(*row, *col);
+            symbol.matrix.set(*row, *col, !dark);
+            unknown.set(*row, *col, i < unread);
+        }
+        match mend_symbol_without(rt.alloc(), &symbol.matrix, &unknown) {
+            Err(fault) => Ok(Err(fault)),
+            Ok(mended) => {
+                if mended.parsed.bytes.as_slice() != b"01234567".as_slice() || mended.mask != 0 {
+                    return Err("something else is read".into());
+                }
+                let changed = mended.changed.first().copied().ok_or("a block")?;
+                Ok(Ok((changed, mended.wrong_format_modules, mended.wrong_modules)))
+            }
+        }
+    }
+
+    // In version 1-M eight of the ten error correction codewords may be used.
+    #[test]
+    fn eight_digits_with_unread_modules(rt: HostRuntime) -> Result<(), Fail> {
+        let format = [(0u8, 8u8), (1, 8), (2, 8)];
+        let rows = [
+            ("as drawn", &CODEWORDS[..0], 0, Ok((0, 0, 0))),
+            ("eight erased", &CODEWORDS[..8], 8, Ok((0, 0, 8))),
+            ("nine erased", &CODEWORDS[..], 9, Err(ReadFault::Check)),
+            (
+                "four erased and two misread",
+                &CODEWORDS[..6],
+                4,
+                Ok((2, 0, 6)),
+            ),
+            (
+                "five erased and two misread",
+                &CODEWORDS[..7],
+                5,
+                Err(ReadFault::Check),
+            ),
+            ("four misread", &CODEWORDS[..4], 0, Ok((4, 0, 4))),
+            (
+                "three modules of the format information",
+                &format[..],
+                3,
+                Ok((0, 3, 3)),
+            ),
+        ];
+        for (name, modules, unread, wanted) in rows {
+            assert_eq!(rt; mend_inverted(&rt, modules, unread)?, wanted, "{name}");
+        }
+        Ok(())
+    }
+}
