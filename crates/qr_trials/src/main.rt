@@ -15,7 +15,7 @@ use std::env;
 use std::process::ExitCode;
 
 // The trials, in the order of the crates.
-static NAMES: [&str; 21] = [
+static NAMES: [&str; 22] = [
     "Matrix::new",
     "segments",
     "longest_fit",
@@ -31,6 +31,7 @@ static NAMES: [&str; 21] = [
     "read_symbol",
     "read_series",
     "mend_symbol",
+    "mend_symbol_without",
     "mend_series",
     "options",
     "run_series",
@@ -57,6 +58,7 @@ fn trial(alloc: Global, name: &str) -> Result<Answer, AllocError> {
         "read_symbol" => symbols::read(alloc),
         "read_series" => symbols::read_whole_series(alloc),
         "mend_symbol" => symbols::mended(alloc),
+        "mend_symbol_without" => symbols::mended_without(alloc),
         "mend_series" => symbols::mended_series(alloc),
         "options" => command::settings(alloc),
         "run_series" => command::run_of_a_series(alloc),

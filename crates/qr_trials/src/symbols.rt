@@ -4,7 +4,7 @@ use crate::answer::Answer;
 use crate::bits::{DATA, HELLO_WORLD};
 use qr_bits::Rule;
 use qr_layout::{Level, Version};
-use qr_mending::{mend_series, mend_symbol};
+use qr_mending::{mend_series, mend_symbol, mend_symbol_without};
 use qr_symbol::{
     EncodeFault, Matrix, ReadFault, Symbol, build, build_masked, deinterleave, encode,
     encode_series, interleave, read_series, read_symbol,
@@ -151,6 +151,20 @@ pub fn mended(alloc: Global) -> Result<Answer, AllocError> {
     let answer = match mend_symbol(alloc, &symbol.matrix) {
         Ok(mended) => Answer::of(
             mended.parsed.bytes.as_slice() == HELLO_WORLD.as_slice() && mended.wrong_modules == 0,
+        ),
+        Err(ReadFault::Memory) => READ_OUT,
+        Err(_) => Answer::Other,
+    };
+    Ok(answer.given(are_equal(&symbol.matrix, &same.matrix)))
+}
+
+pub fn mended_without(alloc: Global) -> Result<Answer, AllocError> {
+    let (symbol, same) = (hello(alloc)?, hello(alloc)?);
+    let mut unknown = Matrix::new(alloc, symbol.matrix.side())?;
+    unknown.set(0, 0, true);
+    let answer = match mend_symbol_without(alloc, &symbol.matrix, &unknown) {
+        Ok(mended) => Answer::of(
+            mended.parsed.bytes.as_slice() == HELLO_WORLD.as_slice() && mended.wrong_modules == 1,
         ),
         Err(ReadFault::Memory) => READ_OUT,
         Err(_) => Answer::Other,
