@@ -182,16 +182,19 @@ mod tests {
         }
         let mut symbol = build_masked(rt.alloc(), version, Level::M, &EIGHT_DIGITS, 0)?;
         let mut unknown = Matrix::new(rt.alloc(), 21)?;
-        if symbol.matrix.side() != 21 {
-            return Err("21 modules on a side".into());
-        }
         for (i, (row, col)) in modules.iter().enumerate() {
-            if *row >= 21 || *col >= 21 {
+            if *row >= symbol.matrix.side() || *col >= symbol.matrix.side() {
+                return Err("no such module".into());
+            }
+            if *row >= unknown.side() || *col >= unknown.side() {
                 return Err("no such module".into());
             }
             let dark = symbol.matrix.dark(*row, *col);
             symbol.matrix.set(*row, *col, !dark);
             unknown.set(*row, *col, i < unread);
+        }
+        if unknown.side() != symbol.matrix.side() {
+            return Err("another side".into());
         }
         match mend_symbol_without(rt.alloc(), &symbol.matrix, &unknown) {
             Err(fault) => Ok(Err(fault)),
