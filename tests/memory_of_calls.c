@@ -1,7 +1,7 @@
 /* Measures what a call of the library takes of the stack and of the heap, for bench/memory: memory_of_calls CALL NUMBER LEVEL
  *
- * CALL is encode, encode_series, read or mend; standard input is the input, or the modules; NUMBER is a version or a side. Prints
- * the bytes of stack, the most bytes of the heap at a time, and how often malloc and realloc were called. */
+ * CALL is encode, encode_series, read, mend or draw; standard input is the input, or the modules; NUMBER is a version or a side;
+ * for draw LEVEL is the type of drawing. Prints the bytes of stack, the most bytes of the heap at a time, and how often malloc and realloc were called. */
 #define _GNU_SOURCE
 #include "qrproved.h"
 #include <malloc.h>
@@ -44,7 +44,7 @@ void free(void *block)
 	__libc_free(block);
 }
 
-static uint8_t input[600000], out[QRPROVED_SERIES_MAX];
+static uint8_t input[600000], out[10000000];
 static size_t input_len, deepest;
 static uint8_t number, level, status;
 static const char *call;
@@ -63,12 +63,15 @@ static __attribute__((noinline)) void make(void)
 	struct qrproved_series series;
 	struct qrproved_content content;
 	struct qrproved_mended mended;
+	size_t written;
 	if (!strcmp(call, "encode"))
 		status = qrproved_encode(input, input_len, number, level, QRPROVED_RULE_AUTO, out, sizeof out, &symbol);
 	else if (!strcmp(call, "encode_series"))
 		status = qrproved_encode_series(input, input_len, number, level, QRPROVED_RULE_AUTO, out, sizeof out, &series);
 	else if (!strcmp(call, "read"))
 		status = qrproved_read(input, input_len, number, out, sizeof out, &content);
+	else if (!strcmp(call, "draw"))
+		status = qrproved_draw(input, input_len, number, (uint32_t)(input_len / number / number), level, 4, out, sizeof out, &written);
 	else
 		status = qrproved_mend(input, input_len, number, out, sizeof out, &mended);
 }
