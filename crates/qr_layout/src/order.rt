@@ -117,6 +117,7 @@ impl Iterator for Steps {
 
     ghost remaining = { item_count (λ s. s) };
 
+    #[inline(always)]
     fn next(&mut self) -> Option<Module> {
         let side = self.version.side();
         while self.cursor.strips > 0 {
