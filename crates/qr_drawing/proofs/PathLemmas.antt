@@ -1,18 +1,18 @@
 -- Which paths stand in the rows of a raster, and how they join while they are put.
-use Rattle.std.proofs.Common.{◌≡◌, ◌≢◌, ◌≤◌, ◌<◌, ◌+◌, ◌-◌, ◌*◌, ◌++◌, ◌∙◌, ℕ, zero, suc, Bool, true, false, List, [], length, map, get_or, refl, sym, ap, arith, append_assoc, ⊎_elim}
+use Rattle.std.proofs.Common.{◌≡◌, ◌≤◌, ◌<◌, ◌+◌, ◌-◌, ◌*◌, ◌++◌, ◌∙◌, ℕ, zero, suc, Bool, true, false, List, [], length, map, get_or, refl, sym, ap, arith, append_assoc, ⊎_elim, inl, inr}
 use Rattle.std.specs.Prelude.{codes}
 use Rattle.std.proofs.Math.Nat.{eq-or-lt_of_le, suc-mul}
+use Rattle.std.proofs.lemmas.Bool.{cases_lt}
 use Rattle.std.specs.List.{flat_map, prefix_len, range_with_len}
 use Rattle.std.proofs.lemmas.Bool.Decides.{nat_tests}
 use Rattle.std.proofs.lemmas.List.{get_or-map, length-map}
 use Rattle.std.proofs.lemmas.List.Elements.{All-get_or}
 use Rattle.qr_matrix.specs.Grid.{Grid, colour, light}
-use Rattle.qr_matrix.specs.Runs.{IsRunEnd}
-use Rattle.qr_devices.specs.Device.{Writer}
+use Rattle.qr_matrix.specs.DarkRuns.{IsFirstRun}
+use Rattle.qr_matrix.specs.declared.dark_runs.Run.{Run}
 use Rattle.qr_drawing.specs.Drawing.{HaveOneSide}
 use Rattle.qr_drawing.specs.Raster.{is_dark_at, raster_width, texts_below}
-use Rattle.qr_drawing.specs.Svg.{background, begins_run, box_path, closing, declaration, foreground, numbered, opening, row_path, run_length, run_path, square_at, stack_path, svg_document, symbol_path}
-use Rattle.qr_drawing.specs.Steps.Writing.{Stops, Writes}
+use Rattle.qr_drawing.specs.Svg.{background, begins_run, box_path, closing, declaration, foreground, opening, row_path, run_length, run_path, square_at, stack_path, svg_document, symbol_path}
 use Rattle.qr_drawing.specs.Steps.Svg.{head, tail}
 use Rattle.qr_drawing.proofs.LineLemmas.{texts_below-none, texts_below-same, texts-of-items}
 
@@ -81,88 +81,88 @@ prefix_len-range p x (suc d) (suc n) le pass stop =
     prefix_len-range p (x + 1) d n (omega arith) (λ k a b. pass k (omega arith) (omega arith)) (λ lt. rw f (stop (omega arith))) in
     rw (e, r) (omega arith)
 
--- a colour other than dark is light
-other : (a b : Bool) → a ≢ b → b ≡ true → a ≡ false
-other true b ne e = absurd (ne (sym e))
-other false b ne e = refl
-
--- a run of a row of a symbol
-module _ (top margin row col end : ℕ) (g : Grid) (row_in : row < g.side) (run : IsRunEnd g row col end) where
-  -- its places have the colour of its first
-  run-same : (k : ℕ) → margin + col ≤ k → k < margin + end → is_dark_at margin g (margin + row) k ≡ colour g row col
-  run-same k a b =
-      let w = run.within in
+-- the first dark run of a row of a symbol from a column on, where a run that ended there left a light place
+module _ (top margin row col : ℕ) (g : Grid) (run : Run) (row_in : row < g.side) (first : IsFirstRun g row col run) where
+  -- a place of the row has its colour
+  here : (k : ℕ) → margin ≤ k → k < margin + g.side → is_dark_at margin g (margin + row) k ≡ colour g row (k - margin)
+  here k a b =
       let e : margin + (k - margin) ≡ k = omega arith in
-      rw (← e) (is_dark_at-inside margin row (k - margin) g row_in (omega arith) ∙ run.same (k - margin) (omega arith) (omega arith))
+      ap (is_dark_at margin g (margin + row)) (sym e) ∙ is_dark_at-inside margin row (k - margin) g row_in (omega arith)
 
-  -- after a dark one is a light place
-  run-stops : colour g row col ≡ true → is_dark_at margin g (margin + row) (margin + end) ≡ false
-  run-stops dark = ⊎_elim (λ (e : end ≡ g.side). is_dark_at-right margin (margin + row) (margin + end) g (omega arith))
-      (λ (lt : end < g.side). is_dark_at-inside margin row end g row_in lt ∙ other _ _ (run.differs lt) dark) (eq-or-lt_of_le run.within)
+  -- the places of the run are dark
+  all-dark : (k : ℕ) → margin + run.start ≤ k → k < margin + run.end → is_dark_at margin g (margin + row) k ≡ true
+  all-dark k a b = let w = first.within in here k (omega arith) (omega arith) ∙ first.dark (k - margin) (omega arith) (omega arith)
 
-  -- the places of a light one have no paths
-  pub light_run : colour g row col ≡ false
-      → texts_below (margin + end) (run_path top margin g (margin + row)) ≡ texts_below (margin + col) (run_path top margin g (margin + row))
-  light_run dark =
-      let w = run.after in
-      texts_below-same (margin + col) (margin + end) (run_path top margin g (margin + row)) (omega arith)
-      (λ k a b. run_path-light top margin (margin + row) k g (run-same k a b ∙ dark))
+  -- those before it have no paths
+  pub light_run : texts_below (margin + run.start) (run_path top margin g (margin + row)) ≡ texts_below (margin + col) (run_path top margin g (margin + row))
+  light_run =
+      let v = first.after in
+      let u = first.some in
+      let w = first.within in
+      texts_below-same (margin + col) (margin + run.start) (run_path top margin g (margin + row)) (omega arith)
+      (λ k a b. run_path-light top margin (margin + row) k g (here k (omega arith) (omega arith) ∙ first.light (k - margin) (omega arith) (omega arith)))
 
-  -- nor have those after the first of a dark one
-  pub dark_run : colour g row col ≡ true
-      → texts_below (margin + end) (run_path top margin g (margin + row)) ≡ texts_below (margin + col + 1) (run_path top margin g (margin + row))
-  dark_run dark =
-      let w = run.after in
-      texts_below-same (margin + col + 1) (margin + end) (run_path top margin g (margin + row)) (omega arith)
-      (λ k a b. run_path-inner top margin (margin + row) k g (omega arith) (run-same (k - 1) (omega arith) (omega arith) ∙ dark))
+  -- nor have those after its first
+  pub dark_run : texts_below (margin + run.end) (run_path top margin g (margin + row)) ≡ texts_below (margin + run.start + 1) (run_path top margin g (margin + row))
+  dark_run =
+      let u = first.some in
+      texts_below-same (margin + run.start + 1) (margin + run.end) (run_path top margin g (margin + row)) (omega arith)
+      (λ k a b. run_path-inner top margin (margin + row) k g (omega arith) (all-dark (k - 1) (omega arith) (omega arith)))
 
-  -- and before it is none
-  before-dark : colour g row col ≡ true → (0 < col → colour g row (col - 1) ≢ colour g row col) → 0 < margin + col
-      → is_dark_at margin g (margin + row) (margin + col - 1) ≡ false
-  before-dark dark first some =
-      let v = run.after in
-      let w = run.within in
-      let e : 0 < col → margin + col - 1 ≡ margin + (col - 1) = λ lt. omega arith in
-      ⊎_elim (λ (z : 0 ≡ col). is_dark_at-left margin (margin + row) (margin + col - 1) g (omega arith))
-      (λ (lt : 0 < col). ap (is_dark_at margin g (margin + row)) (e lt)
-      ∙ (is_dark_at-inside margin row (col - 1) g row_in (omega arith) ∙ other _ _ (first lt) dark)) (eq-or-lt_of_le (omega arith))
+  -- after it is a light place
+  run-stops : is_dark_at margin g (margin + row) (margin + run.end) ≡ false
+  run-stops = ⊎_elim (λ (e : run.end ≡ g.side). is_dark_at-right margin (margin + row) (margin + run.end) g (omega arith))
+      (λ (lt : run.end < g.side). is_dark_at-inside margin row run.end g row_in lt ∙ first.stops) (eq-or-lt_of_le first.within)
 
-  -- a dark one is so long
-  dark_length : colour g row col ≡ true → run_length margin g (margin + row) (margin + col) ≡ end - col
+  -- and before it is none that is dark
+  before-dark : (0 < col → colour g row col ≡ false) → 0 < margin + run.start → is_dark_at margin g (margin + row) (margin + run.start - 1) ≡ false
+  before-dark light some =
+      let v = first.after in
+      let u = first.some in
+      let w = first.within in
+      ⊎_elim (λ (e : col ≡ run.start). ⊎_elim (λ (z : 0 ≡ col). is_dark_at-left margin (margin + row) (margin + run.start - 1) g (omega arith))
+      (λ (lt : 0 < col). absurd (dark-is-light (ap (colour g row) e ∙ first.dark run.start (omega arith) u) (light lt))) (eq-or-lt_of_le (omega arith)))
+      (λ (lt : col < run.start). here (margin + run.start - 1) (omega arith) (omega arith) ∙ first.light (margin + run.start - 1 - margin) (omega arith) (omega arith))
+      (eq-or-lt_of_le v)
+    where
+      dark-is-light : {b : Bool} → b ≡ true → b ≡ false → ⊥
+      dark-is-light p q = let h : true ≡ false = sym p ∙ q in cc
+
+  -- it is so long
+  dark_length : run_length margin g (margin + row) (margin + run.start) ≡ run.end - run.start
   unfolding run_length
-  dark_length dark =
-      let v = run.after in
-      let w = run.within in
-      let e : margin + col + (end - col) ≡ margin + end = omega arith in
-      prefix_len-range (is_dark_at margin g (margin + row)) (margin + col) (end - col) (raster_width margin g - (margin + col)) (omega arith)
-      (λ k a b. run-same k a (omega arith) ∙ dark) (λ lt. rw e (run-stops dark))
+  dark_length =
+      let u = first.some in
+      let w = first.within in
+      let e : margin + run.start + (run.end - run.start) ≡ margin + run.end = omega arith in
+      prefix_len-range (is_dark_at margin g (margin + row)) (margin + run.start) (run.end - run.start) (raster_width margin g - (margin + run.start)) (omega arith)
+      (λ k a b. all-dark k a (omega arith)) (λ lt. rw e run-stops)
 
   -- and its path stands at its first place
-  pub dark_path : (x y modules : ℕ) → x ≡ margin + col → y ≡ top + (margin + row) → modules ≡ end - col
-      → colour g row col ≡ true → (0 < col → colour g row (col - 1) ≢ colour g row col)
-      → run_path top margin g (margin + row) (margin + col) ≡ box_path x y modules
-  dark_path x y modules ex ey em dark first =
-      let v = run.after in
-      let w = run.within in
-      let here : is_dark_at margin g (margin + row) (margin + col) ≡ true = run-same (margin + col) (omega arith) (omega arith) ∙ dark in
-      rw (ex, ey, em) (run_path-first top margin (margin + row) (margin + col) g here (before-dark dark first)
-      ∙ ap (box_path (margin + col) (top + (margin + row))) (dark_length dark))
-
-  -- another colour begins where it ends
-  pub run_border : end < g.side → colour g row (end - 1) ≢ colour g row end
-  run_border lt = λ e. let v = run.after in run.differs lt (sym e ∙ run.same (end - 1) (omega arith) (omega arith))
+  pub dark_path : (x y modules : ℕ) → x ≡ margin + run.start → y ≡ top + (margin + row) → modules ≡ run.end - run.start
+      → (0 < col → colour g row col ≡ false) → run_path top margin g (margin + row) (margin + run.start) ≡ box_path x y modules
+  dark_path x y modules ex ey em light =
+      let u = first.some in
+      rw (ex, ey, em) (run_path-first top margin (margin + row) (margin + run.start) g (all-dark (margin + run.start) (omega arith) (omega arith)) (before-dark light)
+      ∙ ap (box_path (margin + run.start) (top + (margin + row))) dark_length)
 
 -- the paths of a row to the left of the symbol are none
 pub row_begins : (top margin y : ℕ) (g : Grid) → texts_below (margin + 0) (run_path top margin g y) ≡ []
 row_begins top margin y g =
     texts_below-none (margin + 0) (run_path top margin g y) (λ k lt. run_path-light top margin y k g (is_dark_at-left margin y k g (omega arith)))
 
--- nor are there any to its right
-pub row_ends : (top margin y col : ℕ) (g : Grid) → col ≡ g.side → row_path top margin g y ≡ texts_below (margin + col) (run_path top margin g y)
+-- nor are there any where the rest of a row of the symbol is light
+pub row_ends : (top margin row col : ℕ) (g : Grid) → row < g.side → col ≤ g.side → ((c : ℕ) → col ≤ c → colour g row c ≡ false)
+    → row_path top margin g (margin + row) ≡ texts_below (margin + col) (run_path top margin g (margin + row))
 unfolding row_path
-row_ends top margin y col g e =
-    rw e (texts_below-same (margin + g.side) (raster_width margin g) (run_path top margin g y) (omega arith)
-    (λ k a b. run_path-light top margin y k g (is_dark_at-right margin y k g a)))
+row_ends top margin row col g row_in le light =
+    texts_below-same (margin + col) (raster_width margin g) (run_path top margin g (margin + row)) (omega arith)
+    (λ k a b. run_path-light top margin (margin + row) k g (elim (cases_lt k (margin + g.side)) [
+      | inl lt ↦
+          let e : margin + (k - margin) ≡ k = omega arith in
+          ap (is_dark_at margin g (margin + row)) (sym e) ∙ (is_dark_at-inside margin row (k - margin) g row_in (omega arith) ∙ light (k - margin) (omega arith))
+      | inr ge ↦ is_dark_at-right margin (margin + row) k g ge
+    ]))
 
 -- a light row has none
 row_path-light : (top margin y : ℕ) (g : Grid) → ((x : ℕ) → is_dark_at margin g y x ≡ false) → row_path top margin g y ≡ []

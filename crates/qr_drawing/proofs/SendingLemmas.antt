@@ -1,5 +1,5 @@
 -- What one write does while bytes are sent.
-use Rattle.std.proofs.Common.{◌≡◌, ◌≤◌, ◌<◌, ◌+◌, ◌^◌, ◌++◌, ◌∙◌, ℕ, zero, suc, List, [], ◌∷◌, sym, Option, None, Some, Result, append-nil, length, Ok, Err, true, ap, refl, arith, max, take, drop}
+use Rattle.std.proofs.Common.{◌≡◌, ◌≤◌, ◌<◌, ◌+◌, ◌^◌, ◌++◌, ◌∙◌, ℕ, zero, suc, List, [], ◌∷◌, Option, None, Some, Result, append-nil, length, Ok, Err, true, ap, refl, arith, max, take, drop}
 use Rattle.std.proofs.lemmas.List.{length-take-le, take-append-drop}
 use Rattle.std.proofs.lemmas.Bool.Decides.{nat_tests}
 use Rattle.std.proofs.Math.Seq.{take-add}
@@ -10,7 +10,7 @@ use Rattle.qr_drawing.specs.Steps.Writing.{IsWell, Stops, Writes}
 use Rattle.qr_devices.specs.declared.device.Trouble.{Trouble}
 use Rattle.qr_devices.specs.declared.device.Trouble.TheVariants.{Interrupted, Failed}
 use Rattle.qr_devices.specs.declared.device.WriteCounts.{WriteCounts}
-use Rattle.qr_drawing.proofs.WritingLemmas.{stops_before, writes_on, writes_stop}
+use Rattle.qr_drawing.proofs.WritingLemmas.{writes_on, writes_stop}
 
 -- some of the bytes that a write was offered
 take-offered : (n m : ℕ) (xs : List ℕ) → n ≤ length (take m xs) → take n (take m xs) ≡ take n xs

@@ -157,20 +157,14 @@ fn put_row<W: Sink>(
 {
     let left = u16::from(margin);
     let y = top + left + u16::from(row);
-    let mut col = 0;
-    while col < matrix.side() {
-        let end = matrix.run_end(row, col);
-        let dark = matrix.dark(row, col);
-        if dark {
-            pen.reserve(out, BOX_MAX)?;
-            push_box(
-                &mut pen.piece,
-                left + u16::from(col),
-                y,
-                u16::from(end - col),
-            );
-        }
-        col = end;
+    for run in matrix.dark_runs(row) {
+        pen.reserve(out, BOX_MAX)?;
+        push_box(
+            &mut pen.piece,
+            left + u16::from(run.start),
+            y,
+            u16::from(run.end - run.start),
+        );
     }
     Ok(())
 }

@@ -1,5 +1,5 @@
--- Runs of equal modules, as `Matrix::run_end` finds them in a row, and their cost place by place. Public clauses cite
--- IsRunEnd and place_cost.
+-- Runs of equal modules: where one ends in a row, where the colour changes, and what runs cost place by place. Contracts
+-- of public functions use IsRunEnd and place_cost.
 use Rattle.std.specs.Prelude.{◌≡◌, ◌≢◌, ◌+◌, ◌-◌, ◌*◌, ◌<◌, ◌≤◌, ◌&&◌, not, ℕ, Bool, nat_lt}
 use Rattle.qr_matrix.specs.Grid.{Grid, colour}
 use Rattle.qr_matrix.specs.Penalty.{is_same, count_below}
@@ -11,6 +11,10 @@ pub record IsRunEnd (g : Grid) (row col end : ℕ) : Type 0 where
   pub within : end ≤ g.side
   pub same : (c : ℕ) → col ≤ c → c < end → colour g row c ≡ colour g row col
   pub differs : end < g.side → colour g row end ≢ colour g row col
+
+-- place c has another colour than the place before it; before place 0 all is light [own]
+unfoldable pub is_change : (ℕ → Bool) → ℕ → Bool
+is_change line c = not (is_same (line c) (nat_lt 0 c && line (c - 1)))
 
 -- the next place is in the line and has the colour of place c [own]
 unfoldable pub joins : ℕ → (ℕ → Bool) → ℕ → Bool

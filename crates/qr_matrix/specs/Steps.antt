@@ -1,5 +1,5 @@
 -- Private steps of lines and runs. No public clause cites this file.
-use Rattle.std.specs.Prelude.{◌≡◌, ℕ, ◌+◌, ◌*◌, ◌^◌, ◌<◌, Bool, List, length, slice_index}
+use Rattle.std.specs.Prelude.{◌≡◌, ℕ, ◌+◌, ◌*◌, ◌^◌, ◌<◌, ◌==◌, ◌&&◌, not, true, false, Bool, List, Option, None, Some, length, slice_index}
 use Rattle.qr_matrix.specs.Penalty.{count_below}
 use Rattle.qr_matrix.specs.Runs.{begins_five, begins_long_run}
 use Rattle.qr_matrix.specs.Line.{has}
@@ -11,6 +11,12 @@ AreWords words = (length words ≡ 3) × (slice_index words 0 < 2 ^ 64) × (slic
 -- how many places a line has
 unfoldable pub size_of : List ℕ → ℕ
 size_of words = count_below 192 (has words)
+
+-- the first place was taken out of a line, if it had one
+abbrev pub TakesFirst : List ℕ → Option ℕ → List ℕ → Type 0
+TakesFirst old None new = (new ≡ old) × ((c : ℕ) → c < 192 → has old c ≡ false)
+TakesFirst old (Some p) new =
+    (p < 192) × (has old p ≡ true) × ((c : ℕ) → c < p → has old c ≡ false) × ((c : ℕ) → has new c ≡ (has old c && not (c == p)))
 
 -- what row r adds to the cost of the runs of all columns
 unfoldable pub row_share : ℕ → (ℕ → ℕ → Bool) → ℕ → ℕ

@@ -2,6 +2,7 @@
 //! counted on these.
 #![tactic(auto)]
 
+mod dark_runs;
 mod difference;
 pub mod laws;
 mod line;
@@ -11,6 +12,7 @@ mod runs;
 mod squares;
 mod windows;
 
+pub use dark_runs::{DarkRuns, Run};
 pub use difference::differences;
 pub use matrix::Matrix;
 pub use penalties::penalty;

@@ -3,7 +3,7 @@
 ghost use Rattle.std.specs.Prelude.{◌≡◌, ℕ, ◌+◌, ◌-◌, ◌*◌, ◌%◌, ◌<◌, ◌≤◌, ◌&&◌, not, nat_le, nat_lt, if◌then◌else◌, false, length, IfOk};
 ghost use Rattle.qr_matrix.specs.Grid.{square, colour, painted, with_row, with_rectangle, light};
 ghost use Rattle.qr_matrix.specs.Line.{dark_in, has, has_bit};
-ghost use Rattle.qr_matrix.specs.Runs.{IsRunEnd};
+ghost use Rattle.qr_matrix.specs.Runs.{IsRunEnd, is_change};
 
 use crate::line::Line;
 use std::alloc::{AllocError, Global};
@@ -89,19 +89,20 @@ impl Matrix {
         requires col_in { col < self.now.side }
         ensures { IsRunEnd self.now row col result }
     {
-        // Most runs end in the word in which they begin.
-        let alike = self.rows[usize::from(row)].alike(col);
-        if col % 64 + alike < 64 {
-            return col + alike;
-        }
         let side = self.side();
+        let later = self.changes(row).and_not(Line::below(col + 1));
+        later.first().min(side)
+    }
+
+    // The columns of a row whose colour is not that of the column before them; before column 0 all is light.
+    pub(crate) fn changes(&self, row: u8) -> Line
+        requires { row < self.now.side }
+        ensures changes { (c : ℕ) → c < 192 → has result c ≡ is_change (colour self.now row) c }
+        ensures past { (c : ℕ) → self.now.side ≤ c → colour self.now row c ≡ false }
+        ensures few { self.now.side ≤ 177 }
+    {
         let line = self.line(usize::from(row));
-        let others = if self.dark(row, col) {
-            Line::below(side).and_not(line)
-        } else {
-            line
-        };
-        others.and_not(Line::below(col + 1)).first().min(side)
+        line ^ line.shifted_right()
     }
 
     // A row as a line, which has no place from the side on.

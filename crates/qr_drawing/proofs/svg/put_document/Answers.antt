@@ -1,6 +1,6 @@
-use Rattle.std.proofs.Common.{◌≡◌, ◌*◌, length, refl}
+use Rattle.std.proofs.Common.{refl}
 use Rattle.std.proofs.lemmas.Result.{err_from_is_err_and}
-use Rattle.qr_drawing.specs.Svg.{closing, stack_path, svg_document}
+use Rattle.qr_drawing.specs.Svg.{closing}
 use Rattle.qr_drawing.specs.Steps.Svg.{tail}
 use Rattle.qr_drawing.proofs.PathLemmas.{document-parts}
 use Rattle.qr_drawing.proofs.WritingLemmas.{formed, stops_between, stops_first, writes_on, writes_stop}

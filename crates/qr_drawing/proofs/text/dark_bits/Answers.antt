@@ -1,4 +1,4 @@
-use Rattle.std.proofs.Common.{ℕ, subst}
+use Rattle.std.proofs.Common.{subst}
 use Rattle.qr_drawing.specs.Steps.Text.{ShowsRow}
 use Rattle.qr_drawing.proofs.CellLemmas.{dark-four, dark-none}
 use Rattle.qr_drawing.proofs.text.dark_bits.Goals as goal

@@ -1,0 +1,28 @@
+-- The runs of dark modules of a row, one after the other.
+use Rattle.std.specs.Prelude.{◌≡◌, ◌<◌, ◌≤◌, ◌&&◌, ℕ, true, false, nat_le, Option, None, Some}
+use Rattle.qr_matrix.specs.Grid.{Grid, colour}
+use Rattle.qr_matrix.specs.Line.{has}
+use Rattle.qr_matrix.specs.Runs.{is_change}
+use Rattle.qr_matrix.specs.declared.dark_runs.DarkRuns.{DarkRuns}
+use Rattle.qr_matrix.specs.declared.dark_runs.Run.{Run}
+
+-- the dark runs of a row from a column on: the places where the colour changes, all before that column being light [own]
+pub record AreRunsFrom (g : Grid) (row : ℕ) (runs : DarkRuns) : Type 0 where
+  pub few : g.side ≤ 177
+  pub past : (c : ℕ) → g.side ≤ c → colour g row c ≡ false
+  pub changes : (c : ℕ) → c < 192 → has runs.changes c ≡ is_change (λ k. nat_le runs.col k && colour g row k) c
+
+-- the first dark run of a row from column `col` on, as long as it can be [own]
+pub record IsFirstRun (g : Grid) (row col : ℕ) (run : Run) : Type 0 where
+  pub after : col ≤ run.start
+  pub some : run.start < run.end
+  pub within : run.end ≤ g.side
+  pub light : (c : ℕ) → col ≤ c → c < run.start → colour g row c ≡ false
+  pub dark : (c : ℕ) → run.start ≤ c → c < run.end → colour g row c ≡ true
+  pub stops : colour g row run.end ≡ false
+
+-- of the dark runs of a row the first is given, and those after it are left; or there is none [own]
+abbrev pub GivesRun : DarkRuns → Option Run → DarkRuns → Type 0
+GivesRun old None new = (g : Grid) (row : ℕ) → AreRunsFrom g row old → (c : ℕ) → old.col ≤ c → colour g row c ≡ false
+GivesRun old (Some run) new = (g : Grid) (row : ℕ) → AreRunsFrom g row old
+    → IsFirstRun g row old.col run × (new.col ≡ run.end) × AreRunsFrom g row new

@@ -1,0 +1,83 @@
+//! The runs of dark modules of a row, found by the columns in which the colour changes.
+
+ghost use Rattle.std.specs.Prelude.{◌≡◌, ℕ, ◌<◌, ◌-◌, false};
+ghost use Rattle.qr_matrix.specs.Line.{has};
+
+use crate::line::Line;
+use crate::matrix::Matrix;
+
+/// A run of dark modules of a row: the columns from `start` to before `end`.
+#[derive(Clone, Copy)]
+pub struct Run {
+    pub start: u8,
+    pub end: u8,
+}
+
+/// The runs of dark modules of a row from a column on, from the left.
+#[derive(Drop)]
+pub struct DarkRuns {
+    // The columns that are still to come in which the colour changes, if all before the column is taken as light.
+    changes: Line,
+    col: u8,
+    ghost later: { (c : ℕ) → c < col → has changes c ≡ false },
+}
+
+impl Matrix {
+    ghost use Rattle.std.specs.Prelude.{◌≡◌, ◌<◌};
+    ghost use Rattle.qr_matrix.specs.DarkRuns.{AreRunsFrom};
+
+    /// The runs of dark modules of a row, from the left, each as long as it can be.
+    pub fn dark_runs(&self, row: u8) -> DarkRuns
+        requires { row < self.now.side }
+        ensures start { result.col ≡ 0 }
+        ensures runs { AreRunsFrom self.now row result }
+    {
+        DarkRuns {
+            changes: self.changes(row),
+            col: 0,
+        }
+    }
+}
+
+impl Iterator for DarkRuns {
+    ghost use Rattle.std.specs.Prelude.{◌-◌};
+    ghost use Rattle.std.specs.Iterator.{at_most};
+    ghost use Rattle.qr_matrix.specs.DarkRuns.{GivesRun};
+
+    type Item = Run;
+
+    ghost next_gives = { λ s r t. GivesRun s r t };
+
+    ghost remaining = { λ s. at_most (192 - s.col) };
+
+    #[inline(always)]
+    fn next(&mut self) -> Option<Run> {
+        let start = self.changes.take_first()?;
+        let end = self.changes.take_first()?;
+        self.col = end;
+        Some(Run { start, end })
+    }
+}
+
+#[cfg(test)]
+mod tests {
+    use super::*;
+    use std::test::Fail;
+
+    #[test]
+    fn runs_over_the_border_of_words(rt: HostRuntime) -> Result<(), Fail> {
+        let mut matrix = Matrix::new(rt.alloc(), 132)?;
+        matrix.fill(3, 4, 0, 2, true);
+        matrix.fill(3, 4, 60, 66, true);
+        matrix.fill(3, 4, 67, 128, true);
+        matrix.set(3, 131, true);
+        let mut runs = matrix.dark_runs(3);
+        for (start, end) in [(0, 2), (60, 66), (67, 128), (131, 132)] {
+            let run = runs.next().ok_or("a run")?;
+            assert_eq!(rt; (run.start, run.end), (start, end));
+        }
+        assert!(rt; runs.next().is_none());
+        assert!(rt; matrix.dark_runs(4).next().is_none(), "a light row");
+        Ok(())
+    }
+}
