@@ -11,7 +11,7 @@ use Rattle.qr_drawing.specs.Steps.Text.{AreDark, cell_at, cell_room, cell_text, 
 use Rattle.qr_drawing.specs.declared.text.TextStyle.{TextStyle}
 use Rattle.qr_drawing.specs.declared.text.TextStyle.TheVariants.{Plain, Inverse, HalfBlocks}
 use Rattle.qr_drawing.proofs.LineLemmas.{texts_below-add, texts_below-alike, texts_below-length}
-use Rattle.qr_drawing.proofs.PathLemmas.{is_dark_at-inside}
+use Rattle.qr_drawing.proofs.PathLemmas.{is_dark_at_inside}
 
 -- no bit of 0 is set, computed
 none-set : all_below 4 (λ k. is_same (has_bit 0 k) false) ≡ true
@@ -19,15 +19,15 @@ unfolding has_bit
 none-set = refl
 
 -- four places of a row that shows none of the square
-pub dark-none : (margin : ℕ) (g : Grid) (y col : ℕ) → ((x : ℕ) → is_dark_at margin g y x ≡ false) → AreDark margin g y col 0
-dark-none margin g y col h k lt =
+pub dark_none : (margin : ℕ) (g : Grid) (y col : ℕ) → ((x : ℕ) → is_dark_at margin g y x ≡ false) → AreDark margin g y col 0
+dark_none margin g y col h k lt =
     same-same (has_bit 0 k) false (below-at 4 (λ k. is_same (has_bit 0 k) false) none-set k lt) ∙ sym (h (margin + (col + k)))
 
 -- four places of a row that shows one of the square
-pub dark-four : (margin : ℕ) (g : Grid) (y row col bits : ℕ) → margin + row ≡ y → row < g.side → col + 4 ≤ g.side
+pub dark_four : (margin : ℕ) (g : Grid) (y row col bits : ℕ) → margin + row ≡ y → row < g.side → col + 4 ≤ g.side
     → ((k : ℕ) → k < 4 → has_bit bits k ≡ colour g row (col + k)) → AreDark margin g y col bits
-dark-four margin g y row col bits e inside fits h k lt =
-    h k lt ∙ sym (ap (λ r. is_dark_at margin g r (margin + (col + k))) (sym e) ∙ is_dark_at-inside margin row (col + k) g inside (omega arith))
+dark_four margin g y row col bits e inside fits h k lt =
+    h k lt ∙ sym (ap (λ r. is_dark_at margin g r (margin + (col + k))) (sym e) ∙ is_dark_at_inside margin row (col + k) g inside (omega arith))
 
 -- four bits, each the other one, computed
 all-others : all_below 16 (λ b. all_below 4 (λ k. is_same (has_bit (15 - b) k) (not (has_bit b k)))) ≡ true
@@ -39,8 +39,8 @@ other-bit : (b k : ℕ) → b < 16 → k < 4 → has_bit (15 - b) k ≡ not (has
 other-bit b k l m = same-same (has_bit (15 - b) k) (not (has_bit b k)) (below-at 4 (λ k. is_same (has_bit (15 - b) k) (not (has_bit b k))) (below-at 16 (λ b. all_below 4 (λ k. is_same (has_bit (15 - b) k) (not (has_bit b k)))) all-others b l) k m)
 
 -- four modules of an inverse text
-pub quad-inverse : (upper lower : ℕ) → upper < 16 → quad_text Plain (15 - upper) 0 ≡ quad_text Inverse upper lower
-quad-inverse upper lower small =
+pub quad_inverse : (upper lower : ℕ) → upper < 16 → quad_text Plain (15 - upper) 0 ≡ quad_text Inverse upper lower
+quad_inverse upper lower small =
     texts_below-alike 4 (λ k. cell_text Plain (has_bit (15 - upper) k) (has_bit 0 k)) (λ k. cell_text Inverse (has_bit upper k) (has_bit lower k))
     (λ k lt. ap (λ b. cell_text Plain b false) (other-bit upper k small lt))
 

@@ -17,33 +17,33 @@ use Rattle.qr_drawing.specs.Steps.Svg.{head, tail}
 use Rattle.qr_drawing.proofs.LineLemmas.{texts_below-none, texts_below-same, texts-of-items}
 
 -- a place of the symbol has its colour
-pub is_dark_at-inside : (margin row col : ℕ) (g : Grid) → row < g.side → col < g.side
+pub is_dark_at_inside : (margin row col : ℕ) (g : Grid) → row < g.side → col < g.side
     → is_dark_at margin g (margin + row) (margin + col) ≡ colour g row col
 unfolding is_dark_at
-is_dark_at-inside margin row col g a b =
+is_dark_at_inside margin row col g a b =
     let e : margin + row - margin ≡ row = omega arith in
     let f : margin + col - margin ≡ col = omega arith in
     rw (e, f) (grind (arith, nat_tests))
 
 -- the margin to the left is light
-pub is_dark_at-left : (margin y x : ℕ) (g : Grid) → x < margin → is_dark_at margin g y x ≡ false
+pub is_dark_at_left : (margin y x : ℕ) (g : Grid) → x < margin → is_dark_at margin g y x ≡ false
 unfolding is_dark_at
-is_dark_at-left margin y x g a = grind (arith, nat_tests)
+is_dark_at_left margin y x g a = grind (arith, nat_tests)
 
 -- so is the one to the right
-pub is_dark_at-right : (margin y x : ℕ) (g : Grid) → margin + g.side ≤ x → is_dark_at margin g y x ≡ false
+pub is_dark_at_right : (margin y x : ℕ) (g : Grid) → margin + g.side ≤ x → is_dark_at margin g y x ≡ false
 unfolding is_dark_at
-is_dark_at-right margin y x g a = grind (arith, nat_tests)
+is_dark_at_right margin y x g a = grind (arith, nat_tests)
 
 -- so is the one above
-pub is_dark_at-above : (margin y x : ℕ) (g : Grid) → y < margin → is_dark_at margin g y x ≡ false
+pub is_dark_at_above : (margin y x : ℕ) (g : Grid) → y < margin → is_dark_at margin g y x ≡ false
 unfolding is_dark_at
-is_dark_at-above margin y x g a = grind (arith, nat_tests)
+is_dark_at_above margin y x g a = grind (arith, nat_tests)
 
 -- and the one below
-pub is_dark_at-below : (margin y x : ℕ) (g : Grid) → margin + g.side ≤ y → is_dark_at margin g y x ≡ false
+pub is_dark_at_below : (margin y x : ℕ) (g : Grid) → margin + g.side ≤ y → is_dark_at margin g y x ≡ false
 unfolding is_dark_at
-is_dark_at-below margin y x g a = grind (arith, nat_tests)
+is_dark_at_below margin y x g a = grind (arith, nat_tests)
 
 -- no run begins at a light place
 run_path-light : (top margin y x : ℕ) (g : Grid) → is_dark_at margin g y x ≡ false → run_path top margin g y x ≡ []
@@ -87,7 +87,7 @@ module _ (top margin row col : ℕ) (g : Grid) (run : Run) (row_in : row < g.sid
   here : (k : ℕ) → margin ≤ k → k < margin + g.side → is_dark_at margin g (margin + row) k ≡ colour g row (k - margin)
   here k a b =
       let e : margin + (k - margin) ≡ k = omega arith in
-      ap (is_dark_at margin g (margin + row)) (sym e) ∙ is_dark_at-inside margin row (k - margin) g row_in (omega arith)
+      ap (is_dark_at margin g (margin + row)) (sym e) ∙ is_dark_at_inside margin row (k - margin) g row_in (omega arith)
 
   -- the places of the run are dark
   all-dark : (k : ℕ) → margin + run.start ≤ k → k < margin + run.end → is_dark_at margin g (margin + row) k ≡ true
@@ -111,8 +111,8 @@ module _ (top margin row col : ℕ) (g : Grid) (run : Run) (row_in : row < g.sid
 
   -- after it is a light place
   run-stops : is_dark_at margin g (margin + row) (margin + run.end) ≡ false
-  run-stops = ⊎_elim (λ (e : run.end ≡ g.side). is_dark_at-right margin (margin + row) (margin + run.end) g (omega arith))
-      (λ (lt : run.end < g.side). is_dark_at-inside margin row run.end g row_in lt ∙ first.stops) (eq-or-lt_of_le first.within)
+  run-stops = ⊎_elim (λ (e : run.end ≡ g.side). is_dark_at_right margin (margin + row) (margin + run.end) g (omega arith))
+      (λ (lt : run.end < g.side). is_dark_at_inside margin row run.end g row_in lt ∙ first.stops) (eq-or-lt_of_le first.within)
 
   -- and before it is none that is dark
   before-dark : (0 < col → colour g row col ≡ false) → 0 < margin + run.start → is_dark_at margin g (margin + row) (margin + run.start - 1) ≡ false
@@ -120,7 +120,7 @@ module _ (top margin row col : ℕ) (g : Grid) (run : Run) (row_in : row < g.sid
       let v = first.after in
       let u = first.some in
       let w = first.within in
-      ⊎_elim (λ (e : col ≡ run.start). ⊎_elim (λ (z : 0 ≡ col). is_dark_at-left margin (margin + row) (margin + run.start - 1) g (omega arith))
+      ⊎_elim (λ (e : col ≡ run.start). ⊎_elim (λ (z : 0 ≡ col). is_dark_at_left margin (margin + row) (margin + run.start - 1) g (omega arith))
       (λ (lt : 0 < col). absurd (dark-is-light (ap (colour g row) e ∙ first.dark run.start (omega arith) u) (light lt))) (eq-or-lt_of_le (omega arith)))
       (λ (lt : col < run.start). here (margin + run.start - 1) (omega arith) (omega arith) ∙ first.light (margin + run.start - 1 - margin) (omega arith) (omega arith))
       (eq-or-lt_of_le v)
@@ -149,7 +149,7 @@ module _ (top margin row col : ℕ) (g : Grid) (run : Run) (row_in : row < g.sid
 -- the paths of a row to the left of the symbol are none
 pub row_begins : (top margin y : ℕ) (g : Grid) → texts_below (margin + 0) (run_path top margin g y) ≡ []
 row_begins top margin y g =
-    texts_below-none (margin + 0) (run_path top margin g y) (λ k lt. run_path-light top margin y k g (is_dark_at-left margin y k g (omega arith)))
+    texts_below-none (margin + 0) (run_path top margin g y) (λ k lt. run_path-light top margin y k g (is_dark_at_left margin y k g (omega arith)))
 
 -- nor are there any where the rest of a row of the symbol is light
 pub row_ends : (top margin row col : ℕ) (g : Grid) → row < g.side → col ≤ g.side → ((c : ℕ) → col ≤ c → colour g row c ≡ false)
@@ -160,8 +160,8 @@ row_ends top margin row col g row_in le light =
     (λ k a b. run_path-light top margin (margin + row) k g (elim (cases_lt k (margin + g.side)) [
       | inl lt ↦
           let e : margin + (k - margin) ≡ k = omega arith in
-          ap (is_dark_at margin g (margin + row)) (sym e) ∙ (is_dark_at-inside margin row (k - margin) g row_in (omega arith) ∙ light (k - margin) (omega arith))
-      | inr ge ↦ is_dark_at-right margin (margin + row) k g ge
+          ap (is_dark_at margin g (margin + row)) (sym e) ∙ (is_dark_at_inside margin row (k - margin) g row_in (omega arith) ∙ light (k - margin) (omega arith))
+      | inr ge ↦ is_dark_at_right margin (margin + row) k g ge
     ]))
 
 -- a light row has none
@@ -173,14 +173,14 @@ row_path-light top margin y g none =
 -- the paths of a symbol above its square are none
 pub symbol_begins : (top margin : ℕ) (g : Grid) → texts_below (margin + 0) (row_path top margin g) ≡ []
 symbol_begins top margin g =
-    texts_below-none (margin + 0) (row_path top margin g) (λ k lt. row_path-light top margin k g (λ x. is_dark_at-above margin k x g (omega arith)))
+    texts_below-none (margin + 0) (row_path top margin g) (λ k lt. row_path-light top margin k g (λ x. is_dark_at_above margin k x g (omega arith)))
 
 -- nor are there any below it
 pub symbol_ends : (top margin row : ℕ) (g : Grid) → row ≡ g.side → symbol_path top margin g ≡ texts_below (margin + row) (row_path top margin g)
 unfolding symbol_path
 symbol_ends top margin row g e =
     rw e (texts_below-same (margin + g.side) (raster_width margin g) (row_path top margin g) (omega arith)
-    (λ k a b. row_path-light top margin k g (λ x. is_dark_at-below margin k x g a)))
+    (λ k a b. row_path-light top margin k g (λ x. is_dark_at_below margin k x g a)))
 
 -- the square of the symbol at k
 pub square_at-item : {T : Type 0} (grid : T → Grid) (xs : List T) (k : ℕ) (x : T) → k < length xs → x ≡ get_or xs k x → square_at (map grid xs) k ≡ grid x

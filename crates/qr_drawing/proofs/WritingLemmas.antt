@@ -2,7 +2,7 @@
 use Rattle.std.proofs.Common.{◌≡◌, ◌++◌, ◌∙◌, ℕ, List, [], OnErr, Option, Result, Ok, Err, append_assoc, append-nil, refl, sym, ap, arith, ◌<◌, ◌≤◌, ◌+◌, ◌^◌, length, length-append, subst}
 use Rattle.std.proofs.KnownBytes.{Appends-trans, Appends-nil}
 use Rattle.qr_devices.specs.Device.{AppendsBeginning, Writer, counted}
-use Rattle.qr_drawing.specs.Steps.Pen.{Finishes}
+use Rattle.qr_drawing.specs.Steps.Pen.{Reserves}
 use Rattle.qr_drawing.specs.Steps.Writing.{Sends, Stops, Writes}
 use Rattle.qr_drawing.specs.declared.pen.DrawFault.{DrawFault}
 use Rattle.qr_drawing.specs.declared.pen.Pen.{Pen}
@@ -128,7 +128,7 @@ last_stops a b c held text p (t, (rest, f), q) = (
 )
 
 -- where the last part stopped, a beginning of the text was written
-pub finish_stops : (a b c : Writer) (pen : Pen) (text : List ℕ) (r : Result (Unit {0}) DrawFault) → Sends a b text pen.piece.items
-    → Finishes b c pen r → OnErr r (AppendsBeginning a.taken c.taken text)
-finish_stops a b c pen text (Ok t) p q = tt
-finish_stops a b c pen text (Err e) p q = last_stops a b c pen.piece.items text p q.front
+pub empty_stops : (a b c : Writer) (before after : Pen) (text : List ℕ) (r : Result (Unit {0}) DrawFault) → Sends a b text before.piece.items
+    → Reserves b c before after r → OnErr r (AppendsBeginning a.taken c.taken text)
+empty_stops a b c before after text (Ok t) p q = tt
+empty_stops a b c before after text (Err e) p q = last_stops a b c before.piece.items text p q.front

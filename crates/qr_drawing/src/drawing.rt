@@ -130,5 +130,5 @@ pub fn draw<S: HasSquare, W: Sink>(
 {
     let mut pen = Pen::new();
     put_drawing(&mut pen, out, symbols, kind, margin)?;
-    pen.finish(out)
+    pen.empty(out)
 }

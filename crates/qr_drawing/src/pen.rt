@@ -74,7 +74,7 @@ pub(crate) fn push_all(text: &mut ArrayVec<u8, 1200>, bytes: &[u8])
 impl Pen {
     ghost use Rattle.std.specs.Prelude.{◌≡◌, ◌≤◌, ◌+◌, [], OnOk};
     ghost use Rattle.arrayvec.specs.ArrayVec.{array_vec_len};
-    ghost use Rattle.qr_drawing.specs.Steps.Pen.{Finishes, Reserves};
+    ghost use Rattle.qr_drawing.specs.Steps.Pen.{Reserves};
 
     pub(crate) fn new() -> Self
         ensures piece { result.piece.items ≡ [] }
@@ -86,9 +86,9 @@ impl Pen {
         }
     }
 
-    // Writes what is held, and then holds nothing.
+    /// Writes what is held, and then holds nothing.
     #[inline(never)]
-    fn empty<W: Sink>(&mut self, out: &mut W) -> Result<(), DrawFault>
+    pub(crate) fn empty<W: Sink>(&mut self, out: &mut W) -> Result<(), DrawFault>
         ensures writes { Reserves (W.device out.old) (W.device out.new)
             self.old self.new result }
         ensures empty { OnOk result (self.new.piece.items ≡ []) }
@@ -109,15 +109,6 @@ impl Pen {
         if self.piece.len() + room > WRITE_MAX {
             return self.empty(out);
         }
-        Ok(())
-    }
-
-    /// Writes what is held.
-    pub(crate) fn finish<W: Sink>(self, out: &mut W) -> Result<(), DrawFault>
-        ensures { Finishes (W.device out.old) (W.device out.new)
-            self result }
-    {
-        send(out, self.piece.as_slice(), self.interrupted)?;
         Ok(())
     }
 }

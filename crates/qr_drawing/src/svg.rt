@@ -34,6 +34,7 @@ fn push_digit(text: &mut ArrayVec<u8, 1200>, digit: u16)
 }
 
 // Adds a number of up to two decimal digits.
+#[tactic(auto, using(crate::proofs::DigitLemmas::one_digit, crate::proofs::DigitLemmas::more_digits))]
 fn push_two(text: &mut ArrayVec<u8, 1200>, number: u16)
     requires number { number < 100 }
     requires room { array_vec_len text.old + 2 ≤ 1200 }
@@ -49,6 +50,7 @@ fn push_two(text: &mut ArrayVec<u8, 1200>, number: u16)
 }
 
 // Adds a number of up to three decimal digits.
+#[tactic(auto, using(crate::proofs::DigitLemmas::more_digits))]
 fn push_three(text: &mut ArrayVec<u8, 1200>, number: u16)
     requires number { number < 1000 }
     requires room { array_vec_len text.old + 3 ≤ 1200 }
@@ -64,6 +66,7 @@ fn push_three(text: &mut ArrayVec<u8, 1200>, number: u16)
 }
 
 // Adds a number in decimal digits.
+#[tactic(auto, using(crate::proofs::DigitLemmas::more_digits))]
 fn push_number(text: &mut ArrayVec<u8, 1200>, number: u16)
     requires room { array_vec_len text.old + 5 ≤ 1200 }
     ensures items { text.new.items ≡ text.old.items ++ decimal number }
@@ -79,6 +82,7 @@ fn push_number(text: &mut ArrayVec<u8, 1200>, number: u16)
 }
 
 // Adds the path round a run of so many modules, whose first stands in column x of row y.
+#[tactic(auto, unfolding(crate::specs::Svg::box_path, crate::specs::Svg::numbered))]
 fn push_box(text: &mut ArrayVec<u8, 1200>, x: u16, y: u16, modules: u16)
     requires room { array_vec_len text.old + 32 ≤ 1200 }
     ensures { text.new.items ≡ text.old.items ++ box_path x y modules }

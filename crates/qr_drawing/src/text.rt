@@ -105,6 +105,7 @@ fn push_cell(text: &mut ArrayVec<u8, 1200>, style: TextStyle, upper: bool, lower
 }
 
 // The row of the square that a row of the raster shows, if any.
+#[tactic(auto, using(crate::proofs::PathLemmas::is_dark_at_above, crate::proofs::PathLemmas::is_dark_at_below))]
 fn square_row(matrix: &Matrix, margin: u8, row: u16) -> Option<u8>
     ensures { ShowsRow margin matrix.now row result }
 {
@@ -121,6 +122,7 @@ fn square_row(matrix: &Matrix, margin: u8, row: u16) -> Option<u8>
 // Four places of a row, from a column on that is a multiple of four: the first is the lowest bit, and the bit of a dark
 // place is set. All are light where there is no row.
 #[inline(always)]
+#[tactic(auto, using(crate::proofs::CellLemmas::dark_none))]
 fn dark_bits(matrix: &Matrix, row: Option<u8>, col: u8) -> u8
     requires row_in { IfSome row (λ r. r < matrix.now.side) }
     requires col_in { col + 4 ≤ matrix.now.side }
@@ -170,6 +172,7 @@ fn is_set(bits: u8, place: u8) -> bool
 }
 
 // Adds four modules and the four below them as characters of half blocks, of which the first is the lowest bit.
+#[tactic(auto, unfolding(crate::specs::Raster::texts_below))]
 fn push_half_block_quad(text: &mut ArrayVec<u8, 1200>, upper: u8, lower: u8)
     requires room { array_vec_len text.old + 12 ≤ 1200 }
     ensures { text.new.items ≡ text.old.items ++ quad_text HalfBlocks upper lower }
@@ -182,6 +185,7 @@ fn push_half_block_quad(text: &mut ArrayVec<u8, 1200>, upper: u8, lower: u8)
 
 // Adds four cells, of which the first is the lowest bit.
 #[inline(always)]
+#[tactic(auto, using(crate::proofs::CellLemmas::quad_inverse))]
 fn push_quad(text: &mut ArrayVec<u8, 1200>, style: TextStyle, upper: u8, lower: u8)
     requires small { upper < 16 }
     requires room { array_vec_len text.old + 4 * cell_room style ≤ 1200 }
