@@ -14,7 +14,7 @@ ghost use Rattle.qr_bits.specs.Bits.{codeword_bit};
 ghost use Rattle.qr_matrix.specs.Grid.{square, colour, light, IsSquare};
 ghost use Rattle.qr_matrix.specs.Line.{has_bit};
 ghost use Rattle.qr_symbol.specs.Symbol.{word_bit};
-ghost use Rattle.qr_symbol.specs.Steps.Drawing.{fixed_colour, paint_of, placed_colour, placed_if, number_after, number_along, placed_along, walked_colour, IsWindow, format_or, region_grid};
+ghost use Rattle.qr_symbol.specs.Steps.Drawing.{fixed_colour, is_dark_in_six, paint_of, placed_colour, placed_if, number_after, number_along, placed_along, walked_colour, IsWindow, format_or, region_grid};
 
 use crate::mask::inverts;
 use qr_layout::{
@@ -155,6 +155,24 @@ fn paint_corners(matrix: &mut Matrix, v: Version, format: Option<u32>)
     paint_rectangle(matrix, v, format, side - 8, side, 0, 9);
 }
 
+// Whether the module at `at` of row 6, or of column 6, is dark: finder patterns take its ends, and a timing pattern what
+// is between them (ISO/IEC 18004:2015, 6.3.5).
+fn is_dark_in_six(side: u8, at: u8) -> bool
+    ensures { result ≡ is_dark_in_six side at }
+{
+    at < 7 || at >= side.saturating_sub(7) || at % 2 == 0
+}
+
+// What it is painted.
+#[tactic(auto, using(crate::proofs::TimingLemmas::paint_row_six, crate::proofs::TimingLemmas::paint_column_six))]
+fn paint_in_six(v: Version, format: Option<u32>, at: u8) -> bool
+    requires { at < side_of v }
+    ensures row { result ≡ paint_of v format 6 at }
+    ensures column { result ≡ paint_of v format at 6 }
+{
+    format.is_some() && is_dark_in_six(v.side(), at)
+}
+
 // Paints the timing patterns.
 fn paint_timing(matrix: &mut Matrix, v: Version, format: Option<u32>)
     requires { IsSquare (side_of v) matrix.old }
@@ -162,8 +180,11 @@ fn paint_timing(matrix: &mut Matrix, v: Version, format: Option<u32>)
         then paint_of v format r c else colour matrix.old r c) }
 {
     let side = v.side();
-    paint_rectangle(matrix, v, format, 6, 7, 0, side);
-    paint_rectangle(matrix, v, format, 0, side, 6, 7);
+    for at in 0..side {
+        let dark = paint_in_six(v, format, at);
+        matrix.set(6, at, dark);
+        matrix.set(at, 6, dark);
+    }
 }
 
 // Paints the version information.

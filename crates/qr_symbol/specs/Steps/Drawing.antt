@@ -1,5 +1,5 @@
 -- The colours that one step of drawing gives. No public clause rests on how this is written.
-use Rattle.std.specs.Prelude.{◌≡◌, ◌<◌, ℕ, ◌+◌, ◌-◌, ◌&&◌, Bool, false, if◌then◌else◌, List, [], ◌∷◌, Option, None, Some}
+use Rattle.std.specs.Prelude.{◌≡◌, ◌<◌, ℕ, ◌+◌, ◌-◌, ◌%◌, ◌==◌, ◌&&◌, ◌||◌, nat_le, nat_lt, Bool, false, if◌then◌else◌, List, [], ◌∷◌, Option, None, Some}
 use Rattle.qr_layout.specs.declared.level.Level.{Level}
 use Rattle.qr_layout.specs.declared.region.Module.{Module}
 use Rattle.qr_layout.specs.declared.role.Role.{Role}
@@ -29,6 +29,10 @@ fixed_colour format version Region = false
 unfoldable pub paint_of : ℕ → Option ℕ → ℕ → ℕ → Bool
 paint_of v None r c = false
 paint_of v (Some format) r c = fixed_colour format (version_word_of v) (role_of v r c)
+
+-- the module at `at` of row 6, or of column 6, is dark: finder patterns take its ends, and a timing pattern the rest
+abbrev pub is_dark_in_six : ℕ → ℕ → Bool
+is_dark_in_six s at = nat_lt at 7 || nat_le (s - 7) at || at % 2 == 0
 
 -- in the encoding region the bit of the codewords, elsewhere the other colour
 unfoldable pub placed_colour : ℕ → List ℕ → (ℕ → ℕ → Bool) → ℕ → ℕ → Bool

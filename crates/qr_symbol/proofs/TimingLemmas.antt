@@ -1,0 +1,114 @@
+-- The colours of row 6 and column 6.
+use Rattle.std.proofs.Common.{◌≡◌, ℕ, ◌+◌, ◌-◌, ◌%◌, ◌<◌, ◌≤◌, Bool, true, false, eqb, ltb, ◌&&◌, ◌||◌, Option, None, Some, refl, sym, ◌∙◌, ap, inl, inr, arith}
+use Rattle.std.proofs.lemmas.Bool.{cases_lt}
+use Rattle.std.proofs.lemmas.Bool.Decides.{nat_tests}
+use Rattle.qr_layout.specs.declared.role.Role.TheVariants.{Fixed}
+use Rattle.std.specs.List.{list_any}
+use Rattle.std.specs.Prelude.{is_some}
+use Rattle.qr_layout.specs.Format.{version_word_of}
+use Rattle.qr_layout.specs.Steps.Rectangles.{is_in_rectangle, timing_lines}
+use Rattle.qr_layout.specs.Version.{side_of}
+use Rattle.qr_layout.specs.Role.{finder_ring, pattern_colour, role_of}
+use Rattle.qr_symbol.specs.Steps.Drawing.{fixed_colour, is_dark_in_six, paint_of}
+
+-- a place in ring 3 of a finder pattern is dark
+ring-three : (v r c : ℕ) → finder_ring (side_of v) r c ≡ 3 → role_of v r c ≡ Fixed true
+unfolding role_of pattern_colour
+ring-three v r c e = rw e refl
+
+-- a place in ring 4 is light
+ring-four : (v r c : ℕ) → finder_ring (side_of v) r c ≡ 4 → role_of v r c ≡ Fixed false
+unfolding role_of pattern_colour
+ring-four v r c e = rw e refl
+
+-- the parts of row 6 or column 6, with the ring of the place and what it holds between the finder patterns
+six : (v r c at : ℕ) → 21 ≤ side_of v → at < side_of v → (at < 7 → finder_ring (side_of v) r c ≡ 3) → (side_of v - 7 ≤ at → finder_ring (side_of v) r c ≡ 3)
+    → (at ≡ 7 → finder_ring (side_of v) r c ≡ 4) → (at ≡ side_of v - 8 → finder_ring (side_of v) r c ≡ 4)
+    → (7 < at → at < side_of v - 8 → role_of v r c ≡ Fixed (eqb (at % 2) 0)) → role_of v r c ≡ Fixed (is_dark_in_six (side_of v) at)
+six v r c at least inside near far seven eight off = elim (cases_lt at 7) [
+  | inl l ↦ ring-three v r c (near l) ∙ ap Fixed (sym (dark-near (side_of v) at l))
+  | inr l ↦ elim (cases_lt at (side_of v - 7)) [
+    | inr m ↦ ring-three v r c (far m) ∙ ap Fixed (sym (dark-far (side_of v) at m))
+    | inl m ↦ elim (cases_lt 7 at) [
+      | inr n ↦ ring-four v r c (seven (omega arith)) ∙ ap Fixed (sym (between (side_of v) at l m ∙ odd-light at (omega arith)))
+      | inl n ↦ elim (cases_lt at (side_of v - 8)) [
+        | inr o ↦ ring-four v r c (eight (omega arith)) ∙ ap Fixed (sym (between (side_of v) at l m ∙ odd-light at (omega arith)))
+        | inl o ↦ off n o ∙ ap Fixed (sym (between (side_of v) at l m))
+      ]
+    ]
+  ]
+]
+  where
+    dark-near : (s at : ℕ) → at < 7 → is_dark_in_six s at ≡ true
+    dark-near s at l = grind (arith, nat_tests)
+
+    dark-far : (s at : ℕ) → s - 7 ≤ at → is_dark_in_six s at ≡ true
+    dark-far s at l = grind (arith, nat_tests)
+
+    between : (s at : ℕ) → 7 ≤ at → at < s - 7 → is_dark_in_six s at ≡ eqb (at % 2) 0
+    between s at l m = grind (arith, nat_tests)
+
+    odd-light : (at : ℕ) → at % 2 ≡ 1 → eqb (at % 2) 0 ≡ false
+    odd-light at e = grind (arith, nat_tests)
+
+-- between the finder patterns row 6 is a timing pattern
+row-off : (v at : ℕ) → 5 ≤ finder_ring (side_of v) 6 at → role_of v 6 at ≡ Fixed (eqb (at % 2) 0)
+unfolding role_of pattern_colour
+row-off v at h = rw (below-four (finder_ring (side_of v) 6 at) h, not-four (finder_ring (side_of v) 6 at) h) refl
+  where
+    below-four : (n : ℕ) → 5 ≤ n → ltb n 4 ≡ false
+    below-four n h = grind (arith, nat_tests)
+
+    not-four : (n : ℕ) → 5 ≤ n → eqb n 4 ≡ false
+    not-four n h = grind (arith, nat_tests)
+
+-- so is column 6
+column-off : (v at : ℕ) → 5 ≤ finder_ring (side_of v) at 6 → 7 < at → role_of v at 6 ≡ Fixed (eqb (at % 2) 0)
+unfolding role_of pattern_colour
+column-off v at h k = rw (below-four (finder_ring (side_of v) at 6) h, not-four (finder_ring (side_of v) at 6) h, other at k) refl
+  where
+    below-four : (n : ℕ) → 5 ≤ n → ltb n 4 ≡ false
+    below-four n h = grind (arith, nat_tests)
+
+    not-four : (n : ℕ) → 5 ≤ n → eqb n 4 ≡ false
+    not-four n h = grind (arith, nat_tests)
+
+    other : (n : ℕ) → 7 < n → eqb n 6 ≡ false
+    other n h = grind (arith, nat_tests)
+
+-- what row 6 holds
+row-six : (v at : ℕ) → 1 ≤ v → at < side_of v → role_of v 6 at ≡ Fixed (is_dark_in_six (side_of v) at)
+row-six v at l h =
+    six v 6 at at (omega arith) h (λ k. omega arith) (λ k. omega arith) (λ k. omega arith) (λ k. omega arith) (λ k m. row-off v at (omega arith))
+
+-- what column 6 holds
+column-six : (v at : ℕ) → 1 ≤ v → at < side_of v → role_of v at 6 ≡ Fixed (is_dark_in_six (side_of v) at)
+column-six v at l h =
+    six v at 6 at (omega arith) h (λ k. omega arith) (λ k. omega arith) (λ k. omega arith) (λ k. omega arith) (λ k m. column-off v at (omega arith) k)
+
+-- what a fixed module is painted
+paint-fixed : (v r c : ℕ) (format : Option ℕ) (dark : Bool) → role_of v r c ≡ Fixed dark → paint_of v format r c ≡ (is_some format && dark)
+unfolding paint_of fixed_colour
+paint-fixed v r c None dark e = refl
+paint-fixed v r c (Some w) dark e = ap (fixed_colour w (version_word_of v)) e
+
+-- what row 6 is painted
+pub paint_row_six : (v at : ℕ) (format : Option ℕ) → 1 ≤ v → at < side_of v → paint_of v format 6 at ≡ (is_some format && is_dark_in_six (side_of v) at)
+paint_row_six v at format l h = paint-fixed v 6 at format (is_dark_in_six (side_of v) at) (row-six v at l h)
+
+-- what column 6 is painted
+pub paint_column_six : (v at : ℕ) (format : Option ℕ) → 1 ≤ v → at < side_of v → paint_of v format at 6 ≡ (is_some format && is_dark_in_six (side_of v) at)
+paint_column_six v at format l h = paint-fixed v at 6 format (is_dark_in_six (side_of v) at) (column-six v at l h)
+
+-- a place more of row 6 and of column 6
+pub six-more : (at r c : ℕ) → ((eqb r 6 && ltb c (at + 1)) || (eqb c 6 && ltb r (at + 1)))
+    ≡ ((((eqb r 6 && ltb c at) || (eqb c 6 && ltb r at)) || (eqb r 6 && eqb c at)) || (eqb r at && eqb c 6))
+six-more at r c = grind (arith, nat_tests)
+
+-- at first there is none
+pub six-none : (r c : ℕ) → ((eqb r 6 && ltb c 0) || (eqb c 6 && ltb r 0)) ≡ false
+six-none r c = grind (arith, nat_tests)
+
+-- at last there are all
+pub six-all : (s r c : ℕ) → r < s → c < s → ((eqb r 6 && ltb c s) || (eqb c 6 && ltb r s)) ≡ list_any (is_in_rectangle r c) (timing_lines s)
+six-all s r c l m = grind (arith, nat_tests)
