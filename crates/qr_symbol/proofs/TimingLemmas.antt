@@ -87,7 +87,7 @@ column-six v at l h =
     six v at 6 at (omega arith) h (λ k. omega arith) (λ k. omega arith) (λ k. omega arith) (λ k. omega arith) (λ k m. column-off v at (omega arith) k)
 
 -- what a fixed module is painted
-paint-fixed : (v r c : ℕ) (format : Option ℕ) (dark : Bool) → role_of v r c ≡ Fixed dark → paint_of v format r c ≡ (is_some format && dark)
+pub paint-fixed : (v r c : ℕ) (format : Option ℕ) (dark : Bool) → role_of v r c ≡ Fixed dark → paint_of v format r c ≡ (is_some format && dark)
 unfolding paint_of fixed_colour
 paint-fixed v r c None dark e = refl
 paint-fixed v r c (Some w) dark e = ap (fixed_colour w (version_word_of v)) e

@@ -1,13 +1,13 @@
 //! How the modules of a symbol get their colours: the function patterns with the format and version information, and
 //! the codewords' bits, strip by strip in the order of the walk or plainly along it (ISO/IEC 18004:2015, 7.7.2 and 7.7.3).
 
-ghost use Rattle.std.specs.Prelude.{◌≡◌, ℕ, List, ◌+◌, ◌-◌, ◌<◌, ◌≤◌, ◌==◌, ◌&&◌, if◌then◌else◌, nat_le, nat_lt, false, slice_index};
+ghost use Rattle.std.specs.Prelude.{◌≡◌, ℕ, List, ◌+◌, ◌-◌, ◌<◌, ◌≤◌, ◌==◌, ◌&&◌, not, if◌then◌else◌, nat_le, nat_lt, false, slice_index};
 ghost use Rattle.std.specs.List.{list_any};
 ghost use Rattle.qr_layout.specs.Version.{side_of};
 ghost use Rattle.qr_layout.specs.Alignment.{alignment_places, centres_of};
 ghost use Rattle.qr_layout.specs.Region.{is_alignment, ring_of};
 ghost use Rattle.qr_layout.specs.Steps.Rectangles.{corner_rectangles, is_in_rectangle, timing_lines, version_rectangles};
-ghost use Rattle.qr_layout.specs.Role.{is_alignment_light, role_of};
+ghost use Rattle.qr_layout.specs.Role.{finder_ring, is_alignment_light, role_of};
 ghost use Rattle.qr_layout.specs.Strips.{both_of, rows_from};
 ghost use Rattle.qr_layout.specs.Format.{version_word_of};
 ghost use Rattle.qr_bits.specs.Bits.{codeword_bit};
@@ -143,16 +143,81 @@ fn paint_rectangle(
     }
 }
 
-// Paints the corners.
+// Draws a finder pattern round its centre: of the rings round it 0, 1 and 3 are dark, and ring 2 is light.
+fn draw_finder(matrix: &mut Matrix, row: u8, col: u8)
+    requires row_least { 3 ≤ row }
+    requires row_most { row + 4 ≤ matrix.old.side }
+    requires col_least { 3 ≤ col }
+    requires col_most { col + 4 ≤ matrix.old.side }
+    requires side { matrix.old.side ≤ 177 }
+    ensures { matrix.new ≡ square matrix.old.side (λ r c. if nat_lt (ring_of row col r c) 4
+        then not (ring_of row col r c == 2) else colour matrix.old r c) }
+{
+    matrix.fill(row - 3, row + 4, col - 3, col + 4, true);
+    matrix.fill(row - 2, row + 3, col - 2, col + 3, false);
+    matrix.fill(row - 1, row + 2, col - 1, col + 2, true);
+}
+
+// Paints the eight by eight modules of a finder pattern with this centre and of its separator.
+fn paint_finder(matrix: &mut Matrix, v: Version, format: Option<u32>, block: Module, centre: Module)
+    requires square { IsSquare (side_of v) matrix.old }
+    requires bottom_in { block.row + 8 ≤ side_of v }
+    requires right_in { block.col + 8 ≤ side_of v }
+    requires row_least { block.row + 3 ≤ centre.row }
+    requires row_most { centre.row ≤ block.row + 4 }
+    requires col_least { block.col + 3 ≤ centre.col }
+    requires col_most { centre.col ≤ block.col + 4 }
+    requires nearest { (r c : ℕ) → ring_of centre.row centre.col r c ≤ 4 → finder_ring (side_of v) r c ≡ ring_of centre.row centre.col r c }
+    ensures { matrix.new ≡ square (side_of v) (λ r c. if nat_le block.row r && nat_lt r (block.row + 8)
+        && nat_le block.col c && nat_lt c (block.col + 8) then paint_of v format r c else colour matrix.old r c) }
+{
+    matrix.fill(block.row, block.row + 8, block.col, block.col + 8, false);
+    if format.is_some() {
+        draw_finder(matrix, centre.row, centre.col);
+    }
+}
+
+// Paints the corners: finder patterns, and row 8 and column 8 beside them.
 fn paint_corners(matrix: &mut Matrix, v: Version, format: Option<u32>)
     requires { IsSquare (side_of v) matrix.old }
     ensures { matrix.new ≡ square (side_of v) (λ r c. if list_any (is_in_rectangle r c) (corner_rectangles (side_of v))
         then paint_of v format r c else colour matrix.old r c) }
 {
     let side = v.side();
-    paint_rectangle(matrix, v, format, 0, 9, 0, 9);
-    paint_rectangle(matrix, v, format, 0, 9, side - 8, side);
-    paint_rectangle(matrix, v, format, side - 8, side, 0, 9);
+    let near = Module { row: 3, col: 3 };
+    let right = Module {
+        row: 3,
+        col: side - 4,
+    };
+    let below = Module {
+        row: side - 4,
+        col: 3,
+    };
+    paint_finder(matrix, v, format, Module { row: 0, col: 0 }, near);
+    paint_finder(
+        matrix,
+        v,
+        format,
+        Module {
+            row: 0,
+            col: side - 8,
+        },
+        right,
+    );
+    paint_finder(
+        matrix,
+        v,
+        format,
+        Module {
+            row: side - 8,
+            col: 0,
+        },
+        below,
+    );
+    paint_rectangle(matrix, v, format, 8, 9, 0, 9);
+    paint_rectangle(matrix, v, format, 8, 9, side - 8, side);
+    paint_rectangle(matrix, v, format, 0, 8, 8, 9);
+    paint_rectangle(matrix, v, format, side - 8, side, 8, 9);
 }
 
 // Whether the module at `at` of row 6, or of column 6, is dark: finder patterns take its ends, and a timing pattern what
