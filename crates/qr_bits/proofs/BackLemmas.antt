@@ -1,5 +1,5 @@
 -- Segments that grow at their end.
-use Rattle.std.proofs.Common.{◌≡◌, ℕ, suc, ◌+◌, ◌-◌, ◌<◌, Bool, true, false, cond, ◌==◌, List, [], ◌∷◌, ◌++◌, length, get_or, set, refl, sym, ◌∙◌, ap, arith}
+use Rattle.std.proofs.Common.{◌≡◌, ℕ, zero, suc, ◌+◌, Bool, true, false, cond, ◌==◌, List, [], ◌∷◌, ◌++◌, length, refl, sym, ◌∙◌, ap, append_assoc, arith}
 use Rattle.std.proofs.lemmas.Bool.{cond_both, eqb-true, eq-eqb, ne_eqb}
 use Rattle.qr_bits.specs.declared.modes.Mode.{Mode}
 use Rattle.qr_bits.specs.declared.modes.Mode.TheVariants.{Numeric, Alphanumeric, Byte, Kanji}
@@ -7,7 +7,7 @@ use denote.Enum.Bare.{sameb}
 use Rattle.qr_bits.specs.contracts.modes.Mode.{the_type}
 use Rattle.qr_bits.specs.declared.segmentation.Segment.{Segment}
 use Rattle.qr_bits.specs.Segmentation.{rank, with_front, runs_of}
-use Rattle.qr_bits.specs.Steps.Segmentation.{with_back}
+use Rattle.qr_bits.specs.Steps.Segmentation.{one_segment, with_back}
 use Rattle.std.specs.List.{sum_by}
 use Rattle.std.proofs.lemmas.List.Sums.{sum_by-cons}
 use Rattle.qr_bits.proofs.BestLemmas.{same_rank}
@@ -49,25 +49,28 @@ unfolding runs_of with_back
 runs_of-push [] m = refl
 runs_of-push (k ∷ ms) m = ap (with_front k) (runs_of-push ms m) ∙ both_ends k (runs_of ms) m
 
--- the last segment grows
-pub with_back-same : (segs : List Segment) (m : Mode) (d : Segment) → 0 < length segs → (get_or segs (length segs - 1) d).mode ≡ m
-    → with_back segs m ≡ set segs (length segs - 1) (record { mode = m; len = (get_or segs (length segs - 1) d).len + 1 })
+-- a letter after the last of some segments
+pub with_back-last : (ss : List Segment) (s : Segment) (m : Mode) → with_back (ss ++ s ∷ []) m ≡ ss ++ with_back (s ∷ []) m
 unfolding with_back
-with_back-same [] m d h e = absurd (omega arith)
-with_back-same (s ∷ []) m d h e = rw (ap rank e, same_rank_test m, e) refl
-with_back-same (s ∷ t ∷ ss) m d h e =
-    let u : suc (suc (length ss)) - 1 ≡ suc (suc (length ss) - 1) = omega arith in
-    rw u (ap (λ (r : List Segment). s ∷ r) (with_back-same (t ∷ ss) m d (omega arith) (rw u at e)))
+with_back-last [] s m = refl
+with_back-last (t ∷ []) s m = refl
+with_back-last (t ∷ u ∷ ss) s m = ap (λ (r : List Segment). t ∷ r) (with_back-last (u ∷ ss) s m)
+
+-- the last segment grows, or is the first
+pub run_same : (segs : List Segment) (m : Mode) (n : ℕ) → (n ≡ 0 → segs ≡ []) → with_back (segs ++ one_segment m n) m ≡ segs ++ one_segment m (n + 1)
+unfolding with_back
+run_same segs m zero none = rw (none refl) refl
+run_same segs m (suc n) none =
+    let e : suc n + 1 ≡ suc (suc n) = omega arith in
+    rw (e, with_back-last segs (record { mode = m; len = suc n }) m, same_rank_test m, e) refl
 
 -- a new one begins
-pub with_back-other : (segs : List Segment) (m : Mode) (d : Segment) → ((get_or segs (length segs - 1) d).mode ≡ m → ⊥)
-    → with_back segs m ≡ segs ++ record { mode = m; len = 1 } ∷ []
+pub run_other : (segs : List Segment) (k m : Mode) (n : ℕ) → (n ≡ 0 → segs ≡ []) → (k ≡ m → ⊥) → with_back (segs ++ one_segment k n) m ≡ (segs ++ one_segment k n) ++ one_segment m 1
 unfolding with_back
-with_back-other [] m d n = refl
-with_back-other (s ∷ []) m d n = rw (ne_eqb (rank s.mode) (rank m) (λ e. n (same_rank s.mode m e))) refl
-with_back-other (s ∷ t ∷ ss) m d n =
-    let u : suc (suc (length ss)) - 1 ≡ suc (suc (length ss) - 1) = omega arith in
-    ap (λ (r : List Segment). s ∷ r) (with_back-other (t ∷ ss) m d (rw u at n))
+run_other segs k m zero none other = rw (none refl) refl
+run_other segs k m (suc n) none other =
+    rw (with_back-last segs (record { mode = k; len = suc n }) m, ne_eqb (rank k) (rank m) (λ e. other (same_rank k m e)))
+    (sym (append_assoc segs (record { mode = k; len = suc n } ∷ []) (record { mode = m; len = 1 } ∷ [])))
 
 -- the runs are as long as the letters
 sum_by-with_front : (m : Mode) (segs : List Segment) → sum_by (λ s. s.len) (with_front m segs) ≡ 1 + sum_by (λ s. s.len) segs
@@ -89,18 +92,3 @@ sameb_self Numeric = refl
 sameb_self Alphanumeric = refl
 sameb_self Byte = refl
 sameb_self Kanji = refl
-
--- after no segment a new one begins
-pub with_back-empty : (segs : List Segment) (m : Mode) → length segs ≡ 0 → with_back segs m ≡ segs ++ record { mode = m; len = 1 } ∷ []
-unfolding with_back
-with_back-empty [] m h = refl
-with_back-empty (s ∷ ss) m h = absurd (omega arith)
-
--- the segment read at the end, one longer, is the last that grows
-pub with_back-grown : (segs : List Segment) (m : Mode) (s : Segment) (i : ℕ) → i ≡ length segs - 1 → 0 < length segs → s ≡ get_or segs i s → s.mode ≡ m
-    → set segs i (record { mode = s.mode; len = s.len + 1 }) ≡ with_back segs m
-with_back-grown segs m s i last some read same =
-    let read' : s ≡ get_or segs (length segs - 1) s = rw last at read in
-    let g = with_back-same segs m s some (ap (λ (t : Segment). t.mode) (sym read') ∙ same) in
-    let len : (get_or segs (length segs - 1) s).len ≡ s.len = ap (λ (t : Segment). t.len) (sym read') in
-    rw last (rw same (sym (rw len at g)))

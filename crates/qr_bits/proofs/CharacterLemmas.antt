@@ -1,12 +1,16 @@
 -- The 45 characters: each has a place.
-use Rattle.std.proofs.Common.{◌≡◌, ℕ, ◌<◌, ◌≤◌, ◌==◌, Bool, true, false, not, nat_le, nat_lt, List, length, get_or, Option, Some, refl, sym, ◌∙◌, ⊎_elim, arith}
+use Rattle.std.proofs.Common.{◌≡◌, ℕ, ◌+◌, ◌-◌, ◌<◌, ◌≤◌, ◌==◌, Bool, true, false, not, nat_le, nat_lt, List, length, get_or, Option, Some, refl, sym, ◌∙◌, ⊎_elim, arith}
 use borrow.Author.Tests.{leb-true}
 use Rattle.std.specs.List.{list_any, position, position_or_len}
-use Rattle.std.proofs.lemmas.Bool.{cases_lt, false≢true, lt-ltb, ltb-true, eqb-true, eq-eqb, ne_eqb}
+use Rattle.std.proofs.lemmas.Bool.{and_parts, and_from, cases_lt, false≢true, lt-ltb, ltb-true, eqb-true, eq-eqb, ne_eqb}
 use Rattle.std.proofs.lemmas.List.Folds.{list_any_none, list_any_at}
 use Rattle.std.proofs.lemmas.List.Sums.{fails_before_first, passes_at_first, position_or_len_is}
 use Rattle.std.proofs.lemmas.List.Elements.{All-from_get_or}
-use Rattle.qr_bits.specs.Modes.{characters, is_alphanumeric, character_value}
+use Rattle.qr_bits.specs.declared.modes.Mode.TheVariants.{Numeric, Alphanumeric}
+use Rattle.qr_bits.specs.declared.modes.Rule.{Rule}
+use Rattle.qr_bits.specs.declared.modes.Rule.TheVariants.{Auto, BytesOnly, WithKanji}
+use Rattle.qr_bits.specs.Modes.{characters, is_alphanumeric, is_digit, character_value, may_use}
+use Rattle.qr_bits.specs.Steps.Place.{may_begin}
 use Rattle.qr_bits.specs.Parsing.{character}
 use Rattle.qr_layout.proofs.Facts.{below, below-at}
 
@@ -103,3 +107,25 @@ character_taken n h =
           (λ _. here),
       ltb-true _ _ (below-at 45 small all_small n h),
     )
+
+-- a rule that has digits has characters
+text_used : (r : Rule) → may_use r Numeric ≡ true → may_use r Alphanumeric ≡ true
+text_used Auto h = refl
+text_used BytesOnly h = h
+text_used WithKanji h = refl
+
+-- each digit is a character
+all_digits : below 10 (λ i. is_alphanumeric (48 + i)) ≡ true
+unfolding is_alphanumeric characters
+all_digits = refl
+
+-- a digit may be taken as a character
+pub digit_character : (r : Rule) (b : ℕ) (pair : Bool) → may_begin r b pair Numeric ≡ true → may_begin r b pair Alphanumeric ≡ true
+unfolding may_begin
+digit_character r b pair h =
+    let parts = and_parts (may_use r Numeric) (is_digit b) h in
+    let bounds = and_parts (nat_le 48 b) (nat_le b 57) parts.1 in
+    let low : 48 ≤ b = leb-true _ _ bounds.0 in
+    let high : b ≤ 57 = leb-true _ _ bounds.1 in
+    let e : 48 + (b - 48) ≡ b = omega arith in
+    and_from _ _ (text_used r parts.0) (rw e at (below-at 10 (λ i. is_alphanumeric (48 + i)) all_digits (b - 48) (omega arith)))

@@ -1,64 +1,60 @@
--- The choice among the letters, one after the other.
-use Rattle.std.proofs.Common.{◌≡◌, ℕ, ◌+◌, ◌<◌, ◌≤◌, ◌⊎◌, Bool, true, false, ◌==◌, refl, sym, ◌∙◌, ap, inl, inr, ⊎_elim, arith, lit<, lit≤}
-use Rattle.std.proofs.lemmas.Bool.{false≢true, cases_eq, cases_lt, eqb-true}
+-- The choice among the modes, as the least of numbers.
+use Rattle.std.proofs.Common.{◌≡◌, ℕ, ◌+◌, ◌*◌, ◌/◌, ◌%◌, ◌<◌, ◌≤◌, Bool, true, false, ◌==◌, min, refl, sym, ◌∙◌, ap, ⊎_elim, arith, lit<, lit≤}
+use Rattle.std.proofs.lemmas.Bool.{false≢true, cases_lt, eqb-true}
 use Rattle.qr_bits.specs.declared.modes.Mode.{Mode}
 use Rattle.qr_bits.specs.declared.modes.Mode.TheVariants.{Numeric, Alphanumeric, Byte, Kanji}
 use Rattle.qr_bits.specs.declared.modes.Rule.{Rule}
 use Rattle.qr_bits.specs.declared.modes.Rule.TheVariants.{Auto, BytesOnly, WithKanji}
 use Rattle.qr_bits.specs.declared.place.Place.{Place}
-use Rattle.qr_bits.specs.declared.place.Place.TheVariants.{Start, Digit1, Digit2, Digit3, Character1, Character2, InBytes, HalfPair, WholePair}
-use Rattle.qr_bits.specs.declared.table.Choice.{Choice}
+use Rattle.qr_bits.specs.declared.place.Place.TheVariants.{Digit1, Digit2, Digit3, Character1, Character2, InBytes, HalfPair, WholePair}
 use Rattle.qr_bits.specs.Segmentation.{rank}
 use Rattle.qr_bits.specs.Modes.{may_use}
-use Rattle.qr_bits.specs.Steps.Place.{place_after, step_bits, may_begin, may_take, may_end, IsChoice, IsChosen, IsChosenBelow}
+use Rattle.qr_bits.specs.Steps.Place.{place_after, place_on, step_bits, may_begin, may_take, may_end, number_of, ranked, IsChoice}
 use Rattle.qr_bits.proofs.BestLemmas.{same_rank}
 use Rattle.qr_bits.proofs.SegmentLemmas.{count_width_bound}
 
--- before any letter none is chosen
-pub chosen_none : (may : Mode → Bool) (cost : Mode → ℕ) (limit : ℕ) (m : Mode) → IsChosen may cost limit 0 m limit
-chosen_none may cost limit m = record { stands = inl refl; least = λ k h t. absurd (omega arith); first = λ k h t e. absurd (omega arith) }
+-- the least of the numbers of the four modes
+abbrev pub least_of : (Mode → Bool) → (Mode → ℕ) → ℕ
+least_of may cost =
+    min (number_of (may Numeric) (cost Numeric) Numeric)
+    (min (number_of (may Alphanumeric) (cost Alphanumeric) Alphanumeric) (min (number_of (may Byte) (cost Byte) Byte) (number_of (may Kanji) (cost Kanji) Kanji)))
 
--- a letter below the next rank is below this one, or of it
-below_or_same : (n : ℕ) (j k : Mode) → rank j ≡ n → rank k < n + 1 → (rank k < n) ⊎ (k ≡ j)
-below_or_same n j k e h =
-    ⊎_elim (λ (s : rank k ≡ rank j). inr (same_rank k j s)) (λ (d : rank k ≡ rank j → ⊥). inl (omega (arith, d))) (cases_eq (rank k) (rank j))
+-- it is no more than the number of each mode that may be taken
+least_under : (may : Mode → Bool) (cost : Mode → ℕ) (k : Mode) → may k ≡ true → least_of may cost ≤ 4 * cost k + rank k
+least_under may cost Numeric t = rw t (omega arith)
+least_under may cost Alphanumeric t = rw t (omega arith)
+least_under may cost Byte t = rw t (omega arith)
+least_under may cost Kanji t = rw t (omega arith)
 
--- a letter that may not be taken
-pub chosen_skip : (may : Mode → Bool) (cost : Mode → ℕ) (limit n : ℕ) (m j : Mode) (b : ℕ) → rank j ≡ n → may j ≡ false → IsChosen may cost limit n m b → IsChosen may cost limit (n + 1) m b
-chosen_skip may cost limit n m j b e missing c = record {
-  stands = ⊎_elim (λ (s : b ≡ limit). inl s) (λ (s : (may m ≡ true) × (b ≡ cost m) × (rank m < n)). inr (s.0, s.1, omega (arith, s.2))) c.stands;
-  least = λ k h t. ⊎_elim (λ (l : rank k < n). c.least k l t) (λ (s : k ≡ j). absurd (false≢true (sym missing ∙ ap may (sym s) ∙ t))) (below_or_same n j k e h);
-  first = λ k h t q. ⊎_elim (λ (l : rank k < n). c.first k l t q) (λ (s : k ≡ j). absurd (false≢true (sym missing ∙ ap may (sym s) ∙ t))) (below_or_same n j k e h);
-}
+-- the number is that of a mode that may be taken
+abbrev IsTaken : (Mode → Bool) → (Mode → ℕ) → ℕ → Type 0
+IsTaken may cost c = (m : Mode) × (may m ≡ true) × (c ≡ 4 * cost m + rank m)
 
--- a letter with fewer bits
-pub chosen_take : (may : Mode → Bool) (cost : Mode → ℕ) (limit n : ℕ) (m j : Mode) (b d : ℕ) → rank j ≡ n → may j ≡ true → d ≡ cost j → d < b → IsChosen may cost limit n m b → IsChosen may cost limit (n + 1) j d
-chosen_take may cost limit n m j b d e taken is less c = record {
-  stands = inr (taken, is, omega arith);
-  least = λ k h t. ⊎_elim (λ (l : rank k < n). omega (arith, c.least k l t)) (λ (s : k ≡ j). omega (arith, ap cost s)) (below_or_same n j k e h);
-  first = λ k h t q. ⊎_elim (λ (l : rank k < n). absurd (omega (arith, c.least k l t))) (λ (s : k ≡ j). omega (arith, ap rank s)) (below_or_same n j k e h);
-}
+-- a number below the limit is that of a mode that may be taken
+taken_one : (may : Mode → Bool) (cost : Mode → ℕ) (m : Mode) (t : Bool) → t ≡ may m → number_of t (cost m) m < 4294967295 → IsTaken may cost (number_of t (cost m) m)
+taken_one may cost m true e h = (m, sym e, refl)
+taken_one may cost m false e h = absurd (omega arith)
 
--- a letter with no fewer bits
-pub chosen_keep : (may : Mode → Bool) (cost : Mode → ℕ) (limit n : ℕ) (m j : Mode) (b d : ℕ) → rank j ≡ n → d ≡ cost j → cost j < limit → b ≤ d → IsChosen may cost limit n m b → IsChosen may cost limit (n + 1) m b
-chosen_keep may cost limit n m j b d e is small more c = record {
-  stands = ⊎_elim (λ (s : b ≡ limit). absurd (omega arith)) (λ (s : (may m ≡ true) × (b ≡ cost m) × (rank m < n)). inr (s.0, s.1, omega (arith, s.2))) c.stands;
-  least = λ k h t. ⊎_elim (λ (l : rank k < n). c.least k l t) (λ (s : k ≡ j). omega (arith, ap cost s)) (below_or_same n j k e h);
-  first = λ k h t q. ⊎_elim (λ (l : rank k < n). c.first k l t q) (λ (s : k ≡ j).
-      ⊎_elim (λ (f : b ≡ limit). absurd (omega (arith, ap cost s))) (λ (f : (may m ≡ true) × (b ≡ cost m) × (rank m < n)). omega (arith, f.2, ap rank s)) c.stands) (below_or_same n j k e h);
-}
-
--- one more letter: it is the choice if it may be taken and has fewer bits
-pub or_letter : (may : Mode → Bool) (cost : Mode → ℕ) (limit n : ℕ) (j : Mode) (t : Bool) (d : ℕ) (c e : Choice) → rank j ≡ n → t ≡ may j → d ≡ cost j → cost j < limit
-    → (t ≡ true → d < c.bits → e ≡ record { mode = j; bits = d }) → (t ≡ true → c.bits ≤ d → e ≡ c) → (t ≡ false → e ≡ c)
-    → IsChosen may cost limit n c.mode c.bits → IsChosen may cost limit (n + 1) e.mode e.bits
-or_letter may cost limit n j true d c e at is bits small taken kept passed chosen =
+-- the lesser of two numbers is one of them
+taken_min : (may : Mode → Bool) (cost : Mode → ℕ) (a b : ℕ) → (a < 4294967295 → IsTaken may cost a) → (b < 4294967295 → IsTaken may cost b) → min a b < 4294967295 → IsTaken may cost (min a b)
+taken_min may cost a b f g h =
     ⊎_elim
-    (λ (h : d < c.bits). rw (taken refl h) (chosen_take may cost limit n c.mode j c.bits d at (sym is) bits h chosen))
-    (λ (h : c.bits ≤ d). rw (kept refl h) (chosen_keep may cost limit n c.mode j c.bits d at bits small h chosen))
-    (cases_lt d c.bits)
-or_letter may cost limit n j false d c e at is bits small taken kept passed chosen =
-    rw (passed refl) (chosen_skip may cost limit n c.mode j c.bits at (sym is) chosen)
+    (λ (l : a < b). let e : min a b ≡ a = omega arith in rw e (f (omega arith)))
+    (λ (l : b ≤ a). let e : min a b ≡ b = omega arith in rw e (g (omega arith)))
+    (cases_lt a b)
+
+-- so is the least of four
+taken_least : (may : Mode → Bool) (cost : Mode → ℕ) → least_of may cost < 4294967295 → IsTaken may cost (least_of may cost)
+taken_least may cost =
+    taken_min may cost _ _ (taken_one may cost Numeric _ refl)
+    (taken_min may cost _ _ (taken_one may cost Alphanumeric _ refl) (taken_min may cost _ _ (taken_one may cost Byte _ refl) (taken_one may cost Kanji _ refl)))
+
+-- the mode of a number
+ranked-number : (c b : ℕ) (m : Mode) → c ≡ 4 * b + rank m → ranked (c % 4) ≡ m
+ranked-number c b Numeric e = let r : c % 4 ≡ 0 = omega arith in rw r refl
+ranked-number c b Alphanumeric e = let r : c % 4 ≡ 1 = omega arith in rw r refl
+ranked-number c b Byte e = let r : c % 4 ≡ 2 = omega arith in rw r refl
+ranked-number c b Kanji e = let r : c % 4 ≡ 3 = omega arith in rw r refl
 
 -- a letter adds at most 33 bits
 pub step_bits_bound : (v : ℕ) (p : Place) (m : Mode) → step_bits v p m ≤ 33
@@ -99,53 +95,70 @@ take_begin r _ x pair m e = refl
 kanji_alone : (k : Mode) → (rank k == rank Kanji) ≡ true → k ≡ Kanji
 kanji_alone k h = same_rank k Kanji (eqb-true _ _ h)
 
--- in the middle of a pair its second letter is the choice
-pub half_choice : (v : ℕ) (r : Rule) (x : ℕ) (pair : Bool) (cost : Place → ℕ) → IsChoice v r HalfPair x pair cost Kanji (cost WholePair)
+-- in the middle of a pair its second byte is the choice
+pub half_choice : (v : ℕ) (r : Rule) (x : ℕ) (pair : Bool) (cost : Place → ℕ) (c : ℕ) → c ≡ number_of true (step_bits v HalfPair Kanji + cost (place_after HalfPair Kanji)) Kanji
+    → IsChoice v r HalfPair x pair cost (ranked (c % 4)) (c / 4)
 unfolding may_take step_bits place_after
-half_choice v r x pair cost = record {
-  is_allowed = refl;
-  has_bits = omega arith;
-  least = λ k h. let e = kanji_alone k h in rw e (omega arith);
-  first = λ k h q. let e = kanji_alone k h in rw e (omega arith);
-}
+half_choice v r x pair cost c is =
+    let bits : c / 4 ≡ cost WholePair = omega arith in
+    rw (ranked-number c (cost WholePair) Kanji (omega arith), bits)
+    (record {
+      is_allowed = refl;
+      has_bits = omega arith;
+      least = λ k h. let e = kanji_alone k h in rw e (omega arith);
+      first = λ k h q. let e = kanji_alone k h in rw e (omega arith);
+    })
 
--- for a letter other than kanji a pair before is as nothing before
-same_step : (v : ℕ) (m : Mode) → rank m < 3 → (step_bits v WholePair m ≡ step_bits v Start m) × (place_after WholePair m ≡ place_after Start m)
-unfolding step_bits place_after
-same_step v Numeric h = (refl, refl)
-same_step v Alphanumeric h = (refl, refl)
-same_step v Byte h = (refl, refl)
-same_step v Kanji h = absurd (omega arith)
+-- after a byte the place is one
+place_after-byte : (p : Place) → place_after p Byte ≡ InBytes
+unfolding place_after
+place_after-byte _ = refl
 
--- among the letters of one byte the choice after a pair is that at the start
-pub whole_chosen : (v : ℕ) (r : Rule) (x : ℕ) (pair : Bool) (cost : Place → ℕ) (m : Mode) (b : ℕ) → IsChosenBelow v r Start x pair cost 3 m b → IsChosenBelow v r WholePair x pair cost 3 m b
-whole_chosen v r x pair cost m b c = record {
-  stands = ⊎_elim (λ (s : b ≡ 4294967295). inl s)
-      (λ (s : (may_begin r x pair m ≡ true) × (b ≡ step_bits v Start m + cost (place_after Start m)) × (rank m < 3)). let q = same_step v m s.2 in inr (s.0, rw (q.0, q.1) s.1, s.2))
-      c.stands;
-  least = λ k h t. let q = same_step v k h in rw (q.0, q.1) (c.least k h t);
-  first = λ k h t e. let q = same_step v k h in c.first k h t (rw (q.0, q.1) at e);
-}
-
--- after all letters the choice is made
-pub chosen_all : (v : ℕ) (r : Rule) (p : Place) (x : ℕ) (pair : Bool) (cost : Place → ℕ) (m : Mode) (b : ℕ) → may_end p ≡ true
-    → ((q : Place) → cost q < 10000000)
-    → IsChosen (may_begin r x pair) (λ k. step_bits v p k + cost (place_after p k)) 4294967295 4 m b
-    → IsChoice v r p x pair cost m b
+-- the least number is that of the first of the modes that lead to the fewest bits
+pub least_choice : (v : ℕ) (r : Rule) (p : Place) (x : ℕ) (pair : Bool) (cost : Place → ℕ) (c : ℕ) → may_end p ≡ true → cost InBytes < 10000000
+    → c ≡ least_of (may_begin r x pair) (λ k. step_bits v p k + cost (place_after p k))
+    → IsChoice v r p x pair cost (ranked (c % 4)) (c / 4)
 unfolding may_begin
-chosen_all v r p x pair cost m b e small c =
+least_choice v r p x pair cost c e small is =
+    let total : Mode → ℕ = λ k. step_bits v p k + cost (place_after p k) in
     let take : (k : Mode) → may_take r p x pair k ≡ may_begin r x pair k = λ k. take_begin r p x pair k e in
-    let limit = c.least Byte (lit< tt) (byte_used r) in
-    let stands : (may_begin r x pair m ≡ true) × (b ≡ step_bits v p m + cost (place_after p m)) × (rank m < 4) = ⊎_elim
-    (λ (s : b ≡ 4294967295). absurd (omega (arith, limit, step_bits_bound v p Byte, small (place_after p Byte))))
-    (λ (s : (may_begin r x pair m ≡ true) × (b ≡ step_bits v p m + cost (place_after p m)) × (rank m < 4)). s)
-    c.stands in
-    record {
-      is_allowed = take m ∙ stands.0;
-      has_bits = stands.1;
-      least = λ k h. c.least k (rank_below k) (sym (take k) ∙ h);
-      first = λ k h q. c.first k (rank_below k) (sym (take k) ∙ h) q;
-    }
+    let under : (k : Mode) → may_take r p x pair k ≡ true → c ≤ 4 * total k + rank k = λ k h. rw is (least_under (may_begin r x pair) total k (sym (take k) ∙ h)) in
+    let few : c < 4294967295 = omega (arith, under Byte (take Byte ∙ byte_used r), step_bits_bound v p Byte, ap cost (place_after-byte p)) in
+    let taken : IsTaken (may_begin r x pair) total c = rw is (taken_least (may_begin r x pair) total (rw is at few)) in
+    let m = taken.0 in
+    let bits : c / 4 ≡ total m = omega (arith, taken.2, rank_below m) in
+    rw (ranked-number c (total m) m taken.2)
+    (record {
+      is_allowed = take m ∙ taken.1;
+      has_bits = bits;
+      least = λ k h. omega (arith, under k h, taken.2, rank_below m, rank_below k);
+      first = λ k h q. omega (arith, under k h, taken.2, bits, q);
+    })
+
+-- fewer bits make no larger number
+pub number_less : (may : Bool) (m : Mode) (a b : ℕ) → a ≤ b → number_of may a m ≤ number_of may b m
+number_less true m a b h = omega arith
+number_less false m a b h = omega arith
+
+-- two numbers and the least of the others, in any order
+pub own_beside : (o n r : ℕ) → min o (min n r) ≡ min n (min o r)
+own_beside o n r = omega arith
+
+-- the number of a mode that goes on, beside a larger one of a new segment in its mode
+pub own_first : (o n r : ℕ) → o ≤ n → min o (min n r) ≡ min o r
+own_first o n r h = omega arith
+
+-- and in the second place
+pub own_second : (o n a r : ℕ) → o ≤ a → min o (min n (min a r)) ≡ min n (min o r)
+own_second o n a r h = omega arith
+
+-- and in the third
+pub own_third : (o n a b r : ℕ) → o ≤ b → min o (min n (min a (min b r))) ≡ min n (min a (min o r))
+own_third o n a b r h = omega arith
+
+-- and in the last
+pub own_last : (o n a b k : ℕ) → o ≤ k → min o (min n (min a (min b k))) ≡ min n (min a (min b o))
+own_last o n a b k h = omega arith
 
 -- a pair begins where no half of one is open
 pub place_after-whole : (p : Place) → may_end p ≡ true → place_after p Kanji ≡ HalfPair
@@ -153,38 +166,14 @@ unfolding may_end place_after
 place_after-whole HalfPair e = absurd (false≢true e)
 place_after-whole _ e = refl
 
--- a pair with fewer bits than the letters of one byte
-pub pair_take : (v : ℕ) (r : Rule) (p : Place) (x : ℕ) (pair : Bool) (cost : Place → ℕ) (m : Mode) (b d : ℕ) → may_end p ≡ true → ((q : Place) → cost q < 10000000) → pair ≡ true
-    → d ≡ step_bits v p Kanji + cost HalfPair → d < b → IsChosenBelow v r p x pair cost 3 m b → IsChoice v r p x pair cost Kanji d
-unfolding may_begin
-pair_take v r p x pair cost m b d e small t is less c =
-    let there : d ≡ step_bits v p Kanji + cost (place_after p Kanji) = rw (place_after-whole p e) is in
-    chosen_all v r p x pair cost Kanji d e small
-    (chosen_take (may_begin r x pair) (λ (k : Mode). step_bits v p k + cost (place_after p k)) 4294967295 3 m Kanji b d refl t there less c)
-
--- a pair with no fewer bits
-pub pair_keep : (v : ℕ) (r : Rule) (p : Place) (x : ℕ) (pair : Bool) (cost : Place → ℕ) (m : Mode) (b d : ℕ) → may_end p ≡ true → ((q : Place) → cost q < 10000000)
-    → d ≡ step_bits v p Kanji + cost HalfPair → b ≤ d → IsChosenBelow v r p x pair cost 3 m b → IsChoice v r p x pair cost m b
-pair_keep v r p x pair cost m b d e small is more c =
-    let there : d ≡ step_bits v p Kanji + cost (place_after p Kanji) = rw (place_after-whole p e) is in
-    let fits : step_bits v p Kanji + cost (place_after p Kanji) < 4294967295 = omega (arith, step_bits_bound v p Kanji, small (place_after p Kanji)) in
-    chosen_all v r p x pair cost m b e small
-    (chosen_keep (may_begin r x pair) (λ (k : Mode). step_bits v p k + cost (place_after p k)) 4294967295 3 m Kanji b d refl there fits more c)
-
--- no pair
-pub pair_skip : (v : ℕ) (r : Rule) (p : Place) (x : ℕ) (pair : Bool) (cost : Place → ℕ) (m : Mode) (b : ℕ) → may_end p ≡ true → ((q : Place) → cost q < 10000000) → pair ≡ false
-    → IsChosenBelow v r p x pair cost 3 m b → IsChoice v r p x pair cost m b
-unfolding may_begin
-pair_skip v r p x pair cost m b e small none c =
-    chosen_all v r p x pair cost m b e small
-    (chosen_skip (may_begin r x pair) (λ (k : Mode). step_bits v p k + cost (place_after p k)) 4294967295 3 m Kanji b refl none c)
-
--- the choice or a pair, whichever has fewer bits
-pub or_pair : (v : ℕ) (r : Rule) (p : Place) (x : ℕ) (pair : Bool) (cost : Place → ℕ) (d : ℕ) (c e : Choice) → may_end p ≡ true → pair ≡ true → ((q : Place) → cost q < 10000000)
-    → d ≡ step_bits v p Kanji + cost HalfPair → IsChosenBelow v r p x pair cost 3 c.mode c.bits → (d < c.bits → e ≡ record { mode = Kanji; bits = d }) → (c.bits ≤ d → e ≡ c)
-    → IsChoice v r p x pair cost e.mode e.bits
-or_pair v r p x pair cost d c e w t small is chosen less more =
-    ⊎_elim
-    (λ (h : d < c.bits). rw (less h) (pair_take v r p x pair cost c.mode c.bits d w small t is h chosen))
-    (λ (h : c.bits ≤ d). rw (more h) (pair_keep v r p x pair cost c.mode c.bits d w small is h chosen))
-    (cases_lt d c.bits)
+-- one more byte in the mode of the last one
+pub on_after : (p : Place) (m : Mode) → place_on (place_after p m) ≡ place_after (place_after p m) m
+unfolding place_on place_after
+on_after Digit1 Numeric = refl
+on_after Digit2 Numeric = refl
+on_after _ Numeric = refl
+on_after Character1 Alphanumeric = refl
+on_after _ Alphanumeric = refl
+on_after _ Byte = refl
+on_after HalfPair Kanji = refl
+on_after _ Kanji = refl

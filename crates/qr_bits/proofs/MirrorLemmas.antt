@@ -13,15 +13,15 @@ use Rattle.qr_bits.specs.declared.place.Place.TheVariants.{Start}
 use Rattle.qr_bits.specs.Segmentation.{rank, bits, with_front, runs_of, HasFit}
 use Rattle.qr_bits.specs.Modes.{in_twos, is_kanji_pair, is_digit, is_alphanumeric, may_use}
 use Rattle.qr_bits.specs.Steps.Segmentation.{with_back}
-use Rattle.qr_bits.specs.Steps.Place.{turned, begins, may_end, IsChoice}
+use Rattle.qr_bits.specs.Steps.Place.{turned, begins, may_end}
 use Rattle.qr_bits.proofs.BestLemmas.{BestBelow, same_rank}
-use Rattle.qr_bits.proofs.BackLemmas.{runs_of-push}
+use Rattle.qr_bits.proofs.BackLemmas.{runs_of-push, with_back-last}
 use Rattle.qr_bits.proofs.LetterLemmas.{bits-runs_of}
 use Rattle.qr_bits.proofs.CoverLemmas.{CoversInTurn, from_turn}
 use Rattle.qr_bits.proofs.LetteringLemmas.{suits_by, CoversBy, IsLetteringBy, covers_by, by_covers, can_take, is_lettering}
 use Rattle.qr_bits.proofs.TableLemmas.{bytes_rest, best_more}
 use Rattle.qr_bits.specs.declared.place.ByPlace.{ByPlace}
-use Rattle.qr_bits.specs.Steps.Table.{at_place, follow}
+use Rattle.qr_bits.specs.Steps.Table.{bits_at, follow, IsRow}
 
 -- what all elements pass they pass read backwards
 list_all-reverse : {X : Type 0} (p : X → Bool) (xs : List X) → list_all p xs ≡ true → list_all p (reverse xs) ≡ true
@@ -67,13 +67,6 @@ covers-reverse test xs (s ∷ ss) c =
     let n : length (reverse (take s.len xs)) ≡ s.len = length-reverse (take s.len xs) ∙ length-take-le s.len xs c.1 in
     let all = covers-push (turned test) (reverse (drop s.len xs)) (reverse (take s.len xs)) (reverse ss) s c.0 n (suits-reverse test s.mode (take s.len xs) c.2) (covers-reverse test (drop s.len xs) ss c.3) in
     rw (reverse-append (s ∷ []) ss) (subst (λ (ys : List ℕ). CoversBy (turned test) ys (reverse ss ++ s ∷ [])) (sym whole) all)
-
--- a letter after the last of some segments
-with_back-last : (ss : List Segment) (s : Segment) (m : Mode) → with_back (ss ++ s ∷ []) m ≡ ss ++ with_back (s ∷ []) m
-unfolding with_back
-with_back-last [] s m = refl
-with_back-last (t ∷ []) s m = refl
-with_back-last (t ∷ u ∷ ss) s m = ap (λ (r : List Segment). t ∷ r) (with_back-last (u ∷ ss) s m)
 
 -- a letter before segments is one after them, read backwards
 with_front-reverse : (m : Mode) (ss : List Segment) → with_back (reverse ss) m ≡ reverse (with_front m ss)
@@ -170,15 +163,14 @@ ends_short r xs h = begins_short r (turned is_kanji_pair) (reverse xs) (omega (a
 pub front_next : (xs : List ℕ) (i : ℕ) → i < length xs → reverse (take (i + 1) xs) ≡ get_or xs i 0 ∷ reverse (take i xs)
 front_next xs i h = ap reverse (take_more xs i 0 h) ∙ reverse-append (take i xs) (get_or xs i 0 ∷ [])
 
--- the letters of one more byte of a prefix read backwards
-pub front_more : (v : ℕ) (r : Rule) (xs : List ℕ) (i : ℕ) (pair : Bool) (rows : List (ByPlace Mode)) (modes : ByPlace Mode) (rest bits : ByPlace ℕ) → i < length xs
+-- the modes of one more byte of a prefix read backwards
+pub front_more : (v : ℕ) (r : Rule) (xs : List ℕ) (i : ℕ) (pair : Bool) (rows : List ℕ) (row : ℕ) (rest numbers : ByPlace ℕ) → i < length xs
     → pair ≡ begins r (turned is_kanji_pair) (reverse (take (i + 1) xs))
-    → BestBelow v r (turned is_kanji_pair) (reverse (take i xs)) (λ p. follow p rows) (at_place rest)
-    → ((p : Place) → IsChoice v r p (get_or xs i 0) pair (at_place rest) (at_place modes p) (at_place bits p))
-    → BestBelow v r (turned is_kanji_pair) (reverse (take (i + 1) xs)) (λ p. follow p (modes ∷ rows)) (at_place bits)
-front_more v r xs i pair rows modes rest bits h e below choice =
+    → BestBelow v r (turned is_kanji_pair) (reverse (take i xs)) (λ p. follow p rows) (bits_at rest)
+    → IsRow v r (get_or xs i 0) pair rest row numbers
+    → BestBelow v r (turned is_kanji_pair) (reverse (take (i + 1) xs)) (λ p. follow p (row ∷ rows)) (bits_at numbers)
+front_more v r xs i pair rows row rest numbers h e below choice =
     let x = get_or xs i 0 in
     let front = front_next xs i h in
     let flag : pair ≡ begins r (turned is_kanji_pair) (x ∷ reverse (take i xs)) = e ∙ ap (begins r (turned is_kanji_pair)) front in
-    rw front (best_more v r (turned is_kanji_pair) x (reverse (take i xs)) rows modes rest bits below
-    (λ p. subst (λ (b : Bool). IsChoice v r p x b (at_place rest) (at_place modes p) (at_place bits p)) flag (choice p)))
+    rw front (best_more v r (turned is_kanji_pair) x (reverse (take i xs)) rows row rest numbers below (subst (λ (b : Bool). IsRow v r x b rest row numbers) flag choice))

@@ -1,16 +1,17 @@
--- A table of best letters, filled from the back.
-use Rattle.std.proofs.Common.{◌≡◌, ℕ, ◌+◌, ◌*◌, ◌≤◌, Bool, true, List, [], ◌∷◌, length, replicate, IsTrue, refl, sym, ◌∙◌, arith, lit<}
+-- A table of best modes, filled from the back.
+use Rattle.std.proofs.Common.{◌≡◌, ℕ, ◌+◌, ◌*◌, ◌/◌, ◌%◌, ◌^◌, ◌≤◌, Bool, true, List, [], ◌∷◌, ◌++◌, length, replicate, reverse, append_assoc, IsTrue, refl, sym, ◌∙◌, ap, arith, lit<}
 use Rattle.std.proofs.lemmas.Bool.{false≢true, and_from}
+use Rattle.std.proofs.lemmas.List.{reverse-append}
 use Rattle.qr_bits.specs.declared.modes.Mode.{Mode}
 use Rattle.qr_bits.specs.declared.modes.Mode.TheVariants.{Numeric, Alphanumeric, Byte, Kanji}
 use Rattle.qr_bits.specs.declared.modes.Rule.{Rule}
 use Rattle.qr_bits.specs.declared.place.Place.{Place}
 use Rattle.qr_bits.specs.declared.place.Place.TheVariants.{Start, Digit1, Digit2, Digit3, Character1, Character2, InBytes, HalfPair, WholePair}
 use Rattle.qr_bits.specs.declared.place.ByPlace.{ByPlace}
-use Rattle.qr_bits.specs.Segmentation.{IsLetters, bits}
+use Rattle.qr_bits.specs.Segmentation.{IsLetters}
 use Rattle.qr_bits.specs.Modes.{is_kanji_pair}
-use Rattle.qr_bits.specs.Steps.Place.{place_after, begins, may_begin, may_take, may_end, allowed, walk, IsBestRest, IsChoice}
-use Rattle.qr_bits.specs.Steps.Table.{at_place, follow, IsBestTable}
+use Rattle.qr_bits.specs.Steps.Place.{place_after, begins, may_begin, may_take, may_end, allowed, walk, ranked, IsBestRest, IsChoice}
+use Rattle.qr_bits.specs.Steps.Table.{at_place, bits_at, shift_of, mode_at, follow, IsBestTable, IsRow, IsSmall}
 use Rattle.qr_bits.proofs.BestLemmas.{BestBelow, best_step}
 use Rattle.qr_bits.proofs.ChoiceLemmas.{byte_used, step_bits_bound, take_begin}
 use Rattle.qr_bits.proofs.LetterLemmas.{bits-runs_of}
@@ -38,30 +39,43 @@ none_best v r test p [] n e h = record { is_allowed = h; has_bits = sym e; least
 none_best v r test p (k ∷ ks) n e h = absurd (false≢true h)
 
 -- before any row
-pub best_none : (v : ℕ) (r : Rule) (test : ℕ → ℕ → Bool) (rest : ByPlace ℕ) → ((p : Place) → at_place rest p ≡ 0) → BestBelow v r test [] (λ p. follow p []) (at_place rest)
+pub best_none : (v : ℕ) (r : Rule) (test : ℕ → ℕ → Bool) (cost : Place → ℕ) → ((p : Place) → cost p ≡ 0) → BestBelow v r test [] (λ p. follow p []) cost
 unfolding follow
-best_none v r test rest zeros = λ p ks h. none_best v r test p ks (at_place rest p) (zeros p) h
+best_none v r test cost zeros = λ p ks h. none_best v r test p ks (cost p) (zeros p) h
 
 -- one more row
-pub best_more : (v : ℕ) (r : Rule) (test : ℕ → ℕ → Bool) (x : ℕ) (xs : List ℕ) (rows : List (ByPlace Mode)) (modes : ByPlace Mode) (rest bits : ByPlace ℕ)
-    → BestBelow v r test xs (λ p. follow p rows) (at_place rest)
-    → ((p : Place) → IsChoice v r p x (begins r test (x ∷ xs)) (at_place rest) (at_place modes p) (at_place bits p))
-    → BestBelow v r test (x ∷ xs) (λ p. follow p (modes ∷ rows)) (at_place bits)
+pub best_more : (v : ℕ) (r : Rule) (test : ℕ → ℕ → Bool) (x : ℕ) (xs rows : List ℕ) (row : ℕ) (rest numbers : ByPlace ℕ)
+    → BestBelow v r test xs (λ p. follow p rows) (bits_at rest)
+    → IsRow v r x (begins r test (x ∷ xs)) rest row numbers
+    → BestBelow v r test (x ∷ xs) (λ p. follow p (row ∷ rows)) (bits_at numbers)
 unfolding follow
-best_more v r test x xs rows modes rest bits below choice = λ p ks h.
-    best_step v r test p x xs (λ q. follow q rows) (at_place rest) (at_place modes p) (at_place bits p) below (choice p)
-    (rest_after r test p x xs (at_place modes p) (choice p).is_allowed)
+best_more v r test x xs rows row rest numbers below choice = λ p ks h.
+    best_step v r test p x xs (λ q. follow q rows) (bits_at rest) (mode_at row p) (bits_at numbers p) below (choice p)
+    (rest_after r test p x xs (mode_at row p) (choice p).is_allowed)
 
 -- how large the bits get
-pub small_more : (v : ℕ) (r : Rule) (x : ℕ) (pair : Bool) (modes : ByPlace Mode) (rest bits : ByPlace ℕ) (n : ℕ)
-    → ((p : Place) → at_place rest p ≤ 33 * n)
-    → ((p : Place) → IsChoice v r p x pair (at_place rest) (at_place modes p) (at_place bits p))
-    → (p : Place) → at_place bits p ≤ 33 * (n + 1)
-small_more v r x pair modes rest bits n small choice p =
-    let m = at_place modes p in
+pub small_more : (v : ℕ) (r : Rule) (x : ℕ) (pair : Bool) (row : ℕ) (rest numbers : ByPlace ℕ) (n : ℕ)
+    → ((p : Place) → bits_at rest p ≤ 33 * n) → IsRow v r x pair rest row numbers → (p : Place) → bits_at numbers p ≤ 33 * (n + 1)
+small_more v r x pair row rest numbers n small choice p =
+    let m = mode_at row p in
     omega (arith, (choice p).has_bits, step_bits_bound v p m, small (place_after p m))
 
-pub zeros : (p : Place) → at_place {T = ℕ} (record { start = 0; digit1 = 0; digit2 = 0; digit3 = 0; character1 = 0; character2 = 0; in_bytes = 0; half_pair = 0; whole_pair = 0 }) p ≡ 0
+-- numbers of so few bits are small
+pub small_row : (rest : ByPlace ℕ) (n : ℕ) → n ≤ 113425 → ((p : Place) → bits_at rest p ≤ 33 * n) → IsSmall rest
+unfolding at_place
+small_row rest n few small = (
+  omega (arith, small Start),
+  omega (arith, small Digit1),
+  omega (arith, small Digit2),
+  omega (arith, small Digit3),
+  omega (arith, small Character1),
+  omega (arith, small Character2),
+  omega (arith, small InBytes),
+  omega (arith, small HalfPair),
+  omega (arith, small WholePair),
+)
+
+pub zeros : (p : Place) → bits_at (record { start = 0; digit1 = 0; digit2 = 0; digit3 = 0; character1 = 0; character2 = 0; in_bytes = 0; half_pair = 0; whole_pair = 0 }) p ≡ 0
 unfolding at_place
 zeros Start = refl
 zeros Digit1 = refl
@@ -73,28 +87,50 @@ zeros InBytes = refl
 zeros HalfPair = refl
 zeros WholePair = refl
 
--- a row, place by place
-pub row_of : (v : ℕ) (r : Rule) (x : ℕ) (pair : Bool) (cost : Place → ℕ) (modes : ByPlace Mode) (bits : ByPlace ℕ)
-    → IsChoice v r Start x pair cost modes.start bits.start
-    → IsChoice v r Digit1 x pair cost modes.digit1 bits.digit1
-    → IsChoice v r Digit2 x pair cost modes.digit2 bits.digit2
-    → IsChoice v r Digit3 x pair cost modes.digit3 bits.digit3
-    → IsChoice v r Character1 x pair cost modes.character1 bits.character1
-    → IsChoice v r Character2 x pair cost modes.character2 bits.character2
-    → IsChoice v r InBytes x pair cost modes.in_bytes bits.in_bytes
-    → IsChoice v r HalfPair x pair cost modes.half_pair bits.half_pair
-    → IsChoice v r WholePair x pair cost modes.whole_pair bits.whole_pair
-    → (p : Place) → IsChoice v r p x pair cost (at_place modes p) (at_place bits p)
+-- the last two bits of the number of each place
+abbrev pub packed : ByPlace ℕ → ℕ
+packed n = n.start % 4 + 4 * (n.digit1 % 4 + 4 * (n.digit2 % 4 + 4 * (n.digit3 % 4 + 4 * (n.character1 % 4 + 4 * (n.character2 % 4 + 4 * (n.in_bytes % 4 + 4 * (n.half_pair % 4 + 4 * (n.whole_pair % 4))))))))
+
+-- those of a place
+packed-at : (n : ByPlace ℕ) (p : Place) → packed n / 2 ^ shift_of p % 4 ≡ at_place n p % 4
 unfolding at_place
-row_of v r x pair cost modes bits a b c d e f g h i Start = a
-row_of v r x pair cost modes bits a b c d e f g h i Digit1 = b
-row_of v r x pair cost modes bits a b c d e f g h i Digit2 = c
-row_of v r x pair cost modes bits a b c d e f g h i Digit3 = d
-row_of v r x pair cost modes bits a b c d e f g h i Character1 = e
-row_of v r x pair cost modes bits a b c d e f g h i Character2 = f
-row_of v r x pair cost modes bits a b c d e f g h i InBytes = g
-row_of v r x pair cost modes bits a b c d e f g h i HalfPair = h
-row_of v r x pair cost modes bits a b c d e f g h i WholePair = i
+packed-at n Start = omega arith
+packed-at n Digit1 = omega arith
+packed-at n Digit2 = omega arith
+packed-at n Digit3 = omega arith
+packed-at n Character1 = omega arith
+packed-at n Character2 = omega arith
+packed-at n InBytes = omega arith
+packed-at n HalfPair = omega arith
+packed-at n WholePair = omega arith
+
+-- the mode of a place in a row
+pub packed-mode : (n : ByPlace ℕ) (p : Place) → mode_at (packed n) p ≡ ranked (at_place n p % 4)
+unfolding mode_at
+packed-mode n p = ap ranked (packed-at n p)
+
+-- a row, place by place
+pub row_of : (v : ℕ) (r : Rule) (x : ℕ) (pair : Bool) (rest numbers : ByPlace ℕ) (row : ℕ) → ((p : Place) → mode_at row p ≡ ranked (at_place numbers p % 4))
+    → IsChoice v r Start x pair (bits_at rest) (ranked (numbers.start % 4)) (numbers.start / 4)
+    → IsChoice v r Digit1 x pair (bits_at rest) (ranked (numbers.digit1 % 4)) (numbers.digit1 / 4)
+    → IsChoice v r Digit2 x pair (bits_at rest) (ranked (numbers.digit2 % 4)) (numbers.digit2 / 4)
+    → IsChoice v r Digit3 x pair (bits_at rest) (ranked (numbers.digit3 % 4)) (numbers.digit3 / 4)
+    → IsChoice v r Character1 x pair (bits_at rest) (ranked (numbers.character1 % 4)) (numbers.character1 / 4)
+    → IsChoice v r Character2 x pair (bits_at rest) (ranked (numbers.character2 % 4)) (numbers.character2 / 4)
+    → IsChoice v r InBytes x pair (bits_at rest) (ranked (numbers.in_bytes % 4)) (numbers.in_bytes / 4)
+    → IsChoice v r HalfPair x pair (bits_at rest) (ranked (numbers.half_pair % 4)) (numbers.half_pair / 4)
+    → IsChoice v r WholePair x pair (bits_at rest) (ranked (numbers.whole_pair % 4)) (numbers.whole_pair / 4)
+    → IsRow v r x pair rest row numbers
+unfolding at_place
+row_of v r x pair rest numbers row modes a b c d e f g h i Start = rw (modes Start) a
+row_of v r x pair rest numbers row modes a b c d e f g h i Digit1 = rw (modes Digit1) b
+row_of v r x pair rest numbers row modes a b c d e f g h i Digit2 = rw (modes Digit2) c
+row_of v r x pair rest numbers row modes a b c d e f g h i Digit3 = rw (modes Digit3) d
+row_of v r x pair rest numbers row modes a b c d e f g h i Character1 = rw (modes Character1) e
+row_of v r x pair rest numbers row modes a b c d e f g h i Character2 = rw (modes Character2) f
+row_of v r x pair rest numbers row modes a b c d e f g h i InBytes = rw (modes InBytes) g
+row_of v r x pair rest numbers row modes a b c d e f g h i HalfPair = rw (modes HalfPair) h
+row_of v r x pair rest numbers row modes a b c d e f g h i WholePair = rw (modes WholePair) i
 
 -- the best of all that can be taken are LETTERS
 letters_from_best : (v : ℕ) (r : Rule) (xs : List ℕ) (ms : List Mode) (n : ℕ) → IsBestRest v r is_kanji_pair Start xs ms n → IsLetters v r xs ms
@@ -108,15 +144,19 @@ letters_from_best v r xs ms n best =
     }
 
 -- the letters to which a table leads are the letters of least bits
-pub letters_from_table : (v : ℕ) (r : Rule) (xs : List ℕ) (rows : List (ByPlace Mode)) → IsBestTable v r is_kanji_pair xs rows → IsLetters v r xs (follow Start rows)
+pub letters_from_table : (v : ℕ) (r : Rule) (xs : List ℕ) (rows : List ℕ) → IsBestTable v r is_kanji_pair xs rows → IsLetters v r xs (follow Start rows)
 unfolding may_end
 letters_from_table v r xs rows table =
     let some = table Start (replicate (length xs) Byte) (bytes_rest r is_kanji_pair Start xs refl) in
     letters_from_best v r xs (follow Start rows) some.0 some.1
 
-pub follow-cons : (p : Place) (row : ByPlace Mode) (rows : List (ByPlace Mode)) → follow p (row ∷ rows) ≡ at_place row p ∷ follow (place_after p (at_place row p)) rows
+-- the modes so far and one more, and then those to which the other rows lead
+pub led_on : (p : Place) (items rows : List ℕ) (row : ℕ) (ms all : List Mode) (m : Mode) → items ≡ rows ++ row ∷ [] → m ≡ mode_at row p
+    → ms ++ follow p (reverse items) ≡ all → (ms ++ m ∷ []) ++ follow (place_after p m) (reverse rows) ≡ all
 unfolding follow
-follow-cons p row rows = refl
+led_on p items rows row ms all m last is so_far =
+    let next : follow p (reverse items) ≡ m ∷ follow (place_after p m) (reverse rows) = rw (last, reverse-append rows (row ∷ []), is) refl in
+    append_assoc ms (m ∷ []) (follow (place_after p m) (reverse rows)) ∙ (rw next at so_far)
 
 pub follow-nil : (p : Place) → follow p [] ≡ []
 unfolding follow

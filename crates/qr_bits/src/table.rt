@@ -1,32 +1,44 @@
-//! The best letter for each byte and each place before it: a table filled from the back.
+//! The best mode for each byte and each place before it: a table filled from the back.
 //!
-//! The bits of a rest depend only on the place before it, so for each place the best letter is the
-//! one with the fewest bits for itself and the best rest after it. A row of the table takes nine
-//! bytes.
+//! The bits of a rest depend only on the place before it, so for each place the best mode is the
+//! one with the fewest bits for itself and the best rest after it. A choice is one number: four
+//! times its bits, and the rank of its mode. So the first of the choices of the fewest bits is the
+//! least of their numbers. A row of the table contains the modes for a byte, two bits for each
+//! place.
 
-ghost use Rattle.std.specs.Prelude.{◌≡◌, ◌+◌, ◌<◌, ◌≤◌, ℕ, Bool, false, true, length, reverse, IfOk, vec_len};
+ghost use Rattle.std.specs.Prelude.{◌≡◌, ◌+◌, ◌*◌, ◌/◌, ◌%◌, ◌<◌, ◌≤◌, ℕ, Bool, true, false, length, reverse, IfOk, vec_len};
 ghost use Rattle.qr_bits.specs.declared.modes.Mode.{Mode};
 ghost use Rattle.qr_bits.specs.declared.place.Place.{Place};
 ghost use Rattle.qr_bits.specs.Modes.{is_kanji_pair};
 ghost use Rattle.qr_bits.specs.Segmentation.{rank};
 ghost use Rattle.qr_bits.specs.declared.modes.Rule.{Rule};
-ghost use Rattle.qr_bits.specs.Steps.Place.{begins, may_begin, place_after, step_bits, IsChoice, IsChosenBelow};
-ghost use Rattle.qr_bits.specs.Steps.Table.{at_place, bits_of, modes_of, IsBestTable};
+ghost use Rattle.qr_bits.specs.Steps.Place.{begins, may_begin, number_of, ranked};
+ghost use Rattle.qr_bits.specs.Steps.Table.{at_place, mode_at, IsBestTable, IsRow, IsSmall, shift_of};
 
 use crate::modes::{INPUT_MAX, Mode, Rule, is_alphanumeric, is_digit, is_kanji_pair, may_use};
-use crate::place::{ByPlace, Heads, NO_BITS, Place, after, step_bits};
+use crate::place::{ByPlace, Heads, NO_BITS, Place, number};
 use qr_layout::Version;
 use std::alloc::{AllocError, Global};
 
-// A letter, and the bits of the rest that begins with it.
-#[derive(Clone, Copy)]
-struct Choice {
-    mode: Mode,
-    bits: u32,
+// The number of a mode that may not be taken: more than that of any choice.
+const NO_CHOICE: u32 = u32::MAX;
+
+// Returns the mode of a rank.
+#[inline(always)]
+fn ranked(rank: u32) -> Mode
+    ensures { result ≡ ranked rank }
+{
+    match rank {
+        0 => Mode::Numeric,
+        1 => Mode::Alphanumeric,
+        2 => Mode::Byte,
+        _ => Mode::Kanji,
+    }
 }
 
-// Whether this letter of one byte may be taken for this byte, where no half of a pair is open.
+// Returns whether this mode may be taken for this byte alone, where no half of a pair is open.
 #[tactic(auto, unfolding(crate::specs::Steps::Place::may_begin))]
+#[inline(always)]
 fn may_begin(rule: Rule, byte: u8, mode: Mode) -> bool
     requires { rank mode < 3 }
     ensures { (pair : Bool) → result ≡ may_begin rule byte pair mode }
@@ -39,85 +51,81 @@ fn may_begin(rule: Rule, byte: u8, mode: Mode) -> bool
     }
 }
 
-// The choice, or a further letter if that may be taken and has fewer bits.
+// Returns the number of a choice, or of none if its mode may not be taken. `first` is the number of its first byte alone,
+// and `rest` that of the best rest after this byte.
 #[inline(always)]
-fn or_letter(choice: Choice, mode: Mode, may: bool, bits: u32) -> Choice
-    ensures taken { may ≡ true → bits < choice.bits → result ≡ record { mode = mode; bits = bits } }
-    ensures kept { may ≡ true → choice.bits ≤ bits → result ≡ choice }
-    ensures passed { may ≡ false → result ≡ choice }
+fn number_if(may: bool, first: u32, rest: u32) -> u32
+    requires first { first ≤ 135 }
+    requires rest { rest < 40000000 }
+    ensures { (b : ℕ) (m : Mode) → first ≡ 4 * b + rank m → result ≡ number_of may (b + rest / 4) m }
 {
-    if may && bits < choice.bits {
-        Choice { mode, bits }
-    } else {
-        choice
-    }
+    if may { first + rest / 4 * 4 } else { NO_CHOICE }
 }
 
-// The bits of a rest that begins with this letter, where `rest` tells the bits after it.
+// Returns a row of the table: the modes of the choices that have these numbers.
 #[inline(always)]
-fn bits_from(heads: &Heads, place: Place, mode: Mode, rest: &ByPlace<u32>) -> u32
-    requires { (p : Place) → at_place rest.now p < 10000000 }
-    ensures { result ≡ step_bits heads.now.version place mode + at_place rest.now (place_after place mode) }
+fn modes_of(numbers: &ByPlace<u32>) -> u32
+    ensures { (p : Place) → mode_at result p ≡ ranked (at_place numbers.now p % 4) }
 {
-    step_bits(heads, place, mode) + rest.at(after(place, mode))
+    let last = numbers.half_pair % 4 + 4 * (numbers.whole_pair % 4);
+    let last = numbers.character2 % 4 + 4 * (numbers.in_bytes % 4 + 4 * last);
+    let last = numbers.digit3 % 4 + 4 * (numbers.character1 % 4 + 4 * last);
+    let last = numbers.digit1 % 4 + 4 * (numbers.digit2 % 4 + 4 * last);
+    numbers.start % 4 + 4 * last
 }
 
-// The first of the letters of one byte that lead to the fewest bits, where `rest` tells the bits after each. The flags
-// say whether the byte may be a digit's or a character's.
+// Returns, for each place before a byte, the modes of the first of the best choices as a row of the table, and their
+// numbers. The flags say whether the byte may be taken as a digit, as a character and as the first of a pair, and `rest`
+// has the numbers after it.
 #[inline(always)]
-fn choose(heads: &Heads, place: Place, digit: bool, character: bool, rest: &ByPlace<u32>) -> Choice
-    requires { (p : Place) → at_place rest.now p < 10000000 }
-    ensures { (r : Rule) (x : ℕ) (pair : Bool) → digit ≡ may_begin r x pair Mode.Numeric
+fn choices(
+    heads: &Heads,
+    digit: bool,
+    character: bool,
+    pair: bool,
+    rest: &ByPlace<u32>,
+) -> (u32, ByPlace<u32>)
+    requires { IsSmall rest.now }
+    ensures { (r : Rule) (x : ℕ) → digit ≡ may_begin r x pair Mode.Numeric
         → character ≡ may_begin r x pair Mode.Alphanumeric
-        → IsChosenBelow heads.now.version r place x pair (at_place rest.now) 3 result.mode result.bits }
+        → IsRow heads.now.version r x pair rest.now result.0 result.1 }
 {
-    let none = Choice {
-        mode: Mode::Byte,
-        bits: u32::MAX,
+    let digits = number_if(digit, heads.numeric, rest.digit1);
+    let characters = number_if(character, heads.alphanumeric, rest.character1);
+    let bytes = number_if(true, heads.byte, rest.in_bytes);
+    let pairs = number_if(pair, heads.kanji, rest.half_pair);
+    let others = bytes.min(pairs);
+    let no_digits = characters.min(others);
+    let no_characters = digits.min(others);
+    let start = digits.min(no_digits);
+    // Where a mode goes on to the place to which its new segment would come, it has fewer bits than that. So it need not be
+    // left out of what the mode that goes on is compared with, and this is `start`.
+    let digit2 = number_if(digit, number(3, Mode::Numeric), rest.digit2);
+    let digit3 = number_if(digit, number(3, Mode::Numeric), rest.digit3);
+    let digit1 = number_if(digit, number(4, Mode::Numeric), rest.digit1);
+    let character2 = number_if(character, number(5, Mode::Alphanumeric), rest.character2);
+    let character1 = number_if(character, number(6, Mode::Alphanumeric), rest.character1);
+    let in_bytes = number_if(true, number(8, Mode::Byte), rest.in_bytes);
+    let whole_pair = number_if(true, number(0, Mode::Kanji), rest.whole_pair);
+    let half_pair = number_if(pair, number(13, Mode::Kanji), rest.half_pair);
+    let numbers = ByPlace {
+        start,
+        digit1: digit2.min(no_digits),
+        digit2: digit3.min(no_digits),
+        digit3: digit1.min(start),
+        character1: character2.min(no_characters),
+        character2: character1.min(start),
+        in_bytes: in_bytes.min(start),
+        half_pair: whole_pair,
+        whole_pair: half_pair.min(start),
     };
-    let bits = bits_from(heads, place, Mode::Numeric, rest);
-    let best = or_letter(none, Mode::Numeric, digit, bits);
-    let bits = bits_from(heads, place, Mode::Alphanumeric, rest);
-    let best = or_letter(best, Mode::Alphanumeric, character, bits);
-    let bits = bits_from(heads, place, Mode::Byte, rest);
-    or_letter(best, Mode::Byte, true, bits)
+    (modes_of(&numbers), numbers)
 }
 
-// The letters of the choices, and their bits.
-#[inline(always)]
-fn apart(choices: ByPlace<Choice>) -> (ByPlace<Mode>, ByPlace<u32>)
-    ensures modes { result.0 ≡ modes_of choices }
-    ensures bits { result.1 ≡ bits_of choices }
-{
-    let modes = ByPlace {
-        start: choices.start.mode,
-        digit1: choices.digit1.mode,
-        digit2: choices.digit2.mode,
-        digit3: choices.digit3.mode,
-        character1: choices.character1.mode,
-        character2: choices.character2.mode,
-        in_bytes: choices.in_bytes.mode,
-        half_pair: choices.half_pair.mode,
-        whole_pair: choices.whole_pair.mode,
-    };
-    let bits = ByPlace {
-        start: choices.start.bits,
-        digit1: choices.digit1.bits,
-        digit2: choices.digit2.bits,
-        digit3: choices.digit3.bits,
-        character1: choices.character1.bits,
-        character2: choices.character2.bits,
-        in_bytes: choices.in_bytes.bits,
-        half_pair: choices.half_pair.bits,
-        whole_pair: choices.whole_pair.bits,
-    };
-    (modes, bits)
-}
-
-/// For each place before this byte the best letter, and the bits of the rest from there. The flag
-/// says that a pair may be taken. In the middle of a pair there is only its second letter, which
-/// adds no bits.
-#[tactic(auto, unfolding(crate::specs::Steps::Place::may_end))]
+/// Returns, for each place before this byte, the mode of the first of the best choices as a row of the table, and the
+/// number of that choice. The flag says that a pair may be taken. In the middle of a pair there is only its second byte,
+/// which adds no bits.
+#[tactic(auto, unfolding(crate::specs::Steps::Place::may_begin))]
 #[inline(always)]
 pub(crate) fn row(
     heads: &Heads,
@@ -125,44 +133,22 @@ pub(crate) fn row(
     byte: u8,
     pair: bool,
     rest: &ByPlace<u32>,
-) -> (ByPlace<Mode>, ByPlace<u32>)
-    requires { (p : Place) → at_place rest.now p < 10000000 }
-    ensures { (p : Place) → IsChoice heads.now.version rule p byte pair (at_place rest.now)
-        (at_place result.0 p) (at_place result.1 p) }
+) -> (u32, ByPlace<u32>)
+    requires { IsSmall rest.now }
+    ensures { IsRow heads.now.version rule byte pair rest.now result.0 result.1 }
 {
-    let digit = may_begin(rule, byte, Mode::Numeric);
-    let character = may_begin(rule, byte, Mode::Alphanumeric);
-    let start = choose(heads, Place::Start, digit, character, rest);
-    let alone = ByPlace {
-        start,
-        digit1: choose(heads, Place::Digit1, digit, character, rest),
-        digit2: choose(heads, Place::Digit2, digit, character, rest),
-        digit3: choose(heads, Place::Digit3, digit, character, rest),
-        character1: choose(heads, Place::Character1, digit, character, rest),
-        character2: choose(heads, Place::Character2, digit, character, rest),
-        in_bytes: choose(heads, Place::InBytes, digit, character, rest),
-        half_pair: Choice {
-            mode: Mode::Kanji,
-            bits: rest.whole_pair,
-        },
-        whole_pair: start,
-    };
-    if !pair {
-        return apart(alone);
+    // Each call is compiled without what its flags rule out. Every digit is a character.
+    if pair {
+        let digit = may_begin(rule, byte, Mode::Numeric);
+        let character = may_begin(rule, byte, Mode::Alphanumeric);
+        choices(heads, digit, character, true, rest)
+    } else if may_begin(rule, byte, Mode::Numeric) {
+        choices(heads, true, true, false, rest)
+    } else if may_begin(rule, byte, Mode::Alphanumeric) {
+        choices(heads, false, true, false, rest)
+    } else {
+        choices(heads, false, false, false, rest)
     }
-    let first = step_bits(heads, Place::Start, Mode::Kanji) + rest.half_pair;
-    let further = step_bits(heads, Place::WholePair, Mode::Kanji) + rest.half_pair;
-    apart(ByPlace {
-        start: or_letter(alone.start, Mode::Kanji, true, first),
-        digit1: or_letter(alone.digit1, Mode::Kanji, true, first),
-        digit2: or_letter(alone.digit2, Mode::Kanji, true, first),
-        digit3: or_letter(alone.digit3, Mode::Kanji, true, first),
-        character1: or_letter(alone.character1, Mode::Kanji, true, first),
-        character2: or_letter(alone.character2, Mode::Kanji, true, first),
-        in_bytes: or_letter(alone.in_bytes, Mode::Kanji, true, first),
-        half_pair: alone.half_pair,
-        whole_pair: or_letter(alone.whole_pair, Mode::Kanji, true, further),
-    })
 }
 
 // Whether a kanji pair may be taken at the beginning of the bytes.
@@ -176,13 +162,13 @@ pub(crate) fn begins_with_pair(rule: Rule, bytes: &[u8]) -> bool
     }
 }
 
-/// For each byte, from the last to the first, the best letter from each place.
-pub(crate) fn best_letters(
+/// Returns a row for each byte, from the last to the first: the best mode from each place.
+pub(crate) fn best_modes(
     alloc: Global,
     input: &[u8],
     version: Version,
     rule: Rule,
-) -> Result<Vec<ByPlace<Mode>>, AllocError>
+) -> Result<Vec<u32>, AllocError>
     requires { length input.now ≤ INPUT_MAX }
     ensures len { IfOk result (λ t. vec_len t ≡ length input.now) }
     ensures best { IfOk result (λ t. IsBestTable version rule is_kanji_pair input.now (reverse t.items)) }
@@ -192,9 +178,37 @@ pub(crate) fn best_letters(
     let mut rest = NO_BITS;
     for i in (0..input.len()).rev() {
         let pair = begins_with_pair(rule, &input[i..]);
-        let (modes, bits) = row(&heads, rule, input[i], pair, &rest);
+        let (modes, numbers) = row(&heads, rule, input[i], pair, &rest);
         table.push(modes)?;
-        rest = bits;
+        rest = numbers;
     }
     Ok(table)
+}
+
+// Returns where the mode of a place begins in a row of the table, in bits.
+#[inline(always)]
+fn shift_of(place: Place) -> u32
+    ensures value { result ≡ shift_of place }
+    ensures most { result ≤ 16 }
+{
+    match place {
+        Place::Start => 0,
+        Place::Digit1 => 2,
+        Place::Digit2 => 4,
+        Place::Digit3 => 6,
+        Place::Character1 => 8,
+        Place::Character2 => 10,
+        Place::InBytes => 12,
+        Place::HalfPair => 14,
+        Place::WholePair => 16,
+    }
+}
+
+/// Returns the mode of a place in a row of the table.
+#[tactic(auto, unfolding(crate::specs::Steps::Table::mode_at))]
+#[inline(always)]
+pub(crate) fn mode_at(row: u32, place: Place) -> Mode
+    ensures { result ≡ mode_at row place }
+{
+    ranked((row >> shift_of(place)) % 4)
 }

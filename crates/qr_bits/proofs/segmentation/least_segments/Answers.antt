@@ -1,41 +1,51 @@
-use Rattle.std.proofs.Common.{◌≡◌, List, [], ◌∷◌, ◌++◌, reverse, refl, sym, ◌∙◌, ap, arith, append_assoc}
-use Rattle.std.specs.Prelude.{sum_by}
+use Rattle.std.proofs.Common.{◌≡◌, ℕ, List, [], ◌∷◌, ◌++◌, reverse, refl, sym, ◌∙◌, ap, arith, rules}
+use denote.Enum.Bare.{sameb, same_true}
+use Rattle.qr_bits.specs.contracts.modes.Mode.{the_type}
+use Rattle.std.proofs.lemmas.Bool.{false≢true}
 use Rattle.qr_bits.specs.declared.modes.Mode.{Mode}
 use Rattle.qr_bits.specs.declared.segmentation.Segment.{Segment}
 use Rattle.qr_bits.specs.declared.place.Place.TheVariants.{Start}
 use Rattle.qr_bits.specs.Segmentation.{runs_of}
-use Rattle.qr_bits.specs.Steps.Segmentation.{with_back}
+use Rattle.qr_bits.specs.Steps.Place.{place_after, place_on}
+use Rattle.qr_bits.specs.Steps.Segmentation.{one_segment, with_back}
 use Rattle.qr_bits.specs.Steps.Table.{follow}
-use Rattle.qr_bits.proofs.BackLemmas.{runs_of-push, sum_by-runs_of}
-use Rattle.qr_bits.specs.declared.place.ByPlace.{ByPlace}
-use Rattle.std.proofs.lemmas.List.{reverse-append, length_push, append-nil, nil_from_length}
-use Rattle.qr_bits.proofs.TableLemmas.{follow-cons, follow-nil, letters_from_table}
+use Rattle.qr_bits.proofs.BackLemmas.{run_same, run_other, runs_of-push, sameb_self}
+use Rattle.qr_bits.proofs.ChoiceLemmas.{on_after}
+use Rattle.std.proofs.lemmas.List.{append-nil, nil_from_length}
+use Rattle.qr_bits.proofs.TableLemmas.{follow-nil, led_on, letters_from_table}
 use Rattle.qr_bits.proofs.segmentation.least_segments.Goals as goal
 
 pub loop-modes-init : goal.loop-modes-init
-unfolding runs_of
-loop-modes-init c = ([], c.new-found.ensures.items, refl, omega arith)
+unfolding runs_of place_on place_after
+loop-modes-init c = ([], append-nil _ ∙ c.new-found.ensures.items, refl, omega arith, λ _. c.new-found.ensures.items, refl)
 
-pub add_letter-requires : goal.add_letter-requires
-add_letter-requires c =
-    let i = c.loop-modes.invariant in
-    let f = ap (λ (r : List Segment). sum_by (λ s. s.len) r) i.1 in
-    omega (arith, f, i.3, sum_by-runs_of i.0, c.in_ok-table.ensures.len, c.requires)
+pub loop-modes-preserved-then-eq : goal.loop-modes-preserved-then-eq
+loop-modes-preserved-then-eq c =
+    let l = c.loop-modes in
+    let i = l.invariant in
+    let same : c.mode_at-next.result ≡ l.mode = same_true the_type (search rules) _ _ (sym c.if-eq.ensures) in
+    let place : c.place_on-place.result ≡ place_after l.place l.mode = c.place_on-place.ensures ∙ i.5 in (
+      i.0 ++ l.mode ∷ [],
+      sym (run_same l.found.items l.mode l.len i.4) ∙ ap (λ (r : List Segment). with_back r l.mode) i.1 ∙ sym (runs_of-push i.0 l.mode),
+      rw place (led_on l.place l.table.items _ c.in-Some.modes i.0 _ l.mode c.in-Some.ensures.items (sym same ∙ c.mode_at-next.ensures) i.2),
+      omega (arith, i.3, c.in-Some.ensures.len),
+      λ z. absurd (omega arith),
+      rw place (on_after l.place l.mode),
+    )
 
 pub loop-modes-preserved : goal.loop-modes-preserved
 loop-modes-preserved c =
-    let i = c.loop-modes.invariant in
-    let mode = c.at-mode.result in
-    let row = c.in-Some.modes in
-    let rows = reverse c.pop.new.self.items in
-    let p : reverse c.loop-modes.table.items ≡ row ∷ rows = ap reverse c.in-Some.ensures.items ∙ reverse-append c.pop.new.self.items (row ∷ []) in
-    let step : follow c.loop-modes.place (row ∷ rows) ≡ mode ∷ follow c.after-place.result rows =
-    rw (c.after-place.ensures, c.at-mode.ensures) (follow-cons c.loop-modes.place row rows) in
-    let whole : i.0 ++ (mode ∷ follow c.after-place.result rows) ≡ follow Start (reverse c.in_ok-table.table.items) = ap (λ (t : List Mode). i.0 ++ t) (sym step ∙ ap (follow c.loop-modes.place) (sym p)) ∙ i.2 in (
+    let l = c.loop-modes in
+    let i = l.invariant in
+    let mode = c.mode_at-next.result in
+    let other : l.mode ≡ mode → ⊥ = λ e. false≢true (c.if-eq.ensures ∙ ap (λ (m : Mode). sameb the_type m l.mode) (sym e) ∙ sameb_self l.mode) in (
       i.0 ++ mode ∷ [],
-      c.in_ok-add_letter.ensures ∙ ap (λ (r : List Segment). with_back r mode) i.1 ∙ sym (runs_of-push i.0 mode),
-      append_assoc i.0 (mode ∷ []) (follow c.after-place.result rows) ∙ whole,
-      omega (arith, length_push i.0 mode, i.3, c.in-Some.ensures.len),
+      ap (λ (r : List Segment). r ++ one_segment mode 1) c.in_ok-push_segment.ensures ∙ sym (run_other l.found.items l.mode mode l.len i.4 other)
+          ∙ ap (λ (r : List Segment). with_back r mode) i.1 ∙ sym (runs_of-push i.0 mode),
+      rw c.after-place.ensures (led_on l.place l.table.items _ c.in-Some.modes i.0 _ mode c.in-Some.ensures.items c.mode_at-next.ensures i.2),
+      omega (arith, i.3, c.in-Some.ensures.len),
+      λ z. absurd (omega arith),
+      rw c.after-place.ensures (on_after l.place mode),
     )
 
 pub returns-clause-ok : goal.returns-clause-ok
@@ -43,6 +53,6 @@ returns-clause-ok c =
     let i = c.loop-modes.invariant in
     let none : c.loop-modes.table.items ≡ [] = nil_from_length _ (omega (arith, c.in_default.ensures.cases.0, c.loop-modes.table.ok.0)) in
     let end : i.0 ++ [] ≡ follow Start (reverse c.in_ok-table.table.items) =
-    ap (λ (t : List Mode). i.0 ++ t) (sym (follow-nil c.loop-modes.place) ∙ ap (λ (t : List (ByPlace Mode)). follow c.loop-modes.place (reverse t)) (sym none)) ∙ i.2 in
+    ap (λ (t : List Mode). i.0 ++ t) (sym (follow-nil c.loop-modes.place) ∙ ap (λ (t : List ℕ). follow c.loop-modes.place (reverse t)) (sym none)) ∙ i.2 in
     let whole : i.0 ≡ follow Start (reverse c.in_ok-table.table.items) = sym (append-nil i.0) ∙ end in
-    (i.0, rw whole (letters_from_table c.args.version c.args.rule c.args.input.now (reverse c.in_ok-table.table.items) c.in_ok-table.ensures.best), i.1)
+    (i.0, rw whole (letters_from_table c.args.version c.args.rule c.args.input.now (reverse c.in_ok-table.table.items) c.in_ok-table.ensures.best), c.in_ok-push_segment-2.ensures ∙ i.1)

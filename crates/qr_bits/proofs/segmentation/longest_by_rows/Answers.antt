@@ -1,11 +1,10 @@
 use Rattle.std.proofs.Common.{◌≡◌, ◌+◌, ◌≤◌, ◌<◌, ℕ, [], ◌∷◌, take, length, get_or, arith, subst, ⊎_elim}
-use Rattle.qr_bits.specs.declared.place.Place.{Place}
 use Rattle.std.proofs.lemmas.Bool.{cases_lt}
 use Rattle.qr_bits.specs.Segmentation.{HasFit}
 use Rattle.qr_bits.specs.Modes.{is_kanji_pair}
-use Rattle.qr_bits.specs.Steps.Place.{turned, IsChoice}
-use Rattle.qr_bits.specs.Steps.Table.{at_place}
-use Rattle.qr_bits.proofs.TableLemmas.{best_none, small_more, zeros}
+use Rattle.qr_bits.specs.Steps.Place.{turned}
+use Rattle.qr_bits.specs.Steps.Table.{at_place, bits_at, IsRow}
+use Rattle.qr_bits.proofs.TableLemmas.{best_none, small_more, small_row, zeros}
 use Rattle.qr_bits.proofs.MirrorLemmas.{empty_fits, front_more, front_fits, front_least}
 use Rattle.qr_bits.proofs.segmentation.longest_by_rows.Goals as goal
 use Rattle.qr_bits.proofs.segmentation.longest_by_rows.Goals.{then-from-room, else-from-room}
@@ -20,7 +19,7 @@ loop-i-init c = record {
 }
 
 pub row-requires : goal.row-requires
-row-requires c = λ p. omega (arith, c.loop-i.invariant.small p)
+row-requires c = small_row c.loop-i.rest c.loop-i.i (omega arith) c.loop-i.invariant.small
 
 pub loop-i-preserved : goal.loop-i-preserved
 unfolding at_place
@@ -30,13 +29,12 @@ loop-i-preserved c =
     let xs = c.args.input.now in
     let i = c.loop-i.i in
     let inv = c.loop-i.invariant in
-    let chosen : (p : Place) → IsChoice v r p (get_or xs i 0) c.ends_with_pair-pair.result (at_place c.loop-i.rest) (at_place c.row.result.0 p) (at_place c.row.result.1 p) =
-    λ p. subst (λ (w : ℕ). IsChoice w r p (get_or xs i 0) c.ends_with_pair-pair.result (at_place c.loop-i.rest) (at_place c.row.result.0 p) (at_place c.row.result.1 p)) c.of-heads.ensures (c.row.ensures p) in
+    let chosen : IsRow v r (get_or xs i 0) c.ends_with_pair-pair.result c.loop-i.rest c.row.result.0 c.row.result.1 = rw c.of-heads.ensures at c.row.ensures in
     let below = front_more v r xs i c.ends_with_pair-pair.result inv.best.0 c.row.result.0 c.loop-i.rest c.row.result.1 (omega arith) c.ends_with_pair-pair.ensures inv.best.1 chosen in
     let room = c.args.room in
     elim c.if-from-room.branch [
       | then-from-room w ↦
-          let fit : HasFit v r (take (i + 1) xs) room = front_fits v r (take (i + 1) xs) _ (at_place c.row.result.1) room below (omega (arith, w.if-from-room.true, c.from.ensures)) in
+          let fit : HasFit v r (take (i + 1) xs) room = front_fits v r (take (i + 1) xs) _ (bits_at c.row.result.1) room below (omega (arith, w.if-from-room.true, c.from.ensures)) in
           rw w.longest-is (record {
             inside = omega arith;
             fits = fit;
@@ -52,7 +50,7 @@ loop-i-preserved c =
                 (λ (l : i < k).
                 let e : k ≡ i + 1 = omega arith in
                 let q : HasFit v r (take (i + 1) xs) room = subst (λ (n : ℕ). HasFit v r (take n xs) room) e fit in
-                absurd (omega (arith, front_least v r (take (i + 1) xs) _ (at_place c.row.result.1) room below q, w.if-from-room.false, c.from.ensures)))
+                absurd (omega (arith, front_least v r (take (i + 1) xs) _ (bits_at c.row.result.1) room below q, w.if-from-room.false, c.from.ensures)))
                 (λ (l : k ≤ i). inv.longest k l fit)
                 (cases_lt i k);
             small = small_more v r _ _ c.row.result.0 c.loop-i.rest c.row.result.1 i inv.small chosen;

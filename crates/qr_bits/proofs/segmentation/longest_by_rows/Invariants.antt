@@ -1,11 +1,9 @@
 use Rattle.std.proofs.Common.{ℕ, ◌*◌, ◌≤◌, List, reverse, take}
-use Rattle.qr_bits.specs.declared.modes.Mode.{Mode}
 use Rattle.qr_bits.specs.declared.place.Place.{Place}
-use Rattle.qr_bits.specs.declared.place.ByPlace.{ByPlace}
 use Rattle.qr_bits.specs.Segmentation.{HasFit}
 use Rattle.qr_bits.specs.Modes.{is_kanji_pair}
 use Rattle.qr_bits.specs.Steps.Place.{turned}
-use Rattle.qr_bits.specs.Steps.Table.{at_place, follow}
+use Rattle.qr_bits.specs.Steps.Table.{bits_at, follow}
 use Rattle.qr_bits.proofs.BestLemmas.{BestBelow}
 use Rattle.qr_bits.proofs.segmentation.longest_by_rows.Given as goal
 
@@ -15,6 +13,6 @@ invariant-loop-i l = record {
   inside : l.longest ≤ l.i;
   fits : HasFit l.fn.version l.rule (take l.longest l.input) l.room;
   longest : (k : ℕ) → k ≤ l.i → HasFit l.fn.version l.rule (take k l.input) l.room → k ≤ l.longest;
-  small : (p : Place) → at_place l.rest p ≤ 33 * l.i;
-  best : (rows : List (ByPlace Mode)) × BestBelow l.fn.version l.rule (turned is_kanji_pair) (reverse (take l.i l.input)) (λ p. follow p rows) (at_place l.rest);
+  small : (p : Place) → bits_at l.rest p ≤ 33 * l.i;
+  best : (rows : List ℕ) × BestBelow l.fn.version l.rule (turned is_kanji_pair) (reverse (take l.i l.input)) (λ p. follow p rows) (bits_at l.rest);
 }
