@@ -30,14 +30,14 @@ word-step ws k x f l w m n here there i =
     ]
 
 -- a number moved up by s places
-has_bit-shl-low : (d s j : ℕ) → j < s → has_bit (d * 2 ^ s) j ≡ false
+pub has_bit-shl-low : (d s j : ℕ) → j < s → has_bit (d * 2 ^ s) j ≡ false
 unfolding has_bit
 has_bit-shl-low d s j l =
     let e : d * 2 ^ s + 0 ≡ d * 2 ^ s = omega arith in
     ap (λ z. eqb (bit_at z j) 1) (sym e) ∙ (ap (λ z. eqb z 1) (bit_at_cat_low d s 0 j l ∙ bit_at-zero j))
 
 -- its places from s on
-has_bit-shl-high : (d s k : ℕ) → has_bit (d * 2 ^ s) (s + k) ≡ has_bit d k
+pub has_bit-shl-high : (d s k : ℕ) → has_bit (d * 2 ^ s) (s + k) ≡ has_bit d k
 unfolding has_bit
 has_bit-shl-high d s k =
     let e : d * 2 ^ s + 0 ≡ d * 2 ^ s = omega arith in

@@ -159,6 +159,18 @@ impl Matrix {
         self.rows[usize::from(row)].put_pair(col, bits);
     }
 
+    /// Gives four modules of a row their colours, from a column on that is a multiple of four, the first by the lowest bit.
+    pub fn set_four(&mut self, row: u8, col: u8, bits: u8)
+        requires row_in { row < self.old.side }
+        requires col_in { col + 4 ≤ self.old.side }
+        requires whole { col % 4 ≡ 0 }
+        requires bits { bits < 16 }
+        ensures { self.new ≡ painted (painted (painted (painted self.old row col (has_bit bits 0))
+            row (col + 1) (has_bit bits 1)) row (col + 2) (has_bit bits 2)) row (col + 3) (has_bit bits 3) }
+    {
+        self.rows[usize::from(row)].put_four(col, bits);
+    }
+
     // Gives a row the colours of a line.
     fn set_line(&mut self, row: u8, line: Line)
         requires row_in { row < self.old.side }
@@ -283,6 +295,24 @@ mod tests {
                 bits % 2 == 1,
                 "left of column {col}"
             );
+        }
+        Ok(())
+    }
+
+    #[test]
+    fn four_modules_are_set(rt: HostRuntime) -> Result<(), Fail> {
+        for (col, bits) in [(0u8, 0b0001u8), (60, 0b0110), (64, 0b1011), (68, 0b0000)] {
+            assert!(rt; col + 4 <= 72 && col % 4 == 0 && bits < 16);
+            let mut matrix = Matrix::new(rt.alloc(), 72)?;
+            matrix.fill(3, 4, 0, 72, true);
+            matrix.set_four(3, col, bits);
+            assert_eq!(rt; matrix.four(3, col), bits, "columns from {col} on");
+            for other in 0..72u8 {
+                if other < col || col + 4 <= other {
+                    assert!(rt; matrix.dark(3, other), "column {other}, not from {col} on");
+                }
+            }
+            assert!(rt; !matrix.dark(2, col) && !matrix.dark(4, col));
         }
         Ok(())
     }
