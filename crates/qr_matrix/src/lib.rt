@@ -9,6 +9,7 @@ mod matrix;
 mod penalties;
 mod runs;
 mod squares;
+mod transposition;
 mod windows;
 
 pub use difference::differences;

@@ -1,11 +1,12 @@
 //! The square of modules that makes a symbol, without its quiet zone (ISO/IEC 18004:2015, 6.3.2).
 
-ghost use Rattle.std.specs.Prelude.{◌≡◌, ℕ, ◌+◌, ◌-◌, ◌*◌, ◌%◌, ◌<◌, ◌≤◌, ◌&&◌, not, nat_le, nat_lt, if◌then◌else◌, false, length, IfOk};
-ghost use Rattle.qr_matrix.specs.Grid.{square, colour, painted, with_row, with_rectangle, light};
+ghost use Rattle.std.specs.Prelude.{◌≡◌, ℕ, ◌+◌, ◌-◌, ◌*◌, ◌/◌, ◌%◌, ◌<◌, ◌≤◌, ◌&&◌, ◌==◌, not, nat_le, nat_lt, if◌then◌else◌, false, length, IfOk};
+ghost use Rattle.qr_matrix.specs.Grid.{square, colour, painted, with_row, with_rectangle, light, transposed};
 ghost use Rattle.qr_matrix.specs.Line.{dark_in, has, has_bit};
 ghost use Rattle.qr_matrix.specs.Runs.{IsRunEnd};
 
 use crate::line::Line;
+use crate::transposition::set_transposed_band;
 use std::alloc::{AllocError, Global};
 use std::marker::Model;
 
@@ -180,6 +181,17 @@ impl Matrix {
         self.rows[usize::from(row)] = line;
     }
 
+    // Gives the modules of one word of a row the colours of its bits.
+    pub(crate) fn set_word(&mut self, row: usize, number: usize, word: u64)
+        requires row_in { row < self.old.side }
+        requires word_in { number < 3 }
+        requires past { (c : ℕ) → c < 64 → self.old.side ≤ 64 * number + c → has_bit word c ≡ false }
+        ensures { self.new ≡ with_row self.old row
+            (λ c. if c / 64 == number then has_bit word (c % 64) else colour self.old row c) }
+    {
+        self.rows[row].put_word(number, word);
+    }
+
     /// Gives a row the colours of `plain`, inverted where `within` is dark and the pattern's bit for the column is 1. The
     /// pattern is six bits, column 0 the lowest, and is repeated every six columns.
     pub fn set_row_masked(&mut self, row: u8, plain: &Matrix, within: &Matrix, pattern: u8)
@@ -226,6 +238,17 @@ impl Matrix {
         prove!(self.side <= 177);
         for row in top..bottom {
             self.fill_row(row, left, right, dark);
+        }
+    }
+
+    /// Gives each module the colour that `other` has in the place with row and column exchanged.
+    pub fn set_transposed(&mut self, other: &Matrix)
+        requires { other.now.side ≡ self.old.side }
+        ensures { self.new ≡ transposed other.now }
+    {
+        prove!(self.side <= 177);
+        for band in 0..usize::from(self.words()) {
+            set_transposed_band(self, other, band);
         }
     }
 }
@@ -332,6 +355,45 @@ mod tests {
                 _ => true,
             };
             assert_eq!(rt; matrix.dark(4, col), is_dark, "column {col}");
+        }
+        Ok(())
+    }
+
+    // A square of one word in a row, and one of three.
+    #[test]
+    fn a_square_is_transposed(rt: HostRuntime) -> Result<(), Fail> {
+        let places = [
+            (0u8, 1u8),
+            (5, 20),
+            (20, 3),
+            (1, 64),
+            (63, 65),
+            (64, 63),
+            (70, 176),
+            (130, 127),
+            (176, 0),
+        ];
+        for side in [21u8, 177] {
+            let mut plain = Matrix::new(rt.alloc(), side)?;
+            for (row, col) in places {
+                if row < plain.side() && col < plain.side() {
+                    plain.set(row, col, true);
+                }
+            }
+            let mut matrix = Matrix::new(rt.alloc(), side)?;
+            matrix.fill(0, side, 0, side, true);
+            assert!(rt; plain.side() == matrix.side());
+            matrix.set_transposed(&plain);
+            for row in 0..side {
+                for col in 0..side {
+                    let is_dark = places.contains(&(col, row));
+                    assert_eq!(rt;
+                        matrix.dark(row, col),
+                        is_dark,
+                        "row {row}, column {col} of {side}"
+                    );
+                }
+            }
         }
         Ok(())
     }
