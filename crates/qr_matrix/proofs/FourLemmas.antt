@@ -10,8 +10,7 @@ use Rattle.qr_matrix.specs.Penalty.{is_same}
 use Rattle.qr_matrix.specs.Grid.{Grid, colour, painted, with_row}
 use Rattle.qr_matrix.proofs.GridLemmas.{square-same, colour-square}
 use Rattle.qr_matrix.proofs.MatrixLemmas.{with_row-same}
-use Rattle.qr_matrix.proofs.PlaceLemmas.{has-place, has_bit-and, has_bit-xor, has_bit-ones}
-use Rattle.qr_matrix.proofs.PairLemmas.{word-step, has_bit-shl-low, has_bit-shl-high}
+use Rattle.qr_matrix.proofs.PlaceLemmas.{has-place, has_bit-and, has_bit-xor, has_bit-ones, word-step, has_bit-shl-low, has_bit-shl-high}
 
 -- a bit that is changed where it differs from another and a mask lets it
 replaced : (n b m t : Bool) → m ≡ t → not (is_same n (not (is_same n b) && m)) ≡ cond t b n

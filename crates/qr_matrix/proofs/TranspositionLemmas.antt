@@ -12,10 +12,9 @@ use Rattle.qr_matrix.specs.Line.{has, has_bit}
 use Rattle.qr_matrix.specs.Penalty.{is_same, all_below}
 use Rattle.qr_matrix.specs.Grid.{Grid, square, colour, with_row, IsSquare}
 use Rattle.qr_matrix.specs.Steps.{bit_in, exchanged}
-use Rattle.qr_matrix.proofs.PlaceLemmas.{has-place, has_bit-and, has_bit-xor, has_bit-shr}
+use Rattle.qr_matrix.proofs.PlaceLemmas.{has-place, has_bit-and, has_bit-xor, has_bit-shr, word-step, has_bit-shl-low, has_bit-shl-high}
 use Rattle.qr_matrix.proofs.GridLemmas.{square-same, colour-square}
 use Rattle.qr_matrix.proofs.RepeatLemmas.{below-at, same-same}
-use Rattle.qr_matrix.proofs.PairLemmas.{word-step, has_bit-shl-low, has_bit-shl-high}
 
 -- ---- places by pairs of parts of s places
 

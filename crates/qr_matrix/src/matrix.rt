@@ -71,18 +71,6 @@ impl Matrix {
         self.rows[usize::from(row)].four(col)
     }
 
-    /// Two modules of a row, that in a column the higher bit and that to the left of it the lower.
-    pub fn pair(&self, row: u8, col: u8) -> u8
-        requires row_in { row < self.now.side }
-        requires left_in { 1 ≤ col }
-        requires col_in { col < self.now.side }
-        ensures small { result < 4 }
-        ensures left { has_bit result 0 ≡ colour self.now row (col - 1) }
-        ensures right { has_bit result 1 ≡ colour self.now row col }
-    {
-        self.rows[usize::from(row)].pair(col)
-    }
-
     /// Where the run of equal modules from `col` on ends: the least column after `col` whose
     /// colour in that row differs from that at `col`, or the side where there is none.
     pub fn run_end(&self, row: u8, col: u8) -> u8
@@ -146,18 +134,6 @@ impl Matrix {
         ensures { self.new ≡ painted self.old row col dark }
     {
         self.rows[usize::from(row)].put(col, dark);
-    }
-
-    /// Gives two modules of a row their colours: that in a column by the higher bit, that to the left of it by the lower.
-    pub fn set_pair(&mut self, row: u8, col: u8, bits: u8)
-        requires row_in { row < self.old.side }
-        requires left_in { 1 ≤ col }
-        requires col_in { col < self.old.side }
-        requires bits { bits < 4 }
-        ensures { self.new ≡ painted (painted self.old row col (has_bit bits 1))
-            row (col - 1) (has_bit bits 0) }
-    {
-        self.rows[usize::from(row)].put_pair(col, bits);
     }
 
     /// Gives four modules of a row their colours, from a column on that is a multiple of four, the first by the lowest bit.
@@ -295,30 +271,6 @@ mod tests {
         matrix.set(1, 67, true);
         assert_eq!(rt; matrix.four(1, 64), 0b1101);
         assert_eq!(rt; matrix.four(1, 60), 0);
-        Ok(())
-    }
-
-    #[test]
-    fn pairs_over_the_border_of_words(rt: HostRuntime) -> Result<(), Fail> {
-        for (col, bits) in [
-            (1u8, 0b10u8),
-            (63, 0b01),
-            (64, 0b10),
-            (65, 0b01),
-            (71, 0b11),
-        ] {
-            assert!(rt; col >= 1 && col < 72 && bits < 4);
-            let mut matrix = Matrix::new(rt.alloc(), 72)?;
-            matrix.fill(3, 4, 0, 72, true);
-            matrix.set_pair(3, col, bits);
-            assert_eq!(rt; matrix.pair(3, col), bits, "columns up to {col}");
-            assert_eq!(rt; matrix.dark(3, col), bits >= 2, "column {col}");
-            assert_eq!(rt;
-                matrix.dark(3, col - 1),
-                bits % 2 == 1,
-                "left of column {col}"
-            );
-        }
         Ok(())
     }
 

@@ -1,7 +1,6 @@
 use Rattle.std.proofs.Common.{arith}
 use Rattle.std.proofs.lemmas.Nat.{xor_lt}
-use Rattle.qr_matrix.proofs.PlaceLemmas.{words-small, set-words}
-use Rattle.qr_matrix.proofs.PairLemmas.{masked-small}
+use Rattle.qr_matrix.proofs.PlaceLemmas.{words-small, set-words, masked-small}
 use Rattle.qr_matrix.proofs.FourLemmas.{four-put}
 use Rattle.qr_matrix.proofs.line.Line.put_four.Goals as goal
 
