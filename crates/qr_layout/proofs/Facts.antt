@@ -6,5 +6,6 @@ pub use Rattle.qr_layout.proofs.OrderLemmas.{number-at, only_order, order-has, o
 pub use Rattle.qr_layout.proofs.RegionLemmas.{col-in, row-in}
 pub use Rattle.qr_layout.proofs.RolePlaceLemmas.{format-first, format-only, format-second, off-role, region-role, role-region, version-only}
 pub use Rattle.qr_layout.proofs.StripLemmas.{Inside}
+pub use Rattle.qr_layout.proofs.SymmetryLemmas.{region-symmetric}
 pub use Rattle.qr_layout.proofs.TableLemmas.{below, below-at, eqb-same}
 pub use Rattle.qr_layout.proofs.WalkLemmas.{to_come-start}

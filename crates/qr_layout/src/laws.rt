@@ -43,6 +43,11 @@ pub fn region_is_counted(v: Version)
     ensures filled { module_count_of v ≡ region_size v }
 {}
 
+/// The region is the same when rows and columns are exchanged.
+pub fn region_is_symmetric(v: Version)
+    ensures { (r c : ℕ) → is_in_region v r c ≡ is_in_region v c r }
+{}
+
 /// A place's number is how many places stand before it in the order.
 pub fn number_counts(v: Version)
     ensures { (front back : List Module) (m : Module) → IsOrder v (front ++ m ∷ back)

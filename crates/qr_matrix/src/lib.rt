@@ -10,6 +10,7 @@ mod matrix;
 mod penalties;
 mod runs;
 mod squares;
+mod transposition;
 mod windows;
 
 pub use dark_runs::{DarkRuns, Run};

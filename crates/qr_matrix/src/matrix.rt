@@ -1,11 +1,12 @@
 //! The square of modules that makes a symbol, without its quiet zone (ISO/IEC 18004:2015, 6.3.2).
 
-ghost use Rattle.std.specs.Prelude.{◌≡◌, ℕ, ◌+◌, ◌-◌, ◌*◌, ◌%◌, ◌<◌, ◌≤◌, ◌&&◌, not, nat_le, nat_lt, if◌then◌else◌, false, length, IfOk};
-ghost use Rattle.qr_matrix.specs.Grid.{square, colour, painted, with_row, with_rectangle, light};
+ghost use Rattle.std.specs.Prelude.{◌≡◌, ℕ, ◌+◌, ◌-◌, ◌*◌, ◌/◌, ◌%◌, ◌<◌, ◌≤◌, ◌&&◌, ◌==◌, not, nat_le, nat_lt, if◌then◌else◌, false, length, IfOk};
+ghost use Rattle.qr_matrix.specs.Grid.{square, colour, painted, with_row, with_rectangle, light, transposed};
 ghost use Rattle.qr_matrix.specs.Line.{dark_in, has, has_bit};
 ghost use Rattle.qr_matrix.specs.Runs.{IsRunEnd, is_change};
 
 use crate::line::Line;
+use crate::transposition::set_transposed_band;
 use std::alloc::{AllocError, Global};
 use std::marker::Model;
 
@@ -68,18 +69,6 @@ impl Matrix {
         ensures colours { (k : ℕ) → k < 4 → has_bit result k ≡ colour self.now row (col + k) }
     {
         self.rows[usize::from(row)].four(col)
-    }
-
-    /// Two modules of a row, that in a column the higher bit and that to the left of it the lower.
-    pub fn pair(&self, row: u8, col: u8) -> u8
-        requires row_in { row < self.now.side }
-        requires left_in { 1 ≤ col }
-        requires col_in { col < self.now.side }
-        ensures small { result < 4 }
-        ensures left { has_bit result 0 ≡ colour self.now row (col - 1) }
-        ensures right { has_bit result 1 ≡ colour self.now row col }
-    {
-        self.rows[usize::from(row)].pair(col)
     }
 
     /// Where the run of equal modules from `col` on ends: the least column after `col` whose
@@ -148,16 +137,16 @@ impl Matrix {
         self.rows[usize::from(row)].put(col, dark);
     }
 
-    /// Gives two modules of a row their colours: that in a column by the higher bit, that to the left of it by the lower.
-    pub fn set_pair(&mut self, row: u8, col: u8, bits: u8)
+    /// Gives four modules of a row their colours, from a column on that is a multiple of four, the first by the lowest bit.
+    pub fn set_four(&mut self, row: u8, col: u8, bits: u8)
         requires row_in { row < self.old.side }
-        requires left_in { 1 ≤ col }
-        requires col_in { col < self.old.side }
-        requires bits { bits < 4 }
-        ensures { self.new ≡ painted (painted self.old row col (has_bit bits 1))
-            row (col - 1) (has_bit bits 0) }
+        requires col_in { col + 4 ≤ self.old.side }
+        requires whole { col % 4 ≡ 0 }
+        requires bits { bits < 16 }
+        ensures { self.new ≡ painted (painted (painted (painted self.old row col (has_bit bits 0))
+            row (col + 1) (has_bit bits 1)) row (col + 2) (has_bit bits 2)) row (col + 3) (has_bit bits 3) }
     {
-        self.rows[usize::from(row)].put_pair(col, bits);
+        self.rows[usize::from(row)].put_four(col, bits);
     }
 
     // Gives a row the colours of a line.
@@ -167,6 +156,17 @@ impl Matrix {
         ensures { self.new ≡ with_row self.old row (has line) }
     {
         self.rows[usize::from(row)] = line;
+    }
+
+    // Gives the modules of one word of a row the colours of its bits.
+    pub(crate) fn set_word(&mut self, row: usize, number: usize, word: u64)
+        requires row_in { row < self.old.side }
+        requires word_in { number < 3 }
+        requires past { (c : ℕ) → c < 64 → self.old.side ≤ 64 * number + c → has_bit word c ≡ false }
+        ensures { self.new ≡ with_row self.old row
+            (λ c. if c / 64 == number then has_bit word (c % 64) else colour self.old row c) }
+    {
+        self.rows[row].put_word(number, word);
     }
 
     /// Gives a row the colours of `plain`, inverted where `within` is dark and the pattern's bit for the column is 1. The
@@ -217,6 +217,17 @@ impl Matrix {
             self.fill_row(row, left, right, dark);
         }
     }
+
+    /// Gives each module the colour that `other` has in the place with row and column exchanged.
+    pub fn set_transposed(&mut self, other: &Matrix)
+        requires { other.now.side ≡ self.old.side }
+        ensures { self.new ≡ transposed other.now }
+    {
+        prove!(self.side <= 177);
+        for band in 0..usize::from(self.words()) {
+            set_transposed_band(self, other, band);
+        }
+    }
 }
 
 #[cfg(test)]
@@ -265,25 +276,19 @@ mod tests {
     }
 
     #[test]
-    fn pairs_over_the_border_of_words(rt: HostRuntime) -> Result<(), Fail> {
-        for (col, bits) in [
-            (1u8, 0b10u8),
-            (63, 0b01),
-            (64, 0b10),
-            (65, 0b01),
-            (71, 0b11),
-        ] {
-            assert!(rt; col >= 1 && col < 72 && bits < 4);
+    fn four_modules_are_set(rt: HostRuntime) -> Result<(), Fail> {
+        for (col, bits) in [(0u8, 0b0001u8), (60, 0b0110), (64, 0b1011), (68, 0b0000)] {
+            assert!(rt; col + 4 <= 72 && col % 4 == 0 && bits < 16);
             let mut matrix = Matrix::new(rt.alloc(), 72)?;
             matrix.fill(3, 4, 0, 72, true);
-            matrix.set_pair(3, col, bits);
-            assert_eq!(rt; matrix.pair(3, col), bits, "columns up to {col}");
-            assert_eq!(rt; matrix.dark(3, col), bits >= 2, "column {col}");
-            assert_eq!(rt;
-                matrix.dark(3, col - 1),
-                bits % 2 == 1,
-                "left of column {col}"
-            );
+            matrix.set_four(3, col, bits);
+            assert_eq!(rt; matrix.four(3, col), bits, "columns from {col} on");
+            for other in 0..72u8 {
+                if other < col || col + 4 <= other {
+                    assert!(rt; matrix.dark(3, other), "column {other}, not from {col} on");
+                }
+            }
+            assert!(rt; !matrix.dark(2, col) && !matrix.dark(4, col));
         }
         Ok(())
     }
@@ -303,6 +308,45 @@ mod tests {
                 _ => true,
             };
             assert_eq!(rt; matrix.dark(4, col), is_dark, "column {col}");
+        }
+        Ok(())
+    }
+
+    // A square of one word in a row, and one of three.
+    #[test]
+    fn a_square_is_transposed(rt: HostRuntime) -> Result<(), Fail> {
+        let places = [
+            (0u8, 1u8),
+            (5, 20),
+            (20, 3),
+            (1, 64),
+            (63, 65),
+            (64, 63),
+            (70, 176),
+            (130, 127),
+            (176, 0),
+        ];
+        for side in [21u8, 177] {
+            let mut plain = Matrix::new(rt.alloc(), side)?;
+            for (row, col) in places {
+                if row < plain.side() && col < plain.side() {
+                    plain.set(row, col, true);
+                }
+            }
+            let mut matrix = Matrix::new(rt.alloc(), side)?;
+            matrix.fill(0, side, 0, side, true);
+            assert!(rt; plain.side() == matrix.side());
+            matrix.set_transposed(&plain);
+            for row in 0..side {
+                for col in 0..side {
+                    let is_dark = places.contains(&(col, row));
+                    assert_eq!(rt;
+                        matrix.dark(row, col),
+                        is_dark,
+                        "row {row}, column {col} of {side}"
+                    );
+                }
+            }
         }
         Ok(())
     }

@@ -3,7 +3,7 @@ use Rattle.std.proofs.Common.{◌≡◌, ℕ, ◌+◌, ◌-◌, ◌*◌, ◌/◌
 use Rattle.std.specs.Int.{bit_at}
 use Rattle.std.proofs.lemmas.Bool.{cases_lt}
 use Rattle.std.proofs.lemmas.Bool.Decides.{nat_tests}
-use Rattle.std.proofs.lemmas.Nat.{pow-add}
+use Rattle.std.proofs.lemmas.Nat.{and_mask, pow-add}
 use Rattle.std.proofs.Math.Pow.{pow_mono}
 use Rattle.std.proofs.lemmas.Nat.Bits.{bit_at_above, bit_at_cat_low, bit_at_cat_high}
 use mathlib.Core.Bool.{beq}
@@ -24,7 +24,7 @@ differs-inverted true false = refl
 differs-inverted false true = refl
 differs-inverted false false = refl
 
--- ---- two bits of codewords
+-- ---- bits of codewords
 
 -- a bit of two bytes, from the first
 window-high : (a b i : ℕ) → b < 256 → 8 ≤ i → has_bit (256 * a + b) i ≡ nat_eq (a / 2 ^ (i - 8) % 2) 1
@@ -36,15 +36,26 @@ window-low : (a b i : ℕ) → i < 8 → has_bit (256 * a + b) i ≡ nat_eq (b /
 unfolding has_bit
 window-low a b i l = let e : 256 * a + b ≡ a * 2 ^ 8 + b = omega arith in ap (λ z. nat_eq (bit_at z i) 1) e ∙ ap (λ z. nat_eq z 1) (bit_at_cat_low a 8 b i l)
 
--- of a number that is moved down the two lowest bits
-pub two-lowest : (n s k : ℕ) → k < 2 → has_bit (bit_and (n / 2 ^ s) 3) k ≡ has_bit n (k + s)
-two-lowest n s k l =
-    let t : ltb k 2 ≡ true = grind (arith, nat_tests) in
-    has_bit-and (n / 2 ^ s) 3 k ∙ (ap (λ z. has_bit (n / 2 ^ s) k && z) (has_bit-ones 2 k ∙ t) ∙ (and-true (has_bit (n / 2 ^ s) k) ∙ has_bit-shr n s k))
+-- of a number that is moved down the lowest bits
+lowest : (n s m k : ℕ) → k < m → has_bit (bit_and (n / 2 ^ s) (2 ^ m - 1)) k ≡ has_bit n (k + s)
+lowest n s m k l =
+    let t : ltb k m ≡ true = grind (arith, nat_tests) in
+    has_bit-and (n / 2 ^ s) (2 ^ m - 1) k ∙ (ap (λ z. has_bit (n / 2 ^ s) k && z) (has_bit-ones m k ∙ t) ∙ (and-true (has_bit (n / 2 ^ s) k) ∙ has_bit-shr n s k))
   where
     and-true : (b : Bool) → (b && true) ≡ b
     and-true true = refl
     and-true false = refl
+
+-- the eight bits from one on, the first the highest
+pub eight-bits : (n d k : ℕ) → d ≤ 56 → k < 8 → has_bit (bit_and (n / 2 ^ (56 - d)) 255) (7 - k) ≡ has_bit n (63 - (d + k))
+eight-bits n d k l m =
+    let e : 7 - k + (56 - d) ≡ 63 - (d + k) = omega arith in
+    lowest n (56 - d) 8 (7 - k) (omega arith) ∙ ap (has_bit n) e
+
+-- one of eight bits
+pub one-bit : (n k : ℕ) → nat_eq (bit_and (n / 2 ^ k) 1) 1 ≡ has_bit n k
+unfolding has_bit
+one-bit n k = ap (λ z. nat_eq z 1) (and_mask (n / 2 ^ k) 1)
 
 -- eight bits of codewords more
 pub window-more : (cw : List ℕ) (p n w b : ℕ) → b ≡ get_or cw (p + n) 0 → b < 256 → ((j : ℕ) → j < 8 * n → has_bit w (8 * n - 1 - j) ≡ codeword_bit cw (8 * p + j)) → (j : ℕ) → j < 8 * (n + 1) → has_bit (256 * w + b) (8 * (n + 1) - 1 - j) ≡ codeword_bit cw (8 * p + j)

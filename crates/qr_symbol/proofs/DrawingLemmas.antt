@@ -1,5 +1,5 @@
 -- Drawing along a walk: whatever place is no more to come has its colour.
-use Rattle.std.proofs.Common.{◌≡◌, ℕ, suc, ◌+◌, ◌-◌, ◌<◌, ◌≤◌, Bool, true, false, cond, nat_eq, ◌&&◌, List, [], ◌∷◌, ◌++◌, length, length-append, refl, sym, ◌∙◌, ap, inl, inr, subst, append_assoc, append-nil, arith}
+use Rattle.std.proofs.Common.{◌≡◌, ℕ, ◌+◌, ◌-◌, ◌<◌, ◌≤◌, Bool, true, false, cond, nat_eq, ◌&&◌, List, [], ◌∷◌, ◌++◌, length, length-append, refl, sym, ◌∙◌, ap, inl, inr, subst, append_assoc, append-nil, arith}
 use Rattle.std.specs.Prelude.{Option, None, Some, SomeIff, unwrap_or}
 use Rattle.qr_layout.specs.declared.level.Level.{Level}
 use Rattle.qr_layout.specs.declared.region.Module.{Module}
@@ -10,8 +10,6 @@ use Rattle.qr_layout.specs.Format.{format_word_of, version_word_of}
 use Rattle.qr_layout.specs.Region.{is_in_region}
 use Rattle.qr_layout.specs.Role.{role_of}
 use Rattle.qr_layout.specs.Order.{IsOrder, in_region_of, number_of}
-use Rattle.qr_layout.specs.Strips.{both_of, rows_from}
-use Rattle.qr_layout.specs.declared.strips.Strip.{Strip}
 use Rattle.qr_layout.proofs.Facts.{Mem, order-has, order-mem, order-small, number-at, row-in, col-in, region-role, role-region, version-only}
 use Rattle.qr_bits.specs.Bits.{codeword_bit}
 use Rattle.qr_matrix.specs.Grid.{Grid, square, colour, painted, IsSquare}
@@ -88,11 +86,6 @@ square-is s f g e = rw e (square-again s f)
 pub painted-square : (s : ℕ) (g : Grid) (row col : ℕ) (d : Bool) → g.side ≡ s → IsSquare s (painted g row col d)
 painted-square s g row col d e = square-again g.side (λ r c. cond (nat_eq r row && nat_eq c col) d (colour g r c)) ∙ ap (λ (k : ℕ). square k (colour (painted g row col d))) e
 
--- placing keeps equal colours equal
-placed-same : (v : ℕ) (cw : List ℕ) (f h : ℕ → ℕ → Bool) (r c : ℕ) → f r c ≡ h r c → placed_colour v cw f r c ≡ placed_colour v cw h r c
-unfolding placed_colour
-placed-same v cw f h r c e = ap (λ (b : Bool). cond (is_in_region v r c) (codeword_bit cw (number_of v (at r c))) b) e
-
 -- a symbol below version 7 holds no bit of the version word, so any word does
 pub word-of-version : (v format version r c : ℕ) → (7 ≤ v → version ≡ version_word_of v) → fixed_colour format version (role_of v r c) ≡ fixed_colour format (version_word_of v) (role_of v r c)
 unfolding fixed_colour
@@ -152,11 +145,14 @@ masked-outside v l mask cw r c t n =
     ap (λ (b : Bool). format_or (format_word_of l mask) (role_of v r c) (inverted (b && inverts mask r c) (plain_colours v cw r c))) t
     ∙ (ap (format_or (format_word_of l mask) (role_of v r c)) (sym (outside v cw (λ r c. fixed_colour 0 (version_word_of v) (role_of v r c)) r c t)) ∙ role-masked v l mask cw r c (role_of v r c) n)
 
--- the codewords drawn without mask over the fixed patterns
-pub plain-over : (v : ℕ) (cw : List ℕ) (g h : Grid) → g ≡ square (side_of v) (λ r c. fixed_colour 0 (version_word_of v) (role_of v r c)) → h ≡ square (side_of v) (placed_colour v cw (colour g)) → h ≡ plain_grid v cw
-plain-over v cw g h e k =
-    k ∙ square-same (side_of v) (placed_colour v cw (colour g)) (plain_colours v cw) (λ r c i j. placed-same v cw (colour g) (λ r c. fixed_colour 0 (version_word_of v) (role_of v r c)) r c
-    (ap (λ (z : Grid). colour z r c) e ∙ colour-square (side_of v) (λ r c. fixed_colour 0 (version_word_of v) (role_of v r c)) r c i j))
+-- the fixed patterns drawn round the codewords
+pub plain-round : (v : ℕ) (cw : List ℕ) (f : ℕ → ℕ → Bool) (g h : Grid) → g ≡ square (side_of v) (placed_colour v cw f) → h ≡ square (side_of v) (λ r c. cond (is_in_region v r c) (colour g r c) (fixed_colour 0 (version_word_of v) (role_of v r c))) → h ≡ plain_grid v cw
+plain-round v cw f g h e k =
+    let fixed = λ (r c : ℕ). fixed_colour 0 (version_word_of v) (role_of v r c) in
+    k ∙ square-same (side_of v) (λ r c. cond (is_in_region v r c) (colour g r c) (fixed r c)) (plain_colours v cw) (λ r c i j.
+    by_test (is_in_region v r c) (cond (is_in_region v r c) (colour g r c) (fixed r c) ≡ plain_colours v cw r c)
+    (λ t. ap (λ (z : Bool). cond z (colour g r c) (fixed r c)) t ∙ (ap (λ (z : Grid). colour z r c) e ∙ (colour-square (side_of v) (placed_colour v cw f) r c i j ∙ (inside v cw f r c t ∙ sym (inside v cw fixed r c t)))))
+    (λ t. ap (λ (z : Bool). cond z (colour g r c) (fixed r c)) t ∙ outside v cw fixed r c t))
 
 -- it is the symbol of its codewords under that mask
 pub masked-all : (v : ℕ) (l : Level) (mask : ℕ) (cw : List ℕ) (region plain : Grid) → 1 ≤ v → region ≡ region_grid v → plain ≡ plain_grid v cw → masked_grid v l mask region plain ≡ grid_of v l mask cw
@@ -216,32 +212,6 @@ placed-many v cw g0 g before (m ∷ ms) later number p =
     let one = placed-step v cw g0 g before (ms ++ later) m number t refl p in
     let rest = placed-many v cw g0 (placed_if t cw number g m.row m.col) (before ++ m ∷ []) ms later (number_after t number) one in
     subst (λ (z : List Module). IsPlaced v cw g0 z later (number_along v ms (number_after t number)) (placed_along v cw ms (number_after t number) (placed_if t cw number g m.row m.col))) (append_assoc before (m ∷ []) ms) rest
-
--- the number after the rows of a strip that are left, from one row on
-pub row-number : (v s k m number row : ℕ) (x : Strip) (t u : Bool) → s - k ≡ suc m → row ≡ cond x.upward (s - 1 - k) k → t ≡ is_in_region v row x.right → u ≡ is_in_region v row (x.right - 1)
-    → number_along v (both_of (rows_from s x (k + 1) m)) (number_after u (number_after t number)) ≡ number_along v (both_of (rows_from s x k (s - k))) number
-row-number v s k m number row x t u e r f h =
-    let rest = both_of (rows_from s x (k + 1) m) in
-    ap (λ z. number_along v rest (number_after u (number_after z number))) f
-    ∙ (ap (λ z. number_along v rest (number_after z (number_after (is_in_region v row x.right) number))) h
-    ∙ (ap (λ z. number_along v rest (number_after (is_in_region v z (x.right - 1)) (number_after (is_in_region v z x.right) number))) r
-    ∙ ap (λ z. number_along v (both_of (rows_from s x k z)) number) (sym e)))
-
--- the square after them
-pub row-placed : (v s k m number row : ℕ) (cw : List ℕ) (g : Grid) (x : Strip) (t u : Bool) → s - k ≡ suc m → row ≡ cond x.upward (s - 1 - k) k → t ≡ is_in_region v row x.right → u ≡ is_in_region v row (x.right - 1)
-    → placed_along v cw (both_of (rows_from s x (k + 1) m)) (number_after u (number_after t number)) (placed_if u cw (number_after t number) (placed_if t cw number g row x.right) row (x.right - 1)) ≡ placed_along v cw (both_of (rows_from s x k (s - k))) number g
-row-placed v s k m number row cw g x t u e r f h =
-    let rest = both_of (rows_from s x (k + 1) m) in
-    let col = x.right in
-    ap (λ z. placed_along v cw rest (number_after u (number_after z number)) (placed_if u cw (number_after z number) (placed_if z cw number g row col) row (col - 1))) f
-    ∙ (ap (λ z. placed_along v cw rest (number_after z (number_after (is_in_region v row col) number)) (placed_if z cw (number_after (is_in_region v row col) number) (placed_if (is_in_region v row col) cw number g row col) row (col - 1))) h
-    ∙ (ap (λ z. placed_along v cw rest (number_after (is_in_region v z (col - 1)) (number_after (is_in_region v z col) number)) (placed_if (is_in_region v z (col - 1)) cw (number_after (is_in_region v z col) number) (placed_if (is_in_region v z col) cw number g z col) z (col - 1))) r
-    ∙ ap (λ z. placed_along v cw (both_of (rows_from s x k z)) number g) (sym e)))
-
--- a place of the region or not, the side stays
-pub side-placed : (t : Bool) (cw : List ℕ) (number row col : ℕ) (g : Grid) → (placed_if t cw number g row col).side ≡ g.side
-side-placed true cw number row col g = refl
-side-placed false cw number row col g = refl
 
 -- a number is at most that of all modules of the region
 pub placed-small : (v : ℕ) (cw : List ℕ) (g0 g : Grid) (before later : List Module) (number : ℕ) → 1 ≤ v → v ≤ 40 → IsPlaced v cw g0 before later number g → number ≤ 29648

@@ -1,6 +1,6 @@
 -- Drawing along the walk, the mask applied as each bit is placed.
 use mathlib.Core.Bool.{beq}
-use Rattle.std.proofs.Common.{◌≡◌, ℕ, ◌+◌, ◌<◌, ◌≤◌, Bool, true, false, not, List, [], ◌∷◌, ◌++◌, length, length-append, refl, sym, ◌∙◌, ap, subst, arith}
+use Rattle.std.proofs.Common.{◌≡◌, ℕ, ◌+◌, ◌<◌, ◌≤◌, Bool, true, false, cond, not, List, [], ◌∷◌, ◌++◌, length, length-append, refl, sym, ◌∙◌, ap, subst, arith}
 use Rattle.qr_layout.specs.declared.level.Level.{Level}
 use Rattle.qr_layout.specs.declared.region.Module.{Module}
 use Rattle.qr_layout.specs.declared.role.Role.{Role}
@@ -12,7 +12,7 @@ use Rattle.qr_layout.specs.Role.{role_of}
 use Rattle.qr_layout.specs.Order.{IsOrder, number_of}
 use Rattle.qr_layout.proofs.Facts.{order-small, region-role, role-region}
 use Rattle.qr_bits.specs.Bits.{codeword_bit}
-use Rattle.qr_matrix.specs.Grid.{Grid, square, colour, painted, IsSquare}
+use Rattle.qr_matrix.specs.Grid.{Grid, square, colour, light, painted, IsSquare}
 use Rattle.qr_matrix.proofs.Facts.{square-same, colour-square}
 use Rattle.qr_symbol.specs.Mask.{inverts, inverted}
 use Rattle.qr_symbol.specs.Symbol.{colour_by, colour_of, grid_of}
@@ -87,6 +87,17 @@ role-fixed v l mask cw r c (Fixed dark) n = refl
 role-fixed v l mask cw r c (FormatBit i) n = refl
 role-fixed v l mask cw r c (VersionBit i) n = refl
 role-fixed v l mask cw r c Region n = absurd (n refl)
+
+-- the fixed patterns, drawn over a light square
+pub fixed-alone : (v format : ℕ) (g h : Grid) → 1 ≤ v → g ≡ light (side_of v) → h ≡ square (side_of v) (λ r c. cond (is_in_region v r c) (colour g r c) (fixed_colour format (version_word_of v) (role_of v r c)))
+    → h ≡ square (side_of v) (λ r c. fixed_colour format (version_word_of v) (role_of v r c))
+unfolding fixed_colour
+fixed-alone v format g h k e f =
+    let fixed = λ (r c : ℕ). fixed_colour format (version_word_of v) (role_of v r c) in
+    f ∙ square-same (side_of v) (λ r c. cond (is_in_region v r c) (colour g r c) (fixed r c)) fixed (λ r c i j.
+    by_test (is_in_region v r c) (cond (is_in_region v r c) (colour g r c) (fixed r c) ≡ fixed r c)
+    (λ t. ap (λ (z : Bool). cond z (colour g r c) (fixed r c)) t ∙ (ap (λ (z : Grid). colour z r c) e ∙ (colour-square (side_of v) (λ _ _. false) r c i j ∙ sym (ap (fixed_colour format (version_word_of v)) (region-role v r c k i j t)))))
+    (λ t. ap (λ (z : Bool). cond z (colour g r c) (fixed r c)) t))
 
 -- what is drawn along the walk over the fixed patterns is the symbol of the codewords
 pub walked-all : (v : ℕ) (l : Level) (mask : ℕ) (cw : List ℕ) (g h : Grid) → 1 ≤ v → g ≡ square (side_of v) (λ r c. fixed_colour (format_word_of l mask) (version_word_of v) (role_of v r c))

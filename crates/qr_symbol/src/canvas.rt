@@ -24,24 +24,29 @@ pub(crate) struct Canvas {
 }
 
 impl Canvas {
-    // Draws the codewords. Memory is taken twice.
+    // Draws the codewords: across another square, whose modules do not matter, and from there transposed into one of its
+    // own. Memory is taken twice.
     #[inline(never)]
     pub(crate) fn new(
         alloc: Global,
         version: Version,
         level: Level,
         codewords: &[u8],
+        across: &mut Matrix,
     ) -> Result<Canvas, AllocError>
+        requires { IsSquare (side_of version) across.old }
         ensures version { IfOk result (λ c. c.version ≡ version) }
         ensures level { IfOk result (λ c. c.level ≡ level) }
         ensures region { IfOk result (λ c. c.region ≡ region_grid version) }
         ensures plain { IfOk result (λ c. c.plain ≡ plain_grid version codewords.now) }
+        ensures square { IsSquare (side_of version) across.new }
     {
         let mut region = Matrix::new(alloc, version.side())?;
         draw_region(&mut region, version);
         let mut plain = Matrix::new(alloc, version.side())?;
+        draw_codewords(across, version, &region, codewords);
+        plain.set_transposed(across);
         draw_fixed(&mut plain, version, 0);
-        draw_codewords(&mut plain, version, &region, codewords);
         Ok(Canvas {
             version,
             level,

@@ -1,20 +1,20 @@
 //! How the modules of a symbol get their colours: the function patterns with the format and version information, and
 //! the codewords' bits, strip by strip in the order of the walk or plainly along it (ISO/IEC 18004:2015, 7.7.2 and 7.7.3).
 
-ghost use Rattle.std.specs.Prelude.{◌≡◌, ℕ, List, ◌+◌, ◌-◌, ◌<◌, ◌≤◌, ◌==◌, ◌&&◌, not, if◌then◌else◌, nat_le, nat_lt, false, slice_index};
+ghost use Rattle.std.specs.Prelude.{◌≡◌, ℕ, List, ◌*◌, ◌%◌, ◌+◌, ◌-◌, ◌<◌, ◌≤◌, ◌==◌, ◌&&◌, not, if◌then◌else◌, nat_le, nat_lt, false, slice_index};
 ghost use Rattle.std.specs.List.{list_any};
 ghost use Rattle.qr_layout.specs.Version.{side_of};
 ghost use Rattle.qr_layout.specs.Alignment.{alignment_places, centres_of};
-ghost use Rattle.qr_layout.specs.Region.{is_alignment, ring_of};
+ghost use Rattle.qr_layout.specs.Region.{is_alignment, is_in_region, ring_of};
 ghost use Rattle.qr_layout.specs.Steps.Rectangles.{corner_rectangles, is_in_rectangle, timing_lines, version_rectangles};
 ghost use Rattle.qr_layout.specs.Role.{finder_ring, is_alignment_light, role_of};
 ghost use Rattle.qr_layout.specs.Strips.{both_of, rows_from};
 ghost use Rattle.qr_layout.specs.Format.{version_word_of};
 ghost use Rattle.qr_bits.specs.Bits.{codeword_bit};
-ghost use Rattle.qr_matrix.specs.Grid.{square, colour, light, IsSquare};
+ghost use Rattle.qr_matrix.specs.Grid.{square, colour, light, painted, transposed, IsSquare};
 ghost use Rattle.qr_matrix.specs.Line.{has_bit};
 ghost use Rattle.qr_symbol.specs.Symbol.{word_bit};
-ghost use Rattle.qr_symbol.specs.Steps.Drawing.{fixed_colour, is_dark_in_six, paint_of, placed_colour, placed_if, number_after, number_along, placed_along, walked_colour, IsWindow, format_or, region_grid};
+ghost use Rattle.qr_symbol.specs.Steps.Drawing.{fixed_colour, is_dark_in_six, paint_of, placed_colour, number_after, walked_colour, AreNext, IsDrawnAcross, IsWindow, format_or, region_grid};
 
 use crate::mask::inverts;
 use qr_layout::{
@@ -55,16 +55,60 @@ fn window_at(codewords: &[u8], number: usize) -> Window
     }
 }
 
-// Two bits of a window from `number` on, the first the higher.
-fn two_bits(window: Window, number: usize) -> u8
+// Eight bits of a window from `number` on, the first the highest.
+fn eight_bits(window: Window, number: usize) -> u8
     requires least { window.first ≤ number }
-    requires most { number ≤ window.first + 62 }
-    ensures small { result < 4 }
-    ensures first { has_bit result 1 ≡ has_bit window.bits (63 - (number - window.first)) }
-    ensures second { has_bit result 0 ≡ has_bit window.bits (62 - (number - window.first)) }
+    requires most { number ≤ window.first + 56 }
+    ensures { (cw : List ℕ) → IsWindow cw window → AreNext cw number result }
 {
-    (window.bits >> (62 - (number - window.first)) & 3) as u8
+    (window.bits >> (56 - (number - window.first)) & 255) as u8
 }
+
+// Eight bits of the codewords, split into those of four modules of the right column and those of the left one: the odd and
+// the even bits, the right ones as the higher four. First for strips that go downward, where the first bit is in the first
+// row and so the lowest of four, and then for those that go upward.
+static SPLITS: [[u8; 256]; 2] = [
+    [
+        0x00, 0x08, 0x80, 0x88, 0x04, 0x0C, 0x84, 0x8C, 0x40, 0x48, 0xC0, 0xC8, 0x44, 0x4C, 0xC4,
+        0xCC, 0x02, 0x0A, 0x82, 0x8A, 0x06, 0x0E, 0x86, 0x8E, 0x42, 0x4A, 0xC2, 0xCA, 0x46, 0x4E,
+        0xC6, 0xCE, 0x20, 0x28, 0xA0, 0xA8, 0x24, 0x2C, 0xA4, 0xAC, 0x60, 0x68, 0xE0, 0xE8, 0x64,
+        0x6C, 0xE4, 0xEC, 0x22, 0x2A, 0xA2, 0xAA, 0x26, 0x2E, 0xA6, 0xAE, 0x62, 0x6A, 0xE2, 0xEA,
+        0x66, 0x6E, 0xE6, 0xEE, 0x01, 0x09, 0x81, 0x89, 0x05, 0x0D, 0x85, 0x8D, 0x41, 0x49, 0xC1,
+        0xC9, 0x45, 0x4D, 0xC5, 0xCD, 0x03, 0x0B, 0x83, 0x8B, 0x07, 0x0F, 0x87, 0x8F, 0x43, 0x4B,
+        0xC3, 0xCB, 0x47, 0x4F, 0xC7, 0xCF, 0x21, 0x29, 0xA1, 0xA9, 0x25, 0x2D, 0xA5, 0xAD, 0x61,
+        0x69, 0xE1, 0xE9, 0x65, 0x6D, 0xE5, 0xED, 0x23, 0x2B, 0xA3, 0xAB, 0x27, 0x2F, 0xA7, 0xAF,
+        0x63, 0x6B, 0xE3, 0xEB, 0x67, 0x6F, 0xE7, 0xEF, 0x10, 0x18, 0x90, 0x98, 0x14, 0x1C, 0x94,
+        0x9C, 0x50, 0x58, 0xD0, 0xD8, 0x54, 0x5C, 0xD4, 0xDC, 0x12, 0x1A, 0x92, 0x9A, 0x16, 0x1E,
+        0x96, 0x9E, 0x52, 0x5A, 0xD2, 0xDA, 0x56, 0x5E, 0xD6, 0xDE, 0x30, 0x38, 0xB0, 0xB8, 0x34,
+        0x3C, 0xB4, 0xBC, 0x70, 0x78, 0xF0, 0xF8, 0x74, 0x7C, 0xF4, 0xFC, 0x32, 0x3A, 0xB2, 0xBA,
+        0x36, 0x3E, 0xB6, 0xBE, 0x72, 0x7A, 0xF2, 0xFA, 0x76, 0x7E, 0xF6, 0xFE, 0x11, 0x19, 0x91,
+        0x99, 0x15, 0x1D, 0x95, 0x9D, 0x51, 0x59, 0xD1, 0xD9, 0x55, 0x5D, 0xD5, 0xDD, 0x13, 0x1B,
+        0x93, 0x9B, 0x17, 0x1F, 0x97, 0x9F, 0x53, 0x5B, 0xD3, 0xDB, 0x57, 0x5F, 0xD7, 0xDF, 0x31,
+        0x39, 0xB1, 0xB9, 0x35, 0x3D, 0xB5, 0xBD, 0x71, 0x79, 0xF1, 0xF9, 0x75, 0x7D, 0xF5, 0xFD,
+        0x33, 0x3B, 0xB3, 0xBB, 0x37, 0x3F, 0xB7, 0xBF, 0x73, 0x7B, 0xF3, 0xFB, 0x77, 0x7F, 0xF7,
+        0xFF,
+    ],
+    [
+        0x00, 0x01, 0x10, 0x11, 0x02, 0x03, 0x12, 0x13, 0x20, 0x21, 0x30, 0x31, 0x22, 0x23, 0x32,
+        0x33, 0x04, 0x05, 0x14, 0x15, 0x06, 0x07, 0x16, 0x17, 0x24, 0x25, 0x34, 0x35, 0x26, 0x27,
+        0x36, 0x37, 0x40, 0x41, 0x50, 0x51, 0x42, 0x43, 0x52, 0x53, 0x60, 0x61, 0x70, 0x71, 0x62,
+        0x63, 0x72, 0x73, 0x44, 0x45, 0x54, 0x55, 0x46, 0x47, 0x56, 0x57, 0x64, 0x65, 0x74, 0x75,
+        0x66, 0x67, 0x76, 0x77, 0x08, 0x09, 0x18, 0x19, 0x0A, 0x0B, 0x1A, 0x1B, 0x28, 0x29, 0x38,
+        0x39, 0x2A, 0x2B, 0x3A, 0x3B, 0x0C, 0x0D, 0x1C, 0x1D, 0x0E, 0x0F, 0x1E, 0x1F, 0x2C, 0x2D,
+        0x3C, 0x3D, 0x2E, 0x2F, 0x3E, 0x3F, 0x48, 0x49, 0x58, 0x59, 0x4A, 0x4B, 0x5A, 0x5B, 0x68,
+        0x69, 0x78, 0x79, 0x6A, 0x6B, 0x7A, 0x7B, 0x4C, 0x4D, 0x5C, 0x5D, 0x4E, 0x4F, 0x5E, 0x5F,
+        0x6C, 0x6D, 0x7C, 0x7D, 0x6E, 0x6F, 0x7E, 0x7F, 0x80, 0x81, 0x90, 0x91, 0x82, 0x83, 0x92,
+        0x93, 0xA0, 0xA1, 0xB0, 0xB1, 0xA2, 0xA3, 0xB2, 0xB3, 0x84, 0x85, 0x94, 0x95, 0x86, 0x87,
+        0x96, 0x97, 0xA4, 0xA5, 0xB4, 0xB5, 0xA6, 0xA7, 0xB6, 0xB7, 0xC0, 0xC1, 0xD0, 0xD1, 0xC2,
+        0xC3, 0xD2, 0xD3, 0xE0, 0xE1, 0xF0, 0xF1, 0xE2, 0xE3, 0xF2, 0xF3, 0xC4, 0xC5, 0xD4, 0xD5,
+        0xC6, 0xC7, 0xD6, 0xD7, 0xE4, 0xE5, 0xF4, 0xF5, 0xE6, 0xE7, 0xF6, 0xF7, 0x88, 0x89, 0x98,
+        0x99, 0x8A, 0x8B, 0x9A, 0x9B, 0xA8, 0xA9, 0xB8, 0xB9, 0xAA, 0xAB, 0xBA, 0xBB, 0x8C, 0x8D,
+        0x9C, 0x9D, 0x8E, 0x8F, 0x9E, 0x9F, 0xAC, 0xAD, 0xBC, 0xBD, 0xAE, 0xAF, 0xBE, 0xBF, 0xC8,
+        0xC9, 0xD8, 0xD9, 0xCA, 0xCB, 0xDA, 0xDB, 0xE8, 0xE9, 0xF8, 0xF9, 0xEA, 0xEB, 0xFA, 0xFB,
+        0xCC, 0xCD, 0xDC, 0xDD, 0xCE, 0xCF, 0xDE, 0xDF, 0xEC, 0xED, 0xFC, 0xFD, 0xEE, 0xEF, 0xFE,
+        0xFF,
+    ],
+];
 
 // Bit `i` of a word of format or version information, bit 0 being the lowest.
 pub(crate) fn is_bit_set(word: u32, i: u8) -> bool
@@ -307,9 +351,9 @@ fn clear_rings(matrix: &mut Matrix, v: Version, centres: &[Module])
 
 // Gives each module outside the encoding region its colour.
 pub(crate) fn draw_fixed(matrix: &mut Matrix, v: Version, format: u32)
-    requires { matrix.old ≡ light (side_of v) }
-    ensures { matrix.new ≡ square (side_of v)
-        (λ r c. fixed_colour format (version_word_of v) (role_of v r c)) }
+    requires { IsSquare (side_of v) matrix.old }
+    ensures { matrix.new ≡ square (side_of v) (λ r c. if is_in_region v r c then colour matrix.old r c
+        else fixed_colour format (version_word_of v) (role_of v r c)) }
 {
     let centres = alignment_centres(v);
     fill_alignment(matrix, v, centres.as_slice(), true);
@@ -332,150 +376,183 @@ pub(crate) fn draw_region(matrix: &mut Matrix, v: Version)
     paint_version(matrix, v, None);
 }
 
-// Gives that one of two modules of a row of a strip which is in the encoding region, if one is, the first of two bits, and
-// returns the number of the next bit. There are few such rows.
-#[inline(never)]
-fn draw_part(matrix: &mut Matrix, bits: u8, number: usize, right: Module, within: u8) -> usize
-    requires row_in { right.row < matrix.old.side }
-    requires left_in { 1 ≤ right.col }
-    requires col_in { right.col < matrix.old.side }
-    requires within { within < 3 }
-    requires bits { bits < 4 }
-    requires few { number ≤ 40000 }
-    ensures number { result ≡ number_after (has_bit within 0) (number_after (has_bit within 1) number) }
-    ensures few { result ≤ number + 2 }
-    ensures matrix { (cw : List ℕ) → has_bit bits 1 ≡ codeword_bit cw number
-        → has_bit bits 0 ≡ codeword_bit cw (number + 1)
-        → matrix.new ≡ placed_if (has_bit within 0) cw (number_after (has_bit within 1) number)
-        (placed_if (has_bit within 1) cw number matrix.old right.row right.col)
-        right.row (right.col - 1) }
+// Gives a module the next of eight bits if it is in the encoding region, and returns how many of them are taken then.
+fn draw_module(across: &mut Matrix, region: &Matrix, bits: u8, taken: u8, place: Module) -> u8
+    requires row_in { place.row < across.old.side }
+    requires col_in { place.col < across.old.side }
+    requires region { region.now.side ≡ across.old.side }
+    requires taken { taken < 8 }
+    ensures taken { result ≡ number_after (colour region.now place.col place.row) taken }
+    ensures few { result ≤ taken + 1 }
+    ensures across { across.new ≡ (if colour region.now place.col place.row
+        then painted across.old place.col place.row (has_bit bits (7 - taken)) else across.old) }
 {
-    let Module { row, col } = right;
-    match within {
-        2 => {
-            matrix.set(row, col, bits / 2 == 1);
-            number + 1
-        }
-        1 => {
-            matrix.set(row, col - 1, bits / 2 == 1);
-            number + 1
-        }
-        _ => number,
+    let Module { row, col } = place;
+    if !region.dark(col, row) {
+        return taken;
     }
+    across.set(col, row, bits >> (7 - taken) & 1 == 1);
+    taken + 1
 }
 
-// Gives the modules of a row of a strip that are in the encoding region, as `within` says with the right one its higher
-// bit, the next of two bits of the codewords, and returns the number of the bit after them.
-#[inline(always)]
-fn draw_pair(matrix: &mut Matrix, bits: u8, number: usize, right: Module, within: u8) -> usize
-    requires row_in { right.row < matrix.old.side }
-    requires left_in { 1 ≤ right.col }
-    requires col_in { right.col < matrix.old.side }
-    requires within { within < 4 }
-    requires bits { bits < 4 }
-    requires few { number ≤ 40000 }
-    ensures number { result ≡ number_after (has_bit within 0) (number_after (has_bit within 1) number) }
-    ensures few { result ≤ number + 2 }
-    ensures matrix { (cw : List ℕ) → has_bit bits 1 ≡ codeword_bit cw number
-        → has_bit bits 0 ≡ codeword_bit cw (number + 1)
-        → matrix.new ≡ placed_if (has_bit within 0) cw (number_after (has_bit within 1) number)
-        (placed_if (has_bit within 1) cw number matrix.old right.row right.col)
-        right.row (right.col - 1) }
+// Gives the modules of up to four rows of a strip that are in the encoding region the next of eight bits, and returns how
+// many of them are taken then. There are few such rows.
+#[inline(never)]
+fn draw_rows(
+    across: &mut Matrix,
+    v: Version,
+    region: &Matrix,
+    bits: u8,
+    strip: Strip,
+    passed: u8,
+    count: u8,
+) -> u8
+    requires square { IsSquare (side_of v) across.old }
+    requires region { region.now ≡ region_grid v }
+    requires left_in { 1 ≤ strip.right }
+    requires right_in { strip.right < side_of v }
+    requires rows_in { passed + count ≤ side_of v }
+    requires few { count ≤ 4 }
+    ensures few { result ≤ 2 * count }
+    ensures drawn { (cw : List ℕ) → (number : ℕ) → AreNext cw number bits → IsDrawnAcross v cw
+        (both_of (rows_from (side_of v) strip passed count)) number across.old (number + result) across.new }
 {
-    let Module { row, col } = right;
-    if within == 3 {
-        matrix.set_pair(row, col, bits);
-        return number + 2;
+    let mut taken = 0;
+    for rank in passed..passed + count {
+        let row = if strip.upward {
+            v.side() - 1 - rank
+        } else {
+            rank
+        };
+        let right = Module {
+            row,
+            col: strip.right,
+        };
+        let left = Module {
+            row,
+            col: strip.right - 1,
+        };
+        taken = draw_module(across, region, bits, taken, right);
+        taken = draw_module(across, region, bits, taken, left);
     }
-    draw_part(matrix, bits, number, right, within)
+    taken
+}
+
+// Gives the modules of four rows of a strip that are in the encoding region the next of eight bits, and returns how many of
+// them are taken then. In the transposed square these rows are four places of the rows of both columns.
+#[inline(always)]
+fn draw_four(
+    across: &mut Matrix,
+    v: Version,
+    region: &Matrix,
+    bits: u8,
+    strip: Strip,
+    passed: u8,
+) -> u8
+    requires square { IsSquare (side_of v) across.old }
+    requires region { region.now ≡ region_grid v }
+    requires left_in { 1 ≤ strip.right }
+    requires right_in { strip.right < side_of v }
+    requires rows_in { passed + 4 ≤ side_of v }
+    requires whole { passed % 4 ≡ (if strip.upward then 1 else 0) }
+    ensures few { result ≤ 8 }
+    ensures drawn { (cw : List ℕ) → (number : ℕ) → AreNext cw number bits → IsDrawnAcross v cw
+        (both_of (rows_from (side_of v) strip passed 4)) number across.old (number + result) across.new }
+{
+    let top = if strip.upward {
+        v.side() - 4 - passed
+    } else {
+        passed
+    };
+    if region.four(strip.right, top) & region.four(strip.right - 1, top) == 15 {
+        let split = SPLITS[usize::from(strip.upward)][usize::from(bits)];
+        across.set_four(strip.right, top, split / 16);
+        across.set_four(strip.right - 1, top, split % 16);
+        return 8;
+    }
+    draw_rows(across, v, region, bits, strip, passed, 4)
 }
 
 // Gives the modules of a strip that are in the encoding region the bits of the codewords from `first` on, and returns the
-// number of the bit after them.
+// number of the bit after them. The side is one more than a multiple of four, so the last row is drawn by itself.
 #[inline(always)]
-fn draw_rows(
-    matrix: &mut Matrix,
+fn draw_columns(
+    across: &mut Matrix,
     v: Version,
     region: &Matrix,
     codewords: &[u8],
     first: usize,
     strip: Strip,
 ) -> usize
-    requires side { matrix.old.side ≡ side_of v }
+    requires square { IsSquare (side_of v) across.old }
     requires region { region.now ≡ region_grid v }
     requires left_in { 1 ≤ strip.right }
     requires right_in { strip.right < side_of v }
     requires few { first ≤ 29648 }
-    ensures number { result ≡ number_along v (both_of (rows_from (side_of v) strip 0 (side_of v))) first }
-    ensures matrix { matrix.new ≡ placed_along v codewords.now (both_of (rows_from (side_of v) strip 0 (side_of v)))
-        first matrix.old }
+    ensures { IsDrawnAcross v codewords.now (both_of (rows_from (side_of v) strip 0 (side_of v))) first across.old
+        result across.new }
 {
-    let side = v.side();
-    let mut number = first;
+    let last = v.side() - 1;
+    let before = u8::from(strip.upward);
     let mut window = window_at(codewords, first);
-    for passed in 0..side {
-        let row = if strip.upward {
-            side - 1 - passed
-        } else {
-            passed
-        };
-        let col = strip.right;
-        let within = region.pair(row, col);
-        if number > window.first + 62 {
+    let bits = eight_bits(window, first);
+    let mut number = first + usize::from(draw_rows(across, v, region, bits, strip, 0, before));
+    for group in 0..last / 4 {
+        let bits = eight_bits(window, number);
+        number += usize::from(draw_four(across, v, region, bits, strip, before + 4 * group));
+        if number > window.first + 56 {
             window = window_at(codewords, number);
         }
-        let bits = two_bits(window, number);
-        number = draw_pair(matrix, bits, number, Module { row, col }, within);
     }
-    number
+    let bits = eight_bits(window, number);
+    number + usize::from(draw_rows(across, v, region, bits, strip, before + last, 1 - before))
 }
 
-// The same, by three copies of it: one for strips over the border of two words, and one for each direction of the others.
+// The same, by a copy of it for each direction.
 fn draw_strip(
-    matrix: &mut Matrix,
+    across: &mut Matrix,
     v: Version,
     region: &Matrix,
     codewords: &[u8],
     first: usize,
     strip: Strip,
 ) -> usize
-    requires side { matrix.old.side ≡ side_of v }
+    requires square { IsSquare (side_of v) across.old }
     requires region { region.now ≡ region_grid v }
     requires left_in { 1 ≤ strip.right }
     requires right_in { strip.right < side_of v }
     requires few { first ≤ 29648 }
-    ensures number { result ≡ number_along v (both_of (rows_from (side_of v) strip 0 (side_of v))) first }
-    ensures matrix { matrix.new ≡ placed_along v codewords.now (both_of (rows_from (side_of v) strip 0 (side_of v)))
-        first matrix.old }
+    ensures { IsDrawnAcross v codewords.now (both_of (rows_from (side_of v) strip 0 (side_of v))) first across.old
+        result across.new }
 {
     let Strip { right, upward } = strip;
-    if right % 64 == 0 {
-        return draw_rows(matrix, v, region, codewords, first, strip);
-    }
     if upward {
         let strip = Strip {
             right,
             upward: true,
         };
-        draw_rows(matrix, v, region, codewords, first, strip)
+        draw_columns(across, v, region, codewords, first, strip)
     } else {
         let strip = Strip {
             right,
             upward: false,
         };
-        draw_rows(matrix, v, region, codewords, first, strip)
+        draw_columns(across, v, region, codewords, first, strip)
     }
 }
 
-// Gives each module of the encoding region the colour of its bit, strip by strip.
-pub(crate) fn draw_codewords(matrix: &mut Matrix, v: Version, region: &Matrix, codewords: &[u8])
-    requires square { IsSquare (side_of v) matrix.old }
+// Gives each module of the encoding region the colour of its bit, strip by strip. The square is transposed: the encoding
+// region is the same when rows and columns are exchanged, so the columns of a strip are two rows of both squares.
+pub(crate) fn draw_codewords(across: &mut Matrix, v: Version, region: &Matrix, codewords: &[u8])
+    requires square { IsSquare (side_of v) across.old }
     requires region { region.now ≡ region_grid v }
-    ensures { matrix.new ≡ square (side_of v) (placed_colour v codewords.now (colour matrix.old)) }
+    ensures placed { transposed across.new
+        ≡ square (side_of v) (placed_colour v codewords.now (colour (transposed across.old))) }
+    ensures square { IsSquare (side_of v) across.new }
 {
     let mut number = 0;
     for strip in all_strips(v) {
-        number = draw_strip(matrix, v, region, codewords, number, strip);
+        number = draw_strip(across, v, region, codewords, number, strip);
     }
 }
 

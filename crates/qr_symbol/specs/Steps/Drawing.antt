@@ -10,7 +10,7 @@ use Rattle.qr_layout.specs.Order.{number_of}
 use Rattle.qr_layout.specs.Region.{is_in_region}
 use Rattle.qr_layout.specs.Role.{role_of}
 use Rattle.qr_bits.specs.Bits.{codeword_bit}
-use Rattle.qr_matrix.specs.Grid.{Grid, square, colour, painted}
+use Rattle.qr_matrix.specs.Grid.{Grid, square, colour, painted, transposed, IsSquare}
 use Rattle.qr_matrix.specs.Line.{has_bit}
 use Rattle.qr_symbol.specs.declared.drawing.Window.{Window}
 use Rattle.qr_symbol.specs.Mask.{inverts, inverted}
@@ -66,6 +66,17 @@ placed_along v cw (m ∷ ms) number g =
 -- a window holds 64 bits of the codewords, the first its highest
 abbrev pub IsWindow : List ℕ → Window → Type 0
 IsWindow cw w = (k : ℕ) → k < 64 → has_bit w.bits (63 - k) ≡ codeword_bit cw (w.first + k)
+
+-- eight bits are those of the codewords from a number on, the first the highest
+abbrev pub AreNext : List ℕ → ℕ → ℕ → Type 0
+AreNext cw number bits = (k : ℕ) → k < 8 → has_bit bits (7 - k) ≡ codeword_bit cw (number + k)
+
+-- places were gone through, of which those of the region get one bit each from the first on, and the square is
+-- transposed: the number of the next bit, and the square after it
+pub record IsDrawnAcross (v : ℕ) (cw : List ℕ) (ms : List Module) (first : ℕ) (before : Grid) (next : ℕ) (after : Grid) : Type 0 where
+  pub number : next ≡ number_along v ms first
+  pub placed : transposed after ≡ placed_along v cw ms first (transposed before)
+  pub square : IsSquare (side_of v) after
 
 -- the bit of the format information, at a module that holds one, and elsewhere the other colour
 unfoldable pub format_or : ℕ → Role → Bool → Bool

@@ -1,12 +1,12 @@
-use Rattle.qr_layout.specs.Role.{role_of}
+use Rattle.std.proofs.Common.{◌∙◌}
 use Rattle.qr_layout.specs.Version.{side_of}
-use Rattle.qr_layout.specs.Format.{version_word_of}
-use Rattle.qr_symbol.specs.Steps.Drawing.{fixed_colour}
-use Rattle.qr_symbol.proofs.DrawingLemmas.{square-is, plain-over}
+use Rattle.qr_matrix.specs.Grid.{colour, transposed}
+use Rattle.qr_symbol.specs.Steps.Drawing.{placed_colour}
+use Rattle.qr_symbol.proofs.DrawingLemmas.{square-is, plain-round}
 use Rattle.qr_symbol.proofs.canvas.Canvas.new.Goals as goal
 
-pub draw_codewords-requires-clause-square : goal.draw_codewords-requires-clause-square
-draw_codewords-requires-clause-square c = square-is (side_of c.args.version) (λ r k. fixed_colour 0 (version_word_of c.args.version) (role_of c.args.version r k)) c.draw_fixed.new.matrix c.draw_fixed.ensures
+pub draw_fixed-requires : goal.draw_fixed-requires
+draw_fixed-requires c = square-is (side_of c.args.version) (placed_colour c.args.version c.args.codewords.now (colour (transposed c.args.across.now))) c.set_transposed.new.self (c.set_transposed.ensures ∙ c.draw_codewords.ensures.placed)
 
 pub returns-clause-plain : goal.returns-clause-plain
-returns-clause-plain c = plain-over c.args.version c.args.codewords.now c.draw_fixed.new.matrix c.draw_codewords.new.matrix c.draw_fixed.ensures c.draw_codewords.ensures
+returns-clause-plain c = plain-round c.args.version c.args.codewords.now (colour (transposed c.args.across.now)) c.set_transposed.new.self c.draw_fixed.new.matrix (c.set_transposed.ensures ∙ c.draw_codewords.ensures.placed) c.draw_fixed.ensures

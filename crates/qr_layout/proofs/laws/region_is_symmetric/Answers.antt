@@ -1,0 +1,5 @@
+use Rattle.qr_layout.proofs.SymmetryLemmas.{region-symmetric}
+use Rattle.qr_layout.proofs.laws.region_is_symmetric.Goals as goal
+
+pub returns : goal.returns
+returns c = region-symmetric c.args.v

@@ -1,0 +1,84 @@
+use Rattle.std.proofs.Common.{◌≡◌, ◌+◌, ◌-◌, ◌*◌, ◌≤◌, ap, sym, subst, arith}
+use Rattle.qr_bits.proofs.Facts.{bool_byte-bit}
+use Rattle.qr_layout.specs.Version.{side_of}
+use Rattle.qr_layout.specs.Strips.{both_of, rows_from}
+use Rattle.qr_symbol.specs.Steps.Drawing.{IsDrawnAcross, IsWindow}
+use Rattle.qr_symbol.specs.declared.drawing.Window.{Window}
+use Rattle.qr_symbol.proofs.AcrossLemmas.{drawn-rows}
+use Rattle.qr_symbol.proofs.drawing.draw_columns.Goals as goal
+use Rattle.qr_symbol.proofs.drawing.draw_columns.Goals.{then-number-window, else-number-window}
+
+pub loop-group-init : goal.loop-group-init
+loop-group-init c =
+    let v = c.args.v in
+    let cw = c.args.codewords.now in
+    let w = c.window_at-window in
+    let e : c.from-before.result ≡ c.from-before.result + 0 = omega arith in
+    let f : c.args.first + c.draw_rows.result ≡ c.args.first + c.from.result = ap (λ z. c.args.first + z) (sym c.from.ensures) in
+    let least = w.ensures.least in
+    let at-most = w.ensures.most in
+    let is = c.from.ensures in
+    let few = c.draw_rows.ensures.few in
+    let one = (bool_byte-bit c.args.strip.upward).0 in
+    let before = c.from-before.ensures in
+    record {
+      window = w.ensures.bits;
+      least = omega arith;
+      most = omega arith;
+      few = omega arith;
+      drawn = subst (λ z. IsDrawnAcross v cw (both_of (rows_from (side_of v) c.args.strip 0 z)) c.args.first c.args.across.now (c.args.first + c.from.result) c.draw_rows.new.across) e
+          (subst (λ z. IsDrawnAcross v cw (both_of (rows_from (side_of v) c.args.strip 0 c.from-before.result)) c.args.first c.args.across.now z c.draw_rows.new.across) f
+          (c.draw_rows.ensures.drawn cw c.args.first (c.eight_bits-bits.ensures cw w.ensures.bits)));
+    }
+
+pub loop-group-preserved : goal.loop-group-preserved
+loop-group-preserved c =
+    let v = c.args.v in
+    let s = side_of v in
+    let cw = c.args.codewords.now in
+    let i = c.loop-group.invariant in
+    let old = c.loop-group.number in
+    let number = old + c.from-number.result in
+    let four = c.draw_four in
+    let most : number ≤ c.loop-group.window.first + 64 = omega (arith, i.most, c.from-number.ensures, four.ensures.few) in
+    let w = c.if-number-window.window in
+    let now : IsWindow cw w × (w.first ≤ number) × (number ≤ w.first + 56) = elim c.if-number-window.branch [
+      | then-number-window b ↦ subst (λ (z : Window). IsWindow cw z × (z.first ≤ number) × (number ≤ z.first + 56)) (sym b.window-is) (b.window_at-window-then-number-window.ensures.bits, b.window_at-window-then-number-window.ensures.least, omega (arith, b.window_at-window-then-number-window.ensures.most))
+      | else-number-window b ↦ subst (λ (z : Window). IsWindow cw z × (z.first ≤ number) × (number ≤ z.first + 56)) (sym b.window-is) (i.window, omega (arith, i.least), omega (arith, b.if-number-window.false))
+    ] in
+    let k = c.from-before.result + 4 * c.loop-group.group in
+    let e : k + 4 ≡ c.from-before.result + 4 * (c.loop-group.group + 1) = omega arith in
+    let f : old + four.result ≡ number = ap (λ z. old + z) (sym c.from-number.ensures) in
+    let g : k ≡ 0 + k = omega arith in
+    record {
+      window = now.0;
+      least = now.1;
+      most = now.2;
+      few = omega (arith, i.few, c.from-number.ensures, four.ensures.few);
+      drawn = subst (λ z. IsDrawnAcross v cw (both_of (rows_from s c.args.strip 0 z)) c.args.first c.args.across.now number four.new.across) e
+          (drawn-rows v s cw c.args.strip 0 k 4 c.args.first old number c.args.across.now c.loop-group.across four.new.across i.drawn
+          (subst (λ z. IsDrawnAcross v cw (both_of (rows_from s c.args.strip z 4)) old c.loop-group.across number four.new.across) g
+          (subst (λ z. IsDrawnAcross v cw (both_of (rows_from s c.args.strip k 4)) old c.loop-group.across z four.new.across) f
+          (four.ensures.drawn cw old (c.eight_bits-bits-in-loop-group.ensures cw i.window)))));
+    }
+
+pub returns : goal.returns
+returns c =
+    let v = c.args.v in
+    let s = side_of v in
+    let cw = c.args.codewords.now in
+    let i = c.loop-group.invariant in
+    let b = c.from-before.result in
+    let last = c.draw_rows-2 in
+    let k = b + 4 * c.loop-group.group in
+    let number = c.loop-group.number + c.from-2.result in
+    let small : b ≤ 1 = omega (arith, c.from-before.ensures, (bool_byte-bit c.args.strip.upward).0) in
+    let end : 4 * c.loop-group.group ≡ s - 1 = omega (arith, c.loop-group-test.false, c.side-last.ensures.value) in
+    let e : b + (c.side-last.result - 1) ≡ 0 + k = omega (arith, c.side-last.ensures.value) in
+    let f : c.loop-group.number + last.result ≡ number = ap (λ z. c.loop-group.number + z) (sym c.from-2.ensures) in
+    let all : k + (1 - b) ≡ s = omega arith in
+    subst (λ z. IsDrawnAcross v cw (both_of (rows_from s c.args.strip 0 z)) c.args.first c.args.across.now number last.new.across) all
+    (drawn-rows v s cw c.args.strip 0 k (1 - b) c.args.first c.loop-group.number number c.args.across.now c.loop-group.across last.new.across i.drawn
+    (subst (λ z. IsDrawnAcross v cw (both_of (rows_from s c.args.strip z (1 - b))) c.loop-group.number c.loop-group.across number last.new.across) e
+    (subst (λ z. IsDrawnAcross v cw (both_of (rows_from s c.args.strip (b + (c.side-last.result - 1)) (1 - b))) c.loop-group.number c.loop-group.across z last.new.across) f
+    (last.ensures.drawn cw c.loop-group.number (c.eight_bits-bits-2.ensures cw i.window)))))

@@ -1,0 +1,61 @@
+use Rattle.std.proofs.Common.{◌≡◌, ◌+◌, ◌-◌, ◌*◌, ◌/◌, ◌%◌, ◌<◌, ℕ, Bool, true, ◌≤◌, cond, eqb, ltb, false, bit_and, ◌&&◌, ap, sym, ◌∙◌, arith}
+use Rattle.std.proofs.lemmas.Bool.Decides.{nat_tests}
+use Rattle.qr_bits.specs.Bits.{codeword_bit}
+use Rattle.qr_bits.proofs.Facts.{bool_byte-bit}
+use Rattle.qr_layout.specs.Region.{is_in_region}
+use Rattle.qr_layout.specs.Version.{side_of}
+use Rattle.qr_matrix.specs.Line.{has_bit}
+use Rattle.qr_matrix.proofs.Facts.{has_bit-and, has_bit-ones, &&-left, &&-right}
+use Rattle.qr_symbol.proofs.AcrossLemmas.{four-drawn, rank_of, region-across}
+use Rattle.qr_symbol.proofs.SplitLemmas.{split, split-high, split-low}
+use Rattle.qr_symbol.proofs.drawing.draw_four.Goals as goal
+use Rattle.qr_symbol.proofs.drawing.draw_four.Goals.{then-strip, else-strip}
+
+-- the rank of one of four rows
+rank-small : (b : Bool) (j : ℕ) → j < 4 → rank_of b j < 4
+rank-small true j l = omega arith
+rank-small false j l = l
+
+-- four bits that are 1 in two numbers
+both-fifteen : (a b j : ℕ) → bit_and a b ≡ 15 → j < 4 → (has_bit a j && has_bit b j) ≡ true
+both-fifteen a b j e l =
+    let t : ltb j 4 ≡ true = grind (arith, nat_tests) in
+    sym (has_bit-and a b j) ∙ (ap (λ z. has_bit z j) e ∙ (has_bit-ones 4 j ∙ t))
+
+pub returns-then-four-eq15-clause-drawn : goal.returns-then-four-eq15-clause-drawn
+returns-then-four-eq15-clause-drawn c = λ cw number next.
+    let v = c.args.v in
+    let s = side_of v in
+    let x = c.args.strip in
+    let k = c.args.passed in
+    let top = c.if-strip.top in
+    let region = c.args.region.now in
+    let bits = c.args.bits in
+    let is-top : top ≡ cond x.upward (s - 4 - k) k = elim c.if-strip.branch [
+      | then-strip w ↦ w.top-is ∙ (ap (λ z. z - 4 - k) w.side.ensures.value ∙ sym (ap (λ b. cond b (s - 4 - k) k) w.if-strip.true))
+      | else-strip w ↦ w.top-is ∙ sym (ap (λ b. cond b (s - 4 - k) k) w.if-strip.false)
+    ] in
+    let room : top + 4 ≤ s = elim c.if-strip.branch [
+      | then-strip w ↦ (let e = w.top-is in let f = w.side.ensures.value in omega (arith, c.requires.rows_in))
+      | else-strip w ↦ (let e = w.top-is in omega (arith, c.requires.rows_in))
+    ] in
+    let whole = c.if-four-eq15.true in
+    let right : (j : ℕ) → j < 4 → is_in_region v (top + j) x.right ≡ true = λ j l.
+    sym (region-across v region (top + j) x.right c.requires.region (omega arith) c.requires.right_in) ∙ (sym (c.four.ensures.colours j l) ∙ &&-left (has_bit c.four.result j) (has_bit c.four-2.result j) (both-fifteen c.four.result c.four-2.result j whole l)) in
+    let left : (j : ℕ) → j < 4 → is_in_region v (top + j) (x.right - 1) ≡ true = λ j l.
+    sym (region-across v region (top + j) (x.right - 1) c.requires.region (omega arith) (omega (arith, c.requires.right_in))) ∙ (sym (c.four-2.ensures.colours j l) ∙ &&-right (has_bit c.four.result j) (has_bit c.four-2.result j) (both-fifteen c.four.result c.four-2.result j whole l)) in
+    let entry = split c.from.result c.from-then-four-eq15.result in
+    let e : c.from-then-four-eq15.result ≡ bits = c.from-then-four-eq15.ensures in
+    let u : eqb c.from.result 1 ≡ x.upward = ap (λ z. eqb z 1) c.from.ensures ∙ (bool_byte-bit x.upward).1 in
+    let few : c.from.result < 2 = omega (arith, c.from.ensures, (bool_byte-bit x.upward).0) in
+    let high : (j : ℕ) → j < 4 → has_bit (entry / 16) j ≡ codeword_bit cw (number + 2 * rank_of x.upward j) = λ j l.
+    let m = rank-small x.upward j l in
+    split-high c.from.result c.from-then-four-eq15.result j few (omega (arith, e, c.ranges.bits.fits)) l
+    ∙ (ap (λ z. has_bit z (7 - 2 * rank_of (eqb c.from.result 1) j)) e ∙ (ap (λ z. has_bit bits (7 - 2 * rank_of z j)) u ∙ next (2 * rank_of x.upward j) (omega arith))) in
+    let low : (j : ℕ) → j < 4 → has_bit (entry % 16) j ≡ codeword_bit cw (number + (2 * rank_of x.upward j + 1)) = λ j l.
+    let m = rank-small x.upward j l in
+    let f : 6 - 2 * rank_of x.upward j ≡ 7 - (2 * rank_of x.upward j + 1) = omega arith in
+    split-low c.from.result c.from-then-four-eq15.result j few (omega (arith, e, c.ranges.bits.fits)) l
+    ∙ (ap (λ z. has_bit z (6 - 2 * rank_of (eqb c.from.result 1) j)) e ∙ (ap (λ z. has_bit bits (6 - 2 * rank_of z j)) u ∙ (ap (has_bit bits) f ∙ next (2 * rank_of x.upward j + 1) (omega arith)))) in
+    four-drawn v s cw x k top number (entry / 16) (entry % 16) c.args.across.now c.set_four.new.self c.set_four-then-four-eq15.new.self c.requires.left_in c.requires.rows_in is-top c.requires.square right left
+    (record { high = high; low = low }) c.set_four.ensures c.set_four-then-four-eq15.ensures
