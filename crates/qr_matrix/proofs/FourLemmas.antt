@@ -13,7 +13,7 @@ use Rattle.qr_matrix.proofs.MatrixLemmas.{with_row-same}
 use Rattle.qr_matrix.proofs.PlaceLemmas.{has-place, has_bit-and, has_bit-xor, has_bit-ones, word-step, has_bit-shl-low, has_bit-shl-high}
 
 -- a bit that is changed where it differs from another and a mask lets it
-replaced : (n b m t : Bool) → m ≡ t → not (is_same n (not (is_same n b) && m)) ≡ cond t b n
+pub replaced : (n b m t : Bool) → m ≡ t → not (is_same n (not (is_same n b) && m)) ≡ cond t b n
 replaced n b m t e = ap (λ z. not (is_same n (not (is_same n b) && z))) e ∙ told n b t
   where
     told : (n b t : Bool) → not (is_same n (not (is_same n b) && t)) ≡ cond t b n

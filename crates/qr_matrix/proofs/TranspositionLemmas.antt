@@ -1,4 +1,4 @@
--- The bits of a block exchanged stage by stage.
+-- The bits of a tile exchanged stage by stage.
 use Rattle.std.proofs.Common.{List, length, get_or, set, replicate, ◌≡◌, ◌≢◌, ℕ, ◌+◌, ◌-◌, ◌*◌, ◌/◌, ◌%◌, ◌^◌, ◌<◌, ◌≤◌, min, eqb, ltb, Bool, true, false, not, ◌&&◌, cond, bit_and, bit_xor, refl, sym, ap, subst, ◌∙◌, ◌||◌, inl, inr, ◌⊎◌, arith}
 use Rattle.std.specs.Int.{bit_at}
 use Rattle.std.proofs.lemmas.Nat.{mod-mul-add, shr_split}
@@ -15,6 +15,7 @@ use Rattle.qr_matrix.specs.Steps.{bit_in, exchanged}
 use Rattle.qr_matrix.proofs.PlaceLemmas.{has-place, has_bit-and, has_bit-xor, has_bit-shr, word-step, has_bit-shl-low, has_bit-shl-high}
 use Rattle.qr_matrix.proofs.GridLemmas.{square-same, colour-square}
 use Rattle.qr_matrix.proofs.RepeatLemmas.{below-at, same-same}
+use Rattle.qr_matrix.proofs.FourLemmas.{replaced}
 
 -- ---- places by pairs of parts of s places
 
@@ -74,17 +75,6 @@ changed false true false = refl
 changed false false true = refl
 changed false false false = refl
 
--- so does the other
-changed-too : (a b m : Bool) → not (is_same a (not (is_same a b) && m)) ≡ cond (not m) a b
-changed-too true true true = refl
-changed-too true true false = refl
-changed-too true false true = refl
-changed-too true false false = refl
-changed-too false true true = refl
-changed-too false true false = refl
-changed-too false false true = refl
-changed-too false false false = refl
-
 -- the upper word of a pair that is exchanged
 pub upper-word : (u l s m c : ℕ) → 1 ≤ s → ((c : ℕ) → c < 64 → has_bit m c ≡ ltb (c % (2 * s)) s) → c < 64
     → has_bit (bit_xor u (bit_and (bit_xor (u / 2 ^ s) l) m * 2 ^ s % 2 ^ 64)) c ≡ cond (ltb (c % (2 * s)) s) (has_bit u c) (has_bit l (c - s))
@@ -112,8 +102,8 @@ upper-word u l s m c p masks h =
     kept false = refl
 
     told : (a b t : Bool) → not (is_same a (not (is_same a b) && not t)) ≡ cond t a b
-    told a b true = changed-too a b false
-    told a b false = changed-too a b true
+    told a b true = replaced a b false false refl
+    told a b false = replaced a b true true refl
 
 -- the lower one
 pub lower-word : (u l s m c : ℕ) → ((c : ℕ) → c < 64 → has_bit m c ≡ ltb (c % (2 * s)) s) → c < 64
@@ -159,18 +149,18 @@ pub two-other : (w : List ℕ) (i k u v r : ℕ) → r ≢ i → r ≢ k → get
 two-other w i k u v r m n = get_or-set_other (set w i u) k r v 0 n ∙ get_or-set_other w i r u 0 m
 
 -- a row of upper parts after its exchange
-upper-exchanged : (s : ℕ) (b : List ℕ) (r c u : ℕ) → r % (2 * s) < s → has_bit u c ≡ cond (ltb (c % (2 * s)) s) (has_bit (get_or b r 0) c) (has_bit (get_or b (r + s) 0) (c - s)) → has_bit u c ≡ exchanged s (bit_in b) r c
-unfolding exchanged bit_in
-upper-exchanged s b r c u l e =
+exchanged-upper : (s : ℕ) (f : ℕ → ℕ → Bool) (r c : ℕ) → r % (2 * s) < s → exchanged s f r c ≡ cond (ltb (c % (2 * s)) s) (f r c) (f (r + s) (c - s))
+unfolding exchanged
+exchanged-upper s f r c l =
     let t : ltb (r % (2 * s)) s ≡ true = grind (arith, nat_tests) in
-    e ∙ sym (ap (λ z. cond z (cond (ltb (c % (2 * s)) s) (has_bit (get_or b r 0) c) (has_bit (get_or b (r + s) 0) (c - s))) (cond (ltb (c % (2 * s)) s) (has_bit (get_or b (r - s) 0) (c + s)) (has_bit (get_or b r 0) c))) t)
+    ap (λ z. cond z (cond (ltb (c % (2 * s)) s) (f r c) (f (r + s) (c - s))) (cond (ltb (c % (2 * s)) s) (f (r - s) (c + s)) (f r c))) t
 
 -- a row of lower parts
-lower-exchanged : (s : ℕ) (b : List ℕ) (r c v : ℕ) → s ≤ r % (2 * s) → has_bit v c ≡ cond (ltb (c % (2 * s)) s) (has_bit (get_or b (r - s) 0) (c + s)) (has_bit (get_or b r 0) c) → has_bit v c ≡ exchanged s (bit_in b) r c
-unfolding exchanged bit_in
-lower-exchanged s b r c v l e =
+exchanged-lower : (s : ℕ) (f : ℕ → ℕ → Bool) (r c : ℕ) → s ≤ r % (2 * s) → exchanged s f r c ≡ cond (ltb (c % (2 * s)) s) (f (r - s) (c + s)) (f r c)
+unfolding exchanged
+exchanged-lower s f r c l =
     let t : ltb (r % (2 * s)) s ≡ false = grind (arith, nat_tests) in
-    e ∙ sym (ap (λ z. cond z (cond (ltb (c % (2 * s)) s) (has_bit (get_or b r 0) c) (has_bit (get_or b (r + s) 0) (c - s))) (cond (ltb (c % (2 * s)) s) (has_bit (get_or b (r - s) 0) (c + s)) (has_bit (get_or b r 0) c))) t)
+    ap (λ z. cond z (cond (ltb (c % (2 * s)) s) (f r c) (f (r + s) (c - s))) (cond (ltb (c % (2 * s)) s) (f (r - s) (c + s)) (f r c))) t
 
 -- one row more of the upper parts
 pub upper-more : (s first row : ℕ) (w b : List ℕ) (u v : ℕ) → 1 ≤ s → length w ≡ 64 → first % (2 * s) ≡ 0 → first ≤ row → row < first + s → first + 2 * s ≤ 64
@@ -186,7 +176,7 @@ upper-more s first row w b u v p n f l m k e g h before r c lr mr hc = elim (cas
       let bits : has_bit u c ≡ cond (ltb (c % (2 * s)) s) (has_bit (get_or b r 0) c) (has_bit (get_or b (r + s) 0) (c - s)) =
       h c hc ∙ (ap (λ z. cond (ltb (c % (2 * s)) s) (has_bit z c) (has_bit (get_or w (row + s) 0) (c - s))) (e ∙ ap (λ z. get_or b z 0) (sym q))
       ∙ ap (λ z. cond (ltb (c % (2 * s)) s) (has_bit (get_or b r 0) c) (has_bit z (c - s))) (g ∙ ap (λ z. get_or b (z + s) 0) (sym q))) in
-      ap (λ z. has_bit z c) here ∙ upper-exchanged s b r c u t bits
+      ap (λ z. has_bit z c) here ∙ (bits ∙ sym (exchanged-upper s (bit_in b) r c t))
   | inr q ↦ ap (λ z. has_bit z c) (two-other w row (row + s) u v r q (λ z. omega arith)) ∙ before r c lr (omega arith) hc
 ]
 
@@ -205,7 +195,7 @@ lower-more s first row w b u v p n f l m k e g h before r c lr mr hc = elim (cas
       let bits : has_bit v c ≡ cond (ltb (c % (2 * s)) s) (has_bit (get_or b (r - s) 0) (c + s)) (has_bit (get_or b r 0) c) =
       h c hc ∙ (ap (λ z. cond (ltb (c % (2 * s)) s) (has_bit z (c + s)) (has_bit (get_or w (row + s) 0) c)) (e ∙ ap (λ z. get_or b z 0) (sym o))
       ∙ ap (λ z. cond (ltb (c % (2 * s)) s) (has_bit (get_or b (r - s) 0) (c + s)) (has_bit z c)) (g ∙ ap (λ z. get_or b z 0) (sym q))) in
-      ap (λ z. has_bit z c) here ∙ lower-exchanged s b r c v t bits
+      ap (λ z. has_bit z c) here ∙ (bits ∙ sym (exchanged-lower s (bit_in b) r c t))
   | inr q ↦ ap (λ z. has_bit z c) (two-other w row (row + s) u v r (λ z. omega arith) q) ∙ before r c lr (omega arith) hc
 ]
 
@@ -213,29 +203,21 @@ lower-more s first row w b u v p n f l m k e g h before r c lr mr hc = elim (cas
 
 -- a place in words of which those that matter are the same
 exchanged-same : (s : ℕ) (w b : List ℕ) (r c : ℕ) → get_or w r 0 ≡ get_or b r 0 → get_or w (r + s) 0 ≡ get_or b (r + s) 0 → (s ≤ r % (2 * s) → get_or w (r - s) 0 ≡ get_or b (r - s) 0) → exchanged s (bit_in w) r c ≡ exchanged s (bit_in b) r c
-unfolding exchanged bit_in
+unfolding bit_in
 exchanged-same s w b r c e f g = elim (cases_lt (r % (2 * s)) s) [
-  | inl l ↦
-      let t : ltb (r % (2 * s)) s ≡ true = grind (arith, nat_tests) in
-      ap (λ z. cond z (cond (ltb (c % (2 * s)) s) (has_bit (get_or w r 0) c) (has_bit (get_or w (r + s) 0) (c - s))) (cond (ltb (c % (2 * s)) s) (has_bit (get_or w (r - s) 0) (c + s)) (has_bit (get_or w r 0) c))) t
-      ∙ (ap (λ z. cond (ltb (c % (2 * s)) s) (has_bit z c) (has_bit (get_or w (r + s) 0) (c - s))) e ∙ ap (λ z. cond (ltb (c % (2 * s)) s) (has_bit (get_or b r 0) c) (has_bit z (c - s))) f)
-      ∙ sym (ap (λ z. cond z (cond (ltb (c % (2 * s)) s) (has_bit (get_or b r 0) c) (has_bit (get_or b (r + s) 0) (c - s))) (cond (ltb (c % (2 * s)) s) (has_bit (get_or b (r - s) 0) (c + s)) (has_bit (get_or b r 0) c))) t)
-  | inr l ↦
-      let t : ltb (r % (2 * s)) s ≡ false = grind (arith, nat_tests) in
-      ap (λ z. cond z (cond (ltb (c % (2 * s)) s) (has_bit (get_or w r 0) c) (has_bit (get_or w (r + s) 0) (c - s))) (cond (ltb (c % (2 * s)) s) (has_bit (get_or w (r - s) 0) (c + s)) (has_bit (get_or w r 0) c))) t
-      ∙ (ap (λ z. cond (ltb (c % (2 * s)) s) (has_bit z (c + s)) (has_bit (get_or w r 0) c)) (g l) ∙ ap (λ z. cond (ltb (c % (2 * s)) s) (has_bit (get_or b (r - s) 0) (c + s)) (has_bit z c)) e)
-      ∙ sym (ap (λ z. cond z (cond (ltb (c % (2 * s)) s) (has_bit (get_or b r 0) c) (has_bit (get_or b (r + s) 0) (c - s))) (cond (ltb (c % (2 * s)) s) (has_bit (get_or b (r - s) 0) (c + s)) (has_bit (get_or b r 0) c))) t)
+  | inl l ↦ exchanged-upper s (bit_in w) r c l ∙ ((λ i. cond (ltb (c % (2 * s)) s) (has_bit (e i) c) (has_bit (f i) (c - s))) ∙ sym (exchanged-upper s (bit_in b) r c l))
+  | inr l ↦ exchanged-lower s (bit_in w) r c l ∙ ((λ i. cond (ltb (c % (2 * s)) s) (has_bit (g l i) (c + s)) (has_bit (e i) c)) ∙ sym (exchanged-lower s (bit_in b) r c l))
 ]
 
--- the rows of one square more
-pub square-more : (s k : ℕ) (n w b : List ℕ) → 1 ≤ s
+-- the rows of one group more
+pub group-more : (s k : ℕ) (n w b : List ℕ) → 1 ≤ s
     → ((r c : ℕ) → 2 * s * k ≤ r → r < 2 * s * k + 2 * s → c < 64 → bit_in n r c ≡ exchanged s (bit_in w) r c)
     → ((r : ℕ) → (r < 2 * s * k) ⊎ (2 * s * k + 2 * s ≤ r) → get_or n r 0 ≡ get_or w r 0)
     → ((r c : ℕ) → r < 2 * s * k → c < 64 → bit_in w r c ≡ exchanged s (bit_in b) r c)
     → ((r : ℕ) → 2 * s * k ≤ r → get_or w r 0 ≡ get_or b r 0)
     → (r c : ℕ) → r < 2 * s * (k + 1) → c < 64 → bit_in n r c ≡ exchanged s (bit_in b) r c
 unfolding bit_in
-square-more s k n w b p these others before after r c l h = elim (cases_lt r (2 * s * k)) [
+group-more s k n w b p these others before after r c l h = elim (cases_lt r (2 * s * k)) [
   | inl m ↦ ap (λ z. has_bit z c) (others r (inl m)) ∙ before r c m h
   | inr m ↦
       let first = 2 * s * k in
@@ -273,36 +255,38 @@ pub stage : (s : ℕ) (f g h : ℕ → ℕ → Bool) → 1 ≤ s → ((x : ℕ) 
     → ((r c : ℕ) → r < 64 → c < 64 → g r c ≡ mirrored (2 * s) f r c)
     → ((r c : ℕ) → r < 64 → c < 64 → h r c ≡ exchanged s g r c)
     → (r c : ℕ) → r < 64 → c < 64 → h r c ≡ mirrored s f r c
-unfolding exchanged
 stage s f g h p fits before now r c l m = now r c l m ∙ elim (cases_lt (r % (2 * s)) s) [
-  | inl a ↦ elim (cases_lt (c % (2 * s)) s) [
+  | inl a ↦ exchanged-upper s g r c a ∙ elim (cases_lt (c % (2 * s)) s) [
     | inl b ↦
         let d = half-low s r a in
         let e = half-low s c b in
-        choice (ltb (r % (2 * s)) s) (ltb (c % (2 * s)) s) true true (grind (arith, nat_tests)) (grind (arith, nat_tests)) ∙ (before r c l m ∙ same _ _ _ _ (omega arith) (omega arith))
+        left _ _ b ∙ (before r c l m ∙ same _ _ _ _ (omega arith) (omega arith))
     | inr b ↦
         let d = half-low s r a in
         let e = half-high s c p b in
         let i = mod-up s r a in
         let j = mod-down s c p b in
-        choice (ltb (r % (2 * s)) s) (ltb (c % (2 * s)) s) true false (grind (arith, nat_tests)) (grind (arith, nat_tests)) ∙ (before (r + s) (c - s) (fits r l a) (omega arith) ∙ same _ _ _ _ (omega arith) (omega arith))
+        right _ _ b ∙ (before (r + s) (c - s) (fits r l a) (omega arith) ∙ same _ _ _ _ (omega arith) (omega arith))
   ]
-  | inr a ↦ elim (cases_lt (c % (2 * s)) s) [
+  | inr a ↦ exchanged-lower s g r c a ∙ elim (cases_lt (c % (2 * s)) s) [
     | inl b ↦
         let d = half-high s r p a in
         let e = half-low s c b in
         let i = mod-down s r p a in
         let j = mod-up s c b in
-        choice (ltb (r % (2 * s)) s) (ltb (c % (2 * s)) s) false true (grind (arith, nat_tests)) (grind (arith, nat_tests)) ∙ (before (r - s) (c + s) (omega arith) (fits c m b) ∙ same _ _ _ _ (omega arith) (omega arith))
+        left _ _ b ∙ (before (r - s) (c + s) (omega arith) (fits c m b) ∙ same _ _ _ _ (omega arith) (omega arith))
     | inr b ↦
         let d = half-high s r p a in
         let e = half-high s c p b in
-        choice (ltb (r % (2 * s)) s) (ltb (c % (2 * s)) s) false false (grind (arith, nat_tests)) (grind (arith, nat_tests)) ∙ (before r c l m ∙ same _ _ _ _ (omega arith) (omega arith))
+        right _ _ b ∙ (before r c l m ∙ same _ _ _ _ (omega arith) (omega arith))
   ]
 ]
   where
-    choice : (t u v w : Bool) → t ≡ v → u ≡ w → cond t (cond u (g r c) (g (r + s) (c - s))) (cond u (g (r - s) (c + s)) (g r c)) ≡ cond v (cond w (g r c) (g (r + s) (c - s))) (cond w (g (r - s) (c + s)) (g r c))
-    choice t u v w d e = ap (λ z. cond z (cond u (g r c) (g (r + s) (c - s))) (cond u (g (r - s) (c + s)) (g r c))) d ∙ ap (λ z. cond v (cond z (g r c) (g (r + s) (c - s))) (cond z (g (r - s) (c + s)) (g r c))) e
+    left : (x y : Bool) → c % (2 * s) < s → cond (ltb (c % (2 * s)) s) x y ≡ x
+    left x y b = let t : ltb (c % (2 * s)) s ≡ true = grind (arith, nat_tests) in ap (λ z. cond z x y) t
+
+    right : (x y : Bool) → s ≤ c % (2 * s) → cond (ltb (c % (2 * s)) s) x y ≡ y
+    right x y b = let t : ltb (c % (2 * s)) s ≡ false = grind (arith, nat_tests) in ap (λ z. cond z x y) t
 
     same : (x y z w : ℕ) → x ≡ z → y ≡ w → f x y ≡ f z w
     same x y z w d e = λ i. f (d i) (e i)
@@ -407,11 +391,11 @@ pub word-all : (c words s : ℕ) (q : Bool) → c < s → s ≤ 64 * words → (
 word-all c words s true l m = grind (arith, nat_tests)
 word-all c words s false l m = refl
 
--- a bit of a transposed block of another square is a colour of that
-pub block-bit : (band word r c s : ℕ) (b t : List ℕ) (g : Grid) → ((r c : ℕ) → r < 64 → c < 64 → bit_in t r c ≡ bit_in b c r)
+-- a bit of a transposed tile of another square is a colour of that
+pub tile-bit : (band word r c s : ℕ) (b t : List ℕ) (g : Grid) → ((r c : ℕ) → r < 64 → c < 64 → bit_in t r c ≡ bit_in b c r)
     → ((r c : ℕ) → r < 64 → c < 64 → bit_in b r c ≡ (ltb (64 * word + r) s && colour g (64 * word + r) (64 * band + c)))
     → c < s → (eqb (r / 64) band && eqb (c / 64) word) ≡ true → bit_in t (r % 64) (c % 64) ≡ colour g c r
-block-bit band word r c s b t g turned read l h =
+tile-bit band word r c s b t g turned read l h =
     let p : r / 64 ≡ band = grind (arith, nat_tests) in
     let q : c / 64 ≡ word = grind (arith, nat_tests) in
     let d : 64 * word + c % 64 ≡ c = omega arith in
@@ -420,14 +404,14 @@ block-bit band word r c s b t g turned read l h =
     turned (r % 64) (c % 64) (omega arith) (omega arith) ∙ (read (c % 64) (r % 64) (omega arith) (omega arith) ∙ (ap (λ z. z && colour g (64 * word + c % 64) (64 * band + r % 64)) u ∙ (λ i. colour g (d i) (e i))))
 
 -- past the side it has none
-pub block-past : (band word r c s : ℕ) (b t : List ℕ) (g : Grid) → ((r c : ℕ) → r < 64 → c < 64 → bit_in t r c ≡ bit_in b c r)
+pub tile-past : (band word r c s : ℕ) (b t : List ℕ) (g : Grid) → ((r c : ℕ) → r < 64 → c < 64 → bit_in t r c ≡ bit_in b c r)
     → ((r c : ℕ) → r < 64 → c < 64 → bit_in b r c ≡ (ltb (64 * word + r) s && colour g (64 * word + r) (64 * band + c)))
     → r < 64 → c < 64 → s ≤ 64 * word + c → bit_in t r c ≡ false
-block-past band word r c s b t g turned read l m h =
+tile-past band word r c s b t g turned read l m h =
     let u : ltb (64 * word + c) s ≡ false = grind (arith, nat_tests) in
     turned r c l m ∙ (read c r m l ∙ ap (λ z. z && colour g (64 * word + c) (64 * band + r)) u)
 
--- ---- a block that is read
+-- ---- a tile that is read
 
 -- at first each row is 0
 pub zero-at : (n r x : ℕ) → get_or (replicate n x) r x ≡ x
@@ -437,11 +421,11 @@ zero-at n r x = elim (cases_lt r n) [
 ]
 
 -- the bits of the rows that were read, and none of those below
-pub block-read : (band word row s : ℕ) (w : List ℕ) (g : Grid) → 64 * band ≤ s → row ≡ min (s - 64 * band) 64
+pub tile-read : (band word row s : ℕ) (w : List ℕ) (g : Grid) → 64 * band ≤ s → row ≡ min (s - 64 * band) 64
     → ((r c : ℕ) → r < row → c < 64 → has_bit (get_or w r 0) c ≡ colour g (64 * band + r) (64 * word + c)) → ((r : ℕ) → row ≤ r → get_or w r 0 ≡ 0)
     → (r c : ℕ) → r < 64 → c < 64 → bit_in w r c ≡ (ltb (64 * band + r) s && colour g (64 * band + r) (64 * word + c))
 unfolding bit_in has_bit
-block-read band word row s w g b e read rest r c l m = elim (cases_lt r row) [
+tile-read band word row s w g b e read rest r c l m = elim (cases_lt r row) [
   | inl h ↦
       let u : ltb (64 * band + r) s ≡ true = grind (arith, nat_tests) in
       read r c h m ∙ sym (ap (λ z. z && colour g (64 * band + r) (64 * word + c)) u)

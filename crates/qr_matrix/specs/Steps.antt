@@ -1,4 +1,4 @@
--- Private steps of lines and runs. No public clause cites this file.
+-- Private steps of lines, runs and transposed tiles. No public clause cites this file.
 use Rattle.std.specs.Prelude.{◌≡◌, ℕ, ◌+◌, ◌-◌, ◌*◌, ◌%◌, ◌^◌, ◌<◌, ◌==◌, ◌&&◌, not, true, false, Bool, List, Option, None, Some, length, slice_index, nat_lt, if◌then◌else◌}
 use Rattle.qr_matrix.specs.Penalty.{count_below}
 use Rattle.qr_matrix.specs.Runs.{begins_five, begins_long_run}

@@ -104,6 +104,15 @@ impl Matrix {
         self.rows[row]
     }
 
+    // The modules of one word of a row, that in column `64 * number` the lowest bit.
+    pub(crate) fn word(&self, row: usize, number: usize) -> u64
+        requires row_in { row < self.now.side }
+        requires word_in { number < 3 }
+        ensures { (c : ℕ) → c < 64 → has_bit result c ≡ colour self.now row (64 * number + c) }
+    {
+        self.rows[row].word(number)
+    }
+
     // In how many words a row is.
     pub(crate) fn words(&self) -> u8
         ensures least { 64 * (result - 1) < self.now.side }

@@ -7,8 +7,8 @@ pub loop-row-preserved : goal.loop-row-preserved
 loop-row-preserved c =
     let s = c.args.steps in
     let row = c.loop-row.row in
-    let w = c.loop-row.block in
-    let b = c.args.block.now in
+    let w = c.loop-row.tile in
+    let b = c.args.tile.now in
     let u = c.exchange_words-upper.result.0 in
     let v = c.exchange_words-upper.result.1 in
     let i = c.loop-row.invariant in record {

@@ -4,10 +4,10 @@ use Rattle.qr_matrix.proofs.transposition.exchange_rows.Given as goal
 
 abbrev pub invariant-loop-row : goal.invariant-loop-row
 invariant-loop-row l = record {
-  long : length l.block ≡ 64;
-  upper : (r c : ℕ) → l.first ≤ r → r < l.row → c < 64 → bit_in l.block r c ≡ exchanged l.steps (bit_in l.initial.block) r c;
-  lower : (r c : ℕ) → l.first + l.steps ≤ r → r < l.row + l.steps → c < 64 → bit_in l.block r c ≡ exchanged l.steps (bit_in l.initial.block) r c;
-  above : (r : ℕ) → r < l.first → get_or l.block r 0 ≡ get_or l.initial.block r 0;
-  between : (r : ℕ) → l.row ≤ r → r < l.first + l.steps → get_or l.block r 0 ≡ get_or l.initial.block r 0;
-  below : (r : ℕ) → l.row + l.steps ≤ r → get_or l.block r 0 ≡ get_or l.initial.block r 0;
+  long : length l.tile ≡ 64;
+  upper : (r c : ℕ) → l.first ≤ r → r < l.row → c < 64 → bit_in l.tile r c ≡ exchanged l.steps (bit_in l.initial.tile) r c;
+  lower : (r c : ℕ) → l.first + l.steps ≤ r → r < l.row + l.steps → c < 64 → bit_in l.tile r c ≡ exchanged l.steps (bit_in l.initial.tile) r c;
+  above : (r : ℕ) → r < l.first → get_or l.tile r 0 ≡ get_or l.initial.tile r 0;
+  between : (r : ℕ) → l.row ≤ r → r < l.first + l.steps → get_or l.tile r 0 ≡ get_or l.initial.tile r 0;
+  below : (r : ℕ) → l.row + l.steps ≤ r → get_or l.tile r 0 ≡ get_or l.initial.tile r 0;
 }

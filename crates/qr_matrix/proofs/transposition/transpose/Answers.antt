@@ -30,11 +30,11 @@ exchange-requires-6-clause-masks c = mask-at 0x5555555555555555 1 refl
 
 pub returns : goal.returns
 returns c =
-    let f = bit_in c.args.block.now in
-    let a32 = stage 32 f (f) (bit_in c.exchange.new.block) (omega arith) (λ x l m. omega arith) (first-stage f) c.exchange.ensures in
-    let a16 = stage 16 f (bit_in c.exchange.new.block) (bit_in c.exchange-2.new.block) (omega arith) (λ x l m. omega arith) (a32) c.exchange-2.ensures in
-    let a8 = stage 8 f (bit_in c.exchange-2.new.block) (bit_in c.exchange-3.new.block) (omega arith) (λ x l m. omega arith) (a16) c.exchange-3.ensures in
-    let a4 = stage 4 f (bit_in c.exchange-3.new.block) (bit_in c.exchange-4.new.block) (omega arith) (λ x l m. omega arith) (a8) c.exchange-4.ensures in
-    let a2 = stage 2 f (bit_in c.exchange-4.new.block) (bit_in c.exchange-5.new.block) (omega arith) (λ x l m. omega arith) (a4) c.exchange-5.ensures in
-    let a1 = stage 1 f (bit_in c.exchange-5.new.block) (bit_in c.exchange-6.new.block) (omega arith) (λ x l m. omega arith) (a2) c.exchange-6.ensures in
+    let f = bit_in c.args.tile.now in
+    let a32 = stage 32 f (f) (bit_in c.exchange.new.tile) (omega arith) (λ x l m. omega arith) (first-stage f) c.exchange.ensures in
+    let a16 = stage 16 f (bit_in c.exchange.new.tile) (bit_in c.exchange-2.new.tile) (omega arith) (λ x l m. omega arith) (a32) c.exchange-2.ensures in
+    let a8 = stage 8 f (bit_in c.exchange-2.new.tile) (bit_in c.exchange-3.new.tile) (omega arith) (λ x l m. omega arith) (a16) c.exchange-3.ensures in
+    let a4 = stage 4 f (bit_in c.exchange-3.new.tile) (bit_in c.exchange-4.new.tile) (omega arith) (λ x l m. omega arith) (a8) c.exchange-4.ensures in
+    let a2 = stage 2 f (bit_in c.exchange-4.new.tile) (bit_in c.exchange-5.new.tile) (omega arith) (λ x l m. omega arith) (a4) c.exchange-5.ensures in
+    let a1 = stage 1 f (bit_in c.exchange-5.new.tile) (bit_in c.exchange-6.new.tile) (omega arith) (λ x l m. omega arith) (a2) c.exchange-6.ensures in
     λ r k l m. a1 r k l m ∙ last-stage f r k

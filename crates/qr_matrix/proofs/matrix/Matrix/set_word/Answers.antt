@@ -1,4 +1,4 @@
-use Rattle.std.proofs.Common.{◌≡◌, ◌/◌, ◌%◌, ◌∙◌, cond, eqb, [], set, get_or, ap, arith}
+use Rattle.std.proofs.Common.{◌≡◌, ◌/◌, ◌%◌, ◌∙◌, cond, eqb, [], set, get_or, refl, ap, arith}
 use Rattle.std.proofs.Math.ListN.{length-set}
 use Rattle.std.proofs.lemmas.List.{get_or_read}
 use Rattle.qr_matrix.specs.Grid.{Grid, colour}
@@ -15,7 +15,7 @@ invariant_of-self c =
     let words = c.put_word.new.self in
     let old = c.index_mut.result.now in
     let e = ap (λ (g : Grid). g.side) c.self.view_is in
-    let h = line-set m.rows.items row row words (λ _. row) (omega (arith, c.self.invariant.2)) in (
+    let h = line-set m.rows.items row row words refl (omega (arith, c.self.invariant.2)) in (
       c.self.invariant.0,
       c.self.invariant.1,
       length-set m.rows.items row words ∙ c.self.invariant.2,
@@ -33,5 +33,5 @@ returns c =
     let old = c.index_mut.result.now in
     let e = ap (λ (g : Grid). g.side) c.self.view_is in
     line-write m.side row m.rows.items (set m.rows.items row words) g words (λ k. cond (eqb (k / 64) c.args.number) (has_bit c.args.word (k % 64)) (colour g row k)) c.self.view_is
-    (line-set m.rows.items row row words (λ _. row) (omega (arith, c.self.invariant.2)))
-    (λ k l. c.put_word.ensures k ∙ ap (λ z. cond (eqb (k / 64) c.args.number) (has_bit c.args.word (k % 64)) z) (row-read m.side row row m.rows.items old g c.self.view_is (λ _. row) (omega (arith, c.self.invariant.2)) c.self.invariant.2 c.self.invariant.3 c.index_mut.ensures.value k))
+    (line-set m.rows.items row row words refl (omega (arith, c.self.invariant.2)))
+    (λ k l. c.put_word.ensures k ∙ ap (λ z. cond (eqb (k / 64) c.args.number) (has_bit c.args.word (k % 64)) z) (row-read m.side row row m.rows.items old g c.self.view_is refl (omega (arith, c.self.invariant.2)) c.self.invariant.2 c.self.invariant.3 c.index_mut.ensures.value k))
