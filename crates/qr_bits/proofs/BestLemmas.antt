@@ -1,4 +1,4 @@
--- The best rest of a lettering is the best letter and the best rest after it.
+-- The best rest of an assignment is the best mode for the next byte and the best rest after it.
 use Rattle.std.proofs.Common.{◌≡◌, ℕ, ◌+◌, ◌<◌, ◌≤◌, ◌⊎◌, Bool, true, false, ◌&&◌, List, [], ◌∷◌, IsTrue, refl, sym, subst, inl, inr, ⊎_elim, arith}
 use Rattle.qr_bits.specs.declared.modes.Mode.{Mode}
 use Rattle.qr_bits.specs.declared.modes.Mode.TheVariants.{Numeric, Alphanumeric, Byte, Kanji}

@@ -1,4 +1,4 @@
--- Where bytes alone may stand there is one lettering: each letter is Byte.
+-- If only byte mode may be used, there is one valid assignment: byte mode for each byte.
 use Rattle.std.proofs.Common.{◌≡◌, ℕ, zero, suc, ◌+◌, ◌*◌, ◌<◌, ◌≤◌, min, take, ⊎_elim, true, false, ◌==◌, List, [], ◌∷◌, length, refl, sym, ◌∙◌, ap, subst, arith, inr, lit<}
 use Rattle.std.specs.List.{list_all}
 use Rattle.std.proofs.lemmas.List.{length-take-le}

@@ -1,4 +1,4 @@
--- The 45 characters: each has a place.
+-- The 45 characters of alphanumeric mode: each has a value, which is its index.
 use Rattle.std.proofs.Common.{◌≡◌, ℕ, ◌+◌, ◌-◌, ◌<◌, ◌≤◌, ◌==◌, Bool, true, false, not, nat_le, nat_lt, List, length, get_or, Option, Some, refl, sym, ◌∙◌, ⊎_elim, arith}
 use borrow.Author.Tests.{leb-true}
 use Rattle.std.specs.List.{list_any, position, position_or_len}

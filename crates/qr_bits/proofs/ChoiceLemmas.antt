@@ -1,4 +1,4 @@
--- The choice among the modes, as the least of numbers.
+-- The best mode for a byte is the one whose number is the least.
 use Rattle.std.proofs.Common.{◌≡◌, ℕ, ◌+◌, ◌*◌, ◌/◌, ◌%◌, ◌<◌, ◌≤◌, Bool, true, false, ◌==◌, min, refl, sym, ◌∙◌, ap, ⊎_elim, arith, lit<, lit≤}
 use Rattle.std.proofs.lemmas.Bool.{false≢true, cases_lt, eqb-true}
 use Rattle.qr_bits.specs.declared.modes.Mode.{Mode}

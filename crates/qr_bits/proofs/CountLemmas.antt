@@ -1,4 +1,4 @@
--- Where the bits of segments fit a symbol, each count fits its field.
+-- If the bits of segments fit a symbol, each count fits its field.
 use Rattle.std.proofs.Common.{◌≡◌, ℕ, ◌+◌, ◌-◌, ◌*◌, ◌/◌, ◌^◌, ◌<◌, ◌≤◌, Bool, true, false, cond, leb, List, [], ◌∷◌, length, drop, refl, ap, ⊎_elim, arith, subst, lit≤}
 use borrow.Author.Tests.{leb-true}
 use Rattle.std.proofs.lemmas.Bool.{le-leb, lt-leb, cases_lt}

@@ -1,4 +1,4 @@
--- Data codewords: there is one list of them where the stream fits, and a parse gives back what they were made of.
+-- Data codewords: a stream that fits a symbol has one list of them, and a parse returns what they were made of.
 use Rattle.std.proofs.Common.{◌≡◌, ℕ, zero, suc, ◌+◌, ◌-◌, ◌*◌, ◌/◌, ◌%◌, ◌<◌, ◌≤◌, min, Bool, true, false, All, List, [], ◌++◌, length, replicate, drop, Ok, Option, refl, sym, ◌∙◌, ap, ⊎_elim, arith, append_assoc, length-append, append-nil}
 use Rattle.std.proofs.lemmas.Bool.{lt-ltb, cases_lt, or_right}
 use Rattle.std.proofs.lemmas.List.{length-replicate, drop_all}

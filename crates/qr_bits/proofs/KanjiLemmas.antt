@@ -1,4 +1,4 @@
--- Kanji pairs: their values, written and read again.
+-- Kanji pairs: a pair that is written as a value is read back, and the other way round.
 use Rattle.std.proofs.Common.{◌≡◌, ℕ, zero, suc, ◌+◌, ◌-◌, ◌*◌, ◌/◌, ◌%◌, ◌<◌, ◌≤◌, ◌⊎◌, Bool, true, ◌&&◌, ◌||◌, nat_le, All, List, [], ◌∷◌, ◌++◌, length, take, drop, Ok, Err, refl, sym, ◌∙◌, ap, subst, inl, inr, ⊎_elim, arith, append_assoc}
 use borrow.Author.Tests.{leb-true}
 use Rattle.std.proofs.lemmas.Bool.{lt-leb, le-leb, and_parts, and_from, or_cases, or_left, or_right, cases_lt, false≢true}

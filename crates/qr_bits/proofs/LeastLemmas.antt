@@ -1,4 +1,4 @@
--- The bits that bytes take at least.
+-- `least_bits` is a lower bound on the number of bits of any segments.
 use Rattle.std.proofs.Common.{◌≡◌, ℕ, ◌*◌, ◌≤◌, Bool, true, false, cond, nat_le, List, [], ◌∷◌, length, take, drop, sum_by, sym, ◌∙◌, ap, subst, inl, inr, arith, lit≤, IsTrue}
 use Rattle.std.specs.List.{list_all}
 use Rattle.std.proofs.lemmas.Bool.{and_parts, cases_lt, false≢true, le-leb}

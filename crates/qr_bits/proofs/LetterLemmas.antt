@@ -1,4 +1,4 @@
--- The bits of a lettering are a sum over its letters.
+-- The number of bits of an assignment is a sum over its modes.
 use Rattle.std.proofs.Common.{◌≡◌, ℕ, ◌+◌, ◌/◌, ◌%◌, Bool, true, false, cond, ◌==◌, List, [], ◌∷◌, replicate, refl, sym, ◌∙◌, ap, subst, arith, suc, zero}
 use Rattle.std.proofs.lemmas.Bool.{false_from_ne_true, cond_both, cond-true, cond-false, false≢true, true≢false, eqb-true, eq-eqb}
 use Rattle.qr_bits.specs.declared.modes.Mode.{Mode}

@@ -1,4 +1,4 @@
--- The letterings of a text are what can be taken letter by letter.
+-- An assignment is valid (`IsLettering`) exactly if each of its modes is allowed after those before it (`allowed`).
 use Rattle.std.proofs.Common.{◌≡◌, ℕ, suc, ◌+◌, ◌<◌, ◌≤◌, Bool, true, false, ◌==◌, ◌&&◌, List, [], ◌∷◌, length, IsTrue, take, drop, refl, sym, ◌∙◌, subst, arith, lit<}
 use Rattle.std.specs.List.{list_all}
 use Rattle.std.proofs.lemmas.Bool.{cond_both, and_parts, and_from, false≢true, eqb-true}

@@ -1,4 +1,5 @@
--- A text read backwards: its letterings are those of the text, backwards, with the same bits. Its pairs are turned.
+-- Bytes in reverse order: their valid assignments are those of the bytes, reversed, with equally many bits. The two bytes of
+-- each kanji pair are exchanged.
 use Rattle.std.proofs.Common.{◌≡◌, ℕ, ◌+◌, ◌-◌, ◌≤◌, ◌<◌, Bool, true, false, ◌==◌, ◌&&◌, List, [], ◌∷◌, ◌++◌, reverse, length, take, drop, get_or, refl, sym, ◌∙◌, ap, arith, subst}
 use Rattle.std.specs.List.{list_all}
 use Rattle.std.proofs.lemmas.Bool.{cond_both, and_parts, and_from, false≢true, eqb-true, eq-eqb, ne_eqb}

@@ -1,4 +1,4 @@
--- A piece of a text needs no more bits than the text, where no kanji letter is used.
+-- Without kanji mode, a piece of an input needs no more bits than the input.
 use Rattle.std.proofs.Common.{◌≡◌, ℕ, ◌+◌, ◌<◌, ◌≤◌, true, false, List, [], ◌∷◌, ◌++◌, refl, sym, ◌∙◌, ap, arith, lit<}
 use Rattle.std.specs.List.{list_all}
 use Rattle.std.proofs.lemmas.Bool.{and_parts, and_from, false≢true}

@@ -1,4 +1,4 @@
--- Fields and digits, read again, and what is read is spelled so.
+-- Fields and digits: what is written is read back, and what is read is written as the same bits.
 use Rattle.std.proofs.Common.{◌≡◌, ℕ, zero, suc, ◌+◌, ◌-◌, ◌*◌, ◌/◌, ◌%◌, ◌^◌, ◌<◌, ◌≤◌, Bool, true, false, cond, ◌==◌, nat_lt, nat_le, All, List, [], ◌∷◌, ◌++◌, length, take, drop, Result, Ok, Err, refl, sym, ◌∙◌, ap, subst, arith, append_assoc}
 use borrow.Author.Tests.{leb-true}
 use Rattle.std.specs.List.{list_all}
