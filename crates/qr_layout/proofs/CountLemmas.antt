@@ -1,4 +1,4 @@
--- How many places of a square pass a test: as many as a list has that holds just these places, each once.
+-- The number of places of a square that pass a test is the length of a list that contains just these places, each once.
 use Rattle.std.proofs.Common.{◌≡◌, ◌≢◌, ℕ, zero, suc, ◌+◌, ◌<◌, Bool, true, false, cond, List, [], ◌∷◌, ◌++◌, length, length-append, add-zero, zero-add, refl, sym, ap, ◌∙◌, subst, inl, inr, arith}
 use Rattle.std.proofs.lemmas.Bool.{cases_lt}
 use Rattle.qr_layout.specs.declared.region.Module.{Module}

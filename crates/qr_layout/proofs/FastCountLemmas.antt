@@ -1,4 +1,4 @@
--- The count, computed: for each row only the blocks that meet it are looked at.
+-- The number of modules of the encoding region, computed: for each row only the rectangles that meet the row are checked.
 use Rattle.std.proofs.Common.{◌≡◌, ℕ, ◌+◌, ◌<◌, Bool, true, false, not, ◌&&◌, ◌||◌, cond, eqb, ltb, leb, List, [], ◌∷◌, refl, ap, ◌∙◌, arith}
 use Rattle.std.proofs.lemmas.Bool.Decides.{nat_tests}
 use Rattle.std.specs.List.{list_any, filter}

@@ -1,4 +1,4 @@
--- Lists with the same members: how long they are, and that only one of them rises.
+-- Lists with the same members: their lengths, and that only one such list is rising.
 use Rattle.std.proofs.Common.{◌≡◌, ◌≢◌, suc, ◌≤◌, List, [], ◌∷◌, ◌++◌, length, refl, sym, ap, ◌∙◌, subst, inl, inr, ◌⊎◌, arith}
 use Rattle.std.specs.List.{All, AllPairs, AllByRecursion}
 

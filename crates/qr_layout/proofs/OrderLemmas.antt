@@ -1,4 +1,4 @@
--- There is one order, and it is as long as the count says.
+-- A version has one order, and the length of the order is the number of modules of the encoding region.
 use Rattle.std.proofs.Common.{◌≡◌, ◌≢◌, ℕ, zero, suc, ◌+◌, ◌-◌, ◌<◌, ◌≤◌, Bool, true, leb, eqb, List, [], ◌∷◌, ◌++◌, ◌&&◌, length, refl, sym, ◌∙◌, subst, inl, inr, arith}
 use borrow.Author.Tests.{leb-true}
 use Rattle.std.specs.List.{Contains}
