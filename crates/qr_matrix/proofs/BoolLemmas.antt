@@ -1,4 +1,4 @@
--- Tests.
+-- Conjunctions and negations of tests.
 use Rattle.std.proofs.Common.{◌≡◌, Bool, true, false, not, ◌&&◌, refl, sym, subst}
 
 -- a conjunction with what is false is false

@@ -1,4 +1,4 @@
--- Four places of a line set at once.
+-- Four bits of a bit row replaced at once.
 use Rattle.std.proofs.Common.{List, length, get_or, set, ◌≡◌, ℕ, ◌+◌, ◌-◌, ◌*◌, ◌/◌, ◌%◌, ◌^◌, ◌<◌, ◌≤◌, eqb, ltb, leb, Bool, true, false, not, ◌&&◌, cond, bit_and, bit_xor, refl, sym, ap, ◌∙◌, inl, inr, arith}
 use Rattle.std.proofs.lemmas.Nat.{and_le_r, xor_lt}
 use Rattle.std.proofs.Math.Nat.{mul-le-mul_right}
