@@ -8,7 +8,7 @@ use Rattle.qr_layout.specs.declared.role.Role.TheVariants.{Fixed, FormatBit, Ver
 use Rattle.qr_layout.specs.Version.{side_of}
 use Rattle.qr_layout.specs.Alignment.{centres_of}
 
--- the versions 1 to 40 [own]
+-- The list of the versions 1 to 40 [own]
 abbrev pub all_versions : List ℕ
 all_versions = range_with_len 1 40
 
