@@ -32,8 +32,8 @@ abbrev pub character_count : Mode → ℕ → ℕ
 character_count Kanji n = n / 2
 character_count _ n = n
 
--- `byte_count m n` is the number of bytes of n digits, characters, bytes or kanji characters in mode m; a kanji character has
--- two bytes (ISO/IEC 18004:2015, 7.4.1)
+-- `byte_count m n` is the number of bytes of n digits, characters, bytes or kanji characters in mode m; a kanji character
+-- has two bytes (ISO/IEC 18004:2015, 7.4.1)
 abbrev pub byte_count : Mode → ℕ → ℕ
 byte_count Kanji n = 2 * n
 byte_count _ n = n

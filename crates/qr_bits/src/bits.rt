@@ -181,7 +181,7 @@ impl<'a> BitReader<'a> {
         self.len() >= 4 && self.indicator() == STRUCTURED_APPEND
     }
 
-    /// Peeks at the next four bits: returns their number, and the bits remain unread.
+    /// Peeks at the next four bits: returns them as a number and leaves them unread.
     fn indicator(&self) -> u16
         requires { 4 ≤ length self.now }
         ensures { result ≡ value (take 4 self.now) }

@@ -70,8 +70,7 @@ pub fn parse(alloc: Global, codewords: &[u8], version: Version) -> Result<Parsed
     })
 }
 
-// Reads the header, if the first indicator is that of a header (8.1). It does not allocate, so each fault is one of the
-// codewords.
+// Reads the header, if the first indicator is that of a header (8.1). It does not allocate, so a fault is never `Memory`.
 #[tactic(auto, unfolding(crate::specs::Parsing::first_header))]
 fn first_header(reader: &mut BitReader) -> Result<Option<Header>, ParseFault>
     ensures ok { IfOk result (λ h. first_header reader.old ≡ Ok (h, reader.new)) }
@@ -139,8 +138,8 @@ fn segment(
     Ok(Segment { mode, len })
 }
 
-// Reads the mode and the count of a segment, and checks that all bits of its data are there. It does not allocate, so each
-// fault is one of the codewords.
+// Reads the mode and the count of a segment, and checks that all bits of its data are there. It does not allocate, so a
+// fault is never `Memory`.
 #[tactic(auto, unfolding(crate::specs::Parsing::segment_at, crate::specs::Parsing::leading_number, crate::specs::Parsing::payload_at))]
 fn segment_head(reader: &mut BitReader, version: Version) -> Result<(Mode, u16), ParseFault>
     requires { 4 ≤ length reader.old }

@@ -36,7 +36,7 @@ fn ranked(rank: u32) -> Mode
     }
 }
 
-// Returns whether `mode`, which is not kanji mode, may be used for `byte`. The byte before must not be half a kanji pair.
+// Returns whether `mode`, which is not kanji mode, may be used for `byte`, if `byte` is not the second of a kanji pair.
 #[tactic(auto, unfolding(crate::specs::Steps::Place::may_begin))]
 #[inline(always)]
 fn may_begin(rule: Rule, byte: u8, mode: Mode) -> bool
