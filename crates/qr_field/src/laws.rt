@@ -61,8 +61,8 @@ pub fn erasures_are_unambiguous()
     ensures { ErasuresAreUnambiguous }
 {}
 
-/// If every codeword was read, the misread codewords are those in which the two lists differ. So the law of erasures holds
-/// for a block if at most half as many of its codewords are misread as it has error correction codewords.
+/// If every codeword was read, the misread codewords are those in which the two lists differ. So the law of erasures
+/// covers a block in which at most half as many codewords are misread as it has error correction codewords.
 pub fn damage_is_unambiguous()
     ensures read { (xs : List ℕ) → erasures (map (λ x. Some x) xs) ≡ 0 }
     ensures misread { (xs ys : List ℕ) → errors (map (λ x. Some x) xs) ys ≡ differences xs ys }

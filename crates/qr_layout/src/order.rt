@@ -132,7 +132,8 @@ impl Iterator for Steps {
     }
 }
 
-/// Returns the modules of the encoding region, in the order in which the bits of the codewords fill them.
+/// Returns the modules of the encoding region, in the order in which the bits of the codewords and the remainder bits fill
+/// them.
 pub fn walk(v: Version) -> Steps
     ensures order { IsOrder v result }
     ensures count { length result ≡ module_count_of v }
@@ -148,8 +149,8 @@ pub fn walk(v: Version) -> Steps
     }
 }
 
-/// Returns the modules that come after `m` in the walk, or `None` if `m` is not in the encoding region, inside the symbol
-/// or not.
+/// Returns the modules that come after `m` in the walk, or `None` if `m` is not in the encoding region. `m` may be outside
+/// the symbol.
 pub fn walk_after(v: Version, m: Module) -> Option<Steps>
     ensures given { IsSome result ↔ InRegion v m }
     ensures rest { IfSome result (IsOrderAfter v m) }

@@ -60,8 +60,8 @@ impl Matrix {
         self.rows[usize::from(row)].at(col)
     }
 
-    /// Returns four modules of a row as a number, from a column on that is a multiple of four; the first one is the lowest
-    /// bit.
+    /// Returns four modules of a row, from column `col` on, as a number. Column `col` is the lowest bit; `col` is a multiple
+    /// of four.
     pub fn four(&self, row: u8, col: u8) -> u8
         requires row_in { row < self.now.side }
         requires col_in { col + 4 ≤ self.now.side }
@@ -147,8 +147,8 @@ impl Matrix {
         self.rows[usize::from(row)].put(col, dark);
     }
 
-    /// Sets the colours of four modules of a row, from a column on that is a multiple of four; the first one is the lowest
-    /// bit.
+    /// Sets the colours of four modules of a row, from column `col` on, to the bits of `bits`. Column `col` gets the lowest
+    /// bit; `col` is a multiple of four.
     pub fn set_four(&mut self, row: u8, col: u8, bits: u8)
         requires row_in { row < self.old.side }
         requires col_in { col + 4 ≤ self.old.side }
