@@ -14,7 +14,7 @@ use Rattle.qr_layout.specs.Region.{is_alignment, ring_of}
 abbrev pub finder_ring : ℕ → ℕ → ℕ → ℕ
 finder_ring s r c = min (ring_of 3 3 r c) (min (ring_of 3 (s - 4) r c) (ring_of (s - 4) 3 r c))
 
--- `is_alignment_light v r c` holds if the place (r, c) is on the light ring of an alignment pattern, between its centre and
+-- `is_alignment_light v r c` holds if (r, c) is on the light ring of an alignment pattern, between its centre and
 -- its outer ring (ISO/IEC 18004:2015, 6.3.6)
 unfoldable pub is_alignment_light : ℕ → ℕ → ℕ → Bool
 is_alignment_light v r c = list_any (λ m. ring_of m.row m.col r c == 1) (alignment_places (side_of v) (centres_of v))
