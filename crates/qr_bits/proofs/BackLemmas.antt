@@ -12,16 +12,16 @@ use Rattle.std.specs.List.{sum_by}
 use Rattle.std.proofs.lemmas.List.Sums.{sum_by-cons}
 use Rattle.qr_bits.proofs.BestLemmas.{same_rank}
 
--- a rank is itself
+-- the rank of a mode is equal to itself
 same_rank_test : (m : Mode) → (rank m == rank m) ≡ true
 same_rank_test m = eq-eqb (rank m) (rank m) refl
 
--- a function of a choice is a choice of its values
+-- a function of a conditional is a conditional of its values
 push_cond : {A B : Type 0} (f : A → B) (b : Bool) (x y : A) → f (cond b x y) ≡ cond b (f x) (f y)
 push_cond f true x y = refl
 push_cond f false x y = refl
 
--- the three tests between three letters, where the first two are one
+-- the three tests of equality between three modes, where the first two modes are equal
 around : (k : Mode) (n : ℕ) (j m : Mode) (jm kj km : Bool) → (kj ≡ true → km ≡ jm)
     → cond jm (cond kj (record { mode = k; len = 1 + (n + 1) } ∷ []) (record { mode = k; len = 1 } ∷ record { mode = j; len = n + 1 } ∷ []))
     (cond kj (record { mode = k; len = 1 + n } ∷ record { mode = m; len = 1 } ∷ []) (record { mode = k; len = 1 } ∷ record { mode = j; len = n } ∷ record { mode = m; len = 1 } ∷ []))
@@ -32,7 +32,7 @@ around k n j m true false km h = refl
 around k n j m false true km h = rw (h refl) refl
 around k n j m false false km h = refl
 
--- a letter before and a letter after, in either order
+-- one mode added before segments and another added after them, in either order
 both_ends : (k : Mode) (segs : List Segment) (m : Mode) → with_front k (with_back segs m) ≡ with_back (with_front k segs) m
 unfolding with_back
 both_ends k [] m = refl
@@ -43,20 +43,20 @@ both_ends k (s ∷ []) m =
 both_ends k (s ∷ t ∷ ss) m =
     sym (push_cond (λ (r : List Segment). with_back r m) (rank k == rank s.mode) (record { mode = k; len = 1 + s.len } ∷ t ∷ ss) (record { mode = k; len = 1 } ∷ s ∷ t ∷ ss))
 
--- the runs of letters with one more after them
+-- the runs of modes with one more mode after them
 pub runs_of-push : (ms : List Mode) (m : Mode) → runs_of (ms ++ m ∷ []) ≡ with_back (runs_of ms) m
 unfolding runs_of with_back
 runs_of-push [] m = refl
 runs_of-push (k ∷ ms) m = ap (with_front k) (runs_of-push ms m) ∙ both_ends k (runs_of ms) m
 
--- a letter after the last of some segments
+-- a mode added after the last of some segments
 pub with_back-last : (ss : List Segment) (s : Segment) (m : Mode) → with_back (ss ++ s ∷ []) m ≡ ss ++ with_back (s ∷ []) m
 unfolding with_back
 with_back-last [] s m = refl
 with_back-last (t ∷ []) s m = refl
 with_back-last (t ∷ u ∷ ss) s m = ap (λ (r : List Segment). t ∷ r) (with_back-last (u ∷ ss) s m)
 
--- the last segment grows, or is the first
+-- one more byte in the same mode: the last segment grows, or is the first one
 pub run_same : (segs : List Segment) (m : Mode) (n : ℕ) → (n ≡ 0 → segs ≡ []) → with_back (segs ++ one_segment m n) m ≡ segs ++ one_segment m (n + 1)
 unfolding with_back
 run_same segs m zero none = rw (none refl) refl
@@ -64,7 +64,7 @@ run_same segs m (suc n) none =
     let e : suc n + 1 ≡ suc (suc n) = omega arith in
     rw (e, with_back-last segs (record { mode = m; len = suc n }) m, same_rank_test m, e) refl
 
--- a new one begins
+-- one more byte in another mode: a new segment begins
 pub run_other : (segs : List Segment) (k m : Mode) (n : ℕ) → (n ≡ 0 → segs ≡ []) → (k ≡ m → ⊥) → with_back (segs ++ one_segment k n) m ≡ (segs ++ one_segment k n) ++ one_segment m 1
 unfolding with_back
 run_other segs k m zero none other = rw (none refl) refl
@@ -72,7 +72,7 @@ run_other segs k m (suc n) none other =
     rw (with_back-last segs (record { mode = k; len = suc n }) m, ne_eqb (rank k) (rank m) (λ e. other (same_rank k m e)))
     (sym (append_assoc segs (record { mode = k; len = suc n } ∷ []) (record { mode = m; len = 1 } ∷ [])))
 
--- the runs are as long as the letters
+-- one more mode before segments makes them longer by 1
 sum_by-with_front : (m : Mode) (segs : List Segment) → sum_by (λ s. s.len) (with_front m segs) ≡ 1 + sum_by (λ s. s.len) segs
 sum_by-with_front m [] = refl
 sum_by-with_front m (s ∷ ss) =
@@ -80,7 +80,7 @@ sum_by-with_front m (s ∷ ss) =
     (λ e. omega (arith, sum_by-cons (λ (t : Segment). t.len) (record { mode = m; len = 1 + s.len }) ss, sum_by-cons (λ (t : Segment). t.len) s ss))
     (λ e. omega (arith, sum_by-cons (λ (t : Segment). t.len) (record { mode = m; len = 1 }) (s ∷ ss)))
 
--- the runs are as long as the letters
+-- the lengths of the runs add up to the number of modes
 pub sum_by-runs_of : (ms : List Mode) → sum_by (λ s. s.len) (runs_of ms) ≡ length ms
 unfolding runs_of
 sum_by-runs_of [] = refl

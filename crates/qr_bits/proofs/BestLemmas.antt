@@ -1,4 +1,4 @@
--- The best rest of a lettering is the best letter and the best rest after it.
+-- The best rest of an assignment is the best mode for the next byte and the best rest after it.
 use Rattle.std.proofs.Common.{◌≡◌, ℕ, ◌+◌, ◌<◌, ◌≤◌, ◌⊎◌, Bool, true, false, ◌&&◌, List, [], ◌∷◌, IsTrue, refl, sym, subst, inl, inr, ⊎_elim, arith}
 use Rattle.qr_bits.specs.declared.modes.Mode.{Mode}
 use Rattle.qr_bits.specs.declared.modes.Mode.TheVariants.{Numeric, Alphanumeric, Byte, Kanji}
@@ -7,7 +7,7 @@ use Rattle.qr_bits.specs.declared.place.Place.{Place}
 use Rattle.qr_bits.specs.Segmentation.{rank, NotAfter}
 use Rattle.qr_bits.specs.Steps.Place.{place_after, step_bits, begins, may_take, allowed, walk, IsBestRest, IsChoice}
 
--- two letters of one rank are one
+-- two modes of one rank are equal
 pub same_rank : (m k : Mode) → rank m ≡ rank k → m ≡ k
 same_rank Numeric Numeric h = refl
 same_rank Alphanumeric Alphanumeric h = refl
@@ -15,32 +15,32 @@ same_rank Byte Byte h = refl
 same_rank Kanji Kanji h = refl
 same_rank _ _ h = cc
 
--- where both are so, the first is
+-- if a conjunction holds, the first part holds
 pub and_left : (a b : Bool) → IsTrue (a && b) → IsTrue a
 and_left true b h = refl
 and_left false b h = h
 
--- where both are so, the second is
+-- if a conjunction holds, the second part holds
 pub and_right : (a b : Bool) → IsTrue (a && b) → IsTrue b
 and_right true b h = h
 and_right false b h = cc
 
--- where each is so, both are
+-- if both parts hold, the conjunction holds
 pub and_both : (a b : Bool) → IsTrue a → IsTrue b → IsTrue (a && b)
 and_both true b _ h = h
 and_both false b h _ = h
 
--- a letter of no higher rank is lower or the same
+-- a mode of no higher rank has a lower rank or is the same mode
 lower_or_same : (m k : Mode) → rank m ≤ rank k → (rank m < rank k) ⊎ (m ≡ k)
 lower_or_same m k h =
     let cases : (rank m < rank k) ⊎ (rank m ≡ rank k) = grind arith in
     ⊎_elim (λ (l : rank m < rank k). inl l) (λ (e : rank m ≡ rank k). inr (same_rank m k e)) cases
 
--- what the rests after each letter are, if there are any
+-- for each state after the next byte, the best rest, if a rest is allowed
 abbrev pub BestBelow : ℕ → Rule → (ℕ → ℕ → Bool) → List ℕ → (Place → List Mode) → (Place → ℕ) → Type 0
 BestBelow v r test xs f cost = (q : Place) (ks : List Mode) → IsTrue (allowed r test q xs ks) → IsBestRest v r test q xs (f q) (cost q)
 
--- By whatever letter a rest begins, it has no fewer bits.
+-- Whatever its first mode is, a rest has no fewer bits than the best one.
 step_least : (v : ℕ) (r : Rule) (test : ℕ → ℕ → Bool) (p : Place) (x : ℕ) (xs : List ℕ) (f : Place → List Mode) (cost : Place → ℕ) (m : Mode) (n : ℕ)
     → BestBelow v r test xs f cost → IsChoice v r p x (begins r test (x ∷ xs)) cost m n
     → (ks : List Mode) → IsTrue (allowed r test p (x ∷ xs) ks) → n ≤ walk v p ks
@@ -52,7 +52,7 @@ step_least v r test p x xs f cost m n below choice (k ∷ ks) h =
     let best = below (place_after p k) ks rest in
     omega (arith, choice.least k takes, best.least ks rest)
 
--- By whatever letter a rest of the same bits begins, it is not before.
+-- Whatever its first mode is, a rest with equally many bits does not come before the best one.
 step_first : (v : ℕ) (r : Rule) (test : ℕ → ℕ → Bool) (p : Place) (x : ℕ) (xs : List ℕ) (f : Place → List Mode) (cost : Place → ℕ) (m : Mode) (n : ℕ)
     → BestBelow v r test xs f cost → IsChoice v r p x (begins r test (x ∷ xs)) cost m n
     → (ks : List Mode) → IsTrue (allowed r test p (x ∷ xs) ks) → walk v p ks ≡ n → NotAfter (m ∷ f (place_after p m)) ks
@@ -69,7 +69,7 @@ step_first v r test p x xs f cost m n below choice (k ∷ ks) h e =
     (λ (same : m ≡ k). inr (same, subst (λ (c : Mode). NotAfter (f (place_after p c)) ks) (sym same) tail))
     (lower_or_same m k low)
 
--- the best rest: the best letter, and the best rest after it
+-- the best rest: the best mode, and the best rest after it
 pub best_step : (v : ℕ) (r : Rule) (test : ℕ → ℕ → Bool) (p : Place) (x : ℕ) (xs : List ℕ) (f : Place → List Mode) (cost : Place → ℕ) (m : Mode) (n : ℕ)
     → BestBelow v r test xs f cost → IsChoice v r p x (begins r test (x ∷ xs)) cost m n
     → ((ks : List Mode) × IsTrue (allowed r test (place_after p m) xs ks))

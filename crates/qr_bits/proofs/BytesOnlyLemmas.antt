@@ -1,4 +1,4 @@
--- Where bytes alone may stand there is one lettering: each letter is Byte.
+-- If only byte mode may be used, there is one valid assignment: byte mode for each byte.
 use Rattle.std.proofs.Common.{◌≡◌, ℕ, zero, suc, ◌+◌, ◌*◌, ◌<◌, ◌≤◌, min, take, ⊎_elim, true, false, ◌==◌, List, [], ◌∷◌, length, refl, sym, ◌∙◌, ap, subst, arith, inr, lit<}
 use Rattle.std.specs.List.{list_all}
 use Rattle.std.proofs.lemmas.List.{length-take-le}
@@ -17,26 +17,26 @@ use Rattle.qr_bits.proofs.ChoiceLemmas.{take_begin}
 use Rattle.qr_bits.proofs.SegmentLemmas.{least_fits}
 use Rattle.qr_bits.proofs.LetteringLemmas.{may_end-after, can_take, is_lettering, covers_by, by_covers}
 
--- the letter of bytes for each byte
+-- byte mode for each byte
 all_bytes : List ℕ → List Mode
 all_bytes [] = []
 all_bytes (x ∷ xs) = Byte ∷ all_bytes xs
 
--- each of them can be taken
+-- byte mode is allowed for each byte
 bytes_taken : (xs : List ℕ) (p : Place) → may_end p ≡ true → allowed BytesOnly is_kanji_pair p xs (all_bytes xs) ≡ true
 unfolding allowed may_begin all_bytes
 bytes_taken [] p e = e
 bytes_taken (x ∷ xs) p e =
     and_from _ _ (take_begin BytesOnly p x (begins BytesOnly is_kanji_pair (x ∷ xs)) Byte e) (bytes_taken xs (place_after p Byte) (may_end-after p Byte (lit< tt)))
 
--- the one letter that may stand
+-- the only mode that the rule allows is byte mode
 only_byte : (m : Mode) → may_use BytesOnly m ≡ true → m ≡ Byte
 only_byte Numeric h = absurd (false≢true h)
 only_byte Alphanumeric h = absurd (false≢true h)
 only_byte Byte h = refl
 only_byte Kanji h = absurd (false≢true h)
 
--- letters that can be taken are those
+-- the only modes that are allowed are byte modes
 only_bytes : (xs : List ℕ) (ks : List Mode) (p : Place) → list_all (may_use BytesOnly) ks ≡ true → allowed BytesOnly is_kanji_pair p xs ks ≡ true → ks ≡ all_bytes xs
 unfolding allowed all_bytes
 only_bytes [] [] p u h = refl
@@ -49,7 +49,7 @@ only_bytes (x ∷ xs) (k ∷ ks) p u h =
     let rest = only_bytes xs ks (place_after p k) used.1 parts.1 in
     λ i. same i ∷ rest i
 
--- a list of letters is not after itself
+-- a list of modes is not after itself
 not_after_self : (ms : List Mode) → NotAfter ms ms
 not_after_self [] = tt
 not_after_self (m ∷ ms) = inr (refl, not_after_self ms)
@@ -58,7 +58,7 @@ not_after_self (m ∷ ms) = inr (refl, not_after_self ms)
 abbrev one : ℕ → List Segment
 one n = record { mode = Byte; len = n } ∷ []
 
--- their runs are one
+-- the runs of byte modes are one segment
 runs_of-bytes : (xs : List ℕ) → runs_of (all_bytes xs) ≡ one_segment Byte (length xs)
 unfolding runs_of all_bytes
 runs_of-bytes [] = refl
@@ -69,12 +69,12 @@ runs_of-bytes (x ∷ y ∷ ys) =
     let q : with_front Byte (one_segment Byte (length (y ∷ ys))) ≡ one (suc (suc (length ys))) = ap one e in
     p ∙ q
 
--- each lettering by this rule is that one
+-- each valid assignment by this rule is byte mode for each byte
 one_lettering : (xs : List ℕ) (ks : List Mode) → IsLettering BytesOnly xs ks → ks ≡ all_bytes xs
 unfolding may_end
 one_lettering xs ks h = only_bytes xs ks Start h.0 (can_take is_kanji_pair BytesOnly xs ks (h.0, covers_by xs (runs_of ks) h.1) Start refl)
 
--- Where bytes alone may stand, the one segment of all of them is the least segmentation.
+-- If only byte mode may be used, the one segment of all bytes is the least segmentation.
 pub bytes_least : (v : ℕ) (xs : List ℕ) → IsLeastSegmentation v BytesOnly xs (one_segment Byte (length xs))
 unfolding may_end
 bytes_least v xs =
@@ -88,27 +88,27 @@ bytes_least v xs =
       sym (runs_of-bytes xs),
     )
 
--- some bytes are one segment
+-- if there are bytes, `one_segment` is one segment
 pub bytes_some : (m : Mode) (n : ℕ) → (n == 0) ≡ false → record { mode = m; len = n } ∷ [] ≡ one_segment m n
 bytes_some m zero h = cc
 bytes_some m (suc n) h = refl
 
--- no bytes are none
+-- if there is no byte, `one_segment` is no segment
 pub bytes_none : (m : Mode) (n : ℕ) → (n == 0) ≡ true → [] ≡ one_segment m n
 bytes_none m zero h = refl
 bytes_none m (suc n) h = absurd (omega (arith, eqb-true (suc n) 0 h))
 
--- the one segment of n bytes has at most these bits
+-- the one segment of n bytes has at most this number of bits
 bits-most : (v n : ℕ) → bits v (one_segment Byte n) ≤ 4 + count_width v Byte + 8 * n
 bits-most v zero = omega arith
 bits-most v (suc n) = omega arith
 
--- and no fewer, if there is a byte
+-- and it has at least this number of bits, if there is a byte
 bits-least : (v n : ℕ) → 0 < n → 4 + count_width v Byte + 8 * n ≤ bits v (one_segment Byte n)
 bits-least v zero h = absurd (omega arith)
 bits-least v (suc n) h = omega arith
 
--- The longest prefix that fits as bytes is the longest of all.
+-- The longest prefix that fits as one byte segment is the longest prefix that fits.
 pub bytes_longest : (v : ℕ) (xs : List ℕ) (room n k : ℕ) → n ≡ min (length xs) k → 4 + count_width v Byte + 8 * k ≤ room → room < 4 + count_width v Byte + 8 * (k + 1)
     → IsLongestFit v BytesOnly xs room n
 bytes_longest v xs room n k e fits most =

@@ -1,4 +1,4 @@
--- The 45 characters: each has a place.
+-- The 45 characters of alphanumeric mode: each has a value, which is its index.
 use Rattle.std.proofs.Common.{◌≡◌, ℕ, ◌+◌, ◌-◌, ◌<◌, ◌≤◌, ◌==◌, Bool, true, false, not, nat_le, nat_lt, List, length, get_or, Option, Some, refl, sym, ◌∙◌, ⊎_elim, arith}
 use borrow.Author.Tests.{leb-true}
 use Rattle.std.specs.List.{list_any, position, position_or_len}
@@ -14,7 +14,7 @@ use Rattle.qr_bits.specs.Steps.Place.{may_begin}
 use Rattle.qr_bits.specs.Parsing.{character}
 use Rattle.qr_layout.proofs.Facts.{below, below-at}
 
--- an element that passes has a place
+-- if an element of a list passes a test, the position of the first such element is inside the list
 found : (p : ℕ → Bool) (xs : List ℕ) → list_any p xs ≡ true → position_or_len p xs < length xs
 found p xs h =
     ⊎_elim
@@ -28,30 +28,30 @@ pub character_found : (b : ℕ) → is_alphanumeric b ≡ true → character_val
 unfolding is_alphanumeric character_value characters
 character_found b h = found (λ c. c == b) characters h
 
--- the place of one of the 45 characters
+-- the index of one of the 45 characters is its value
 pub character_place : (b : ℕ) → is_alphanumeric b ≡ true → position (λ c. c == b) characters ≡ Some (character_value b)
 unfolding is_alphanumeric character_value
 character_place b h = rw (lt-ltb _ _ (found (λ c. c == b) characters h)) refl
 
--- an option that holds a number
+-- an option that contains a number
 abbrev pub some : ℕ → Option ℕ
 some n = Some n
 
--- values of one are one
+-- options that are equal contain equal numbers
 pub same_some : (a b : ℕ) → some a ≡ some b → a ≡ b
 same_some a b h = cc
 
--- a character is the one of its value
+-- a character is the character of its value
 pub character_again : (b : ℕ) → is_alphanumeric b ≡ true → character (character_value b) ≡ b
 unfolding is_alphanumeric character_value character
 character_again b h = eqb-true _ _ (passes_at_first (λ c. c == b) characters 0 (found (λ c. c == b) characters h))
 
--- a character stands at its place
+-- the character at index n is the character of the value n
 at_place : (n : ℕ) → get_or characters n 0 ≡ character n
 unfolding character
 at_place n = refl
 
--- what is not so is false
+-- if a negation holds, its argument is false
 not_true : (b : Bool) → not b ≡ true → b ≡ false
 not_true true h = cc
 not_true false h = refl
@@ -61,11 +61,11 @@ many : length characters ≡ 45
 unfolding characters
 many = refl
 
--- a character is no later than Z
+-- the test whether a character is at most Z
 low : ℕ → Bool
 low i = nat_le (character i) 90
 
--- each of the 45 characters is so
+-- each of the 45 characters is at most Z
 all_low : below 45 low ≡ true
 unfolding low character characters
 all_low = refl
@@ -77,16 +77,16 @@ past_z b h =
     list_any_none (λ c. c == b) characters (All-from_get_or (λ x. (x == b) ≡ false) characters 0
     (λ i k. ne_eqb _ _ (λ e. let l = leb-true _ 90 (below-at 45 low all_low i (omega (arith, many))) in absurd (omega arith))))
 
--- no two of the first n characters are one
+-- the test whether two characters of different values differ
 differs : ℕ → ℕ → Bool
 differs i k = not (character k == character i)
 
--- no two of the 45 characters are one
+-- no two of the 45 characters are equal
 all_differ : below 45 (λ i. below i (differs i)) ≡ true
 unfolding differs character characters
 all_differ = refl
 
--- the character is a byte
+-- the test whether a character is a byte
 small : ℕ → Bool
 small i = nat_lt (character i) 256
 
@@ -95,7 +95,7 @@ all_small : below 45 small ≡ true
 unfolding small character characters
 all_small = refl
 
--- the value of a character is its place
+-- the value of the character n is n
 pub character_taken : (n : ℕ) → n < 45 → (is_alphanumeric (character n) ≡ true) × (character_value (character n) ≡ n) × (character n < 256)
 unfolding is_alphanumeric character_value differs small character
 character_taken n h =
@@ -108,18 +108,18 @@ character_taken n h =
       ltb-true _ _ (below-at 45 small all_small n h),
     )
 
--- a rule that has digits has characters
+-- a rule that allows numeric mode allows alphanumeric mode
 text_used : (r : Rule) → may_use r Numeric ≡ true → may_use r Alphanumeric ≡ true
 text_used Auto h = refl
 text_used BytesOnly h = h
 text_used WithKanji h = refl
 
--- each digit is a character
+-- each digit is one of the 45 characters
 all_digits : below 10 (λ i. is_alphanumeric (48 + i)) ≡ true
 unfolding is_alphanumeric characters
 all_digits = refl
 
--- a digit may be taken as a character
+-- a byte that may have numeric mode may have alphanumeric mode
 pub digit_character : (r : Rule) (b : ℕ) (pair : Bool) → may_begin r b pair Numeric ≡ true → may_begin r b pair Alphanumeric ≡ true
 unfolding may_begin
 digit_character r b pair h =

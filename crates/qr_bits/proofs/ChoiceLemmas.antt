@@ -1,4 +1,4 @@
--- The choice among the modes, as the least of numbers.
+-- The best mode for a byte is the one whose number is the least.
 use Rattle.std.proofs.Common.{◌≡◌, ℕ, ◌+◌, ◌*◌, ◌/◌, ◌%◌, ◌<◌, ◌≤◌, Bool, true, false, ◌==◌, min, refl, sym, ◌∙◌, ap, ⊎_elim, arith, lit<, lit≤}
 use Rattle.std.proofs.lemmas.Bool.{false≢true, cases_lt, eqb-true}
 use Rattle.qr_bits.specs.declared.modes.Mode.{Mode}
@@ -19,18 +19,18 @@ least_of may cost =
     min (number_of (may Numeric) (cost Numeric) Numeric)
     (min (number_of (may Alphanumeric) (cost Alphanumeric) Alphanumeric) (min (number_of (may Byte) (cost Byte) Byte) (number_of (may Kanji) (cost Kanji) Kanji)))
 
--- it is no more than the number of each mode that may be taken
+-- the least number is no more than the number of each mode that may be used
 least_under : (may : Mode → Bool) (cost : Mode → ℕ) (k : Mode) → may k ≡ true → least_of may cost ≤ 4 * cost k + rank k
 least_under may cost Numeric t = rw t (omega arith)
 least_under may cost Alphanumeric t = rw t (omega arith)
 least_under may cost Byte t = rw t (omega arith)
 least_under may cost Kanji t = rw t (omega arith)
 
--- the number is that of a mode that may be taken
+-- the number is that of a mode that may be used
 abbrev IsTaken : (Mode → Bool) → (Mode → ℕ) → ℕ → Type 0
 IsTaken may cost c = (m : Mode) × (may m ≡ true) × (c ≡ 4 * cost m + rank m)
 
--- a number below the limit is that of a mode that may be taken
+-- a number below the limit is that of a mode that may be used
 taken_one : (may : Mode → Bool) (cost : Mode → ℕ) (m : Mode) (t : Bool) → t ≡ may m → number_of t (cost m) m < 4294967295 → IsTaken may cost (number_of t (cost m) m)
 taken_one may cost m true e h = (m, sym e, refl)
 taken_one may cost m false e h = absurd (omega arith)
@@ -43,20 +43,20 @@ taken_min may cost a b f g h =
     (λ (l : b ≤ a). let e : min a b ≡ b = omega arith in rw e (g (omega arith)))
     (cases_lt a b)
 
--- so is the least of four
+-- the least of the four numbers is that of a mode that may be used, if it is below the limit
 taken_least : (may : Mode → Bool) (cost : Mode → ℕ) → least_of may cost < 4294967295 → IsTaken may cost (least_of may cost)
 taken_least may cost =
     taken_min may cost _ _ (taken_one may cost Numeric _ refl)
     (taken_min may cost _ _ (taken_one may cost Alphanumeric _ refl) (taken_min may cost _ _ (taken_one may cost Byte _ refl) (taken_one may cost Kanji _ refl)))
 
--- the mode of a number
+-- the mode that belongs to a number
 ranked-number : (c b : ℕ) (m : Mode) → c ≡ 4 * b + rank m → ranked (c % 4) ≡ m
 ranked-number c b Numeric e = let r : c % 4 ≡ 0 = omega arith in rw r refl
 ranked-number c b Alphanumeric e = let r : c % 4 ≡ 1 = omega arith in rw r refl
 ranked-number c b Byte e = let r : c % 4 ≡ 2 = omega arith in rw r refl
 ranked-number c b Kanji e = let r : c % 4 ≡ 3 = omega arith in rw r refl
 
--- a letter adds at most 33 bits
+-- a byte adds at most 33 bits
 pub step_bits_bound : (v : ℕ) (p : Place) (m : Mode) → step_bits v p m ≤ 33
 unfolding step_bits
 step_bits_bound v Digit1 Numeric = lit≤ tt
@@ -72,30 +72,30 @@ step_bits_bound v HalfPair Kanji = lit≤ tt
 step_bits_bound v WholePair Kanji = lit≤ tt
 step_bits_bound v _ Kanji = omega (arith, count_width_bound v Kanji)
 
--- each rule has the letter of bytes
+-- each rule allows byte mode
 pub byte_used : (r : Rule) → may_use r Byte ≡ true
 byte_used Auto = refl
 byte_used BytesOnly = refl
 byte_used WithKanji = refl
 
--- there are four letters
+-- there are four modes
 pub rank_below : (m : Mode) → rank m < 4
 rank_below Numeric = lit< tt
 rank_below Alphanumeric = lit< tt
 rank_below Byte = lit< tt
 rank_below Kanji = lit< tt
 
--- where no half of a pair is open, the letters that may be taken are those that may begin
+-- if no half pair is open, the modes that may be used are those that may begin
 pub take_begin : (r : Rule) (p : Place) (x : ℕ) (pair : Bool) (m : Mode) → may_end p ≡ true → may_take r p x pair m ≡ may_begin r x pair m
 unfolding may_end may_take
 take_begin r HalfPair x pair m e = absurd (false≢true e)
 take_begin r _ x pair m e = refl
 
--- in the middle of a pair there is one letter
+-- after half a pair, only kanji mode is possible
 kanji_alone : (k : Mode) → (rank k == rank Kanji) ≡ true → k ≡ Kanji
 kanji_alone k h = same_rank k Kanji (eqb-true _ _ h)
 
--- in the middle of a pair its second byte is the choice
+-- after half a pair, kanji mode is the choice
 pub half_choice : (v : ℕ) (r : Rule) (x : ℕ) (pair : Bool) (cost : Place → ℕ) (c : ℕ) → c ≡ number_of true (step_bits v HalfPair Kanji + cost (place_after HalfPair Kanji)) Kanji
     → IsChoice v r HalfPair x pair cost (ranked (c % 4)) (c / 4)
 unfolding may_take step_bits place_after
@@ -109,12 +109,12 @@ half_choice v r x pair cost c is =
       first = λ k h q. let e = kanji_alone k h in rw e (omega arith);
     })
 
--- after a byte the place is one
+-- after a byte in byte mode the state is `InBytes`
 place_after-byte : (p : Place) → place_after p Byte ≡ InBytes
 unfolding place_after
 place_after-byte _ = refl
 
--- the least number is that of the first of the modes that lead to the fewest bits
+-- the least number is that of the mode of lowest rank among those that lead to the fewest bits
 pub least_choice : (v : ℕ) (r : Rule) (p : Place) (x : ℕ) (pair : Bool) (cost : Place → ℕ) (c : ℕ) → may_end p ≡ true → cost InBytes < 10000000
     → c ≡ least_of (may_begin r x pair) (λ k. step_bits v p k + cost (place_after p k))
     → IsChoice v r p x pair cost (ranked (c % 4)) (c / 4)
@@ -140,33 +140,33 @@ pub number_less : (may : Bool) (m : Mode) (a b : ℕ) → a ≤ b → number_of 
 number_less true m a b h = omega arith
 number_less false m a b h = omega arith
 
--- two numbers and the least of the others, in any order
+-- the minimum of two numbers and a third, in another order
 pub own_beside : (o n r : ℕ) → min o (min n r) ≡ min n (min o r)
 own_beside o n r = omega arith
 
--- the number of a mode that goes on, beside a larger one of a new segment in its mode
+-- the number of going on with a run, beside the larger number of a new segment in its mode: that mode is the first
 pub own_first : (o n r : ℕ) → o ≤ n → min o (min n r) ≡ min o r
 own_first o n r h = omega arith
 
--- and in the second place
+-- the same, if that mode is the second
 pub own_second : (o n a r : ℕ) → o ≤ a → min o (min n (min a r)) ≡ min n (min o r)
 own_second o n a r h = omega arith
 
--- and in the third
+-- the same, if that mode is the third
 pub own_third : (o n a b r : ℕ) → o ≤ b → min o (min n (min a (min b r))) ≡ min n (min a (min o r))
 own_third o n a b r h = omega arith
 
--- and in the last
+-- the same, if that mode is the last
 pub own_last : (o n a b k : ℕ) → o ≤ k → min o (min n (min a (min b k))) ≡ min n (min a (min b o))
 own_last o n a b k h = omega arith
 
--- a pair begins where no half of one is open
+-- a byte in kanji mode begins a pair if no half pair is open
 pub place_after-whole : (p : Place) → may_end p ≡ true → place_after p Kanji ≡ HalfPair
 unfolding may_end place_after
 place_after-whole HalfPair e = absurd (false≢true e)
 place_after-whole _ e = refl
 
--- one more byte in the mode of the last one
+-- the state after one more byte in the mode of the last one
 pub on_after : (p : Place) (m : Mode) → place_on (place_after p m) ≡ place_after (place_after p m) m
 unfolding place_on place_after
 on_after Digit1 Numeric = refl

@@ -1,4 +1,4 @@
--- Where the bits of segments fit a symbol, each count fits its field.
+-- If the bits of segments fit a symbol, each count fits its field.
 use Rattle.std.proofs.Common.{◌≡◌, ℕ, ◌+◌, ◌-◌, ◌*◌, ◌/◌, ◌^◌, ◌<◌, ◌≤◌, Bool, true, false, cond, leb, List, [], ◌∷◌, length, drop, refl, ap, ⊎_elim, arith, subst, lit≤}
 use borrow.Author.Tests.{leb-true}
 use Rattle.std.proofs.lemmas.Bool.{le-leb, lt-leb, cases_lt}
@@ -35,7 +35,7 @@ all-most M = refl
 all-most Q = refl
 all-most H = refl
 
--- a symbol has no more data codewords than its group allows
+-- a symbol has no more data codewords than the most of its group of versions
 data_most : (v : ℕ) (l : Level) → 1 ≤ v → v ≤ 40 → data_codewords_of v l ≤ most_data v
 unfolding t-most
 data_most v l a b =
@@ -54,7 +54,7 @@ all-least M = refl
 all-least Q = refl
 all-least H = refl
 
--- a symbol holds at least 72 bits
+-- the data codewords of a symbol have at least 72 bits
 pub capacity_least : (v : ℕ) (l : Level) → 1 ≤ v → v ≤ 40 → 72 ≤ capacity_of v l
 unfolding t-least
 capacity_least v l a b =
@@ -73,13 +73,13 @@ groups v P small medium large =
     (cases_lt v 27))
     (cases_lt v 10)
 
--- a symbol holds at most 23,648 bits
+-- the data codewords of a symbol have at most 23,648 bits
 pub capacity_most : (v : ℕ) (l : Level) → 1 ≤ v → v ≤ 40 → capacity_of v l ≤ 23648
 capacity_most v l a b =
     let most : most_data v ≤ 2956 = groups v (λ s m. cond s 232 (cond m 1370 2956) ≤ 2956) (λ _. lit≤ tt) (λ _ _. lit≤ tt) (λ _. lit≤ tt) in
     omega (arith, data_most v l a b)
 
--- a segment whose bits fit has a count that fits
+-- if the bits of a segment fit, its count fits
 count_fits : (v n : ℕ) (m : Mode) → segment_bits v (record { mode = m; len = n }) ≤ 8 * most_data v → character_count m n < 2 ^ count_width v m
 count_fits v n Numeric h =
     groups v (λ s m. 4 + cond s 10 (cond m 12 14) + payload_bits Numeric n ≤ 8 * cond s 232 (cond m 1370 2956) → n < 2 ^ cond s 10 (cond m 12 14))
@@ -94,27 +94,27 @@ count_fits v n Kanji h =
     groups v (λ s m. 4 + cond s 8 (cond m 10 12) + payload_bits Kanji n ≤ 8 * cond s 232 (cond m 1370 2956) → n / 2 < 2 ^ cond s 8 (cond m 10 12))
     (λ _ k. omega arith) (λ _ _ k. omega arith) (λ _ k. omega arith) h
 
--- Where the bits of segments fit, each count fits its field.
+-- If the bits of segments fit a symbol, each count fits its field.
 pub counts_fit : (v : ℕ) (l : Level) (segs : List Segment) → 1 ≤ v → v ≤ 40 → bits v segs ≤ capacity_of v l → CountsFit v segs
 unfolding CountsFit
 counts_fit v l [] a b h = tt
 counts_fit v l (s ∷ ss) a b h = (count_fits v s.len s.mode (omega (arith, data_most v l a b)), counts_fit v l ss a b (omega arith))
 
--- a head of the largest versions has at least 16 bits
+-- from version 27 on, the indicator and the count of a segment have at least 16 bits
 head_least : (v : ℕ) (m : Mode) → 26 < v → 12 ≤ count_width v m
 head_least v Numeric h = rw (lt-leb v 9 (omega arith), lt-leb v 26 h) (lit≤ tt)
 head_least v Alphanumeric h = rw (lt-leb v 9 (omega arith), lt-leb v 26 h) (lit≤ tt)
 head_least v Byte h = rw (lt-leb v 9 (omega arith)) (lit≤ tt)
 head_least v Kanji h = rw (lt-leb v 9 (omega arith), lt-leb v 26 h) (lit≤ tt)
 
--- bytes whose segments have so few bits are few
+-- bytes whose segments have at most 23,648 bits are at most 7,089 bytes
 short_large : (v : ℕ) (xs : List ℕ) (segs : List Segment) → 26 < v → CoversInTurn xs segs → bits v segs ≤ 23648 → length xs ≤ 7089
 unfolding CoversInTurn
 short_large v xs [] h c few = omega (arith, ap length c)
 short_large v xs (s ∷ ss) h c few =
     omega (arith, segment_least v s, head_least v s.mode h, bits_least v (drop s.len xs) ss (covers_suits (drop s.len xs) ss (from_turn _ _ c.3)), length-drop s.len xs, c.1)
 
--- What fits a symbol has at most 7,089 bytes.
+-- An input that fits a symbol has at most 7,089 bytes.
 pub fitting_short : (v : ℕ) (l : Level) (r : Rule) (xs : List ℕ) → 1 ≤ v → v ≤ 40 → HasFit v r xs (capacity_of v l) → length xs ≤ 7089
 fitting_short v l r xs a b fit =
     ⊎_elim
@@ -125,24 +125,24 @@ fitting_short v l r xs a b fit =
     (λ (large : 27 ≤ v). short_large v xs (runs_of fit.0) (omega arith) (in_turn _ _ fit.1.1) (omega (arith, capacity_most v l a b, fit.2)))
     (cases_lt v 27)
 
--- What fits a symbol has at most three bytes for each ten of its bits.
+-- An input that fits a symbol has at most three bytes for each ten bits.
 fitting_few : (v : ℕ) (l : Level) (r : Rule) (xs : List ℕ) → 1 ≤ v → v ≤ 40 → HasFit v r xs (capacity_of v l) → 10 * length xs ≤ 24 * most_data v
 fitting_few v l r xs a b fit =
     omega (arith, data_most v l a b, bits_least v xs (runs_of fit.0) (covers_suits xs (runs_of fit.0) fit.1.1), fit.2)
 
--- a symbol of a version up to 9 holds at most 1,856 bits
+-- the data codewords of a symbol of a version up to 9 have at most 1,856 bits
 pub capacity_small : (v : ℕ) (l : Level) → 1 ≤ v → v ≤ 9 → capacity_of v l ≤ 1856
 capacity_small v l a b =
     let most : most_data v ≤ 232 = groups v (λ s m. v ≤ 9 → cond s 232 (cond m 1370 2956) ≤ 232) (λ _ _. lit≤ tt) (λ k _ n. absurd (omega arith)) (λ k n. absurd (omega arith)) b in
     omega (arith, most, data_most v l a (omega arith))
 
--- a symbol of a version up to 26 holds at most 10,960 bits
+-- the data codewords of a symbol of a version up to 26 have at most 10,960 bits
 pub capacity_medium : (v : ℕ) (l : Level) → 1 ≤ v → v ≤ 26 → capacity_of v l ≤ 10960
 capacity_medium v l a b =
     let most : most_data v ≤ 1370 = groups v (λ s m. v ≤ 26 → cond s 232 (cond m 1370 2956) ≤ 1370) (λ _ _. lit≤ tt) (λ _ _ _. lit≤ tt) (λ k n. absurd (omega arith)) b in
     omega (arith, most, data_most v l a (omega arith))
 
--- What fits a version up to 26 has at most 3,288 bytes.
+-- An input that fits a version up to 26 has at most 3,288 bytes.
 pub fitting_medium : (v : ℕ) (l : Level) (r : Rule) (xs : List ℕ) → 1 ≤ v → v ≤ 26 → HasFit v r xs (capacity_of v l) → length xs ≤ 3288
 fitting_medium v l r xs a b fit =
     let most : most_data v ≤ 1370 = groups v (λ s m. v ≤ 26 → cond s 232 (cond m 1370 2956) ≤ 1370) (λ _ _. lit≤ tt) (λ _ _ _. lit≤ tt) (λ k n. absurd (omega arith)) b in

@@ -1,4 +1,4 @@
--- Data codewords: there is one list of them where the stream fits, and a parse gives back what they were made of.
+-- Data codewords: a stream that fits a symbol has one list of them, and a parse returns what they were made of.
 use Rattle.std.proofs.Common.{◌≡◌, ℕ, zero, suc, ◌+◌, ◌-◌, ◌*◌, ◌/◌, ◌%◌, ◌<◌, ◌≤◌, min, Bool, true, false, All, List, [], ◌++◌, length, replicate, drop, Ok, Option, refl, sym, ◌∙◌, ap, ⊎_elim, arith, append_assoc, length-append, append-nil}
 use Rattle.std.proofs.lemmas.Bool.{lt-ltb, cases_lt, or_right}
 use Rattle.std.proofs.lemmas.List.{length-replicate, drop_all}
@@ -18,12 +18,12 @@ use Rattle.qr_bits.proofs.ValueLemmas.{bytes_again, bytes_takes}
 use Rattle.qr_bits.proofs.WritingLemmas.{length-segments_stream}
 use Rattle.qr_bits.proofs.StreamReadingLemmas.{parse_again}
 
--- A stream has the bits of its header and its segments.
+-- The length of a stream is the number of bits of its header and its segments.
 pub length-stream : (v : ℕ) (xs : List ℕ) (segs : List Segment) (h : Option Header) (stream : List Bool) → IsStream v xs segs h stream → length stream ≡ header_bits h + bits v segs
 length-stream v xs segs h stream is =
     omega (arith, ap length is.whole, length-append (header_stream h) (segments_stream v xs segs), length-header_stream h, length-segments_stream v xs segs is.suit)
 
--- pad codewords are as many as are asked for
+-- the number of pad codewords is n
 length-pads : (n : ℕ) → length (pads n) ≡ n
 unfolding pads
 length-pads zero = refl
@@ -38,7 +38,7 @@ terminator n stream = replicate (min 4 (8 * n - length stream)) false
 abbrev filling : List Bool → List Bool
 filling bits = replicate ((8 - length bits % 8) % 8) false
 
--- the whole codewords are no more than there are, and pad codewords are the others
+-- the stream and its terminator fit n codewords, and the pad codewords are the rest of the n codewords
 whole_length : (n s : ℕ) → s ≤ 8 * n → (k : ℕ) → k ≡ s + min 4 (8 * n - s) → (w : ℕ) → w ≡ k + (8 - k % 8) % 8 → (w ≤ 8 * n) × (w / 8 + (n - w / 8) ≡ n) × (8 * (w / 8) ≡ w)
 whole_length n s h k ek w ew = (omega arith, omega arith, omega arith)
 
@@ -60,7 +60,7 @@ length-padded n stream h =
     let parts = whole_length n (length stream) h (length (terminated (8 * n) stream)) (length-terminated n stream) (length w) (length-filled_terminated n stream) in
     omega (arith, length-append w (bits_of (pads (n - length w / 8))), length-bits_of (pads (n - length w / 8)), length-pads (n - length w / 8), parts.0, parts.1, parts.2)
 
--- after the stream stands an end
+-- the stream is followed by an end
 tail_of : (n : ℕ) (stream : List Bool) → length stream ≤ 8 * n → (tail : List Bool) × (padded n stream ≡ stream ++ tail) × (ends tail ≡ true)
 unfolding padded ends
 tail_of n stream h =
@@ -80,14 +80,14 @@ tail_of n stream h =
           (cases_lt (8 * n - length stream) 4),
     )
 
--- A parse of data codewords gives back what they were made of.
+-- A parse of data codewords returns what they were made of.
 pub data_again : (v : ℕ) (l : Level) (xs : List ℕ) (segs : List Segment) (h : Option Header) (cw : List ℕ) → IsData v l xs segs h cw
     → parse v (bits_of cw) ≡ Ok (record { header = h; segments = segs; bytes = xs })
 data_again v l xs segs h cw d =
     let t = tail_of (data_codewords_of v l) d.stream d.fits in
     rw (d.codewords, t.1) (parse_again v xs segs h d.stream t.0 d.is_stream t.2)
 
--- Where there is a stream that fits, there are data codewords.
+-- If a stream fits a symbol, there are data codewords.
 pub data_found : (v : ℕ) (l : Level) (xs : List ℕ) (segs : List Segment) (h : Option Header) (stream : List Bool) → IsStream v xs segs h stream → length stream ≤ capacity_of v l
     → (cw : List ℕ) × IsData v l xs segs h cw
 data_found v l xs segs h stream is fits =
@@ -98,7 +98,7 @@ data_found v l xs segs h stream is fits =
     let none : drop (8 * n) all ≡ [] = drop_all (8 * n) all (omega arith) in
     (bytes_of n all, record { stream = stream; is_stream = is; fits = fits; bytes = w.1; codewords = sym (w.2 ∙ ap (λ (t : List Bool). bits_of (bytes_of n all) ++ t) none ∙ append-nil (bits_of (bytes_of n all))) })
 
--- bytes of the same bits are the same
+-- bytes that have the same bits are equal
 same_bytes : (xs ys : List ℕ) → All (λ b. b < 256) xs → All (λ b. b < 256) ys → bits_of xs ≡ bits_of ys → xs ≡ ys
 same_bytes xs ys a b e =
     let len : length xs ≡ length ys = omega (arith, ap length e, length-bits_of xs, length-bits_of ys) in
@@ -110,6 +110,6 @@ data_one v l xs segs h cw dw a b =
     let same : a.stream ≡ b.stream = a.is_stream.whole ∙ sym b.is_stream.whole in
     same_bytes cw dw a.bytes b.bytes (a.codewords ∙ ap (padded (data_codewords_of v l)) same ∙ sym b.codewords)
 
--- they are as many as the symbol holds
+-- there are as many data codewords as the symbol has
 pub length-data : (v : ℕ) (l : Level) (xs : List ℕ) (segs : List Segment) (h : Option Header) (cw : List ℕ) → IsData v l xs segs h cw → length cw ≡ data_codewords_of v l
 length-data v l xs segs h cw d = omega (arith, ap length d.codewords, length-padded (data_codewords_of v l) d.stream d.fits, length-bits_of cw)

@@ -1,4 +1,4 @@
--- Where all bytes are digits, one segment of them all takes the least bits.
+-- If all bytes are digits, one segment of all digits takes the fewest bits.
 use Rattle.std.proofs.Common.{◌≡◌, ℕ, zero, suc, ◌+◌, ◌*◌, ◌/◌, ◌%◌, ◌<◌, ◌≤◌, ◌==◌, nat_le, true, false, Bool, cond, List, [], ◌∷◌, length, drop, length-drop, refl, sym, ◌∙◌, ap, subst, arith, inl, inr, lit<, lit≤, IsTrue}
 use Rattle.std.specs.List.{list_all}
 use Rattle.std.proofs.lemmas.List.{take_all, drop_all}
@@ -14,12 +14,12 @@ use Rattle.qr_bits.specs.Steps.Segmentation.{one_segment}
 use Rattle.qr_bits.proofs.BackLemmas.{sum_by-runs_of}
 use Rattle.qr_bits.proofs.SegmentLemmas.{covers_all}
 
--- the letter of digits for each byte
+-- numeric mode for each byte
 all_digits : List ℕ → List Mode
 all_digits [] = []
 all_digits (x ∷ xs) = Numeric ∷ all_digits xs
 
--- each of them may stand
+-- the rule allows each of these modes
 digits_used : (r : Rule) (xs : List ℕ) → may_use r Numeric ≡ true → list_all (may_use r) (all_digits xs) ≡ true
 unfolding all_digits
 digits_used r [] u = refl
@@ -29,7 +29,7 @@ digits_used r (x ∷ xs) u = and_from _ _ u (digits_used r xs u)
 abbrev one : ℕ → List Segment
 one n = record { mode = Numeric; len = n } ∷ []
 
--- their runs are one
+-- the runs of numeric modes are one segment
 runs_of-digits : (xs : List ℕ) → runs_of (all_digits xs) ≡ one_segment Numeric (length xs)
 unfolding runs_of all_digits
 runs_of-digits [] = refl
@@ -40,7 +40,7 @@ runs_of-digits (x ∷ y ∷ ys) =
     let q : with_front Numeric (one_segment Numeric (length (y ∷ ys))) ≡ one (suc (suc (length ys))) = ap one e in
     p ∙ q
 
--- it covers them
+-- the one segment covers the digits
 digits_covered : (xs : List ℕ) → IsTrue (suits Numeric xs) → CoversInTurn xs (one_segment Numeric (length xs))
 unfolding CoversInTurn
 digits_covered [] h = refl
@@ -48,7 +48,7 @@ digits_covered (x ∷ xs) h =
     let n = length (x ∷ xs) in
     (omega arith, omega arith, subst (λ (l : List ℕ). IsTrue (suits Numeric l)) (sym (take_all n (x ∷ xs) (omega arith))) h, drop_all n (x ∷ xs) (omega arith))
 
--- the bits of n digits
+-- the number of data bits of n digits
 digits_bits : (n : ℕ) → payload_bits Numeric n ≡ (10 * n + 2) / 3
 digits_bits n = by_rest (n % 3) (n / 3) (omega arith) (omega arith)
   where
@@ -58,7 +58,7 @@ digits_bits n = by_rest (n % 3) (n / 3) (omega arith) (omega arith)
     by_rest (suc (suc zero)) q l e = omega arith
     by_rest (suc (suc (suc r))) q l e = absurd (omega arith)
 
--- the count of digits takes at most two bits more than that of bytes or pairs, and one more than that of characters
+-- the count of digits is at most two bits wider than that of bytes or pairs, and one bit wider than that of characters
 widths : (v : ℕ) → (count_width v Numeric ≤ count_width v Alphanumeric + 1) × (count_width v Numeric ≤ count_width v Byte + 2) × (count_width v Numeric ≤ count_width v Kanji + 2)
 widths v = by_tests (nat_le v 9) (nat_le v 26)
   where
@@ -67,14 +67,14 @@ widths v = by_tests (nat_le v 9) (nat_le v 26)
     by_tests false true = (lit≤ tt, lit≤ tt, lit≤ tt)
     by_tests false false = (lit≤ tt, lit≤ tt, lit≤ tt)
 
--- no segment of as many bytes takes fewer bits
+-- no segment of n bytes takes fewer bits than one segment of n digits
 segment_more : (v : ℕ) (m : Mode) (n : ℕ) → 0 < n → 4 + count_width v Numeric + (10 * n + 2) / 3 ≤ 4 + count_width v m + payload_bits m n
 segment_more v Numeric n h = omega (arith, digits_bits n)
 segment_more v Alphanumeric n h = omega (arith, (widths v).0)
 segment_more v Byte n h = omega (arith, (widths v).1)
 segment_more v Kanji n h = omega (arith, (widths v).2)
 
--- nor do segments of some bytes
+-- nor do several segments of n bytes take fewer bits
 segments_more : (v : ℕ) (s : Segment) (ss : List Segment) (xs : List ℕ) → CoversInTurn xs (s ∷ ss) → 4 + count_width v Numeric + (10 * length xs + 2) / 3 ≤ bits v (s ∷ ss)
 unfolding CoversInTurn
 segments_more v s [] xs c =
@@ -83,14 +83,14 @@ segments_more v s [] xs c =
 segments_more v s (t ∷ ts) xs c =
     omega (arith, segment_more v s.mode s.len c.0, segments_more v t ts (drop s.len xs) c.3, length-drop s.len xs, c.1)
 
--- nor do any
+-- nor do any segments that cover the bytes
 digits_fewest : (v : ℕ) (xs : List ℕ) (segs : List Segment) → CoversInTurn xs segs → bits v (one_segment Numeric (length xs)) ≤ bits v segs
 unfolding CoversInTurn
 digits_fewest v [] segs c = omega arith
 digits_fewest v (x ∷ xs) [] c = absurd (let e = ap length c in omega arith)
 digits_fewest v (x ∷ xs) (s ∷ ss) c = omega (arith, segments_more v s ss (x ∷ xs) c, digits_bits (length (x ∷ xs)))
 
--- the letter of digits comes before each other
+-- the assignment of numeric mode to each byte comes after no other assignment
 digits_first : (xs : List ℕ) (ks : List Mode) → length xs ≤ length ks → NotAfter (all_digits xs) ks
 unfolding all_digits
 digits_first [] ks h = tt
@@ -100,7 +100,7 @@ digits_first (x ∷ xs) (Alphanumeric ∷ ks) h = inl (lit< tt)
 digits_first (x ∷ xs) (Byte ∷ ks) h = inl (lit< tt)
 digits_first (x ∷ xs) (Kanji ∷ ks) h = inl (lit< tt)
 
--- Where all bytes are digits, the one segment of all of them is the least segmentation.
+-- If all bytes are digits, the one segment of all digits is the least segmentation.
 pub digits_least : (v : ℕ) (r : Rule) (xs : List ℕ) → may_use r Numeric ≡ true → IsTrue (suits Numeric xs) → IsLeastSegmentation v r xs (one_segment Numeric (length xs))
 digits_least v r xs u h = (
   all_digits xs,

@@ -1,4 +1,4 @@
--- The lemmas that other crates cite.
+-- The lemmas that other crates use.
 pub use Rattle.qr_bits.proofs.BitLemmas.{bits_at, bits_of-more, bool_byte-bit, field-more, length-bits_of, length-field}
 pub use Rattle.qr_bits.proofs.ChoiceLemmas.{byte_used}
 pub use Rattle.qr_bits.proofs.CoverLemmas.{CoversInTurn, from_turn, in_turn}

@@ -15,20 +15,20 @@ folded_pair [] h = absurd (false≢true h)
 folded_pair (x ∷ []) h = absurd (false≢true h)
 folded_pair (x ∷ y ∷ xs) h = rw h refl
 
--- where no pair begins, the first byte becomes its capital
+-- if no pair begins here, the first byte becomes its capital
 pub folded_one : (xs : List ℕ) → begins WithKanji is_kanji_pair xs ≡ false → 0 < length xs → folded_around_pairs xs ≡ capital (get_or xs 0 0) ∷ folded_around_pairs (drop 1 xs)
 unfolding folded_around_pairs begins
 folded_one [] h n = absurd (omega arith)
 folded_one (x ∷ []) h n = refl
 folded_one (x ∷ y ∷ xs) h n = rw h refl
 
--- of no bytes none is left
+-- folding no byte gives no byte
 pub folded_none : (xs : List ℕ) → length xs ≡ 0 → folded_around_pairs xs ≡ []
 unfolding folded_around_pairs
 folded_none [] h = refl
 folded_none (x ∷ xs) h = absurd (omega arith)
 
--- as many bytes are folded as there are
+-- folding around pairs keeps the number of bytes
 pub length-folded_around_pairs : (xs : List ℕ) → length (folded_around_pairs xs) ≡ length xs
 unfolding folded_around_pairs
 length-folded_around_pairs [] = refl
@@ -45,11 +45,11 @@ length-folded Auto xs = length-map xs capital
 length-folded BytesOnly xs = refl
 length-folded WithKanji xs = length-folded_around_pairs xs
 
--- one part more that is folded
+-- one more part is folded
 pub more_folded : (front part rest next whole : List ℕ) → rest ≡ part ++ next → front ++ rest ≡ whole → (front ++ part) ++ next ≡ whole
 more_folded front part rest next whole e h = append_assoc front part next ∙ ap (λ (t : List ℕ). front ++ t) (sym e) ∙ h
 
--- where a pair begins, there are two bytes
+-- if a pair begins here, there are two bytes
 pub begun_with_pair : (xs : List ℕ) → begins WithKanji is_kanji_pair xs ≡ true → 2 ≤ length xs
 unfolding begins
 begun_with_pair [] h = absurd (false≢true h)

@@ -1,4 +1,4 @@
--- Kanji pairs: their values, written and read again.
+-- Kanji pairs: a pair that is written as a value is read back, and the other way round.
 use Rattle.std.proofs.Common.{◌≡◌, ℕ, zero, suc, ◌+◌, ◌-◌, ◌*◌, ◌/◌, ◌%◌, ◌<◌, ◌≤◌, ◌⊎◌, Bool, true, ◌&&◌, ◌||◌, nat_le, All, List, [], ◌∷◌, ◌++◌, length, take, drop, Ok, Err, refl, sym, ◌∙◌, ap, subst, inl, inr, ⊎_elim, arith, append_assoc}
 use borrow.Author.Tests.{leb-true}
 use Rattle.std.proofs.lemmas.Bool.{lt-leb, le-leb, and_parts, and_from, or_cases, or_left, or_right, cases_lt, false≢true}
@@ -15,7 +15,7 @@ use Rattle.qr_bits.proofs.StreamLemmas.{drop-field, read_field, field_read, chos
 
 -- ---- one pair
 
--- the pair is in one of the two ranges, and its second byte in its own
+-- the pair is in one of the two ranges, and its second byte is in the range of second bytes
 abbrev pub IsInRanges : ℕ → ℕ → Type 0
 IsInRanges a b =
     (((0x8140 ≤ 256 * a + b) × (256 * a + b ≤ 0x9FFC)) ⊎ ((0xE040 ≤ 256 * a + b) × (256 * a + b ≤ 0xEBBF))) × (0x40 ≤ b) × (b ≤ 0xFC)
@@ -45,7 +45,7 @@ pub least_second : (a b : ℕ) → is_kanji_pair a b ≡ true → 0x9FFC < 256 *
 least_second a b h m =
     ⊎_elim (λ (f : (0x8140 ≤ 256 * a + b) × (256 * a + b ≤ 0x9FFC)). absurd (omega (arith, f.1))) (λ (s : (0xE040 ≤ 256 * a + b) × (256 * a + b ≤ 0xEBBF)). s.0) (in_ranges a b h).0
 
--- what is in the ranges is a kanji pair
+-- a pair that is in the ranges is a kanji pair
 from_ranges : (a b : ℕ) → IsInRanges a b → is_kanji_pair a b ≡ true
 unfolding is_kanji_pair
 from_ranges a b h =
@@ -57,7 +57,7 @@ from_ranges a b h =
     h.0)
     (and_from (nat_le 0x40 b) (nat_le b 0xFC) (le-leb 0x40 b h.1) (le-leb b 0xFC h.2))
 
--- a high and a low byte, joined and taken apart again
+-- a high and a low byte can be found again in the number that they make
 apart : (h l : ℕ) → l ≤ 0xBC → ((256 * h + l) / 256 ≡ h) × ((256 * h + l) % 256 ≡ l) × ((0xC0 * h + l) / 0xC0 ≡ h) × ((0xC0 * h + l) % 0xC0 ≡ l)
 apart h l s = (omega arith, omega arith, omega arith, omega arith)
 
@@ -87,7 +87,7 @@ pair-second : (h l : ℕ) → l ≤ 0xBC → 0x1E < h → kanji_pair (0xC0 * h +
 unfolding kanji_pair
 pair-second h l s m = let a = apart h l s in rw (a.2, a.3, lt-leb h 0x1E m) (omega arith)
 
--- what the value of a kanji pair is good for
+-- the facts of the value of a kanji pair that reading needs
 pub record IsValue (a b n : ℕ) : Type 0 where
   pub small : n < 8192
   pub low : n % 0xC0 ≤ 0xBC
@@ -105,7 +105,7 @@ value_from a b h l s m n e = record {
   low_again = rw e (omega arith);
 }
 
--- The value of a kanji pair is read as the pair.
+-- The value of a kanji pair is read back as the pair.
 pub value_again : (a b : ℕ) → is_kanji_pair a b ≡ true → IsValue a b (kanji_value a b)
 value_again a b h =
     let r = in_ranges a b h in
@@ -120,7 +120,7 @@ value_again a b h =
     (pair-second (a - 0xC1) (b - 0x40) (omega (arith, r.2)) (omega (arith, s.0, r.1, r.2)) ∙ omega (arith, s.0, r.1, r.2))))
     r.0
 
--- what the pair of a value is good for
+-- the facts of the pair of a value that writing needs
 pub record IsPair (n p : ℕ) : Type 0 where
   pub high : p / 256 < 256
   pub is_pair : is_kanji_pair (p / 256) (p % 256) ≡ true
@@ -150,7 +150,7 @@ pair_of_bytes h l s m =
     pair_from _ _ (h + 0xC1) (l + 0x40) (pair-second h l m (omega arith)) (omega arith) (inr (lo, hi), omega arith, omega arith) (value-second (h + 0xC1) (l + 0x40) lo (omega arith) (omega arith) ∙ back))
     (cases_lt h 0x1F)
 
--- A value whose low byte is in its range has a kanji pair, whose value it is.
+-- A value whose low byte is in its range is the value of its kanji pair.
 pub pair_again : (n : ℕ) → n < 8192 → n % 0xC0 ≤ 0xBC → IsPair n (kanji_pair n)
 pair_again n s m =
     let e : n ≡ 0xC0 * (n / 0xC0) + n % 0xC0 = omega arith in
@@ -158,7 +158,7 @@ pair_again n s m =
 
 -- ---- lists of pairs
 
--- what is written as pairs is read again
+-- kanji pairs that are written are read back
 pub pairs_again : (xs : List ℕ) (rest : List Bool) → in_twos is_kanji_pair xs ≡ true → pairs_of (length xs / 2) (kanji_bits xs ++ rest) ≡ Ok xs
 unfolding pairs_of kanji_bits
 pairs_again [] rest h = refl
@@ -173,7 +173,7 @@ pairs_again (a ∷ b ∷ xs) rest h =
     let s = append_assoc (field 13 n) (kanji_bits xs) rest in
     rw (more, s, r, d, le-leb (n % 0xC0) 0xBC v.low, v.high_again, v.low_again, pairs_again xs rest p.1) refl
 
--- the pairs that were read are the pairs of these bits
+-- the pairs that were read, written again, are the bits that were read
 abbrev pub PairsWritten : ℕ → List Bool → List ℕ → Type 0
 PairsWritten n bits xs = (length xs ≡ 2 * n) × All (λ b. b < 256) xs × (in_twos is_kanji_pair xs ≡ true) × (bits ≡ kanji_bits xs ++ drop (13 * n) bits)
 
@@ -193,7 +193,7 @@ pairs_more-written n bits xs h low w =
       rw (is.again, field_read 13 bits h, more, append_assoc (take 13 bits) (kanji_bits xs) (drop (13 + 13 * n) bits), ← rest) (sym (take-append-drop 13 bits)),
     )
 
--- What is read as pairs is written so.
+-- Pairs that are read are written as the same bits.
 pub pairs_takes : (n : ℕ) (xs : List ℕ) (bits : List Bool) → 13 * n ≤ length bits → pairs_of n bits ≡ Ok xs → PairsWritten n bits xs
 unfolding pairs_of kanji_bits
 pairs_takes zero [] bits h e = (refl, All-nil (λ b. b < 256), refl, refl)
@@ -218,7 +218,7 @@ pairs_more front (suc n) bits h low =
     let p = kanji_pair (value (take 13 bits)) in
     rw (e, le-leb _ _ low) (with_front-twice front (p / 256 ∷ p % 256 ∷ []) (pairs_of n (drop 13 bits)))
 
--- a value that is no pair's
+-- a value that is that of no pair
 pub pairs_bad : (n : ℕ) (bits : List Bool) → 0 < n → 0xBC < value (take 13 bits) % 0xC0 → pairs_of n bits ≡ Err BadValue
 unfolding pairs_of
 pairs_bad zero bits h high = absurd (omega arith)

@@ -1,4 +1,4 @@
--- The bits of a lettering are a sum over its letters.
+-- The number of bits of an assignment is a sum over its modes.
 use Rattle.std.proofs.Common.{◌≡◌, ℕ, ◌+◌, ◌/◌, ◌%◌, Bool, true, false, cond, ◌==◌, List, [], ◌∷◌, replicate, refl, sym, ◌∙◌, ap, subst, arith, suc, zero}
 use Rattle.std.proofs.lemmas.Bool.{false_from_ne_true, cond_both, cond-true, cond-false, false≢true, true≢false, eqb-true, eq-eqb}
 use Rattle.qr_bits.specs.declared.modes.Mode.{Mode}
@@ -11,7 +11,7 @@ use Rattle.qr_bits.specs.Segmentation.{segment_bits, bits, rank, with_front, run
 use Rattle.qr_bits.specs.Steps.Place.{place_after, step_bits, walk}
 use Rattle.qr_bits.proofs.BestLemmas.{same_rank}
 
--- how many letters of a group are taken
+-- how far the last group is filled in a state
 abbrev turn : Place → ℕ
 turn Start = 0
 turn Digit1 = 1
@@ -23,7 +23,7 @@ turn InBytes = 1
 turn HalfPair = 1
 turn WholePair = 2
 
--- the rank of the run before a place, 4 at the start
+-- the rank of the mode of the last byte, 4 at the start
 abbrev place_rank : Place → ℕ
 place_rank Start = 4
 place_rank Digit1 = 0
@@ -35,11 +35,11 @@ place_rank InBytes = 2
 place_rank HalfPair = 3
 place_rank WholePair = 3
 
--- the letter goes on with the run before it
+-- the mode goes on with the run before it
 abbrev goes_on : Place → Mode → Bool
 goes_on p m = place_rank p == rank m
 
--- after a letter the run is of its rank
+-- after a byte, the rank of the last mode is that of its mode
 place_rank-after : (p : Place) (m : Mode) → place_rank (place_after p m) ≡ rank m
 unfolding place_after
 place_rank-after Digit1 Numeric = refl
@@ -60,14 +60,14 @@ three_more n =
 two_more : (n : ℕ) → payload_bits Alphanumeric (2 + n) ≡ 11 + payload_bits Alphanumeric n
 two_more n = omega arith
 
--- no letter goes on at the start
+-- at the start no mode goes on with a run
 at_start : (m : Mode) → goes_on Start m ≡ true → ⊥
 at_start Numeric h = false≢true h
 at_start Alphanumeric h = false≢true h
 at_start Byte h = false≢true h
 at_start Kanji h = false≢true h
 
--- one more letter, and then n more
+-- the data bits of one more byte and then n more bytes of a run
 one_more : (v : ℕ) (p : Place) (m : Mode) (n : ℕ) → goes_on p m ≡ true
     → step_bits v p m + payload_bits m (turn p) + payload_bits m (turn (place_after p m) + n) ≡ payload_bits m (turn p + (1 + n)) + payload_bits m (turn (place_after p m))
 unfolding place_after step_bits
@@ -82,7 +82,7 @@ one_more v WholePair Kanji n h = omega arith
 one_more v Start m n h = absurd (at_start m h)
 one_more v _ _ n h = absurd (false≢true h)
 
--- a letter that begins a run
+-- the bits of a byte that begins a run
 begins : (v : ℕ) (p : Place) (m : Mode) → goes_on p m ≡ false
     → (step_bits v p m ≡ 4 + count_width v m + payload_bits m 1) × (turn (place_after p m) ≡ 1)
 unfolding place_after step_bits
@@ -99,7 +99,7 @@ begins v HalfPair Kanji h = absurd (true≢false h)
 begins v WholePair Kanji h = absurd (true≢false h)
 begins v _ Kanji h = (refl, refl)
 
--- n letters that go on with a run
+-- the bits of n bytes that go on with a run
 run_bits : (v : ℕ) (p : Place) (m : Mode) (n : ℕ) → goes_on p m ≡ true
     → walk v p (replicate n m) + payload_bits m (turn p) ≡ payload_bits m (turn p + n)
 unfolding walk
@@ -110,12 +110,12 @@ run_bits v p m (suc n) h =
     let e : turn p + (1 + n) ≡ turn p + suc n = omega arith in
     omega (arith, ap (payload_bits m) e)
 
--- the bits of the runs of a rest: the first may go on with the run before
+-- the bits that segments add after a state, where the first segment may go on with the run before it
 abbrev rest_bits : ℕ → Place → List Segment → ℕ
 rest_bits v p [] = 0
 rest_bits v p (s ∷ ss) = cond (goes_on p s.mode) (walk v p (replicate s.len s.mode)) (segment_bits v s) + bits v ss
 
--- a letter, and then letters that go on with its run
+-- the bits of a byte and then of bytes that go on with its run
 one_run : (v : ℕ) (p : Place) (m : Mode) (n : ℕ)
     → step_bits v p m + walk v (place_after p m) (replicate n m) ≡ cond (goes_on p m) (walk v p (replicate (1 + n) m)) (segment_bits v (record { mode = m; len = 1 + n }))
 unfolding walk
@@ -129,7 +129,7 @@ one_run v p m n =
     let u = ap (λ (k : ℕ). payload_bits m (k + n)) start.1 in
     omega (arith, start.0, t, u))
 
--- one more letter before the runs
+-- the bits of one more byte before a segment of the same mode
 front_same : (v : ℕ) (p : Place) (m : Mode) (n : ℕ) (ss : List Segment)
     → step_bits v p m + rest_bits v (place_after p m) (record { mode = m; len = n } ∷ ss) ≡ rest_bits v p (record { mode = m; len = 1 + n } ∷ ss)
 front_same v p m n ss =
@@ -137,7 +137,7 @@ front_same v p m n ss =
     let f = cond-true (goes_on (place_after p m) m) (walk v (place_after p m) (replicate n m)) (segment_bits v (record { mode = m; len = n })) e in
     omega (arith, one_run v p m n, f)
 
--- one more letter before the runs
+-- the bits of one more byte before segments
 front : (v : ℕ) (p : Place) (m : Mode) (segs : List Segment)
     → step_bits v p m + rest_bits v (place_after p m) segs ≡ rest_bits v p (with_front m segs)
 unfolding walk
@@ -154,17 +154,17 @@ front v p m (s ∷ ss) =
     let one = one_run v p m 0 in
     omega (arith, one, f))
 
--- BITS is a sum over the letters.
+-- The bits that modes add after a state are those that their runs add.
 pub rest_bits-runs_of : (v : ℕ) (p : Place) (ms : List Mode) → walk v p ms ≡ rest_bits v p (runs_of ms)
 unfolding walk runs_of
 rest_bits-runs_of v p [] = refl
 rest_bits-runs_of v p (m ∷ ms) = ap (λ (n : ℕ). step_bits v p m + n) (rest_bits-runs_of v (place_after p m) ms) ∙ front v p m (runs_of ms)
 
--- at the start no run goes on
+-- at the start no segment goes on with a run
 rest_bits-start : (v : ℕ) (segs : List Segment) → rest_bits v Start segs ≡ bits v segs
 rest_bits-start v [] = refl
 rest_bits-start v (s ∷ ss) = let e = false_from_ne_true (goes_on Start s.mode) (at_start s.mode) in rw e refl
 
--- the bits of the runs of letters are the sum over the letters
+-- the number of bits of the runs of an assignment is the sum over its modes
 pub bits-runs_of : (v : ℕ) (ms : List Mode) → bits v (runs_of ms) ≡ walk v Start ms
 bits-runs_of v ms = sym (rest_bits-runs_of v Start ms ∙ rest_bits-start v (runs_of ms))

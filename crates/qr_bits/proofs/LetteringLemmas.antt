@@ -1,4 +1,4 @@
--- The letterings of a text are what can be taken letter by letter.
+-- An assignment is valid (`IsLettering`) exactly if each of its modes is allowed after those before it (`allowed`).
 use Rattle.std.proofs.Common.{◌≡◌, ℕ, suc, ◌+◌, ◌<◌, ◌≤◌, Bool, true, false, ◌==◌, ◌&&◌, List, [], ◌∷◌, length, IsTrue, take, drop, refl, sym, ◌∙◌, subst, arith, lit<}
 use Rattle.std.specs.List.{list_all}
 use Rattle.std.proofs.lemmas.Bool.{cond_both, and_parts, and_from, false≢true, eqb-true}
@@ -15,30 +15,30 @@ use Rattle.qr_bits.specs.Steps.Place.{place_after, begins, may_begin, may_take, 
 use Rattle.qr_bits.proofs.BestLemmas.{same_rank}
 use Rattle.qr_bits.proofs.ChoiceLemmas.{take_begin, place_after-whole}
 
--- the mode suits the bytes, where pairs are twos that pass the test
+-- the bytes can be written in the mode, where two bytes are a pair if they pass the test
 abbrev pub suits_by : (ℕ → ℕ → Bool) → Mode → List ℕ → Bool
 suits_by test Numeric xs = list_all is_digit xs
 suits_by test Alphanumeric xs = list_all is_alphanumeric xs
 suits_by test Byte xs = true
 suits_by test Kanji xs = in_twos test xs
 
--- the segments cover the bytes, where pairs are twos that pass the test
+-- the segments cover the bytes, where two bytes are a pair if they pass the test
 unfoldable pub CoversBy : (ℕ → ℕ → Bool) → List ℕ → List Segment → Type 0
 CoversBy test xs [] = xs ≡ []
 CoversBy test xs (s ∷ ss) = (0 < s.len) × (s.len ≤ length xs) × IsTrue (suits_by test s.mode (take s.len xs)) × CoversBy test (drop s.len xs) ss
 
--- a lettering, where pairs are twos that pass the test
+-- a valid assignment, where two bytes are a pair if they pass the test
 abbrev pub IsLetteringBy : (ℕ → ℕ → Bool) → Rule → List ℕ → List Mode → Type 0
 IsLetteringBy test r xs ms = IsTrue (list_all (may_use r) ms) × CoversBy test xs (runs_of ms)
 
--- with the test for kanji pairs the mode suits as it is defined
+-- with the test for kanji pairs, this is `suits`
 suits-by : (m : Mode) (xs : List ℕ) → suits m xs ≡ suits_by is_kanji_pair m xs
 suits-by Numeric xs = refl
 suits-by Alphanumeric xs = refl
 suits-by Byte xs = refl
 suits-by Kanji xs = refl
 
--- with the test for kanji pairs segments cover as it is defined
+-- segments that cover the bytes cover them with the test for kanji pairs
 pub covers_by : (xs : List ℕ) (segs : List Segment) → Covers xs segs → CoversBy is_kanji_pair xs segs
 unfolding CoversInTurn CoversBy
 covers_by xs segs h = turn xs segs (in_turn xs segs h)
@@ -47,7 +47,7 @@ covers_by xs segs h = turn xs segs (in_turn xs segs h)
     turn xs [] h = h
     turn xs (s ∷ ss) h = (h.0, h.1, sym (suits-by s.mode (take s.len xs)) ∙ h.2, turn (drop s.len xs) ss h.3)
 
--- and the other way
+-- segments that cover the bytes with the test for kanji pairs cover them
 pub by_covers : (xs : List ℕ) (segs : List Segment) → CoversBy is_kanji_pair xs segs → Covers xs segs
 unfolding CoversInTurn CoversBy
 by_covers xs segs h = from_turn xs segs (turn xs segs h)
@@ -70,7 +70,7 @@ unfolding runs_of
 Positive-runs_of [] = tt
 Positive-runs_of (m ∷ ms) = Positive-with_front m (runs_of ms) (Positive-runs_of ms)
 
--- ---- one letter that is no kanji letter
+-- ---- one byte in a mode other than kanji mode
 
 suits_cons : (test : ℕ → ℕ → Bool) (m : Mode) (x : ℕ) (xs : List ℕ) → rank m < 3 → suits_by test m (x ∷ []) ≡ true → suits_by test m xs ≡ true → suits_by test m (x ∷ xs) ≡ true
 suits_cons test Numeric x xs k h t = and_from (is_digit x) _ (and_parts (is_digit x) true h).0 t
@@ -111,14 +111,14 @@ drop_one test m x xs (s ∷ ss) k p c =
     (λ e c. (c.2, c.3))
     c
 
--- no letter is left where no byte is
+-- segments with one more mode cover at least one byte
 none_left : (test : ℕ → ℕ → Bool) (m : Mode) (segs : List Segment) → CoversBy test [] (with_front m segs) → ⊥
 unfolding CoversBy
 none_left test m [] c = absurd (omega (arith, c.1))
 none_left test m (s ∷ ss) c =
     cond_both (rank m == rank s.mode) _ _ (λ (r : List Segment). CoversBy test [] r → ⊥) (λ e c. absurd (omega (arith, c.1))) (λ e c. absurd (omega (arith, c.1))) c
 
--- ---- two kanji letters
+-- ---- two bytes in kanji mode
 
 add_pair : (test : ℕ → ℕ → Bool) (x y : ℕ) (xs : List ℕ) (segs : List Segment) → test x y ≡ true → CoversBy test xs segs → CoversBy test (x ∷ y ∷ xs) (with_front Kanji (with_front Kanji segs))
 unfolding CoversBy
@@ -147,7 +147,7 @@ drop_pair test x y xs (s ∷ ss) p c =
     (λ e c. ((and_parts (test x y) true c.2).0, c.3))
     c
 
--- a kanji letter alone is none
+-- a single byte in kanji mode before another mode is not valid
 half_before : (test : ℕ → ℕ → Bool) (m : Mode) (n x : ℕ) (xs : List ℕ) (ss : List Segment) → rank m < 3 → CoversBy test (x ∷ xs) (with_front Kanji (record { mode = m; len = n } ∷ ss)) → ⊥
 unfolding CoversBy
 half_before test Numeric n x xs ss k c = false≢true c.2
@@ -173,7 +173,7 @@ alone test x (s ∷ ss) p c =
     (λ e c. false≢true c.2)
     c
 
--- ---- both ways
+-- ---- valid assignments are allowed, and allowed ones are valid
 
 pub may_end-after : (p : Place) (m : Mode) → rank m < 3 → may_end (place_after p m) ≡ true
 unfolding may_end place_after
@@ -185,7 +185,7 @@ may_end-after _ Alphanumeric k = refl
 may_end-after _ Byte k = refl
 may_end-after p Kanji k = absurd (omega arith)
 
--- what can be taken may be used, and suits its byte
+-- a mode that may begin is allowed by the rule, and its byte can be written in it
 pub take_one : (test : ℕ → ℕ → Bool) (r : Rule) (m : Mode) (x : ℕ) (pair : Bool) → rank m < 3 → may_begin r x pair m ≡ true → (may_use r m ≡ true) × (suits_by test m (x ∷ []) ≡ true)
 unfolding may_begin
 take_one test r Numeric x pair k h = let p = and_parts (may_use r Numeric) _ h in (p.0, and_from (is_digit x) true p.1 refl)
@@ -193,7 +193,7 @@ take_one test r Alphanumeric x pair k h = let p = and_parts (may_use r Alphanume
 take_one test r Byte x pair k h = (h, refl)
 take_one test r Kanji x pair k h = absurd (omega arith)
 
--- a letter that may be used and suits can be taken
+-- a mode that the rule allows, and in which the byte can be written, may begin
 pub one_taken : (test : ℕ → ℕ → Bool) (r : Rule) (m : Mode) (x : ℕ) (pair : Bool) → rank m < 3 → may_use r m ≡ true → suits_by test m (x ∷ []) ≡ true → may_begin r x pair m ≡ true
 unfolding may_begin
 one_taken test r Numeric x pair k u h = and_from (may_use r Numeric) _ u (and_parts (is_digit x) true h).0
@@ -201,7 +201,7 @@ one_taken test r Alphanumeric x pair k u h = and_from (may_use r Alphanumeric) _
 one_taken test r Byte x pair k u h = u
 one_taken test r Kanji x pair k u h = absurd (omega arith)
 
--- what is a lettering can be taken, from any place where no half is open
+-- a valid assignment is allowed, from any state in which no half pair is open
 abbrev CanTake : (ℕ → ℕ → Bool) → Rule → List ℕ → List Mode → Type 0
 CanTake test r xs ms = (p : Place) → may_end p ≡ true → allowed r test p xs ms ≡ true
 
@@ -241,7 +241,7 @@ one_is test r m x xs ms p k e rest h =
     let rest = rest parts.1 in
     (and_from _ _ taken.0 rest.0, add_one test m x xs (runs_of ms) k taken.1 rest.1)
 
--- What can be taken is a lettering.
+-- What is allowed is a valid assignment.
 pub is_lettering : (test : ℕ → ℕ → Bool) (r : Rule) (xs : List ℕ) (ms : List Mode) (p : Place) → may_end p ≡ true → allowed r test p xs ms ≡ true → IsLetteringBy test r xs ms
 unfolding CoversBy runs_of allowed may_take may_begin begins place_after may_end
 is_lettering test r [] [] p e h = (refl, refl)

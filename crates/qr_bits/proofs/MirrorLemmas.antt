@@ -1,4 +1,5 @@
--- A text read backwards: its letterings are those of the text, backwards, with the same bits. Its pairs are turned.
+-- Bytes in reverse order: their valid assignments are those of the bytes, reversed, with equally many bits. The two bytes of
+-- each kanji pair are exchanged.
 use Rattle.std.proofs.Common.{◌≡◌, ℕ, ◌+◌, ◌-◌, ◌≤◌, ◌<◌, Bool, true, false, ◌==◌, ◌&&◌, List, [], ◌∷◌, ◌++◌, reverse, length, take, drop, get_or, refl, sym, ◌∙◌, ap, arith, subst}
 use Rattle.std.specs.List.{list_all}
 use Rattle.std.proofs.lemmas.Bool.{cond_both, and_parts, and_from, false≢true, eqb-true, eq-eqb, ne_eqb}
@@ -23,20 +24,20 @@ use Rattle.qr_bits.proofs.TableLemmas.{bytes_rest, best_more}
 use Rattle.qr_bits.specs.declared.place.ByPlace.{ByPlace}
 use Rattle.qr_bits.specs.Steps.Table.{bits_at, follow, IsRow}
 
--- what all elements pass they pass read backwards
+-- if all elements of a list pass a test, all elements of its reverse pass it
 list_all-reverse : {X : Type 0} (p : X → Bool) (xs : List X) → list_all p xs ≡ true → list_all p (reverse xs) ≡ true
 list_all-reverse p [] h = refl
 list_all-reverse p (x ∷ xs) h =
     let parts = and_parts (p x) (list_all p xs) h in
     rw (reverse-append (x ∷ []) xs, list_all-append p (reverse xs) (x ∷ [])) (and_from _ _ (list_all-reverse p xs parts.1) (and_from (p x) true parts.0 refl))
 
--- two more at the end
+-- two more bytes at the end that pass the test
 in_twos-push : (test : ℕ → ℕ → Bool) (xs : List ℕ) (x y : ℕ) → in_twos test xs ≡ true → test x y ≡ true → in_twos test (xs ++ x ∷ y ∷ []) ≡ true
 in_twos-push test [] x y h t = and_from (test x y) true t refl
 in_twos-push test (a ∷ []) x y h t = absurd (false≢true h)
 in_twos-push test (a ∷ b ∷ xs) x y h t = let parts = and_parts (test a b) _ h in and_from (test a b) _ parts.0 (in_twos-push test xs x y parts.1 t)
 
--- twos read backwards are twos turned
+-- bytes that pass a test two by two pass it reversed, with the arguments of the test exchanged
 in_twos-reverse : (test : ℕ → ℕ → Bool) (xs : List ℕ) → in_twos test xs ≡ true → in_twos (turned test) (reverse xs) ≡ true
 in_twos-reverse test [] h = refl
 in_twos-reverse test (x ∷ []) h = absurd (false≢true h)
@@ -44,7 +45,7 @@ in_twos-reverse test (x ∷ y ∷ xs) h =
     let parts = and_parts (test x y) _ h in
     rw (reverse-append (x ∷ y ∷ []) xs) (in_twos-push (turned test) (reverse xs) y x (in_twos-reverse test xs parts.1) parts.0)
 
--- a mode suits read backwards too
+-- bytes that can be written in a mode can be written in it reversed
 suits-reverse : (test : ℕ → ℕ → Bool) (m : Mode) (xs : List ℕ) → suits_by test m xs ≡ true → suits_by (turned test) m (reverse xs) ≡ true
 suits-reverse test Numeric xs h = list_all-reverse is_digit xs h
 suits-reverse test Alphanumeric xs h = list_all-reverse is_alphanumeric xs h
@@ -58,7 +59,7 @@ covers-push test xs ys [] s a n h c = rw c (a, omega arith, rw (take_all s.len y
 covers-push test xs ys (t ∷ ss) s a n h c =
     (c.0, omega (arith, length-append xs ys, c.1), rw (take-append-le t.len xs ys c.1) c.2, rw (drop-append-le t.len xs ys c.1) (covers-push test (drop t.len xs) ys ss s a n h c.3))
 
--- segments read backwards cover the bytes read backwards, with the twos turned
+-- reversed segments cover the reversed bytes, with the arguments of the test exchanged
 covers-reverse : (test : ℕ → ℕ → Bool) (xs : List ℕ) (ss : List Segment) → CoversBy test xs ss → CoversBy (turned test) (reverse xs) (reverse ss)
 unfolding CoversBy
 covers-reverse test xs [] c = ap reverse c
@@ -68,7 +69,7 @@ covers-reverse test xs (s ∷ ss) c =
     let all = covers-push (turned test) (reverse (drop s.len xs)) (reverse (take s.len xs)) (reverse ss) s c.0 n (suits-reverse test s.mode (take s.len xs) c.2) (covers-reverse test (drop s.len xs) ss c.3) in
     rw (reverse-append (s ∷ []) ss) (subst (λ (ys : List ℕ). CoversBy (turned test) ys (reverse ss ++ s ∷ [])) (sym whole) all)
 
--- a letter before segments is one after them, read backwards
+-- a mode added before segments is added after the reversed segments
 with_front-reverse : (m : Mode) (ss : List Segment) → with_back (reverse ss) m ≡ reverse (with_front m ss)
 unfolding with_back
 with_front-reverse m [] = refl
@@ -84,24 +85,24 @@ with_front-reverse m (s ∷ ss) =
     let t : (rank s.mode == rank m) ≡ false = ne_eqb _ _ (λ q. false≢true (sym e ∙ eq-eqb _ _ (sym q))) in
     rw t (sym (reverse-append (record { mode = m; len = 1 } ∷ s ∷ []) ss))))
 
--- the runs of letters read backwards are their runs, backwards
+-- the runs of reversed modes are the reversed runs of the modes
 runs_of-reverse : (ms : List Mode) → runs_of (reverse ms) ≡ reverse (runs_of ms)
 unfolding runs_of
 runs_of-reverse [] = refl
 runs_of-reverse (m ∷ ms) =
     rw (reverse-append (m ∷ []) ms) (runs_of-push (reverse ms) m ∙ ap (λ (r : List Segment). with_back r m) (runs_of-reverse ms) ∙ with_front-reverse m (runs_of ms))
 
--- the bits of segments after others
+-- the bits of two lists of segments add up
 bits-append : (v : ℕ) (ss ts : List Segment) → bits v (ss ++ ts) ≡ bits v ss + bits v ts
 bits-append v [] ts = omega arith
 bits-append v (s ∷ ss) ts = omega (arith, bits-append v ss ts)
 
--- segments read backwards have the same bits
+-- reversed segments have the same number of bits
 bits-reverse : (v : ℕ) (ss : List Segment) → bits v (reverse ss) ≡ bits v ss
 bits-reverse v [] = refl
 bits-reverse v (s ∷ ss) = rw (reverse-append (s ∷ []) ss) (omega (arith, bits-append v (reverse ss) (s ∷ []), bits-reverse v ss))
 
--- Of a text read backwards, the letters read backwards are a lettering with the same bits.
+-- If an assignment is valid for some bytes, its reverse is valid for the reversed bytes, and has the same number of bits.
 mirror : (v : ℕ) (test : ℕ → ℕ → Bool) (r : Rule) (xs : List ℕ) (ms : List Mode) → IsLetteringBy test r xs ms
     → IsLetteringBy (turned test) r (reverse xs) (reverse ms) × (bits v (runs_of (reverse ms)) ≡ bits v (runs_of ms))
 mirror v test r xs ms h = (
@@ -109,7 +110,7 @@ mirror v test r xs ms h = (
   ap (bits v) (runs_of-reverse ms) ∙ bits-reverse v (runs_of ms),
 )
 
--- the bits of the best rest of a prefix read backwards are the least bits of the prefix
+-- if the best rest of a reversed prefix has at most n bits, the prefix fits n bits
 pub front_fits : (v : ℕ) (r : Rule) (xs : List ℕ) (f : Place → List Mode) (cost : Place → ℕ) (n : ℕ) → BestBelow v r (turned is_kanji_pair) (reverse xs) f cost → cost Start ≤ n → HasFit v r xs n
 unfolding may_end
 front_fits v r xs f cost n below small =
@@ -118,7 +119,7 @@ front_fits v r xs f cost n below small =
     let again : CoversBy is_kanji_pair (reverse (reverse xs)) (runs_of (reverse (f Start))) = back.0.1 in
     (reverse (f Start), (back.0.0, by_covers xs _ (rw (reverse-reverse xs) at again)), omega (arith, back.1, small, bits-runs_of v (f Start), best.has_bits))
 
--- a prefix that fits has at least the bits of the best rest of the prefix read backwards
+-- if a prefix fits n bits, the best rest of the reversed prefix has at most n bits
 pub front_least : (v : ℕ) (r : Rule) (xs : List ℕ) (f : Place → List Mode) (cost : Place → ℕ) (n : ℕ) → BestBelow v r (turned is_kanji_pair) (reverse xs) f cost → HasFit v r xs n → cost Start ≤ n
 unfolding may_end
 front_least v r xs f cost n below fit =
@@ -128,19 +129,19 @@ front_least v r xs f cost n below fit =
     let best = below Start (reverse ms) taken in
     omega (arith, best.least (reverse ms) taken, bits-runs_of v (reverse ms), back.1, fit.2)
 
--- no letter at all fits
+-- an empty input fits any number of bits
 pub empty_fits : (v : ℕ) (r : Rule) (n : ℕ) → HasFit v r [] n
 unfolding CoversInTurn runs_of
 empty_fits v r n = ([], (refl, from_turn [] [] refl), omega arith)
 
--- the first two bytes
+-- the test of the first two bytes
 begins_at : (r : Rule) (test : ℕ → ℕ → Bool) (xs : List ℕ) → 2 ≤ length xs → begins r test xs ≡ (may_use r Kanji && test (get_or xs 0 0) (get_or xs 1 0))
 unfolding begins
 begins_at r test [] h = absurd (omega arith)
 begins_at r test (x ∷ []) h = absurd (omega arith)
 begins_at r test (x ∷ y ∷ xs) h = refl
 
--- the last two bytes are the first two read backwards
+-- the last two bytes are the first two of the reversed bytes
 pub ends_at : (r : Rule) (xs : List ℕ) → 2 ≤ length xs → begins r (turned is_kanji_pair) (reverse xs) ≡ (may_use r Kanji && is_kanji_pair (get_or xs (length xs - 2) 0) (get_or xs (length xs - 1) 0))
 ends_at r xs h =
     let two = begins_at r (turned is_kanji_pair) (reverse xs) (omega (arith, length-reverse xs)) in
@@ -159,11 +160,11 @@ begins_short r test (x ∷ y ∷ xs) h = absurd (omega arith)
 pub ends_short : (r : Rule) (xs : List ℕ) → length xs < 2 → begins r (turned is_kanji_pair) (reverse xs) ≡ false
 ends_short r xs h = begins_short r (turned is_kanji_pair) (reverse xs) (omega (arith, length-reverse xs))
 
--- a prefix with one more byte, read backwards
+-- a reversed prefix with one more byte
 pub front_next : (xs : List ℕ) (i : ℕ) → i < length xs → reverse (take (i + 1) xs) ≡ get_or xs i 0 ∷ reverse (take i xs)
 front_next xs i h = ap reverse (take_more xs i 0 h) ∙ reverse-append (take i xs) (get_or xs i 0 ∷ [])
 
--- the modes of one more byte of a prefix read backwards
+-- the table for a reversed prefix with one more byte
 pub front_more : (v : ℕ) (r : Rule) (xs : List ℕ) (i : ℕ) (pair : Bool) (rows : List ℕ) (row : ℕ) (rest numbers : ByPlace ℕ) → i < length xs
     → pair ≡ begins r (turned is_kanji_pair) (reverse (take (i + 1) xs))
     → BestBelow v r (turned is_kanji_pair) (reverse (take i xs)) (λ p. follow p rows) (bits_at rest)

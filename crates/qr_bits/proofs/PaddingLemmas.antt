@@ -22,11 +22,11 @@ pads-push (suc (suc n)) =
     let even : suc (suc n) % 2 ≡ n % 2 = omega arith in
     rw (one, even) (ap (λ (t : List ℕ). 0xEC ∷ 0x11 ∷ t) (pads-push n))
 
--- after an even number of pad codewords stands EC
+-- an even number of pad codewords is followed by EC
 pub pads-even : (n : ℕ) → n % 2 ≡ 0 → pads (n + 1) ≡ pads n ++ 0xEC ∷ []
 pads-even n h = rw h at (pads-push n)
 
--- after an odd number of pad codewords stands 11
+-- an odd number of pad codewords is followed by 11
 pub pads-odd : (n : ℕ) → (n % 2 ≡ 0 → ⊥) → pads (n + 1) ≡ pads n ++ 0x11 ∷ []
 pads-odd n h = let one : n % 2 ≡ 1 = omega arith in rw one at (pads-push n)
 
@@ -36,7 +36,7 @@ unfolding pads
 pads-none zero h = refl
 pads-none (suc n) h = absurd (omega arith)
 
--- whole codewords of the stream and its terminator, and pad codewords after them, are the data codewords
+-- the whole codewords of the stream and its terminator, followed by pad codewords, are the data codewords
 pub is_data : (v : ℕ) (l : Level) (xs : List ℕ) (segs : List Segment) (h : Option Header) (stream : List Bool) (used : ℕ) (whole cw : List ℕ)
     → IsStream v xs segs h stream → length stream ≡ used → used ≤ capacity_of v l
     → bits_of whole ≡ filled (stream ++ field (min 4 (capacity_of v l - used)) 0)
@@ -56,7 +56,7 @@ is_data v l xs segs h stream used whole cw is len fits filling padding bytes =
       codewords = rw (padding, t, k) (bits_of-append whole (pads (data_codewords_of v l - length whole)));
     }
 
--- a header has its bits
+-- the length of a header's bits
 pub length-header_stream : (h : Option Header) → length (header_stream h) ≡ header_bits h
 unfolding header_stream
 length-header_stream None = refl

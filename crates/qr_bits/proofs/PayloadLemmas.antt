@@ -1,4 +1,4 @@
--- What the payloads say, group by group.
+-- The data of a segment is read group by group.
 use Rattle.std.proofs.Common.{◌≡◌, ℕ, zero, suc, ◌+◌, ◌-◌, ◌/◌, ◌%◌, ◌^◌, ◌<◌, ◌≤◌, Bool, List, [], ◌∷◌, ◌++◌, length, take, drop, Result, Ok, Err, refl, sym, ◌∙◌, ap, inr, arith, lit<}
 use Rattle.std.proofs.lemmas.Bool.{lt-ltb, le-ltb}
 use Rattle.std.proofs.lemmas.List.{length-take, append_assoc}
@@ -18,21 +18,21 @@ value_take_below w bs =
     let short : length (take w bs) ≤ w = omega (arith, length-take w bs) in
     omega (arith, value_below (take w bs), pow-le-pow_right {n = 2} (lit< tt) short)
 
--- what is read, after what was read before
+-- the result for the rest, with the bytes that were read before it
 abbrev pub with_front : List ℕ → Result (List ℕ) ParseFault → Result (List ℕ) ParseFault
 with_front front read = read >>= λ xs. Ok (front ++ xs)
 
--- where all that is read after a prefix succeeds, the rest does
+-- if the whole is read, the rest is read
 pub with_front-ok : (front : List ℕ) (read : Result (List ℕ) ParseFault) (ys : List ℕ) → with_front front read ≡ Ok ys → (xs : List ℕ) × (read ≡ Ok xs) × (ys ≡ front ++ xs)
 with_front-ok front (Ok xs) ys h = (xs, refl, cc)
 with_front-ok front (Err e) ys h = cc
 
--- where all that is read after a prefix fails, the rest does
+-- if the whole fails, the rest fails with the same fault
 pub with_front-err : (front : List ℕ) (read : Result (List ℕ) ParseFault) (e : ParseFault) → with_front front read ≡ Err e → read ≡ Err e
 with_front-err front (Ok xs) e h = cc
 with_front-err front (Err d) e h = cc
 
--- two prefixes are one
+-- two prefixes in turn are one prefix
 pub with_front-twice : (front middle : List ℕ) (read : Result (List ℕ) ParseFault) → with_front front (read >>= λ xs. Ok (middle ++ xs)) ≡ with_front (front ++ middle) read
 with_front-twice front middle (Ok xs) = ap Ok (sym (append_assoc front middle xs))
 with_front-twice front middle (Err e) = refl
@@ -140,10 +140,10 @@ pub bytes_none : (bits : List Bool) → bytes_of 0 bits ≡ []
 unfolding bytes_of
 bytes_none bits = refl
 
--- where the rest is read, the whole is read
+-- if the rest is read, the whole is read
 pub finish : (front out zs : List ℕ) (read whole : Result (List ℕ) ParseFault) → with_front front read ≡ with_front out whole → read ≡ Ok zs → (xs : List ℕ) × (whole ≡ Ok xs) × (front ++ zs ≡ out ++ xs)
 finish front out zs read whole h e = with_front-ok out whole (front ++ zs) (sym h ∙ ap (with_front front) e)
 
--- where the rest fails, the whole fails
+-- if the rest fails, the whole fails
 pub fails : (front out : List ℕ) (read whole : Result (List ℕ) ParseFault) (f : ParseFault) → with_front front read ≡ with_front out whole → read ≡ Err f → IsFaultOf f whole
 fails front out read whole f h e = inr (with_front-err out whole f (sym h ∙ ap (with_front front) e))

@@ -1,4 +1,4 @@
--- A piece of a text needs no more bits than the text, where no kanji letter is used.
+-- Without kanji mode, a piece of an input needs no more bits than the input.
 use Rattle.std.proofs.Common.{◌≡◌, ℕ, ◌+◌, ◌<◌, ◌≤◌, true, false, List, [], ◌∷◌, ◌++◌, refl, sym, ◌∙◌, ap, arith, lit<}
 use Rattle.std.specs.List.{list_all}
 use Rattle.std.proofs.lemmas.Bool.{and_parts, and_from, false≢true}
@@ -14,7 +14,7 @@ use Rattle.qr_bits.proofs.LetterLemmas.{bits-runs_of}
 use Rattle.qr_bits.proofs.LetteringLemmas.{may_end-after, take_one, one_taken, can_take, is_lettering, covers_by, by_covers}
 use Rattle.qr_bits.proofs.ChoiceLemmas.{take_begin}
 
--- the place one letter further on in the same run
+-- the state of a run after one more byte
 abbrev ahead : Place → Place
 ahead Digit1 = Digit2
 ahead Digit2 = Digit3
@@ -23,7 +23,7 @@ ahead Character1 = Character2
 ahead Character2 = Character1
 ahead p = p
 
--- how many more bits it can cost to stand one letter later
+-- how many more bits a rest can take if it begins one byte later in a run
 abbrev lag : Place → ℕ
 lag Digit3 = 1
 lag Character2 = 1
@@ -66,7 +66,7 @@ behind_ahead v _ (Alphanumeric ∷ ms) = omega arith
 behind_ahead v p (Byte ∷ ms) = omega (arith, ahead_byte v p)
 behind_ahead v p (Kanji ∷ ms) = let e = ahead_kanji v p in omega (arith, e.0, ap (λ (q : Place). walk v q ms) e.1)
 
--- without the first letter there are no more bits
+-- without the first mode an assignment takes no more bits
 without_first : (v : ℕ) (m : Mode) (ms : List Mode) → rank m < 3 → walk v Start ms ≤ walk v Start (m ∷ ms)
 unfolding walk step_bits place_after
 without_first v m [] h = omega arith
@@ -78,7 +78,7 @@ without_first v _ (Alphanumeric ∷ ms) h = omega arith
 without_first v _ (Byte ∷ ms) h = omega arith
 without_first v _ (Kanji ∷ ms) h = omega arith
 
--- a rule under which no kanji letter is used
+-- the rule does not allow kanji mode
 abbrev pub IsPlain : Rule → Type 0
 IsPlain r = may_use r Kanji ≡ false
 
@@ -117,7 +117,7 @@ back v r (x ∷ xs) ys (m ∷ ms) n u h =
     let rest = back v r xs ys ms n use_.1 again in
     (rest.0, rest.1, rest.2, omega (arith, rest.3, without_first v m ms low))
 
--- Of each lettering of a text, each piece of the text has one of no more bits.
+-- If an assignment is valid for an input, each piece of the input has a valid assignment of no more bits.
 pub piece : (v : ℕ) (r : Rule) (xs ys zs : List ℕ) (ms : List Mode) → IsPlain r → IsLettering r (xs ++ (ys ++ zs)) ms
     → (ks : List Mode) × IsLettering r ys ks × (bits v (runs_of ks) ≤ bits v (runs_of ms))
 unfolding may_end
@@ -127,6 +127,6 @@ piece v r xs ys zs ms n h =
     let is = is_lettering is_kanji_pair r ys f.0 Start refl f.2 in
     (f.0, (is.0, by_covers ys (runs_of f.0) is.1), omega (arith, bits-runs_of v f.0, bits-runs_of v ms, f.3, b.3))
 
--- Where a text fits, each piece of it does.
+-- If an input fits, each piece of it fits.
 pub piece_fits : (v : ℕ) (r : Rule) (xs ys zs : List ℕ) (n : ℕ) → may_use r Kanji ≡ false → HasFit v r (xs ++ (ys ++ zs)) n → HasFit v r ys n
 piece_fits v r xs ys zs n none fit = let p = piece v r xs ys zs fit.0 none fit.1 in (p.0, p.1, omega (arith, p.2, fit.2))

@@ -1,4 +1,4 @@
--- Fields and digits, read again, and what is read is spelled so.
+-- Fields and digits: what is written is read back, and what is read is written as the same bits.
 use Rattle.std.proofs.Common.{◌≡◌, ℕ, zero, suc, ◌+◌, ◌-◌, ◌*◌, ◌/◌, ◌%◌, ◌^◌, ◌<◌, ◌≤◌, Bool, true, false, cond, ◌==◌, nat_lt, nat_le, All, List, [], ◌∷◌, ◌++◌, length, take, drop, Result, Ok, Err, refl, sym, ◌∙◌, ap, subst, arith, append_assoc}
 use borrow.Author.Tests.{leb-true}
 use Rattle.std.specs.List.{list_all}
@@ -19,7 +19,7 @@ use Rattle.qr_bits.proofs.BitLemmas.{length-field, value_below}
 use Rattle.qr_bits.proofs.WritingLemmas.{three_more}
 use Rattle.qr_bits.proofs.ParsingLemmas.{bind_ok, same_ok}
 
--- one bit more of a number
+-- one more bit of a number
 bit_step : (a d : ℕ) (bs : List Bool) → d < 2 → value_from a ((d == 1) ∷ bs) ≡ value_from (2 * a + d) bs
 bit_step a zero bs h = ap (λ (n : ℕ). value_from n bs) (omega arith)
 bit_step a (suc zero) bs h = refl
@@ -34,11 +34,11 @@ value_from-field a (suc w) n =
     let split : n % 2 ^ suc w ≡ n / 2 ^ w % 2 * 2 ^ w + n % 2 ^ w = rw one at (mod-pow-add n 1 w) in
     bit_step a (n / 2 ^ w % 2) (field w n) (omega arith) ∙ rw (pow-suc 2 w) (omega (arith, value_from-field (2 * a + n / 2 ^ w % 2) w n, rw (pow-suc 2 w) at split))
 
--- a number is that of its field
+-- the number of a field is the number that was written
 pub value-field : (w n : ℕ) → n < 2 ^ w → value (field w n) ≡ n
 value-field w n h = value_from-field 0 w n ∙ omega (arith, mod-eq_of_lt h)
 
--- lists of one length that make one number are one
+-- lists of one length that make the same number are equal
 value_from-inj : (a b : ℕ) (xs ys : List Bool) → length xs ≡ length ys → value_from a xs ≡ value_from b ys → (a ≡ b) × (xs ≡ ys)
 value_from-inj a b [] [] l e = (e, refl)
 value_from-inj a b [] (y ∷ ys) l e = absurd (omega arith)
@@ -48,7 +48,7 @@ value_from-inj a b (true ∷ xs) (false ∷ ys) l e = let r = value_from-inj (2 
 value_from-inj a b (false ∷ xs) (true ∷ ys) l e = let r = value_from-inj (2 * a) (2 * b + 1) xs ys (omega arith) e in absurd (omega (arith, r.0))
 value_from-inj a b (false ∷ xs) (false ∷ ys) l e = let r = value_from-inj (2 * a) (2 * b) xs ys (omega arith) e in (omega (arith, r.0), ap (λ (t : List Bool). false ∷ t) r.1)
 
--- bits are the field of their number
+-- bits are the field of the number that they make
 pub field-value : (w : ℕ) (bs : List Bool) → length bs ≡ w → field w (value bs) ≡ bs
 field-value w bs h =
     let small : value bs < 2 ^ w = rw (← h) (value_below bs) in
@@ -68,23 +68,23 @@ three_of_digits : (a b c : ℕ) → 48 ≤ a → a ≤ 57 → 48 ≤ b → b ≤
     → let g = 100 * (a - 48) + 10 * (b - 48) + (c - 48) in (digit (g / 100) ≡ a) × (digit (g / 10) ≡ b) × (digit g ≡ c) × (g < 1000)
 three_of_digits a b c h i j k l m = (omega arith, omega arith, omega arith, omega arith)
 
--- a field at the front
+-- the first bits, if they are a field
 pub take-field : (w n : ℕ) (rest : List Bool) → take w (field w n ++ rest) ≡ field w n
 take-field w n rest = let e = take-append_seam (field w n) rest in rw (length-field w n) at e
 
--- what stands after a field
+-- the bits after a field
 pub drop-field : (w n : ℕ) (rest : List Bool) → drop w (field w n ++ rest) ≡ rest
 drop-field w n rest = let e = drop-append_seam (field w n) rest in rw (length-field w n) at e
 
--- the number of a field at the front
+-- the number of the first bits, if they are a field
 pub read_field : (w n : ℕ) (rest : List Bool) → n < 2 ^ w → value (take w (field w n ++ rest)) ≡ n
 read_field w n rest h = ap value (take-field w n rest) ∙ value-field w n h
 
--- bits are a field of their number
+-- the first bits are the field of their number
 pub field_read : (w : ℕ) (bits : List Bool) → w ≤ length bits → field w (value (take w bits)) ≡ take w bits
 field_read w bits h = field-value w (take w bits) (length-take-le w bits h)
 
--- What is written as digits is read again.
+-- Digits that are written are read back.
 pub digits_again : (xs : List ℕ) (rest : List Bool) → AreDigits xs → digits_of (length xs) (digit_bits xs ++ rest) ≡ Ok xs
 unfolding digits_of digit_bits
 digits_again [] rest h = refl
@@ -108,12 +108,12 @@ digits_again (a ∷ b ∷ c ∷ xs) rest h =
     let s = append_assoc (field 10 g) (digit_bits xs) rest in
     rw (s, r, d, lt-ltb g 1000 three.3, three.0, three.1, three.2, digits_again xs rest h.2.2.2) refl
 
--- a choice between a reading and a fault that succeeds is the reading
+-- a conditional between a result and a fault that succeeds is the result
 pub chosen_ok : {A : Type 0} (b : Bool) (r : Result A ParseFault) (f : ParseFault) (y : A) → cond b r (Err f) ≡ Ok y → (b ≡ true) × (r ≡ Ok y)
 chosen_ok true r f y h = (refl, h)
 chosen_ok false r f y h = cc
 
--- the digits that were read are the digits of these bits
+-- the digits that were read, written again, are the bits that were read
 abbrev pub Written : ℕ → List Bool → List ℕ → Type 0
 Written n bits xs = (length xs ≡ n) × AreDigits xs × (bits ≡ digit_bits xs ++ drop (payload_bits Numeric n) bits)
 
@@ -145,7 +145,7 @@ written_three n bits ds h low w =
       rw (back, field_read 10 bits h, three_more n, append_assoc (take 10 bits) (digit_bits ds) (drop (10 + payload_bits Numeric n) bits), ← rest) (sym (take-append-drop 10 bits)),
     )
 
--- What is read as digits is written so.
+-- Digits that are read are written as the same bits.
 pub digits_takes : (n : ℕ) (xs : List ℕ) (bits : List Bool) → payload_bits Numeric n ≤ length bits → digits_of n bits ≡ Ok xs → Written n bits xs
 unfolding digits_of digit_bits
 digits_takes zero [] bits h e = (refl, tt, refl)

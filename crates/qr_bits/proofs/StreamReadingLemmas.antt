@@ -1,4 +1,4 @@
--- A parse reads streams, and what it reads is a stream.
+-- A parse reads back every stream that is written, and what it reads is a stream.
 use Rattle.std.proofs.Common.{◌≡◌, ℕ, zero, suc, ◌^◌, ◌<◌, ◌≤◌, Bool, true, false, cond, ◌==◌, nat_lt, nat_le, All, List, [], ◌∷◌, ◌++◌, length, take, drop, Ok, Err, Option, Some, None, refl, sym, ◌∙◌, ap, subst, ⊎_elim, arith, lit<, append_assoc, length-append}
 use Rattle.std.proofs.lemmas.Bool.{le-ltb, lt-leb, le-leb, ltb-false, cases_Bool, cases_lt, eqb-true, and_parts}
 use Rattle.std.proofs.lemmas.List.{length-take-le, length-drop, drop-drop, take-append-drop}
@@ -24,14 +24,14 @@ use Rattle.qr_bits.proofs.WritingLemmas.{in_twos-even, length-payload}
 
 -- ---- a number
 
--- a field is read as its number
+-- a field is read back as its number
 number_again : (w n : ℕ) (rest : List Bool) → n < 2 ^ w → leading_number w (field w n ++ rest) ≡ Ok (n, rest)
 unfolding leading_number
 number_again w n rest h =
     let there : w ≤ length (field w n ++ rest) = omega (arith, length-append (field w n) rest, length-field w n) in
     rw (le-ltb (length (field w n ++ rest)) w there, read_field w n rest h, drop-field w n rest) refl
 
--- what is read as a number is its field
+-- a number that is read is written as the same bits
 number_takes : (w : ℕ) (bits : List Bool) (n : ℕ × List Bool) → leading_number w bits ≡ Ok n → (n.0 < 2 ^ w) × (bits ≡ field w n.0 ++ n.1)
 unfolding leading_number
 number_takes w bits n h =
@@ -42,21 +42,21 @@ number_takes w bits n h =
 
 -- ---- the data
 
--- the count of bytes that suit a mode tells how many they are
+-- the count of bytes in a mode leads back to their number
 len_again : (m : Mode) (xs : List ℕ) → suits m xs ≡ true → byte_count m (character_count m (length xs)) ≡ length xs
 len_again Numeric xs h = refl
 len_again Alphanumeric xs h = refl
 len_again Byte xs h = refl
 len_again Kanji xs h = in_twos-even is_kanji_pair xs h
 
--- a count is that of its bytes
+-- the number of bytes leads back to the count
 count_again : (m : Mode) (n : ℕ) → character_count m (byte_count m n) ≡ n
 count_again Numeric n = refl
 count_again Alphanumeric n = refl
 count_again Byte n = refl
 count_again Kanji n = omega arith
 
--- data is read again as it was written
+-- data that is written is read back
 payload_again : (m : Mode) (xs : List ℕ) (rest : List Bool) → All (λ b. b < 256) xs → suits m xs ≡ true → payload_at m (character_count m (length xs)) (payload m xs ++ rest) ≡ Ok (xs, rest)
 unfolding payload_at
 payload_again m xs rest bytes h =
@@ -66,7 +66,7 @@ payload_again m xs rest bytes h =
     let behind : drop (payload_bits m (length xs)) (payload m xs ++ rest) ≡ rest = rw len at (drop-append_seam (payload m xs) rest) in
     rw (same, le-ltb (length (payload m xs ++ rest)) (payload_bits m (length xs)) there, values_again m xs rest bytes h, behind) refl
 
--- what is read as data is written so
+-- data that is read is written as the same bits
 payload_takes : (m : Mode) (n : ℕ) (bits : List Bool) (p : List ℕ × List Bool) → payload_at m n bits ≡ Ok p → IsWritten m n bits p.0 × (p.1 ≡ drop (payload_bits m (byte_count m n)) bits)
 unfolding payload_at
 payload_takes m n bits p h =
@@ -77,7 +77,7 @@ payload_takes m n bits p h =
 
 -- ---- a segment
 
--- the indicator of a mode is read as the mode
+-- the indicator of a mode is read back as the mode
 mode_again : (m : Mode) → mode_of (indicator m) ≡ Ok m
 unfolding mode_of
 mode_again Numeric = refl
@@ -85,7 +85,7 @@ mode_again Alphanumeric = refl
 mode_again Byte = refl
 mode_again Kanji = refl
 
--- the one test that passes
+-- if a mode is found, its test is the one that passed
 mode_cases : (n : ℕ) (m : Mode) (a b c d : Bool) → (n == 1) ≡ a → (n == 2) ≡ b → (n == 4) ≡ c → (n == 8) ≡ d → cond a (Ok Numeric) (cond b (Ok Alphanumeric) (cond c (Ok Byte) (cond d (Ok Kanji) (Err BadMode)))) ≡ Ok m → n ≡ indicator m
 mode_cases n m true b c d e f g i h = eqb-true n 1 e ∙ ap indicator (same_ok Numeric m h)
 mode_cases n m false true c d e f g i h = eqb-true n 2 f ∙ ap indicator (same_ok Alphanumeric m h)
@@ -93,12 +93,12 @@ mode_cases n m false false true d e f g i h = eqb-true n 4 g ∙ ap indicator (s
 mode_cases n m false false false true e f g i h = eqb-true n 8 i ∙ ap indicator (same_ok Kanji m h)
 mode_cases n m false false false false e f g i h = cc
 
--- what is read as a mode is its indicator
+-- the indicator of the mode that was read is the number that was read
 mode_takes : (n : ℕ) (m : Mode) → mode_of n ≡ Ok m → n ≡ indicator m
 unfolding mode_of
 mode_takes n m h = mode_cases n m (n == 1) (n == 2) (n == 4) (n == 8) refl refl refl refl h
 
--- an indicator is a number of four bits, and none of the two that are no mode's
+-- an indicator of a mode is a number of four bits
 indicator_most : (m : Mode) → indicator m < 2 ^ 4
 indicator_most Numeric = lit< tt
 indicator_most Alphanumeric = lit< tt
@@ -119,7 +119,7 @@ indicator_plain Alphanumeric = refl
 indicator_plain Byte = refl
 indicator_plain Kanji = refl
 
--- a segment begins with its indicator
+-- a segment begins with the indicator of its mode
 first_four : (v : ℕ) (m : Mode) (xs : List ℕ) (rest : List Bool) → (value (take 4 (segment_stream v m xs ++ rest)) ≡ indicator m) × (4 ≤ length (segment_stream v m xs ++ rest))
 unfolding segment_stream
 first_four v m xs rest =
@@ -127,7 +127,7 @@ first_four v m xs rest =
     rw (append_assoc (field 4 (indicator m)) behind rest)
     (read_field 4 (indicator m) (behind ++ rest) (indicator_most m), omega (arith, length-append (field 4 (indicator m)) (behind ++ rest), length-field 4 (indicator m)))
 
--- a segment is read again as it was written
+-- a segment that is written is read back
 segment_again : (v : ℕ) (m : Mode) (xs : List ℕ) (rest : List Bool) → All (λ b. b < 256) xs → suits m xs ≡ true → character_count m (length xs) < 2 ^ count_width v m
     → segment_at v (segment_stream v m xs ++ rest) ≡ Ok (record { mode = m; len = length xs }, xs, rest)
 unfolding segment_at segment_stream
@@ -145,7 +145,7 @@ segment_again v m xs rest bytes suited fits =
       len_again m xs suited,
     ) refl
 
--- what was read as a segment is its stream
+-- a segment that was read is the stream of these bytes, with the rest after it
 record IsSegment (v : ℕ) (bits : List Bool) (s : Segment) (xs : List ℕ) (rest : List Bool) : Type 0 where
   long : length xs ≡ s.len
   bytes : All (λ b. b < 256) xs
@@ -153,7 +153,7 @@ record IsSegment (v : ℕ) (bits : List Bool) (s : Segment) (xs : List ℕ) (res
   fits : character_count s.mode s.len < 2 ^ count_width v s.mode
   whole : bits ≡ segment_stream v s.mode xs ++ rest
 
--- a segment of parts that were read
+-- a segment whose parts were read
 segment_from : (v : ℕ) (m : Mode) (bits : List Bool) (n : ℕ × List Bool) (p : List ℕ × List Bool) → 4 ≤ length bits → value (take 4 bits) ≡ indicator m
     → (n.0 < 2 ^ count_width v m) × (drop 4 bits ≡ field (count_width v m) n.0 ++ n.1) → IsWritten m n.0 n.1 p.0 × (p.1 ≡ drop (payload_bits m (byte_count m n.0)) n.1)
     → IsSegment v bits (record { mode = m; len = byte_count m n.0 }) p.0 p.1
@@ -172,7 +172,7 @@ segment_from v m bits n p four e number said =
       whole = rw (w.long, count_again m n.0, append_assoc (field 4 (indicator m)) (count ++ payload m p.0) p.1, append_assoc count (payload m p.0) p.1, ← tail, ← head) (sym (take-append-drop 4 bits));
     }
 
--- what is read as a segment is its stream
+-- a segment that is read is written as the same bits
 segment_takes : (v : ℕ) (bits : List Bool) (s : Segment × List ℕ × List Bool) → 4 ≤ length bits → segment_at v bits ≡ Ok s → IsSegment v bits s.0 s.1 s.2
 unfolding segment_at segment_stream
 segment_takes v bits s four h =
@@ -184,18 +184,18 @@ segment_takes v bits s four h =
 
 -- ---- segments to the end
 
--- a segment is no end
+-- the data does not end where a segment begins
 opens : (v : ℕ) (m : Mode) (xs : List ℕ) (rest : List Bool) → ends (segment_stream v m xs ++ rest) ≡ false
 unfolding ends
 opens v m xs rest =
     let four = first_four v m xs rest in
     rw (le-ltb (length (segment_stream v m xs ++ rest)) 4 four.1, four.0, indicator_open m) refl
 
--- a byte in a byte list's halves
+-- the first n bytes of a list of bytes, and those after them, are bytes
 all_take : (n : ℕ) (xs : List ℕ) → All (λ b. b < 256) xs → All (λ b. b < 256) (take n xs) × All (λ b. b < 256) (drop n xs)
 all_take n xs h = (All-take (λ b. b < 256) n xs h, All-drop (λ b. b < 256) n xs h)
 
--- Segments are read again as they were written, where an end stands after them.
+-- Segments that are written and followed by an end are read back.
 pub segments_again : (v : ℕ) (xs : List ℕ) (segs : List Segment) (tail : List Bool) → All (λ b. b < 256) xs → Suits xs segs → CountsFit v segs → ends tail ≡ true
     → segments_of v (segments_stream v xs segs ++ tail) ≡ Ok (segs, xs)
 unfolding segments_stream Suits CountsFit
@@ -210,7 +210,7 @@ segments_again v xs (s ∷ ss) tail bytes suit fits end =
     let others = segments_again v (drop s.len xs) ss tail halves.1 suit.2 fits.1 end in
     rw (whole, segments_step v (segment_stream v s.mode part ++ (rest ++ tail)) (opens v s.mode part (rest ++ tail)), one, others, len, take-append-drop s.len xs) refl
 
--- what was read as segments is their stream, and then an end
+-- segments that were read are their stream, and then an end
 pub record IsSegments (v : ℕ) (bits : List Bool) (segs : List Segment) (xs : List ℕ) : Type 0 where
   pub tail : List Bool
   pub bytes : All (λ b. b < 256) xs
@@ -219,7 +219,7 @@ pub record IsSegments (v : ℕ) (bits : List Bool) (segs : List Segment) (xs : L
   pub whole : bits ≡ segments_stream v xs segs ++ tail
   pub end : ends tail ≡ true
 
--- at an end stands the stream of no segment
+-- at an end there is the stream of no segment
 segments_none : (v : ℕ) (bits : List Bool) → ends bits ≡ true → IsSegments v bits [] []
 unfolding segments_stream Suits CountsFit
 segments_none v bits e = record { tail = bits; bytes = All-nil (λ b. b < 256); suit = refl; fits = tt; whole = refl; end = e }
@@ -239,7 +239,7 @@ segments_more v bits rest s ss ys zs one others =
       end = others.end;
     }
 
--- What is read as segments is their stream, and then an end.
+-- The bits of segments that are read are their stream, and then an end.
 pub segments_takes : (n v : ℕ) (bits : List Bool) (r : List Segment × List ℕ) → length bits ≤ n → segments_at n v bits ≡ Ok r → IsSegments v bits r.0 r.1
 unfolding segments_at
 segments_takes zero v bits r few h =
@@ -259,14 +259,14 @@ segments_takes (suc n) v bits r few h =
 
 -- ---- the header
 
--- the header's indicator stands there
+-- a header begins with its indicator
 starts : (rest : List Bool) → begins_header (field 4 header_indicator ++ rest) ≡ true
 unfolding begins_header
 starts rest =
     let there : 4 ≤ length (field 4 header_indicator ++ rest) = omega (arith, length-append (field 4 header_indicator) rest, length-field 4 header_indicator) in
     rw (le-leb 4 (length (field 4 header_indicator ++ rest)) there, read_field 4 header_indicator rest (lit< tt)) refl
 
--- where a header begins, its indicator stands
+-- if a header begins here, the first four bits are its indicator
 started : (bits : List Bool) → begins_header bits ≡ true → bits ≡ field 4 header_indicator ++ drop 4 bits
 unfolding begins_header
 started bits h =
@@ -275,7 +275,7 @@ started bits h =
     let three : value (take 4 bits) ≡ 3 = eqb-true _ 3 p.1 in
     sym (ap (λ (t : List Bool). t ++ drop 4 bits) (ap (field 4) (sym three) ∙ field_read 4 bits four) ∙ take-append-drop 4 bits)
 
--- the fields of a header that is there
+-- the fields of a header whose bits are all there
 header_parts : (bits : List Bool) → 16 ≤ length bits
     → bits ≡ (field 4 (value (take 4 bits)) ++ (field 4 (value (take 4 (drop 4 bits))) ++ field 8 (value (take 8 (drop 8 bits))))) ++ drop 16 bits
 header_parts bits long =
@@ -287,7 +287,7 @@ header_parts bits long =
     rw (a, b, c, append_assoc (take 4 bits) (take 4 (drop 4 bits) ++ take 8 (drop 8 bits)) (drop 16 bits), append_assoc (take 4 (drop 4 bits)) (take 8 (drop 8 bits)) (drop 16 bits), last, middle)
     (sym (take-append-drop 4 bits))
 
--- a header is read again as it was written
+-- a header that is written is read back
 header_again : (h : Header) (rest : List Bool) → HeaderFits (Some h) → first_header (header_stream (Some h) ++ rest) ≡ Ok (Some h, rest)
 unfolding first_header header_stream
 header_again h rest all_fit =
@@ -315,7 +315,7 @@ header_again h rest all_fit =
       after_q,
     ) refl
 
--- no header begins where segments do
+-- no header begins where segments begin
 none_begins : (v : ℕ) (xs : List ℕ) (segs : List Segment) (tail : List Bool) → ends tail ≡ true → begins_header (segments_stream v xs segs ++ tail) ≡ false
 unfolding begins_header segments_stream ends
 none_begins v xs [] tail e =
@@ -331,21 +331,21 @@ none_begins v xs (s ∷ ss) tail e =
     let four = first_four v s.mode part (rest ++ tail) in
     rw (append_assoc (segment_stream v s.mode part) rest tail, le-leb 4 (length (segment_stream v s.mode part ++ (rest ++ tail))) four.1, four.0, indicator_plain s.mode) refl
 
--- a header or none is read again as it was written
+-- an optional header that is written is read back
 first_again : (v : ℕ) (h : Option Header) (xs : List ℕ) (segs : List Segment) (tail : List Bool) → HeaderFits h → ends tail ≡ true
     → first_header ((header_stream h ++ segments_stream v xs segs) ++ tail) ≡ Ok (h, segments_stream v xs segs ++ tail)
 unfolding first_header header_stream
 first_again v None xs segs tail fits e = rw (none_begins v xs segs tail e) refl
 first_again v (Some h) xs segs tail fits e = rw (append_assoc (header_stream (Some h)) (segments_stream v xs segs) tail) (header_again h (segments_stream v xs segs ++ tail) fits)
 
--- the numbers of a header that is there fit
+-- the numbers of a header that was read fit their fields
 fits_of : (h : Header) → h.position < 16 → h.last < 16 → h.parity < 256 → HeaderFits (Some h)
 fits_of h a b d = λ k e.
     let P : Header → Type 0 = λ z. (z.position < 16) × (z.last < 16) × (z.parity < 256) in
     let g : h ≡ k = cc in
     subst P g (a, b, d)
 
--- what is read as a header is its fields
+-- a header that is read is written as the same bits
 header_takes : (bits : List Bool) (r : Header × List Bool) → header_at bits ≡ Ok r → HeaderFits (Some r.0) × (bits ≡ (field 4 r.0.position ++ (field 4 r.0.last ++ field 8 r.0.parity)) ++ r.1)
 unfolding header_at
 header_takes bits r h =
@@ -355,7 +355,7 @@ header_takes bits r h =
     subst P (same_ok (record { position = value (take 4 bits); last = value (take 4 (drop 4 bits)); parity = value (take 8 (drop 8 bits)) }, drop 16 bits) r g.1)
     (fits_of _ (value_take_below 4 bits) (value_take_below 4 (drop 4 bits)) (value_take_below 8 (drop 8 bits)), header_parts bits long)
 
--- what is read as a header or none is its bits
+-- an optional header that is read is written as the same bits
 first_takes : (bits : List Bool) (r : Option Header × List Bool) → first_header bits ≡ Ok r → HeaderFits r.0 × (bits ≡ header_stream r.0 ++ r.1)
 unfolding first_header header_stream
 first_takes bits r h =
@@ -371,18 +371,18 @@ first_takes bits r h =
 
 -- ---- the whole
 
--- A stream and then an end is parsed to what it says.
+-- A stream followed by an end is parsed into its header, segments and bytes.
 pub parse_again : (v : ℕ) (xs : List ℕ) (segs : List Segment) (h : Option Header) (front tail : List Bool) → IsStream v xs segs h front → ends tail ≡ true
     → parse v (front ++ tail) ≡ Ok (record { header = h; segments = segs; bytes = xs })
 unfolding parse
 parse_again v xs segs h front tail is e =
     rw (is.whole, first_again v h xs segs tail is.header e, segments_again v xs segs tail is.bytes is.suit is.counts e) refl
 
--- the streams that bits begin with
+-- the bits are the stream of this content, and then an end
 abbrev Says : ℕ → List Bool → Content → Type 0
 Says v bits c = (front : List Bool) × (tail : List Bool) × IsStream v c.bytes c.segments c.header front × (bits ≡ front ++ tail) × (ends tail ≡ true)
 
--- What is parsed is a stream and then an end.
+-- Bits that are parsed are a stream followed by an end.
 pub parse_takes : (v : ℕ) (bits : List Bool) (c : Content) → parse v bits ≡ Ok c → Says v bits c
 unfolding parse segments_of
 parse_takes v bits c e =

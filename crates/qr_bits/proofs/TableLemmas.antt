@@ -1,4 +1,4 @@
--- A table of best modes, filled from the back.
+-- A table of best modes, filled from the last byte to the first.
 use Rattle.std.proofs.Common.{◌≡◌, ℕ, ◌+◌, ◌*◌, ◌/◌, ◌%◌, ◌^◌, ◌≤◌, Bool, true, List, [], ◌∷◌, ◌++◌, length, replicate, reverse, append_assoc, IsTrue, refl, sym, ◌∙◌, ap, arith, lit<}
 use Rattle.std.proofs.lemmas.Bool.{false≢true, and_from}
 use Rattle.std.proofs.lemmas.List.{reverse-append}
@@ -17,13 +17,13 @@ use Rattle.qr_bits.proofs.ChoiceLemmas.{byte_used, step_bits_bound, take_begin}
 use Rattle.qr_bits.proofs.LetterLemmas.{bits-runs_of}
 use Rattle.qr_bits.proofs.LetteringLemmas.{can_take, is_lettering, may_end-after, covers_by, by_covers}
 
--- bytes alone can always be the rest, where no half of a pair is open
+-- byte mode for each byte is an allowed rest if no half pair is open
 pub bytes_rest : (r : Rule) (test : ℕ → ℕ → Bool) (p : Place) (xs : List ℕ) → may_end p ≡ true → allowed r test p xs (replicate (length xs) Byte) ≡ true
 unfolding allowed may_begin may_end place_after
 bytes_rest r test p [] e = e
 bytes_rest r test p (x ∷ xs) e = and_from _ _ (take_begin r p x (begins r test (x ∷ xs)) Byte e ∙ byte_used r) (bytes_rest r test InBytes xs refl)
 
--- what is taken can be gone on from
+-- after each mode that may be used, some rest is allowed
 pub rest_after : (r : Rule) (test : ℕ → ℕ → Bool) (p : Place) (x : ℕ) (xs : List ℕ) (m : Mode) → may_take r p x (begins r test (x ∷ xs)) m ≡ true → (ks : List Mode) × IsTrue (allowed r test (place_after p m) xs ks)
 unfolding may_take may_begin begins allowed place_after may_end
 rest_after r test p x xs Numeric h = (replicate (length xs) Byte, bytes_rest r test (place_after p Numeric) xs (may_end-after p Numeric (lit< tt)))
@@ -38,12 +38,12 @@ unfolding allowed walk
 none_best v r test p [] n e h = record { is_allowed = h; has_bits = sym e; least = λ ks t. omega arith; first = λ ks t q. tt }
 none_best v r test p (k ∷ ks) n e h = absurd (false≢true h)
 
--- before any row
+-- the table without a row
 pub best_none : (v : ℕ) (r : Rule) (test : ℕ → ℕ → Bool) (cost : Place → ℕ) → ((p : Place) → cost p ≡ 0) → BestBelow v r test [] (λ p. follow p []) cost
 unfolding follow
 best_none v r test cost zeros = λ p ks h. none_best v r test p ks (cost p) (zeros p) h
 
--- one more row
+-- the table with one more row
 pub best_more : (v : ℕ) (r : Rule) (test : ℕ → ℕ → Bool) (x : ℕ) (xs rows : List ℕ) (row : ℕ) (rest numbers : ByPlace ℕ)
     → BestBelow v r test xs (λ p. follow p rows) (bits_at rest)
     → IsRow v r x (begins r test (x ∷ xs)) rest row numbers
@@ -53,14 +53,14 @@ best_more v r test x xs rows row rest numbers below choice = λ p ks h.
     best_step v r test p x xs (λ q. follow q rows) (bits_at rest) (mode_at row p) (bits_at numbers p) below (choice p)
     (rest_after r test p x xs (mode_at row p) (choice p).is_allowed)
 
--- how large the bits get
+-- a byte adds at most 33 bits to the bits of a rest
 pub small_more : (v : ℕ) (r : Rule) (x : ℕ) (pair : Bool) (row : ℕ) (rest numbers : ByPlace ℕ) (n : ℕ)
     → ((p : Place) → bits_at rest p ≤ 33 * n) → IsRow v r x pair rest row numbers → (p : Place) → bits_at numbers p ≤ 33 * (n + 1)
 small_more v r x pair row rest numbers n small choice p =
     let m = mode_at row p in
     omega (arith, (choice p).has_bits, step_bits_bound v p m, small (place_after p m))
 
--- numbers of so few bits are small
+-- numbers of at most 33 bits for each byte are small
 pub small_row : (rest : ByPlace ℕ) (n : ℕ) → n ≤ 113425 → ((p : Place) → bits_at rest p ≤ 33 * n) → IsSmall rest
 unfolding at_place
 small_row rest n few small = (
@@ -87,11 +87,11 @@ zeros InBytes = refl
 zeros HalfPair = refl
 zeros WholePair = refl
 
--- the last two bits of the number of each place
+-- the modes of all numbers as one row: two bits for each state
 abbrev pub packed : ByPlace ℕ → ℕ
 packed n = n.start % 4 + 4 * (n.digit1 % 4 + 4 * (n.digit2 % 4 + 4 * (n.digit3 % 4 + 4 * (n.character1 % 4 + 4 * (n.character2 % 4 + 4 * (n.in_bytes % 4 + 4 * (n.half_pair % 4 + 4 * (n.whole_pair % 4))))))))
 
--- those of a place
+-- the two bits for a state in a row
 packed-at : (n : ByPlace ℕ) (p : Place) → packed n / 2 ^ shift_of p % 4 ≡ at_place n p % 4
 unfolding at_place
 packed-at n Start = omega arith
@@ -104,12 +104,12 @@ packed-at n InBytes = omega arith
 packed-at n HalfPair = omega arith
 packed-at n WholePair = omega arith
 
--- the mode of a place in a row
+-- the mode for a state in a row
 pub packed-mode : (n : ByPlace ℕ) (p : Place) → mode_at (packed n) p ≡ ranked (at_place n p % 4)
 unfolding mode_at
 packed-mode n p = ap ranked (packed-at n p)
 
--- a row, place by place
+-- a row is right if its mode is right for each state
 pub row_of : (v : ℕ) (r : Rule) (x : ℕ) (pair : Bool) (rest numbers : ByPlace ℕ) (row : ℕ) → ((p : Place) → mode_at row p ≡ ranked (at_place numbers p % 4))
     → IsChoice v r Start x pair (bits_at rest) (ranked (numbers.start % 4)) (numbers.start / 4)
     → IsChoice v r Digit1 x pair (bits_at rest) (ranked (numbers.digit1 % 4)) (numbers.digit1 / 4)
@@ -132,7 +132,7 @@ row_of v r x pair rest numbers row modes a b c d e f g h i InBytes = rw (modes I
 row_of v r x pair rest numbers row modes a b c d e f g h i HalfPair = rw (modes HalfPair) h
 row_of v r x pair rest numbers row modes a b c d e f g h i WholePair = rw (modes WholePair) i
 
--- the best of all that can be taken are LETTERS
+-- the best assignment from the start is the one that `IsLetters` describes
 letters_from_best : (v : ℕ) (r : Rule) (xs : List ℕ) (ms : List Mode) (n : ℕ) → IsBestRest v r is_kanji_pair Start xs ms n → IsLetters v r xs ms
 unfolding may_end
 letters_from_best v r xs ms n best =
@@ -143,14 +143,14 @@ letters_from_best v r xs ms n best =
       first = λ ks h e. best.first ks (can_take is_kanji_pair r xs ks (h.0, covers_by xs _ h.1) Start refl) (omega (arith, bits-runs_of v ms, bits-runs_of v ks, best.has_bits));
     }
 
--- the letters to which a table leads are the letters of least bits
+-- the modes to which a table leads are the best assignment
 pub letters_from_table : (v : ℕ) (r : Rule) (xs : List ℕ) (rows : List ℕ) → IsBestTable v r is_kanji_pair xs rows → IsLetters v r xs (follow Start rows)
 unfolding may_end
 letters_from_table v r xs rows table =
     let some = table Start (replicate (length xs) Byte) (bytes_rest r is_kanji_pair Start xs refl) in
     letters_from_best v r xs (follow Start rows) some.0 some.1
 
--- the modes so far and one more, and then those to which the other rows lead
+-- the modes found so far, the mode of one more row, and then the modes of the other rows
 pub led_on : (p : Place) (items rows : List ℕ) (row : ℕ) (ms all : List Mode) (m : Mode) → items ≡ rows ++ row ∷ [] → m ≡ mode_at row p
     → ms ++ follow p (reverse items) ≡ all → (ms ++ m ∷ []) ++ follow (place_after p m) (reverse rows) ≡ all
 unfolding follow

@@ -1,4 +1,4 @@
--- The data of a segment, read again as it was written, and what is read is written so.
+-- The data of a segment: what is written is read back, and what is read is written as the same bits.
 use Rattle.std.proofs.Common.{◌≡◌, ℕ, zero, suc, ◌+◌, ◌*◌, ◌/◌, ◌%◌, ◌<◌, ◌≤◌, Bool, true, nat_lt, All, List, [], ◌∷◌, ◌++◌, length, take, drop, Ok, refl, sym, ◌∙◌, ap, subst, arith, append_assoc}
 use Rattle.std.specs.List.{list_all}
 use Rattle.std.proofs.lemmas.Bool.{lt-ltb, ltb-true, and_parts, and_from}
@@ -18,7 +18,7 @@ use Rattle.qr_bits.proofs.ParsingLemmas.{bind_ok, same_ok}
 use Rattle.qr_bits.proofs.StreamLemmas.{drop-field, read_field, field_read, digits_again, digits_takes, are_digits, digits_suit, digits_bytes, chosen_ok}
 use Rattle.qr_bits.proofs.WritingLemmas.{two_more}
 
--- what was read of n digits, characters, bytes or kanji pairs is written so
+-- the digits, characters, bytes or kanji pairs that were read, written again, are the bits that were read
 pub record IsWritten (m : Mode) (n : ℕ) (bits : List Bool) (xs : List ℕ) : Type 0 where
   pub long : length xs ≡ byte_count m n
   pub bytes : All (λ b. b < 256) xs
@@ -27,7 +27,7 @@ pub record IsWritten (m : Mode) (n : ℕ) (bits : List Bool) (xs : List ℕ) : T
 
 -- ---- characters
 
--- what is written as characters is read again
+-- characters that are written are read back
 characters_again : (xs : List ℕ) (rest : List Bool) → list_all is_alphanumeric xs ≡ true → characters_of (length xs) (character_bits xs ++ rest) ≡ Ok xs
 unfolding characters_of character_bits
 characters_again [] rest h = refl
@@ -50,7 +50,7 @@ characters_again (a ∷ b ∷ xs) rest h =
     let s = append_assoc (field 11 g) (character_bits xs) rest in
     rw (s, r, d, lt-ltb g 2025 low, first, second, character_again a p.0, character_again b q.0, characters_again xs rest q.1) refl
 
--- the characters that were read are the characters of these bits
+-- the characters that were read, written again, are the bits that were read
 abbrev WrittenOut : ℕ → List Bool → List ℕ → Type 0
 WrittenOut n bits xs = (length xs ≡ n) × All (λ b. b < 256) xs × (list_all is_alphanumeric xs ≡ true) × (bits ≡ character_bits xs ++ drop (payload_bits Alphanumeric n) bits)
 
@@ -77,7 +77,7 @@ out_two n bits cs h low w =
       rw (a.1, b.1, back, field_read 11 bits h, two_more n, append_assoc (take 11 bits) (character_bits cs) (drop (11 + payload_bits Alphanumeric n) bits), ← rest) (sym (take-append-drop 11 bits)),
     )
 
--- what is read as characters is written so
+-- characters that are read are written as the same bits
 characters_takes : (n : ℕ) (xs : List ℕ) (bits : List Bool) → payload_bits Alphanumeric n ≤ length bits → characters_of n bits ≡ Ok xs → WrittenOut n bits xs
 unfolding characters_of character_bits
 characters_takes zero [] bits h e = (refl, All-nil (λ b. b < 256), refl, refl)
@@ -96,7 +96,7 @@ characters_takes (suc (suc n)) xs bits h e =
 
 -- ---- bytes
 
--- bytes are read again
+-- bytes that are written are read back
 pub bytes_again : (xs : List ℕ) (rest : List Bool) → All (λ b. b < 256) xs → bytes_of (length xs) (bits_of xs ++ rest) ≡ xs
 unfolding bytes_of bits_of
 bytes_again [] rest h = refl
@@ -106,7 +106,7 @@ bytes_again (x ∷ xs) rest h =
     let s = append_assoc (field 8 x) (bits_of xs) rest in
     rw (s, r, d, bytes_again xs rest (All-tail (λ b. b < 256) x xs h)) refl
 
--- what is read as bytes is written so
+-- bytes that are read are written as the same bits
 pub bytes_takes : (n : ℕ) (bits : List Bool) → 8 * n ≤ length bits
     → (length (bytes_of n bits) ≡ n) × All (λ b. b < 256) (bytes_of n bits) × (bits ≡ bits_of (bytes_of n bits) ++ drop (8 * n) bits)
 unfolding bytes_of bits_of
@@ -122,7 +122,7 @@ bytes_takes (suc n) bits h =
 
 -- ---- any mode
 
--- What is written is read again, whatever follows.
+-- Data that is written is read back, whatever follows.
 pub values_again : (m : Mode) (xs : List ℕ) (rest : List Bool) → All (λ b. b < 256) xs → suits m xs ≡ true → values_of m (character_count m (length xs)) (payload m xs ++ rest) ≡ Ok xs
 unfolding values_of payload
 values_again Numeric xs rest bytes h = digits_again xs rest (are_digits xs h)
@@ -130,7 +130,7 @@ values_again Alphanumeric xs rest bytes h = characters_again xs rest h
 values_again Byte xs rest bytes h = ap Ok (bytes_again xs rest bytes)
 values_again Kanji xs rest bytes h = pairs_again xs rest h
 
--- What is read is written so.
+-- Data that is read is written as the same bits.
 pub values_takes : (m : Mode) (n : ℕ) (xs : List ℕ) (bits : List Bool) → payload_bits m (byte_count m n) ≤ length bits → values_of m n bits ≡ Ok xs → IsWritten m n bits xs
 unfolding values_of payload
 values_takes Numeric n xs bits h e =

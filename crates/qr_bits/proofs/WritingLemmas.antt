@@ -13,13 +13,13 @@ use Rattle.qr_bits.specs.Segmentation.{segment_bits, bits}
 use Rattle.qr_bits.specs.Stream.{kanji_bits, digit_bits, character_bits, payload, segment_stream, segments_stream, Suits}
 use Rattle.qr_bits.proofs.BitLemmas.{length-field, length-bits_of}
 
--- each of the first bytes passes where all do, and so does the rest
+-- if all bytes pass a test, the bytes after the first n pass it
 pub all_rest : (p : ℕ → Bool) (xs : List ℕ) (n : ℕ) → list_all p xs ≡ true → list_all p (drop n xs) ≡ true
 all_rest p xs zero h = h
 all_rest p [] (suc n) h = h
 all_rest p (x ∷ xs) (suc n) h = all_rest p xs n (and_parts (p x) _ h).1
 
--- where all bytes pass, each does
+-- if all bytes pass a test, each byte passes it
 pub all_at : (p : ℕ → Bool) (xs : List ℕ) (i : ℕ) → list_all p xs ≡ true → i < length xs → p (get_or xs i 0) ≡ true
 all_at p [] i h l = absurd (omega arith)
 all_at p (x ∷ xs) zero h l = (and_parts (p x) _ h).0
@@ -89,13 +89,13 @@ kanji_two [] h = absurd (omega arith)
 kanji_two (a ∷ []) h = absurd (omega arith)
 kanji_two (a ∷ b ∷ xs) h = refl
 
--- the first two of bytes in twos pass the test, and the rest is in twos
+-- if bytes pass a test two by two, the first two pass it, and the rest does two by two
 pub in_twos-first : (test : ℕ → ℕ → Bool) (xs : List ℕ) → in_twos test xs ≡ true → 2 ≤ length xs → (test (get_or xs 0 0) (get_or xs 1 0) ≡ true) × (in_twos test (drop 2 xs) ≡ true)
 in_twos-first test [] h n = absurd (omega arith)
 in_twos-first test (x ∷ []) h n = absurd (omega arith)
 in_twos-first test (x ∷ y ∷ xs) h n = let p = and_parts (test x y) _ h in (p.0, p.1)
 
--- fewer than two bytes in twos are none, and have no bits
+-- fewer than two bytes that pass a test two by two are no bytes, and have no bits
 pub kanji_none : (test : ℕ → ℕ → Bool) (xs : List ℕ) → in_twos test xs ≡ true → length xs < 2 → kanji_bits xs ≡ []
 unfolding kanji_bits
 kanji_none test [] h n = refl
@@ -115,7 +115,7 @@ three_more n =
 pub two_more : (n : ℕ) → payload_bits Alphanumeric (2 + n) ≡ 11 + payload_bits Alphanumeric n
 two_more n = omega arith
 
--- digits have their bits
+-- the length of the bits of digits
 length-digit_bits : (xs : List ℕ) → length (digit_bits xs) ≡ payload_bits Numeric (length xs)
 unfolding digit_bits
 length-digit_bits [] = refl
@@ -126,7 +126,7 @@ length-digit_bits (a ∷ b ∷ c ∷ xs) =
     let e : suc (suc (suc (length xs))) ≡ 3 + length xs = omega arith in
     omega (arith, length-append (field 10 g) (digit_bits xs), length-field 10 g, length-digit_bits xs, three_more (length xs), ap (payload_bits Numeric) e)
 
--- characters have their bits
+-- the length of the bits of characters
 length-character_bits : (xs : List ℕ) → length (character_bits xs) ≡ payload_bits Alphanumeric (length xs)
 unfolding character_bits
 length-character_bits [] = refl
@@ -136,7 +136,7 @@ length-character_bits (a ∷ b ∷ xs) =
     let e : suc (suc (length xs)) ≡ 2 + length xs = omega arith in
     omega (arith, length-append (field 11 g) (character_bits xs), length-field 11 g, length-character_bits xs, two_more (length xs), ap (payload_bits Alphanumeric) e)
 
--- pairs are even in number
+-- bytes that pass a test two by two are even in number
 pub in_twos-even : (test : ℕ → ℕ → Bool) (xs : List ℕ) → in_twos test xs ≡ true → 2 * (length xs / 2) ≡ length xs
 in_twos-even test [] h = refl
 in_twos-even test (x ∷ []) h = absurd (false≢true h)
@@ -144,7 +144,7 @@ in_twos-even test (x ∷ y ∷ xs) h =
     let rest = in_twos-even test xs (and_parts (test x y) _ h).1 in
     omega (arith, rest)
 
--- pairs have their bits
+-- the length of the bits of kanji pairs
 pub length-kanji_bits : (xs : List ℕ) → in_twos is_kanji_pair xs ≡ true → length (kanji_bits xs) ≡ payload_bits Kanji (length xs)
 unfolding kanji_bits
 length-kanji_bits [] h = refl
@@ -153,7 +153,7 @@ length-kanji_bits (a ∷ b ∷ xs) h =
     let rest = length-kanji_bits xs (and_parts (is_kanji_pair a b) _ h).1 in
     omega (arith, length-append (field 13 (kanji_value a b)) (kanji_bits xs), length-field 13 (kanji_value a b), rest)
 
--- data has its bits
+-- the length of data
 pub length-payload : (m : Mode) (xs : List ℕ) → suits m xs ≡ true → length (payload m xs) ≡ payload_bits m (length xs)
 unfolding payload
 length-payload Numeric xs h = length-digit_bits xs
@@ -161,7 +161,7 @@ length-payload Alphanumeric xs h = length-character_bits xs
 length-payload Byte xs h = length-bits_of xs
 length-payload Kanji xs h = length-kanji_bits xs h
 
--- the stream of a segment has its bits
+-- the length of the stream of a segment
 pub length-segment_stream : (v n : ℕ) (m : Mode) (xs : List ℕ) → suits m xs ≡ true → length xs ≡ n → length (segment_stream v m xs) ≡ segment_bits v (record { mode = m; len = n })
 unfolding segment_stream
 length-segment_stream v n m xs h e =
@@ -169,7 +169,7 @@ length-segment_stream v n m xs h e =
     let id = Rattle.qr_bits.specs.Modes.indicator m in
     omega (arith, length-append (field 4 id) (count ++ payload m xs), length-append count (payload m xs), length-field 4 id, length-field (count_width v m) (character_count m (length xs)), length-payload m xs h, ap (payload_bits m) e)
 
--- the stream of segments has their bits
+-- the length of the stream of segments
 pub length-segments_stream : (v : ℕ) (xs : List ℕ) (segs : List Segment) → Suits xs segs → length (segments_stream v xs segs) ≡ bits v segs
 unfolding segments_stream Suits
 length-segments_stream v xs [] h = refl
@@ -179,17 +179,17 @@ length-segments_stream v xs (s ∷ ss) h =
 
 -- ---- segments, one after the other
 
--- the stream of segments from one on
+-- the stream of the segments from index i on
 pub stream_next : (v : ℕ) (xs : List ℕ) (segs : List Segment) (i : ℕ) (d : Segment) → i < length segs
     → segments_stream v xs (drop i segs) ≡ segment_stream v (get_or segs i d).mode (take (get_or segs i d).len xs) ++ segments_stream v (drop (get_or segs i d).len xs) (drop (i + 1) segs)
 unfolding segments_stream
 stream_next v xs segs i d h = let one : i + 1 ≡ suc i = omega arith in rw (one, drop-cons segs i d) refl
 
--- no segment has no bits
+-- the stream of no segment is empty
 pub stream_end : (v : ℕ) (xs : List ℕ) (segs : List Segment) (i : ℕ) → length segs ≤ i → segments_stream v xs (drop i segs) ≡ []
 unfolding segments_stream
 stream_end v xs segs i h = rw (drop_all i segs h) refl
 
--- one more part after what is written, and then the rest
+-- one more part is written, and the rest is still to be written
 pub append_next : (front part rest whole next : List Bool) → whole ≡ front ++ (part ++ rest) → next ≡ front ++ part → next ++ rest ≡ whole
 append_next front part rest whole next e f = rw f (append_assoc front part rest ∙ sym e)

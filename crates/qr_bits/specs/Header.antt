@@ -1,25 +1,27 @@
--- The header of structured append: its bits and the parity. Public clauses cite these.
+-- The header of structured append: its bits and the parity.
 use Rattle.std.specs.Prelude.{ℕ, ◌<◌, Bool, List, [], ◌++◌, Option, bit_xor, fold}
 use Rattle.std.specs.Option.{ForSome, option_map_or}
 use Rattle.qr_bits.specs.declared.header.Header.{Header}
 use Rattle.qr_bits.specs.Bits.{field}
 
--- the indicator of structured append (ISO/IEC 18004:2015, 7.4.1, Table 2)
+-- The indicator with which a header of structured append begins (ISO/IEC 18004:2015, 7.4.1, Table 2)
 abbrev pub header_indicator : ℕ
 header_indicator = 3
 
--- the bits of a header: 20, where there is one (ISO/IEC 18004:2015, 8.1)
+-- The number of bits of an optional header: 20, or 0 if there is no header (ISO/IEC 18004:2015, 8.1)
 abbrev pub header_bits : Option Header → ℕ
 header_bits header = option_map_or (λ _. 20) header 0
 
--- the header's numbers fit their fields (ISO/IEC 18004:2015, 8.2, 8.3)
+-- `HeaderFits header` holds if there is no header, or if its numbers fit their fields of 4, 4 and 8 bits (ISO/IEC
+-- 18004:2015, 8.2, 8.3)
 abbrev pub HeaderFits : Option Header → Type 0
 HeaderFits header = ForSome header (λ h. (h.position < 16) × (h.last < 16) × (h.parity < 256))
 
--- the bits of a header: the indicator, the position, the number of symbols less 1, the parity (ISO/IEC 18004:2015, 8.1 to 8.3)
+-- The bits of an optional header: the indicator, the position, the number of symbols less 1, and the parity (ISO/IEC
+-- 18004:2015, 8.1 to 8.3)
 unfoldable pub header_stream : Option Header → List Bool
 header_stream header = option_map_or (λ h. field 4 header_indicator ++ (field 4 h.position ++ (field 4 h.last ++ field 8 h.parity))) header []
 
--- the parity of an input: the exclusive or of all its bytes (ISO/IEC 18004:2015, 8.3)
+-- The parity of an input: the exclusive or of all its bytes (ISO/IEC 18004:2015, 8.3)
 abbrev pub parity_of : List ℕ → ℕ
 parity_of bs = fold bit_xor 0 bs

@@ -1,4 +1,4 @@
--- The data codewords of a symbol: the stream, the terminator and the padding. Public clauses cite these.
+-- The data codewords of a symbol: the stream, the terminator and the padding.
 use Rattle.std.specs.Prelude.{◌≡◌, ℕ, ◌*◌, ◌/◌, ◌%◌, ◌<◌, ◌≤◌, Bool, false, List, [], ◌∷◌, length, ◌-◌, ◌++◌, All, Option, zero, suc, min, replicate}
 use Rattle.qr_bits.specs.declared.segmentation.Segment.{Segment}
 use Rattle.qr_bits.specs.declared.header.Header.{Header}
@@ -7,36 +7,37 @@ use Rattle.qr_layout.specs.declared.level.Level.{Level}
 use Rattle.qr_layout.specs.Blocks.{data_codewords_of}
 use Rattle.qr_bits.specs.Stream.{IsStream}
 
--- the bits that the data codewords of a symbol hold (ISO/IEC 18004:2015, 7.4.10, Table 7)
+-- The number of bits of the data codewords of a symbol (ISO/IEC 18004:2015, 7.4.10, Table 7)
 abbrev pub capacity_of : ℕ → Level → ℕ
 capacity_of v l = 8 * data_codewords_of v l
 
--- the bits that the data codewords hold after a header (ISO/IEC 18004:2015, 7.4.10, 8.1)
+-- The number of bits of the data codewords of a symbol that remain after a header (ISO/IEC 18004:2015, 7.4.10, 8.1)
 abbrev pub room_of : ℕ → Level → ℕ
 room_of v l = capacity_of v l - 20
 
--- a stream and its terminator: four zero bits, or as many as the capacity has room for (ISO/IEC 18004:2015, 7.4.9)
+-- A stream and its terminator: four zero bits, or fewer if the capacity has no room for four (ISO/IEC 18004:2015, 7.4.9)
 abbrev pub terminated : ℕ → List Bool → List Bool
 terminated capacity stream = stream ++ replicate (min 4 (capacity - length stream)) false
 
--- zero bits to the end of a codeword (ISO/IEC 18004:2015, 7.4.10)
+-- A stream with zero bits added up to the end of a codeword (ISO/IEC 18004:2015, 7.4.10)
 abbrev pub filled : List Bool → List Bool
 filled stream = stream ++ replicate ((8 - length stream % 8) % 8) false
 
--- n pad codewords: EC and 11 (hexadecimal) in turn (ISO/IEC 18004:2015, 7.4.10)
+-- A list of n pad codewords: EC and 11 (hexadecimal) in turn (ISO/IEC 18004:2015, 7.4.10)
 unfoldable pub pads : ℕ → List ℕ
 pads zero = []
 pads (suc zero) = 0xEC ∷ []
 pads (suc (suc n)) = 0xEC ∷ 0x11 ∷ pads n
 
--- the stream with its terminator, filled up to n codewords (ISO/IEC 18004:2015, 7.4.9, 7.4.10)
+-- `padded n stream` is the stream with its terminator, filled up to n codewords (ISO/IEC 18004:2015, 7.4.9, 7.4.10)
 unfoldable pub padded : ℕ → List Bool → List Bool
 padded n stream =
     let whole = filled (terminated (8 * n) stream) in
     whole ++ bits_of (pads (n - length whole / 8))
 
--- The codewords are the data codewords of these bytes in these segments after this header: the bytes whose bits are the
--- padded stream. There are none where there is no stream, or where it is longer than the capacity (ISO/IEC 18004:2015, 7.4.10).
+-- `IsData v l xs segs h cw` holds if cw are the data codewords of the bytes xs in the segments segs after the header h, in a
+-- symbol of version v and level l: cw are bytes, and their bits are the padded stream. There are no such codewords if there
+-- is no stream, or if the stream is longer than the capacity (ISO/IEC 18004:2015, 7.4.10).
 pub record IsData (v : ℕ) (l : Level) (xs : List ℕ) (segs : List Segment) (h : Option Header) (cw : List ℕ) : Type 0 where
   pub stream : List Bool
   pub is_stream : IsStream v xs segs h stream

@@ -1,4 +1,4 @@
--- Definitions of single steps. Only private clauses cite them, so that a reader need not believe them.
+-- Definitions of single steps of the code. Only the contracts of private functions use them.
 pub mod Place
 pub mod Table
 pub mod Segmentation

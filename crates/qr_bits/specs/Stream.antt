@@ -1,4 +1,4 @@
--- The bit stream of segments, stated from the standard's tables apart from reading. Public clauses cite these.
+-- The bit stream of segments, defined from the standard's tables and without the parser.
 use Rattle.std.specs.Prelude.{◌≡◌, ℕ, ◌+◌, ◌*◌, ◌<◌, ◌≤◌, Bool, List, [], ◌∷◌, length, take, drop, IsTrue, ◌-◌, ◌^◌, ◌++◌, All, Option}
 use Rattle.qr_bits.specs.declared.modes.Mode.{Mode}
 use Rattle.qr_bits.specs.declared.modes.Mode.TheVariants.{Numeric, Alphanumeric, Byte, Kanji}
@@ -8,53 +8,54 @@ use Rattle.qr_bits.specs.Bits.{field, bits_of}
 use Rattle.qr_bits.specs.Modes.{character_count, count_width, suits, indicator, character_value, kanji_value}
 use Rattle.qr_bits.specs.Header.{header_stream, HeaderFits}
 
--- the bits of digits: three in 10 bits, two left over in 7, one in 4 (ISO/IEC 18004:2015, 7.4.3)
+-- The bits of digits: three digits in 10 bits, two left over in 7, one left over in 4 (ISO/IEC 18004:2015, 7.4.3)
 unfoldable pub digit_bits : List ℕ → List Bool
 digit_bits [] = []
 digit_bits (a ∷ []) = field 4 (a - 48)
 digit_bits (a ∷ b ∷ []) = field 7 (10 * (a - 48) + (b - 48))
 digit_bits (a ∷ b ∷ c ∷ xs) = field 10 (100 * (a - 48) + 10 * (b - 48) + (c - 48)) ++ digit_bits xs
 
--- the bits of characters: two in 11 bits, one left over in 6 (ISO/IEC 18004:2015, 7.4.4)
+-- The bits of characters: two characters in 11 bits, one left over in 6 (ISO/IEC 18004:2015, 7.4.4)
 unfoldable pub character_bits : List ℕ → List Bool
 character_bits [] = []
 character_bits (a ∷ []) = field 6 (character_value a)
 character_bits (a ∷ b ∷ xs) = field 11 (45 * character_value a + character_value b) ++ character_bits xs
 
--- the bits of kanji pairs: each in 13 bits (ISO/IEC 18004:2015, 7.4.6)
+-- The bits of kanji pairs: each pair in 13 bits (ISO/IEC 18004:2015, 7.4.6)
 unfoldable pub kanji_bits : List ℕ → List Bool
 kanji_bits [] = []
 kanji_bits (a ∷ []) = []
 kanji_bits (a ∷ b ∷ xs) = field 13 (kanji_value a b) ++ kanji_bits xs
 
--- the data bits of a segment (ISO/IEC 18004:2015, 7.4.3 to 7.4.6)
+-- The data bits of a segment of the bytes xs in a mode (ISO/IEC 18004:2015, 7.4.3 to 7.4.6)
 unfoldable pub payload : Mode → List ℕ → List Bool
 payload Numeric xs = digit_bits xs
 payload Alphanumeric xs = character_bits xs
 payload Byte xs = bits_of xs
 payload Kanji xs = kanji_bits xs
 
--- the bits of one segment of these bytes: mode indicator, character count indicator, data (ISO/IEC 18004:2015, 7.4.1)
+-- The bits of a segment of the bytes xs: mode indicator, character count indicator, data (ISO/IEC 18004:2015, 7.4.1)
 unfoldable pub segment_stream : ℕ → Mode → List ℕ → List Bool
 segment_stream v m xs = field 4 (indicator m) ++ (field (count_width v m) (character_count m (length xs)) ++ payload m xs)
 
--- the bits of segments, one after the other, each of its part of the bytes (ISO/IEC 18004:2015, 7.4.1)
+-- The bits of segments, one after the other; each segment writes the next part of the bytes xs (ISO/IEC 18004:2015, 7.4.1)
 unfoldable pub segments_stream : ℕ → List ℕ → List Segment → List Bool
 segments_stream v xs [] = []
 segments_stream v xs (s ∷ ss) = segment_stream v s.mode (take s.len xs) ++ segments_stream v (drop s.len xs) ss
 
--- the segments take all of the bytes, each part suiting its mode; segments may be empty [own]
+-- `Suits xs segs` holds if the lengths of the segments add up to the length of xs, and the bytes of each segment can be
+-- written in its mode; segments may be empty [own]
 unfoldable pub Suits : List ℕ → List Segment → Type 0
 Suits xs [] = xs ≡ []
 Suits xs (s ∷ ss) = (s.len ≤ length xs) × IsTrue (suits s.mode (take s.len xs)) × Suits (drop s.len xs) ss
 
--- each count fits its character count indicator (ISO/IEC 18004:2015, 7.4.1, Table 3)
+-- `CountsFit v segs` holds if each count fits its character count indicator (ISO/IEC 18004:2015, 7.4.1, Table 3)
 unfoldable pub CountsFit : ℕ → List Segment → Type 0
 CountsFit v [] = Unit {0}
 CountsFit v (s ∷ ss) = (character_count s.mode s.len < 2 ^ count_width v s.mode) × CountsFit v ss
 
--- The bits are the stream of these bytes in these segments after this header: where the segments take the bytes, each
--- part suits its mode and all numbers fit, the header's bits and then those of the segments (ISO/IEC 18004:2015, 7.4.1, 8.1).
+-- `IsStream v xs segs h stream` holds if the stream is the bits of the header h and then those of the segments segs of the
+-- bytes xs. The segments have to suit the bytes, and all numbers have to fit their fields (ISO/IEC 18004:2015, 7.4.1, 8.1).
 pub record IsStream (v : ℕ) (xs : List ℕ) (segs : List Segment) (h : Option Header) (stream : List Bool) : Type 0 where
   pub bytes : All (λ b. b < 256) xs
   pub suit : Suits xs segs

@@ -1,4 +1,4 @@
-//! Bits in codewords, the highest bit of a codeword first: writing and reading them (ISO/IEC 18004:2015, 7.4.10).
+//! Writes and reads numbers as bits of codewords, the highest bit of each codeword first (ISO/IEC 18004:2015, 7.4.10).
 
 ghost use Rattle.std.specs.Prelude.{Bool, List, OnOk, [], drop, length, take, ◌%◌, ◌*◌, ◌++◌, ◌+◌, ◌<◌, ◌^◌, ◌∷◌, ◌≡◌, ◌≤◌};
 ghost use Rattle.qr_bits.specs.Padding.{filled};
@@ -8,11 +8,11 @@ use crate::modes::{STRUCTURED_APPEND, TERMINATOR};
 use std::alloc::{AllocError, Global};
 use std::marker::Model;
 
-/// The bits written so far.
+/// Collects bits into codewords. Its view is the list of the bits written so far.
 #[derive(Drop)]
 pub(crate) struct BitWriter {
     whole: Vec<u8>,
-    // The bits after the whole codewords: a number of `width` bits, fewer than eight.
+    // The bits after the whole codewords, as a number of `width` bits; `width` is less than eight.
     rest: u8,
     width: u8,
 }
@@ -53,7 +53,7 @@ impl BitWriter {
         Ok(())
     }
 
-    // Writes a number in a field of this width, bit by bit.
+    // Writes `number` in `width` bits, bit by bit.
     fn put_bits(&mut self, width: u8, number: u16) -> Result<(), AllocError>
         requires { width ≤ 16 }
         ensures { OnOk result (self.new ≡ self.old ++ field width number) }
@@ -64,7 +64,7 @@ impl BitWriter {
         Ok(())
     }
 
-    /// Writes a number in a field of this width, its last eight bits at once.
+    /// Writes `number` in `width` bits. If `width` is at least eight, the last eight bits are written at once.
     pub(crate) fn put(&mut self, width: u8, number: u16) -> Result<(), AllocError>
         requires { width ≤ 16 }
         ensures { OnOk result (self.new ≡ self.old ++ field width number) }
@@ -88,7 +88,7 @@ impl BitWriter {
         Ok(())
     }
 
-    /// Writes zero bits to the end of a codeword.
+    /// Writes zero bits up to the end of the current codeword.
     pub(crate) fn fill(&mut self) -> Result<(), AllocError>
         ensures { OnOk result (self.new ≡ filled self.old) }
     {
@@ -99,7 +99,7 @@ impl BitWriter {
         Ok(())
     }
 
-    /// The codewords, where the bits end with one.
+    /// Returns the codewords. The number of bits written must be a multiple of eight.
     pub(crate) fn into_codewords(self) -> Vec<u8>
         requires { length self % 8 ≡ 0 }
         ensures { bits_of result.items ≡ self }
@@ -109,7 +109,7 @@ impl BitWriter {
     }
 }
 
-/// The bits of codewords that are not read yet.
+/// Reads the bits of codewords. Its view is the list of the bits that are not read yet.
 #[derive(Drop)]
 pub(crate) struct BitReader<'a> {
     bytes: &'a [u8],
@@ -134,7 +134,7 @@ impl<'a> BitReader<'a> {
         BitReader { bytes, at: 0 }
     }
 
-    /// How many bits are left.
+    /// Returns the number of bits that are not read yet.
     pub(crate) fn len(&self) -> usize
         ensures { result ≡ length self.now }
     {
@@ -151,7 +151,7 @@ impl<'a> BitReader<'a> {
         bit
     }
 
-    /// Reads a number of this width.
+    /// Reads a number of `width` bits.
     pub(crate) fn take(&mut self, width: usize) -> u16
         requires there { width ≤ length self.old }
         requires fits { width ≤ 16 }
@@ -165,7 +165,7 @@ impl<'a> BitReader<'a> {
         number
     }
 
-    /// Whether nothing more is to be read: fewer than four bits are left, or a terminator is next.
+    /// Returns whether the data ends here: fewer than four bits are left, or the next four bits are the terminator.
     #[tactic(auto, unfolding(crate::specs::Parsing::ends))]
     pub(crate) fn ends(&self) -> bool
         ensures { result ≡ ends self.now }
@@ -173,7 +173,7 @@ impl<'a> BitReader<'a> {
         self.len() < 4 || self.indicator() == TERMINATOR
     }
 
-    /// Whether the indicator of a header is next.
+    /// Returns whether the next four bits are the indicator of a structured append header.
     #[tactic(auto, unfolding(crate::specs::Parsing::begins_header))]
     pub(crate) fn begins_header(&self) -> bool
         ensures { result ≡ begins_header self.now }
@@ -181,7 +181,7 @@ impl<'a> BitReader<'a> {
         self.len() >= 4 && self.indicator() == STRUCTURED_APPEND
     }
 
-    /// The next four bits, which stay to be read.
+    /// Peeks at the next four bits: returns them as a number and leaves them unread.
     fn indicator(&self) -> u16
         requires { 4 ≤ length self.now }
         ensures { result ≡ value (take 4 self.now) }

@@ -22,14 +22,14 @@ pub fn rules_are_equal(a: Rule, b: Rule) -> bool
     a == b
 }
 
-/// Segments are equal exactly if both fields are.
+/// Segments are equal exactly if both fields are equal.
 pub fn segments_are_equal(a: Segment, b: Segment) -> bool
     ensures { IsTrue result ↔ (a ≡ b) }
 {
     a == b
 }
 
-/// Headers are equal exactly if all fields are.
+/// Headers are equal exactly if all fields are equal.
 pub fn headers_are_equal(a: Header, b: Header) -> bool
     ensures { IsTrue result ↔ (a ≡ b) }
 {
@@ -97,7 +97,7 @@ mod tests {
     use super::*;
     use std::test::Fail;
 
-    // Equal where each field is, and unequal where one is not.
+    // Values are equal if all their fields are equal, and unequal if one field differs.
     #[test]
     fn equal_and_unequal_values(rt: HostRuntime) -> Result<(), Fail> {
         assert!(rt;

@@ -1,4 +1,4 @@
-//! Folding: small letters of an input become capitals, which alphanumeric mode can write.
+//! Folding: turns the small letters of an input into capitals, which alphanumeric mode can write.
 
 ghost use Rattle.std.specs.Prelude.{◌≡◌, length, map, vec_len, IfOk};
 ghost use Rattle.qr_bits.specs.Folding.{capital, folded, folded_around_pairs};
@@ -7,10 +7,10 @@ use crate::modes::Rule;
 use crate::table::begins_with_pair;
 use std::alloc::{AllocError, Global};
 
-/// The input with its letters `a` to `z` as capitals. It has as many bytes as the input.
+/// Returns the input with its letters `a` to `z` turned into capitals. The number of bytes stays the same.
 ///
-/// Under `Rule::WithKanji` the input is read from the left, and a kanji pair stays as it is; under
-/// `Rule::BytesOnly` all bytes stay.
+/// Under `Rule::WithKanji` the input is read from the left, and kanji pairs stay as they are. Under
+/// `Rule::BytesOnly` all bytes stay as they are.
 pub fn fold(alloc: Global, input: &[u8], rule: Rule) -> Result<Vec<u8>, AllocError>
     ensures bytes { IfOk result (λ v. v.items ≡ folded rule input.now) }
     ensures len { IfOk result (λ v. vec_len v ≡ length input.now) }

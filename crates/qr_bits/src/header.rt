@@ -1,19 +1,19 @@
-//! The header of structured append: ISO/IEC 18004:2015, 8.
+//! The structured append header, which says which part of a series a symbol is (ISO/IEC 18004:2015, 8).
 
 ghost use Rattle.std.specs.Prelude.{◌≡◌};
 ghost use Rattle.qr_bits.specs.Header.{header_bits, parity_of};
 
-// The bits of a header (8.1).
+// The length of a header in bits (8.1).
 pub(crate) const HEADER_BITS: u64 = 20;
 
-/// What a symbol of a series says before its segments (8.1).
+/// The structured append header, which comes before the segments of each symbol of a series (8.1).
 #[derive(Clone, Copy, Debug, PartialEq, Eq)]
 pub struct Header {
-    /// Which symbol of the series it is, from 0 to 15 (8.2).
+    /// The index of the symbol in the series, from 0 to 15 (8.2).
     pub position: u8,
-    /// The number of symbols less 1, from 0 to 15 (8.2).
+    /// The number of symbols of the series less 1, from 0 to 15 (8.2).
     pub last: u8,
-    /// The parity of the whole input (8.3).
+    /// The parity of the whole input of the series (8.3).
     pub parity: u8,
 }
 
@@ -26,7 +26,7 @@ pub(crate) fn header_bits(header: Option<Header>) -> u64
     }
 }
 
-/// The exclusive or of all bytes (8.3).
+/// Returns the parity of the input: the exclusive or of all its bytes (8.3).
 pub fn parity(input: &[u8]) -> u8
     ensures { result ≡ parity_of input.now }
 {

@@ -1,5 +1,5 @@
-//! Laws of the definitions: those that hold for every input, and those that compute what the standard prints or what was
-//! worked out by hand.
+//! Laws of the definitions. Some hold for every input. The others compute examples, and compare them with values that the
+//! standard prints or that were worked out by hand.
 
 ghost use Rattle.std.specs.Prelude.{◌≡◌, ◌-◌, ◌/◌, ◌%◌, ℕ, List, [], ◌∷◌, ◌++◌, true, false, length, map, codes};
 ghost use Rattle.qr_layout.specs.declared.level.Level.{Level};
@@ -26,29 +26,30 @@ pub use crate::equality::{
 use crate::fault::{BitFault, ParseFault};
 use crate::modes::INPUT_MAX;
 
-/// A parse reads streams, and only streams: any segmentation, empty segments and any padding.
+/// A parse succeeds exactly if the bits are a stream and then an end. Segments may be empty, and any segmentation and any
+/// padding is read.
 pub fn streams_are_parsed()
     ensures { StreamsAreParsed }
 {}
 
-/// A parse of data codewords gives back what they were made of.
+/// Parsing data codewords returns the header, the segments and the bytes that the codewords were made of.
 pub fn data_are_parsed()
     ensures { DataAreParsed }
 {}
 
-/// There is one list of data codewords where a stream fits, and it fills the symbol.
+/// If a stream fits a symbol, it has exactly one list of data codewords, as long as the symbol needs.
 pub fn data_are_one()
     ensures there { DataAreThere }
     ensures one { DataAreOne }
     ensures full { DataFillTheSymbol }
 {}
 
-/// A stream has the bits of its header and its segments.
+/// The length of a stream is the number of bits of its header and its segments.
 pub fn streams_have_their_bits()
     ensures { StreamsHaveTheirBits }
 {}
 
-/// Where the bits fit a symbol, no character count indicator overflows.
+/// If the bits of segments fit a symbol, each count fits its character count indicator.
 pub fn counts_fit_where_bits_fit()
     ensures { CountsFitWhereBitsFit }
 {}
@@ -58,12 +59,12 @@ pub fn fitting_inputs_are_short()
     ensures { FittingInputsAreShort }
 {}
 
-/// The least segmentation covers its input, and fits where any lettering does.
+/// The least segmentation covers its input, and fits a number of bits exactly if some assignment of modes does.
 pub fn least_segmentations_fit()
     ensures { LeastSegmentationsFit }
 {}
 
-/// An input has only one least segmentation.
+/// An input has at most one least segmentation.
 pub fn segmentations_are_one()
     ensures { (v : ℕ) (r : Rule) (xs : List ℕ) (ss ts : List Segment)
         → IsLeastSegmentation v r xs ss → IsLeastSegmentation v r xs ts → ss ≡ ts }
@@ -74,17 +75,17 @@ pub fn foldings_keep_lengths()
     ensures { (r : Rule) (xs : List ℕ) → length (folded r xs) ≡ length xs }
 {}
 
-/// Without kanji mode a piece of a text needs no more bits than the text.
+/// Without kanji mode, a piece of an input needs no more bits than the input.
 pub fn pieces_need_no_more()
     ensures { PiecesNeedNoMore }
 {}
 
-/// The bits of codewords, one by one, highest bit first.
+/// Item k of the list of bits of codewords is bit k as `codeword_bit` computes it, the highest bit of a codeword first.
 pub fn bits_are_codeword_bits()
     ensures { BitsAreCodewordBits }
 {}
 
-/// The most bytes of an input, as other contracts name them.
+/// The greatest length of an input in bytes, as a number.
 pub fn limits()
     ensures { INPUT_MAX ≡ 113425 }
 {}
@@ -101,8 +102,8 @@ pub fn widths_compute()
         ≡ 8 ∷ 8 ∷ 10 ∷ 10 ∷ 12 ∷ 12 ∷ [] }
 {}
 
-/// The data bits of the standard's examples (7.4.3 to 7.4.5), one digit left over among them, and the values of the last
-/// characters (Table 5).
+/// The data bits of the standard's examples (7.4.3 to 7.4.5) and of `0123`, which leaves one digit over, and the values of
+/// the last nine characters (Table 5).
 #[tactic(auto, unfolding(crate::specs::Modes::characters, crate::specs::Stream::digit_bits, crate::specs::Modes::character_value, crate::specs::Stream::character_bits, crate::specs::Bits::field))]
 pub fn payloads_compute()
     ensures digits { digit_bits (codes "01234567") ≡ field 10 12 ++ (field 10 345 ++ field 7 67) }
@@ -113,8 +114,9 @@ pub fn payloads_compute()
         ≡ 36 ∷ 37 ∷ 38 ∷ 39 ∷ 40 ∷ 41 ∷ 42 ∷ 43 ∷ 44 ∷ [] }
 {}
 
-/// The data codewords of a segment of each mode in version 1, and of the middle symbol of a series of three: the
-/// indicators, the counts, the order of a header's fields, the terminator and the pad codewords (7.4.1 to 7.4.10, 8.1).
+/// Data codewords in version 1: of one segment of digits, of characters and of kanji, and of the middle symbol of a series
+/// of three, which is in byte mode. The examples show the indicators, the counts, the order of a header's fields, the
+/// terminator and the pad codewords (7.4.1 to 7.4.10, 8.1).
 #[tactic(auto, unfolding(crate::specs::Modes::characters, crate::specs::Modes::character_value, crate::specs::Modes::kanji_value, crate::specs::Stream::digit_bits, crate::specs::Stream::character_bits, crate::specs::Stream::kanji_bits, crate::specs::Stream::payload, crate::specs::Stream::segment_stream, crate::specs::Stream::segments_stream, crate::specs::Header::header_stream, crate::specs::Padding::padded, crate::specs::Padding::pads, crate::specs::Bits::field, crate::specs::Bits::bits_of))]
 pub fn streams_compute()
     ensures digits { padded 16 (segments_stream 1 (codes "01234567") (one Numeric 8)) ≡ bits_of eight_digits }
@@ -123,7 +125,7 @@ pub fn streams_compute()
     ensures series { padded 9 (header_stream (Some middle) ++ segments_stream 1 (codes "FGH") (one Byte 3)) ≡ bits_of middle_data }
 {}
 
-/// A parse reads the middle symbol of a series of three, and reports each fault by its own name.
+/// The parse of the middle symbol of a series of three, and the fault of each row of `unreadable`.
 #[tactic(auto, unfolding(crate::specs::Parsing::parse, crate::specs::Parsing::first_header, crate::specs::Parsing::begins_header, crate::specs::Parsing::header_at, crate::specs::Parsing::segments_of, crate::specs::Parsing::segments_at, crate::specs::Parsing::segment_at, crate::specs::Parsing::leading_number, crate::specs::Parsing::payload_at, crate::specs::Parsing::values_of, crate::specs::Parsing::digits_of, crate::specs::Parsing::characters_of, crate::specs::Parsing::character, crate::specs::Parsing::bytes_of, crate::specs::Parsing::pairs_of, crate::specs::Parsing::kanji_pair, crate::specs::Parsing::mode_of, crate::specs::Parsing::ends, crate::specs::Modes::characters, crate::specs::Bits::field, crate::specs::Bits::bits_of))]
 pub fn parses_compute()
     ensures series { parse 1 (bits_of middle_data)
@@ -131,12 +133,12 @@ pub fn parses_compute()
     ensures faults { map (λ row. parse 1 (bits_of row.0)) unreadable ≡ map (λ row. Err row.1) unreadable }
 {}
 
-/// A header takes its bits from the room of a symbol (8.1).
+/// With a header, a symbol has fewer bits for its segments: its capacity less the bits of the header (8.1).
 pub fn headers_take_room()
     ensures { (v : ℕ) (l : Level) (h : Header) → room_of v l ≡ capacity_of v l - header_bits (Some h) }
 {}
 
-/// The parity of `ABCDEFGH`, of no byte, and of a byte twice and another once (8.3).
+/// The parity of `ABCDEFGH`, of no byte, and of three bytes of which two are equal (8.3).
 pub fn parities_compute()
     ensures capitals { parity_of (codes "ABCDEFGH") ≡ 0x08 }
     ensures empty { parity_of [] ≡ 0 }
@@ -150,8 +152,8 @@ pub fn rules_compute()
     ensures kanji { map (may_use Rule.WithKanji) all_modes ≡ true ∷ true ∷ true ∷ true ∷ [] }
 {}
 
-/// What folding makes of the first and last letters and of the characters beside them, under each rule; with kanji mode a
-/// pair whose second byte is a small letter stays, and half a pair at the end does.
+/// Folding of the first and the last letters and of the characters beside them, without kanji mode. With kanji mode, a pair
+/// whose second byte is a small letter stays as it is, and so does the first half of a pair at the end.
 #[tactic(auto, unfolding(crate::specs::Folding::folded_around_pairs, crate::specs::Modes::is_kanji_pair))]
 pub fn foldings_compute()
     ensures auto { folded Rule.Auto (codes "@AZ[`az{") ≡ codes "@AZ[`AZ{" }
@@ -160,15 +162,15 @@ pub fn foldings_compute()
         ≡ 0x41 ∷ 0x93 ∷ 0x61 ∷ 0x41 ∷ 0x93 ∷ [] }
 {}
 
-/// The least bits of short inputs: of digits, of characters beside the digits, of the first and last capitals, of the
-/// characters after them, and of one of each.
+/// The lower bound `least_bits` of short inputs: of digits, of the characters beside the digits, of the first and the last
+/// capital, of two bytes after `Z`, and of one byte of each kind.
 #[tactic(auto, unfolding(crate::specs::Segmentation::least_bits))]
 pub fn least_bits_compute()
     ensures { map least_bits (codes "012" ∷ codes "/9:" ∷ codes "AZ" ∷ codes "[z" ∷ codes "1A[" ∷ [])
         ≡ 10 ∷ 14 ∷ 11 ∷ 13 ∷ 15 ∷ [] }
 {}
 
-/// The numbers of the faults of segments and data codewords stay what they are.
+/// The discriminants of `BitFault`, which are stable.
 pub fn bit_fault_numbers(fault: BitFault) -> u8
     ensures memory { fault ≡ BitFault.Memory → result ≡ 1 }
     ensures too_long { fault ≡ BitFault.TooLong → result ≡ 2 }
@@ -176,7 +178,7 @@ pub fn bit_fault_numbers(fault: BitFault) -> u8
     fault as u8
 }
 
-/// The numbers of the faults of a parse stay what they are.
+/// The discriminants of `ParseFault`, which are stable.
 pub fn parse_fault_numbers(fault: ParseFault) -> u8
     ensures memory { fault ≡ ParseFault.Memory → result ≡ 1 }
     ensures bad_mode { fault ≡ ParseFault.BadMode → result ≡ 2 }
@@ -186,7 +188,8 @@ pub fn parse_fault_numbers(fault: ParseFault) -> u8
     fault as u8
 }
 
-/// The values of the standard's kanji and of the last one (7.4.6), and the first and last pairs of each range.
+/// The values of the standard's two kanji examples and of the last kanji (7.4.6), and which pairs at the edges of the two
+/// ranges are kanji pairs.
 #[tactic(auto, unfolding(crate::specs::Modes::is_kanji_pair, crate::specs::Modes::kanji_value, crate::specs::Parsing::kanji_pair))]
 pub fn kanji_compute()
     ensures first { kanji_value 0x93 0x5F ≡ 0xD9F }

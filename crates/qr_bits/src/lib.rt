@@ -1,4 +1,4 @@
-//! Segments, the bit stream of a symbol, its data codewords, and the parse that reads them back.
+//! Splits an input into segments, writes segments as the data codewords of a symbol, and parses data codewords.
 #![tactic(auto)]
 
 mod bits;

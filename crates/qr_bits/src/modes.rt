@@ -1,5 +1,5 @@
-//! Modes: which bytes each can write, its indicator, the width of its count, and the bits of its data (ISO/IEC
-//! 18004:2015, 7.3 and 7.4.1 to 7.4.6).
+//! The four modes: which bytes each mode can write, its indicator, the width of its character count, and the length of its
+//! data (ISO/IEC 18004:2015, 7.3 and 7.4.1 to 7.4.6).
 
 ghost use Rattle.std.specs.Prelude.{IsTrue, ◌<◌, ◌==◌, ◌^◌, ◌≡◌, ◌≤◌};
 ghost use Rattle.qr_bits.specs.Modes.{character_value, characters, character_count, count_width, in_twos, indicator, is_alphanumeric, is_digit, is_kanji_pair, kanji_value, byte_count, may_use, payload_bits, suits};
@@ -9,8 +9,8 @@ ghost use Rattle.qr_bits.specs.Parsing.{character, mode_of};
 use crate::fault::ParseFault;
 use qr_layout::Version;
 
-/// The most bytes that an input may have: 16 times the 7,089 digits of the largest symbol, and one
-/// more.
+/// The greatest length of an input in bytes: 16 times the 7,089 digits of the largest symbol, and one
+/// byte more.
 pub const INPUT_MAX: usize = 113_425;
 
 /// How the bytes of a segment are written (7.3.3 to 7.3.6).
@@ -26,16 +26,16 @@ pub enum Mode {
     Kanji,
 }
 
-/// Which modes segments may be chosen from.
+/// The modes that a segmentation may use.
 #[derive(Clone, Copy, Debug, PartialEq, Eq)]
 pub enum Rule {
-    /// All but kanji mode.
+    /// All modes but kanji mode.
     Auto,
     BytesOnly,
     WithKanji,
 }
 
-// The mode indicators, that of a header of structured append, and the terminator (7.4.1, Table 2).
+// The mode indicators, the indicator of a structured append header, and the terminator (7.4.1, Table 2).
 pub(crate) const TERMINATOR: u16 = 0b0000;
 
 const NUMERIC: u16 = 0b0001;
@@ -48,7 +48,7 @@ const BYTE: u16 = 0b0100;
 
 const KANJI: u16 = 0b1000;
 
-// The indicator of a mode.
+// Returns the mode indicator of `mode` (7.4.1, Table 2).
 pub(crate) fn indicator(mode: Mode) -> u16
     ensures { result ≡ indicator mode }
 {
@@ -60,7 +60,7 @@ pub(crate) fn indicator(mode: Mode) -> u16
     }
 }
 
-// The mode of an indicator.
+// Returns the mode of an indicator, or `BadMode` if it belongs to no mode.
 #[tactic(auto, unfolding(crate::specs::Parsing::mode_of))]
 pub(crate) fn mode_of(indicator: u16) -> Result<Mode, ParseFault>
     ensures { result ≡ mode_of indicator }
@@ -74,7 +74,7 @@ pub(crate) fn mode_of(indicator: u16) -> Result<Mode, ParseFault>
     }
 }
 
-// The width of the character count indicator (7.4.1, Table 3).
+// Returns the width of the character count indicator in bits (7.4.1, Table 3).
 pub(crate) fn count_width(version: Version, mode: Mode) -> u8
     ensures value { result ≡ count_width version mode }
     ensures most { result ≤ 16 }
@@ -92,7 +92,7 @@ pub(crate) fn count_width(version: Version, mode: Mode) -> u8
     }
 }
 
-// The count of the bytes of a segment (7.4.1).
+// Returns the character count of a segment of `len` bytes; a kanji character has two bytes (7.4.1).
 pub(crate) fn character_count(mode: Mode, len: usize) -> usize
     ensures { result ≡ character_count mode len }
 {
@@ -102,7 +102,7 @@ pub(crate) fn character_count(mode: Mode, len: usize) -> usize
     }
 }
 
-// The bytes that a segment of this count has (7.4.1).
+// Returns the number of bytes of a segment with this character count (7.4.1).
 pub(crate) fn byte_count(mode: Mode, count: usize) -> usize
     requires { count < 2 ^ 16 }
     ensures { result ≡ byte_count mode count }
@@ -113,7 +113,7 @@ pub(crate) fn byte_count(mode: Mode, count: usize) -> usize
     }
 }
 
-// The bits of the data of a segment (7.4.3 to 7.4.6).
+// Returns the length in bits of the data of a segment of `len` bytes (7.4.3 to 7.4.6).
 pub(crate) fn payload_bits(mode: Mode, len: usize) -> usize
     requires { len < 2 ^ 20 }
     ensures { result ≡ payload_bits mode len }
@@ -146,7 +146,7 @@ pub(crate) fn is_digit(byte: u8) -> bool
 pub(crate) fn is_alphanumeric(byte: u8) -> bool
     ensures { result ≡ is_alphanumeric byte }
 {
-    // No character comes after Z.
+    // None of the 45 characters is greater than `Z`.
     if byte > b'Z' {
         return false;
     }
@@ -162,7 +162,7 @@ pub(crate) fn is_kanji_pair(high: u8, low: u8) -> bool
         && (0x40 <= low && low <= 0xFC)
 }
 
-// The value of a character: its place among the 45 (7.4.4, Table 5).
+// Returns the value of a character: its index among the 45 characters (7.4.4, Table 5).
 pub(crate) fn character_value(character: u8) -> u16
     requires { IsTrue (is_alphanumeric character) }
     ensures value { result ≡ character_value character }
@@ -178,7 +178,7 @@ fn place_of(character: u8) -> Option<usize>
     CHARACTERS.iter().position(|other| *other == character)
 }
 
-// The value of a kanji pair (7.4.6).
+// Returns the value of a kanji pair (7.4.6).
 #[tactic(auto, unfolding(crate::specs::Modes::kanji_value))]
 pub(crate) fn kanji_value(high: u8, low: u8) -> u16
     requires { IsTrue (is_kanji_pair high low) }

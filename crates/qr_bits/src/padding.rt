@@ -1,4 +1,4 @@
-//! From segments to data codewords: the stream, its terminator, and pad codewords (ISO/IEC 18004:2015, 7.4.9 and 7.4.10).
+//! Turns segments into data codewords: bit stream, terminator, pad codewords (ISO/IEC 18004:2015, 7.4.9 and 7.4.10).
 
 ghost use Rattle.std.specs.Prelude.{All, Err, IfOk, OnOk, length, vec_len, ◌++◌, ◌+◌, ◌-◌, ◌<◌, ◌↔◌, ◌≡◌, ◌≤◌};
 ghost use Rattle.qr_bits.specs.Segmentation.{Covers, bits};
@@ -15,25 +15,25 @@ use crate::stream::{put_header, put_segments};
 use qr_layout::{Level, Version};
 use std::alloc::{AllocError, Global};
 
-// The bits of a terminator, where there is room for them (7.4.9).
+// The length of a terminator in bits, if the symbol has room for all of it (7.4.9).
 const TERMINATOR_BITS: u64 = 4;
 
-/// The bits that the data codewords of a symbol hold.
+/// Returns the number of bits of a symbol's data codewords.
 pub(crate) fn capacity(version: Version, level: Level) -> u64
     ensures value { result ≡ capacity_of version level }
     ensures first { 1 ≤ version }
     ensures last { version ≤ 40 }
     ensures least { 72 ≤ result }
 {
-    // Its clauses say that the version is from 1 to 40.
+    // For the proof: the call ensures that the version is from 1 to 40.
     let _ = version.number();
     8 * u64::from(version.data_codewords(level))
 }
 
-/// The data codewords of a symbol: the header's bits where there is one, those of the segments, a
-/// terminator, and pad codewords (7.4.9, 7.4.10).
+/// Returns the data codewords of a symbol: the bits of the header, if there is one, the bits of the
+/// segments, a terminator, and pad codewords (7.4.9, 7.4.10).
 ///
-/// `TooLong` where header and segments have more bits than the symbol's data codewords.
+/// Returns `TooLong` if header and segments have more bits than the symbol's data codewords.
 pub fn codewords(
     alloc: Global,
     input: &[u8],
@@ -64,7 +64,7 @@ pub fn codewords(
     Ok(codewords)
 }
 
-// Pad codewords in turn, up to this number of codewords (7.4.10).
+// Appends the pad codewords EC and 11 in turn until there are `len` codewords (7.4.10).
 fn pad(codewords: &mut Vec<u8>, len: usize) -> Result<(), AllocError>
     ensures written { OnOk result (codewords.new.items
         ≡ codewords.old.items ++ pads (len - vec_len codewords.old)) }

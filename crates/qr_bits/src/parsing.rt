@@ -1,4 +1,4 @@
-//! The parse of data codewords: header, segments, and the data of each (ISO/IEC 18004:2015, 7.4.1 to 7.4.6, 8 and 12).
+//! Parses data codewords: header, segments and their bytes (ISO/IEC 18004:2015, 7.4.1 to 7.4.6, 8 and 12).
 
 ghost use Rattle.std.specs.Prelude.{Err, IfErr, IfOk, List, OnOk, drop, length, take, ℕ, ◌%◌, ◌*◌, ◌++◌, ◌+◌, ◌<◌, ◌≡◌, ◌≤◌};
 ghost use Rattle.qr_bits.specs.Modes.{count_width, byte_count, payload_bits};
@@ -14,7 +14,8 @@ use qr_layout::Version;
 use std::alloc::Global;
 use std::marker::Model;
 
-// Groups of digits and characters are numbers below these (7.4.3, 7.4.4).
+// Upper limits of the numbers that groups of digits and characters are written as; each number is below its limit (7.4.3,
+// 7.4.4).
 const THREE_DIGITS: u16 = 1000;
 
 const TWO_DIGITS: u16 = 100;
@@ -25,10 +26,10 @@ const PAIRS: u16 = 2025;
 
 const SINGLES: u16 = 45;
 
-// The low byte of the value of a kanji pair is at most this (7.4.6).
+// The greatest low byte `value % 0xC0` of the value of a kanji pair (7.4.6).
 const LOW_MAX: u16 = 0xBC;
 
-/// What data codewords say: a header or none, the segments in turn, and their bytes.
+/// Parsed data codewords: an optional header, the segments in order, and the bytes of all segments.
 #[derive(Debug, Drop)]
 pub struct Parsed {
     pub header: Option<Header>,
@@ -48,12 +49,12 @@ impl Model for Parsed {
     } };
 }
 
-/// Reads data codewords up to the terminator, or until fewer than four bits are left; what follows
-/// is not looked at. Any segmentation is accepted, empty segments too, and any padding.
+/// Parses data codewords up to the terminator, or until fewer than four bits are left. The bits after
+/// that are ignored. Any segmentation is accepted, also with empty segments, and any padding.
 ///
-/// `BadMode` where an indicator is none of the modes, or a header's is not the first; `Cut` where a
-/// header, a count or the data of a segment runs past the end; `BadValue` where a group of digits
-/// or characters is no such number.
+/// Returns `BadMode` if an indicator belongs to no mode, or if a header is not at the beginning; `Cut`
+/// if the codewords end within a header, a count or the data of a segment; `BadValue` if a group of
+/// digits or characters is too large a number for its length, or a kanji value is that of no pair.
 #[tactic(auto, unfolding(crate::specs::Parsing::parse))]
 pub fn parse(alloc: Global, codewords: &[u8], version: Version) -> Result<Parsed, ParseFault>
     requires { length codewords.now ≤ 3706 }
@@ -69,7 +70,7 @@ pub fn parse(alloc: Global, codewords: &[u8], version: Version) -> Result<Parsed
     })
 }
 
-// Reads the header, where its indicator is the first (8.1). This takes no memory: a fault is that of the codewords.
+// Reads the header, if the first indicator is that of a header (8.1). It does not allocate, so a fault is never `Memory`.
 #[tactic(auto, unfolding(crate::specs::Parsing::first_header))]
 fn first_header(reader: &mut BitReader) -> Result<Option<Header>, ParseFault>
     ensures ok { IfOk result (λ h. first_header reader.old ≡ Ok (h, reader.new)) }
@@ -83,7 +84,7 @@ fn first_header(reader: &mut BitReader) -> Result<Option<Header>, ParseFault>
     Ok(Some(header))
 }
 
-// Reads a header, after its indicator (8.1), and takes no memory either.
+// Reads a header after its indicator (8.1). It does not allocate either.
 #[tactic(auto, unfolding(crate::specs::Parsing::header_at))]
 fn header(reader: &mut BitReader) -> Result<Header, ParseFault>
     ensures ok { IfOk result (λ h. header_at reader.old ≡ Ok (h, reader.new)) }
@@ -99,7 +100,7 @@ fn header(reader: &mut BitReader) -> Result<Header, ParseFault>
     })
 }
 
-// Reads segments to the end.
+// Reads segments up to the end of the data.
 fn segments(
     alloc: Global,
     mut reader: BitReader,
@@ -117,7 +118,7 @@ fn segments(
     Ok((segments, bytes))
 }
 
-// Reads a segment, and adds its bytes to `out`.
+// Reads a segment, and appends its bytes to `out`.
 #[tactic(auto, unfolding(crate::specs::Parsing::segment_at, crate::specs::Parsing::payload_at))]
 fn segment(
     reader: &mut BitReader,
@@ -137,8 +138,8 @@ fn segment(
     Ok(Segment { mode, len })
 }
 
-// Reads the mode and the count of a segment whose data is there in full. This takes no memory: a fault is that of the
-// codewords.
+// Reads the mode and the count of a segment, and checks that all bits of its data are there. It does not allocate, so a
+// fault is never `Memory`.
 #[tactic(auto, unfolding(crate::specs::Parsing::segment_at, crate::specs::Parsing::leading_number, crate::specs::Parsing::payload_at))]
 fn segment_head(reader: &mut BitReader, version: Version) -> Result<(Mode, u16), ParseFault>
     requires { 4 ≤ length reader.old }
@@ -160,8 +161,8 @@ fn segment_head(reader: &mut BitReader, version: Version) -> Result<(Mode, u16),
     Ok((mode, count))
 }
 
-// Reads the data of a segment, which is there in full, and adds its bytes to `out`. The count is
-// of digits, characters, bytes or kanji pairs.
+// Reads the data of a segment, and appends its bytes to `out`. All bits of the data have to be there.
+// `count` is the number of digits, characters, bytes or kanji pairs.
 #[tactic(auto, unfolding(crate::specs::Parsing::values_of))]
 fn values(
     reader: &mut BitReader,
@@ -215,7 +216,7 @@ fn digits(reader: &mut BitReader, count: usize, out: &mut Vec<u8>) -> Result<(),
     Ok(())
 }
 
-// The last digit of a number, as its byte.
+// Returns the last digit of a number as its ASCII byte.
 fn digit(number: u16) -> u8
     ensures { result ≡ 48 + number % 10 }
 {
@@ -248,7 +249,7 @@ fn characters(reader: &mut BitReader, count: usize, out: &mut Vec<u8>) -> Result
     Ok(())
 }
 
-// The character of a value (7.4.4, Table 5).
+// Returns the character of a value (7.4.4, Table 5).
 #[tactic(auto, unfolding(crate::specs::Modes::characters, crate::specs::Parsing::character))]
 fn character(value: u16) -> u8
     requires { value < 45 }
@@ -289,7 +290,7 @@ fn kanji(reader: &mut BitReader, count: usize, out: &mut Vec<u8>) -> Result<(), 
     Ok(())
 }
 
-// The kanji pair of a value, its first byte the high one (7.4.6).
+// Returns the kanji pair of a value as a number whose high byte is the first byte of the pair (7.4.6).
 #[tactic(auto, unfolding(crate::specs::Parsing::kanji_pair))]
 fn kanji_pair(value: u16) -> u16
     requires { value < 8192 }
@@ -422,8 +423,8 @@ mod tests {
         Ok(())
     }
 
-    // How many of all pairs of codewords are read, end too early, and have an indicator of no mode: none has room for a
-    // value.
+    // Counts the pairs of codewords that can be read, that end too early, and that have an indicator of no mode. Two
+    // codewords have no room for the data of a segment, so `BadValue` does not occur.
     #[test]
     fn all_pairs_of_codewords(rt: HostRuntime) -> Result<(), Fail> {
         let (mut read, mut cut, mut no_mode) = (0u32, 0u32, 0u32);

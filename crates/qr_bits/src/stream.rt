@@ -1,4 +1,4 @@
-//! The bit stream of segments, after a header or none (ISO/IEC 18004:2015, 7.4.1 to 7.4.6 and 8.1).
+//! Writes the bit stream of segments, after an optional header (ISO/IEC 18004:2015, 7.4.1 to 7.4.6 and 8.1).
 
 ghost use Rattle.std.specs.Prelude.{IsTrue, OnOk, length, ◌++◌, ◌+◌, ◌-◌, ◌<◌, ◌^◌, ◌≡◌, ◌≤◌};
 ghost use Rattle.qr_bits.specs.Modes.{characters, in_twos, is_alphanumeric, is_digit, is_kanji_pair, suits};
@@ -52,7 +52,7 @@ pub(crate) fn put_segments(
     Ok(())
 }
 
-// One segment: mode indicator, character count indicator, data (7.4.1).
+// Writes one segment: mode indicator, character count indicator, data (7.4.1).
 #[tactic(auto, unfolding(crate::specs::Stream::segment_stream))]
 fn put_segment(
     writer: &mut BitWriter,
@@ -85,7 +85,7 @@ fn put_payload(writer: &mut BitWriter, mode: Mode, bytes: &[u8]) -> Result<(), A
     }
 }
 
-// Three digits in ten bits, two left over in seven, one in four (7.4.3).
+// Writes digits: three in ten bits, two left over in seven, one left over in four (7.4.3).
 fn put_digits(writer: &mut BitWriter, digits: &[u8]) -> Result<(), AllocError>
     requires { IsTrue (list_all is_digit digits.now) }
     ensures { OnOk result (writer.new ≡ writer.old ++ digit_bits digits.now) }
@@ -116,7 +116,7 @@ fn digit_value(digit: u8) -> u16
     u16::from(digit - b'0')
 }
 
-// Two characters in eleven bits, one left over in six (7.4.4).
+// Writes characters: two in eleven bits, one left over in six (7.4.4).
 fn put_characters(writer: &mut BitWriter, characters: &[u8]) -> Result<(), AllocError>
     requires { IsTrue (list_all is_alphanumeric characters.now) }
     ensures { OnOk result (writer.new ≡ writer.old ++ character_bits characters.now) }
@@ -142,7 +142,7 @@ fn put_bytes(writer: &mut BitWriter, bytes: &[u8]) -> Result<(), AllocError>
     Ok(())
 }
 
-// Each kanji pair in thirteen bits (7.4.6).
+// Writes kanji pairs, each in thirteen bits (7.4.6).
 fn put_kanji(writer: &mut BitWriter, bytes: &[u8]) -> Result<(), AllocError>
     requires { IsTrue (in_twos is_kanji_pair bytes.now) }
     ensures { OnOk result (writer.new ≡ writer.old ++ kanji_bits bytes.now) }

@@ -1,10 +1,10 @@
-//! The best mode for each byte and each place before it: a table filled from the back.
+//! Finds the best mode for each byte: a table that is filled from the last byte to the first.
 //!
-//! The bits of a rest depend only on the place before it, so for each place the best mode is the
-//! one with the fewest bits for itself and the best rest after it. A choice is one number: four
-//! times its bits, and the rank of its mode. So the first of the choices of the fewest bits is the
-//! least of their numbers. A row of the table contains the modes for a byte, two bits for each
-//! place.
+//! The bits that the remaining bytes add depend only on the state before them, a `Place`. So for each
+//! state the best mode is the mode with the fewest bits for the next byte and the best rest after it.
+//! A choice is one number: four times its bits plus the rank of its mode. So the least number is the
+//! choice with the fewest bits, and of choices with equally many bits the one with the lowest rank. A
+//! row of the table contains the modes for one byte, two bits for each state.
 
 ghost use Rattle.std.specs.Prelude.{◌≡◌, ◌+◌, ◌*◌, ◌/◌, ◌%◌, ◌<◌, ◌≤◌, ℕ, Bool, true, false, length, reverse, IfOk, vec_len};
 ghost use Rattle.qr_bits.specs.declared.modes.Mode.{Mode};
@@ -20,10 +20,10 @@ use crate::place::{ByPlace, Heads, NO_BITS, Place, number};
 use qr_layout::Version;
 use std::alloc::{AllocError, Global};
 
-// The number of a mode that may not be taken: more than that of any choice.
+// The number of a mode that may not be used. It is greater than the number of any choice.
 const NO_CHOICE: u32 = u32::MAX;
 
-// Returns the mode of a rank.
+// Returns the mode that has this rank.
 #[inline(always)]
 fn ranked(rank: u32) -> Mode
     ensures { result ≡ ranked rank }
@@ -36,7 +36,7 @@ fn ranked(rank: u32) -> Mode
     }
 }
 
-// Returns whether this mode may be taken for this byte alone, where no half of a pair is open.
+// Returns whether `mode`, which is not kanji mode, may be used for `byte`, if `byte` is not the second of a kanji pair.
 #[tactic(auto, unfolding(crate::specs::Steps::Place::may_begin))]
 #[inline(always)]
 fn may_begin(rule: Rule, byte: u8, mode: Mode) -> bool
@@ -51,8 +51,8 @@ fn may_begin(rule: Rule, byte: u8, mode: Mode) -> bool
     }
 }
 
-// Returns the number of a choice, or of none if its mode may not be taken. `first` is the number of its first byte alone,
-// and `rest` that of the best rest after this byte.
+// Returns the number of a choice, or `NO_CHOICE` if `may` is false. `first` is the number of the choice for its byte alone,
+// and `rest` is the number of the best choice for the bytes after it.
 #[inline(always)]
 fn number_if(may: bool, first: u32, rest: u32) -> u32
     requires first { first ≤ 135 }
@@ -62,7 +62,7 @@ fn number_if(may: bool, first: u32, rest: u32) -> u32
     if may { first + rest / 4 * 4 } else { NO_CHOICE }
 }
 
-// Returns a row of the table: the modes of the choices that have these numbers.
+// Returns a row of the table: for each state, the mode of the choice that has this number.
 #[inline(always)]
 fn modes_of(numbers: &ByPlace<u32>) -> u32
     ensures { (p : Place) → mode_at result p ≡ ranked (at_place numbers.now p % 4) }
@@ -74,9 +74,9 @@ fn modes_of(numbers: &ByPlace<u32>) -> u32
     numbers.start % 4 + 4 * last
 }
 
-// Returns, for each place before a byte, the modes of the first of the best choices as a row of the table, and their
-// numbers. The flags say whether the byte may be taken as a digit, as a character and as the first of a pair, and `rest`
-// has the numbers after it.
+// Returns, for each state before a byte, the mode of the best choice, as a row of the table, and the number of that choice.
+// The flags say whether the byte may be written as a digit, as a character and as the first byte of a kanji pair. `rest`
+// contains the numbers for the bytes after it.
 #[inline(always)]
 fn choices(
     heads: &Heads,
@@ -98,8 +98,8 @@ fn choices(
     let no_digits = characters.min(others);
     let no_characters = digits.min(others);
     let start = digits.min(no_digits);
-    // Where a mode goes on to the place to which its new segment would come, it has fewer bits than that. So it need not be
-    // left out of what the mode that goes on is compared with, and this is `start`.
+    // Going on with a run takes fewer bits than a new segment of the same mode that leads to the same state. So the number
+    // of going on may be compared with `start`, which includes that new segment.
     let digit2 = number_if(digit, number(3, Mode::Numeric), rest.digit2);
     let digit3 = number_if(digit, number(3, Mode::Numeric), rest.digit3);
     let digit1 = number_if(digit, number(4, Mode::Numeric), rest.digit1);
@@ -122,9 +122,9 @@ fn choices(
     (modes_of(&numbers), numbers)
 }
 
-/// Returns, for each place before this byte, the mode of the first of the best choices as a row of the table, and the
-/// number of that choice. The flag says that a pair may be taken. In the middle of a pair there is only its second byte,
-/// which adds no bits.
+/// Returns, for each state before this byte, the mode of the best choice, as a row of the table, and the number of that
+/// choice. `pair` says whether the byte may begin a kanji pair. After the first byte of a pair only kanji mode is possible,
+/// and the second byte adds no bits.
 #[tactic(auto, unfolding(crate::specs::Steps::Place::may_begin))]
 #[inline(always)]
 pub(crate) fn row(
@@ -137,7 +137,7 @@ pub(crate) fn row(
     requires { IsSmall rest.now }
     ensures { IsRow heads.now.version rule byte pair rest.now result.0 result.1 }
 {
-    // Each call is compiled without what its flags rule out. Every digit is a character.
+    // Flags that are constant let the compiler drop the cases that they rule out. Every digit is also a character.
     if pair {
         let digit = may_begin(rule, byte, Mode::Numeric);
         let character = may_begin(rule, byte, Mode::Alphanumeric);
@@ -151,7 +151,7 @@ pub(crate) fn row(
     }
 }
 
-// Whether a kanji pair may be taken at the beginning of the bytes.
+// Returns whether the rule allows kanji mode and the bytes begin with a kanji pair.
 #[tactic(auto, unfolding(crate::specs::Steps::Place::begins))]
 pub(crate) fn begins_with_pair(rule: Rule, bytes: &[u8]) -> bool
     ensures { result ≡ begins rule is_kanji_pair bytes.now }
@@ -162,7 +162,7 @@ pub(crate) fn begins_with_pair(rule: Rule, bytes: &[u8]) -> bool
     }
 }
 
-/// Returns a row for each byte, from the last to the first: the best mode from each place.
+/// Returns one row for each byte, from the last byte to the first: the best mode from each state.
 pub(crate) fn best_modes(
     alloc: Global,
     input: &[u8],
@@ -185,7 +185,7 @@ pub(crate) fn best_modes(
     Ok(table)
 }
 
-// Returns where the mode of a place begins in a row of the table, in bits.
+// Returns at which bit of a row of the table the mode for `place` begins.
 #[inline(always)]
 fn shift_of(place: Place) -> u32
     ensures value { result ≡ shift_of place }
@@ -204,7 +204,7 @@ fn shift_of(place: Place) -> u32
     }
 }
 
-/// Returns the mode of a place in a row of the table.
+/// Returns the mode for `place` in a row of the table.
 #[tactic(auto, unfolding(crate::specs::Steps::Table::mode_at))]
 #[inline(always)]
 pub(crate) fn mode_at(row: u32, place: Place) -> Mode

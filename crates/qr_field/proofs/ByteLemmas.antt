@@ -1,4 +1,4 @@
--- What is computed at each number below a bound, and what it shows of the products of bytes.
+-- Facts that are computed for each number below a bound, and what they say about products of bytes.
 use Rattle.std.proofs.Common.{◌≡◌, ℕ, zero, suc, ◌*◌, ◌<◌, Bool, true, false, ◌&&◌, eqb, refl, subst, inl, inr, arith}
 use Rattle.std.proofs.lemmas.Bool.Decides.{nat_tests}
 use Rattle.std.proofs.lemmas.Bool.{cases_lt}

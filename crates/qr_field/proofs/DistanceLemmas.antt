@@ -1,5 +1,5 @@
--- How far blocks lie apart: a list whose first n values are 0 has more than n coefficients that are not 0, or none; so
--- two blocks with n error correction codewords differ in more than n places, or nowhere.
+-- A list whose first n values are 0 has more than n coefficients that are not 0, or no such coefficient. So two blocks with
+-- n error correction codewords differ in more than n codewords, or in none.
 use Rattle.std.proofs.Common.{◌≡◌, ℕ, zero, suc, ◌+◌, ◌-◌, ◌*◌, ◌<◌, ◌≤◌, Option, None, Some, List, [], ◌∷◌, ◌++◌, length, map, take, refl, sym, ap, ◌∙◌, inl, inr, arith, bit_xor, length-append}
 use Rattle.std.specs.List.{All}
 use Rattle.std.specs.Int.Bits.{xor_zero_l, xor_zero_r, xor_self}

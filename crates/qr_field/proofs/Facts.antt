@@ -1,3 +1,3 @@
--- The lemmas that other crates cite.
+-- The lemmas that other crates use.
 pub use Rattle.qr_field.proofs.DistanceLemmas.{near-same, unambiguous, unambiguous-known}
 pub use Rattle.qr_field.proofs.PolynomialLemmas.{correction-one}

@@ -12,7 +12,7 @@ use Rattle.qr_field.proofs.ByteLemmas.{&&-left, &&-right}
 use Rattle.qr_field.proofs.BitLemmas.{xor-cancel}
 use Rattle.qr_field.proofs.ProductLemmas.{product-lt}
 
--- a list that is written over by one of its own length is that one
+-- a list that is written over by a list of its own length is that list
 pub refill_same : (xs ws : List ℕ) → length ws ≡ length xs → refill (length xs) xs ws ≡ ws
 refill_same xs ws e =
     ap (λ t. take (length xs) (ws ++ t)) (drop_all (length ws) xs (omega arith))
@@ -87,7 +87,7 @@ same-plus n xs ys zs l m e =
 
 -- ---- bytes
 
--- a list is one of bytes where a test computes so
+-- a list is a list of bytes if a test computes so
 pub bytes-computed : (xs : List ℕ) → list_all (λ x. ltb x 256) xs ≡ true → All IsByte xs
 bytes-computed [] h = All-nil IsByte
 bytes-computed (x ∷ xs) h =
@@ -112,7 +112,7 @@ bytes-scaled a xs l = All-map IsByte (product a) xs (λ k d h. product-lt a (get
 
 -- ---- products
 
--- zeros are as many as asked for
+-- a list of k zeros has length k
 pub length-zeros : (k : ℕ) → length (zeros k) ≡ k
 length-zeros zero = refl
 length-zeros (suc k) = ap suc (length-zeros k)

@@ -1,17 +1,17 @@
 -- Bytes as polynomials over bits: a number is the polynomial whose coefficient of x^i is its bit i, and a sum is the
--- exclusive or. Public clauses cite IsProduct and product.
+-- exclusive or.
 use Rattle.std.specs.Prelude.{◌≡◌, ℕ, ◌+◌, ◌*◌, ◌^◌, ◌<◌, ◌≤◌, bit_xor}
 use Prim.Native.Nat.{zero, suc}
 use Rattle.std.specs.Int.{bit_at}
 
--- the product of a and the low w bits of b, as polynomials over bits: the sum of a times x^i over each bit i of b that
--- is 1 (ISO/IEC 18004:2015, 7.5.2)
+-- `carryless w a b` is the product of a and the low w bits of b, as polynomials over bits: the sum of a times x^i over each
+-- bit i of b that is 1 (ISO/IEC 18004:2015, 7.5.2)
 unfoldable pub carryless : ℕ → ℕ → ℕ → ℕ
 carryless zero a b = 0
 carryless (suc w) a b = bit_xor (bit_at b w * (a * 2 ^ w)) (carryless w a b)
 
--- r is the remainder of x by a divisor of degree n: it has n bits, and differs from x by a multiple of the divisor
--- (ISO/IEC 18004:2015, 7.5.2)
+-- `IsRemainder n divisor x r` holds if r is the remainder of x by a divisor of degree n: r has n bits, and differs from x by
+-- a multiple of the divisor (ISO/IEC 18004:2015, 7.5.2)
 pub record IsRemainder (n divisor x r : ℕ) : Type 0 where
   pub degree_least : 2 ^ n ≤ divisor
   pub degree_most : divisor < 2 ^ (n + 1)
@@ -19,20 +19,22 @@ pub record IsRemainder (n divisor x r : ℕ) : Type 0 where
   pub quotient : ℕ
   pub whole : bit_xor x r ≡ carryless (n + 1) quotient divisor
 
--- the field's prime modulus polynomial x^8 + x^4 + x^3 + x^2 + 1 (ISO/IEC 18004:2015, 7.5.2)
+-- The field's prime modulus polynomial x^8 + x^4 + x^3 + x^2 + 1 (ISO/IEC 18004:2015, 7.5.2)
 abbrev pub prime_modulus : ℕ
 prime_modulus = 0x11D
 
--- p is the product of the elements a and b: the byte that differs from their carryless product by a multiple of the
--- prime modulus polynomial (ISO/IEC 18004:2015, 7.5.2)
+-- `IsProduct a b p` holds if p is the product of the elements a and b: the byte that differs from their carryless product by
+-- a multiple of the prime modulus polynomial (ISO/IEC 18004:2015, 7.5.2)
 abbrev pub IsProduct : ℕ → ℕ → ℕ → Type 0
 IsProduct a b p = IsRemainder 8 prime_modulus (carryless 8 a b) p
 
--- long division in k steps: what is left of x, of n + k bits, by a divisor of degree n
+-- `remainder_of n divisor k x` is the remainder of x, a number of n + k bits, by a divisor of degree n: long division in k
+-- steps
 unfoldable pub remainder_of : ℕ → ℕ → ℕ → ℕ → ℕ
 remainder_of n divisor zero x = x
 remainder_of n divisor (suc k) x = remainder_of n divisor k (bit_xor x (bit_at x (n + k) * (divisor * 2 ^ k)))
 
--- a name for the one byte that is the product of the elements a and b (ISO/IEC 18004:2015, 7.5.2)
+-- The product of the elements a and b, as a value: the only byte p for which `IsProduct a b p` holds (ISO/IEC 18004:2015,
+-- 7.5.2)
 unfoldable pub product : ℕ → ℕ → ℕ
 product a b = remainder_of 8 prime_modulus 7 (carryless 8 a b)

@@ -1,4 +1,4 @@
-//! Division by a generator polynomial whose multiples are at hand (ISO/IEC 18004:2015, 7.5.2).
+//! Division by a generator polynomial with precomputed multiples (ISO/IEC 18004:2015, 7.5.2).
 
 ghost use Rattle.std.specs.Prelude.{◌≡◌, ◌≤◌, ℕ, List, length};
 ghost use Rattle.qr_field.specs.Steps.Register.{HasMultiples, divisor_of, packed, value_of};
@@ -9,11 +9,12 @@ use crate::register::Register;
 use arrayvec::ArrayVec;
 use std::marker::Model;
 
-/// The generator polynomial for n error correction codewords, made once for many blocks. Contracts see it as the number n.
+/// The generator polynomial for n error correction codewords, made once for many blocks. Its view is the number n.
 #[derive(Drop)]
 pub struct Divisor {
     count: usize,
-    // The multiples of the coefficients after the leading 1, by the low four bits of a factor and by its high four.
+    // The multiples of the coefficients after the leading 1: `low` by the low four bits of a factor, `high` by its high
+    // four.
     low: [Register; 16],
     high: [Register; 16],
 }
@@ -30,7 +31,7 @@ impl Model for Divisor {
         × HasMultiples (divisor_of d.count) 4 16 d.high };
 }
 
-// The multiples of some terms by the numbers below 16, moved up by `shift` bits.
+// Returns the multiples of some coefficients by the numbers below 16, each number shifted up by `shift` bits.
 fn multiples(terms: &[u8], shift: u8) -> [Register; 16]
     requires long { length terms.now ≤ 30 }
     requires small { shift ≤ 4 }
@@ -48,7 +49,7 @@ fn multiples(terms: &[u8], shift: u8) -> [Register; 16]
 }
 
 impl Divisor {
-    /// The divisor for `n` error correction codewords, 1 to 30.
+    /// Returns the divisor for `n` error correction codewords, from 1 to 30.
     pub fn new(n: usize) -> Divisor
         requires least { 1 ≤ n }
         requires most { n ≤ 30 }
@@ -62,7 +63,7 @@ impl Divisor {
         }
     }
 
-    /// The number of error correction codewords.
+    /// Returns the number of error correction codewords, from 1 to 30.
     pub fn count(&self) -> usize
         ensures is { result ≡ self.now }
         ensures least { 1 ≤ result }
@@ -71,7 +72,7 @@ impl Divisor {
         self.count
     }
 
-    // The multiple of the coefficients after the leading 1 by a factor.
+    // Returns the multiple of the coefficients after the leading 1 by a factor.
     fn multiple(&self, factor: u8) -> Register
         ensures { value_of result ≡ packed (scaled factor (divisor_of self.now)) }
     {
@@ -79,7 +80,7 @@ impl Divisor {
         self.low[place & 0xF].plus(self.high[place >> 4])
     }
 
-    /// The error correction codewords of the data codewords `message` of a block (ISO/IEC 18004:2015, 7.5.2).
+    /// Returns the error correction codewords of the data codewords `message` of a block (ISO/IEC 18004:2015, 7.5.2).
     pub fn correction(&self, message: &[u8]) -> ArrayVec<u8, 30>
         ensures definition { IsCorrection message.now self.now result.items }
         ensures only { (e : List ℕ) → IsCorrection message.now self.now e → e ≡ result.items }

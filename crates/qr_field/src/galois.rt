@@ -1,4 +1,4 @@
-//! Products in the field of 256 elements over which the error correction codewords are computed
+//! Products and quotients in the field of 256 elements over which the error correction codewords are computed
 //! (ISO/IEC 18004:2015, 7.5.2). An element is a byte, read as a polynomial over bits; the sum of two elements is
 //! their exclusive or.
 
@@ -7,7 +7,7 @@ ghost use Rattle.qr_field.specs.Galois.{IsProduct, product};
 
 use crate::logarithm::{logarithm, power_of};
 
-/// The product of two elements of the field (ISO/IEC 18004:2015, 7.5.2).
+/// Returns the product of two elements of the field (ISO/IEC 18004:2015, 7.5.2).
 pub fn mul(a: u8, b: u8) -> u8
     ensures definition { IsProduct a b result }
     ensures only { (p : ℕ) → IsProduct a b p → p ≡ result }
@@ -21,8 +21,8 @@ pub fn mul(a: u8, b: u8) -> u8
     power_of(exponent as u8)
 }
 
-/// The quotient of two elements of the field, the second of them not 0: the one element whose product with the second is
-/// the first (ISO/IEC 18004:2015, 7.5.2).
+/// Returns the quotient of two elements of the field: the only element whose product with `b` is `a`. `b` must not be 0
+/// (ISO/IEC 18004:2015, 7.5.2).
 pub fn div(a: u8, b: u8) -> u8
     requires { 1 ≤ b }
     ensures { product result b ≡ a }

@@ -9,20 +9,20 @@ ghost use Rattle.qr_field.specs.Laws.{lengths_in_use, printed_exponents, eight_d
 
 use crate::logarithm::{LOGARITHMS, POWERS};
 
-/// Two elements have exactly one product, and `product` names it.
+/// Two elements have exactly one product, which is `product a b`.
 pub fn product_is_one()
     ensures named { (a b : ℕ) → IsByte a → IsByte b → IsProduct a b (product a b) }
     ensures only { (a b p q : ℕ) → IsProduct a b p → IsProduct a b q → p ≡ q }
 {}
 
-/// Data codewords have exactly one list of n error correction codewords, where n is 1 or more.
+/// For each n from 1 on, data codewords have exactly one list of n error correction codewords.
 pub fn correction_is_one()
     ensures some { (d : List ℕ) (n : ℕ) → 1 ≤ n → All IsByte d → HasCorrection d n }
     ensures only { (d e f : List ℕ) (n : ℕ) → IsCorrection d n e → IsCorrection d n f → e ≡ f }
 {}
 
-/// The tables by which products are computed are what they are named for: entry i of the powers is 2 to the power i,
-/// and entry a - 1 of the logarithms is the exponent below 255 whose power of 2 the element a is.
+/// The tables by which products are computed: entry i of the powers is 2 to the power i, and entry a - 1 of the logarithms
+/// is the exponent below 255 for which 2 to this power is the element a.
 pub fn tables_are_powers()
     ensures power_count { length POWERS ≡ 255 }
     ensures powers { (i : ℕ) → i < 255 → slice_index POWERS i ≡ power i }
@@ -31,54 +31,54 @@ pub fn tables_are_powers()
     ensures logarithms { (a : ℕ) → 1 ≤ a → IsByte a → power (slice_index LOGARITHMS (a - 1)) ≡ a }
 {}
 
-/// The definition of a product computes one that is reduced, and one by 0.
+/// The definition of a product computes a product that has to be reduced, and a product by 0.
 pub fn products_compute()
     ensures reduced { product 0x80 2 ≡ 0x1D }
     ensures zero { product 0 0xFF ≡ 0 }
 {}
 
-/// The definition of a generator polynomial computes that of degree 7, and all those that Annex A prints for the
-/// versions of QR Code, as powers of 2.
+/// The definition of a generator polynomial computes that of degree 7, and all generator polynomials that Annex A prints
+/// for the versions of QR Code, with their coefficients as powers of 2.
 pub fn generators_compute()
     ensures seven { generator_of 7 ≡ 1 ∷ 0x7F ∷ 0x7A ∷ 0x9A ∷ 0xA4 ∷ 0x0B ∷ 0x44 ∷ 0x75 ∷ [] }
     ensures printed { map generator_of lengths_in_use ≡ map (map power) printed_exponents }
 {}
 
-/// The definition of error correction codewords holds of those of `01234567` in version 1-M.
+/// The definition of error correction codewords holds for those of `01234567` in version 1-M.
 pub fn correction_computes()
     ensures { IsCorrection eight_digits 10 eight_digits_correction }
 {}
 
-/// Two blocks of 255 codewords at most with the same numbers of data and error correction codewords differ in more
-/// places than there are error correction codewords, unless their data codewords are the same.
+/// Two blocks of at most 255 codewords, with equally many data and error correction codewords, differ in more codewords than
+/// each has error correction codewords, unless their data codewords are the same.
 pub fn blocks_lie_apart()
     ensures { BlocksLieApart }
 {}
 
-/// What was read of a block stands for the data codewords of one block only, if the number of places that could not be
-/// read, as those under a blot, and twice the number of misread places together are at most the number of error
-/// correction codewords.
+/// What was read of a block fits the data codewords of one block only, if the number of unread codewords (as under a blot)
+/// plus twice the number of misread codewords is at most the number of error correction codewords.
 pub fn erasures_are_unambiguous()
     ensures { ErasuresAreUnambiguous }
 {}
 
-/// If every place was read, the misread places are those in which the lists differ: so the law of erasures holds for a
-/// block that is damaged in at most half as many places as it has error correction codewords.
+/// If every codeword was read, the misread codewords are those in which the two lists differ. So the law of erasures
+/// covers a block in which at most half as many codewords are misread as it has error correction codewords.
 pub fn damage_is_unambiguous()
     ensures read { (xs : List ℕ) → erasures (map (λ x. Some x) xs) ≡ 0 }
     ensures misread { (xs ys : List ℕ) → errors (map (λ x. Some x) xs) ys ≡ differences xs ys }
 {}
 
-/// The definitions of damage count what is known of short blocks: two of three places not read; two of four misread, where
-/// a place that only one list has counts too; and two places in which lists differ, one of them past the shorter list.
+/// The definitions of damage, computed for short blocks: two of three codewords are unread; two of four are misread, where a
+/// codeword that only one list has counts as misread; and two lists differ in two codewords, one of them past the end of the
+/// shorter list.
 pub fn damage_computes()
     ensures erasures { erasures (None ∷ Some 7 ∷ None ∷ []) ≡ 2 }
     ensures errors { errors (Some 7 ∷ None ∷ Some 9 ∷ Some 4 ∷ []) (7 ∷ 8 ∷ 8 ∷ []) ≡ 2 }
     ensures differences { differences (7 ∷ 8 ∷ []) (7 ∷ 9 ∷ 1 ∷ []) ≡ 2 }
 {}
 
-/// Blocks of 256 codewords may lie nearer to each other: these two with 2 error correction codewords differ in 2 places
-/// only.
+/// Blocks of 256 codewords may be more alike: these two blocks with 2 error correction codewords differ in only 2
+/// codewords.
 pub fn longer_blocks_lie_nearer()
     ensures one { IsCorrection (1 ∷ zeros 253) 2 (0 ∷ 1 ∷ []) }
     ensures other { IsCorrection (zeros 254) 2 (zeros 2) }

@@ -1,4 +1,4 @@
--- What is computed of each version and level.
+-- Facts of the blocks that are computed for each version and level.
 use Rattle.std.proofs.Common.{◌≡◌, ℕ, ◌+◌, ◌-◌, ◌*◌, ◌/◌, ◌%◌, ◌<◌, ◌≤◌, Bool, true, ◌&&◌, ◌||◌, leb, refl, ap, subst, arith}
 use Rattle.std.proofs.lemmas.Bool.Decides.{nat_tests}
 use borrow.Author.Tests.{leb-true}
@@ -14,11 +14,11 @@ use Rattle.qr_layout.proofs.TableLemmas.{below, below-at}
 abbrev pub every : (Level → ℕ → Bool) → Bool
 every p = below 40 (λ i. p L (i + 1)) && (below 40 (λ i. p M (i + 1)) && (below 40 (λ i. p Q (i + 1)) && below 40 (λ i. p H (i + 1))))
 
--- a test at forty versions, read at one
+-- if a test passes for all forty versions, it passes for each version
 one-at : (p : ℕ → Bool) → below 40 (λ i. p (i + 1)) ≡ true → (v : ℕ) → 1 ≤ v → v ≤ 40 → p v ≡ true
 one-at p h v a b = let e : v - 1 + 1 ≡ v = omega arith in subst (λ (t : ℕ). p t ≡ true) e (below-at 40 (λ i. p (i + 1)) h (v - 1) (omega arith))
 
--- a test at each level and version, read at one
+-- if a test passes for all levels and versions, it passes for each level and version
 pub every-at : (p : Level → ℕ → Bool) → every p ≡ true → (l : Level) (v : ℕ) → 1 ≤ v → v ≤ 40 → p l v ≡ true
 every-at p h L = one-at (p L) (&&-left (below 40 (λ i. p L (i + 1))) _ h)
 every-at p h M = one-at (p M) (&&-left (below 40 (λ i. p M (i + 1))) _ (&&-right (below 40 (λ i. p L (i + 1))) _ h))
@@ -50,7 +50,7 @@ most-all : every (λ l v. leb (data_codewords_of v l) 2956 && ((leb 27 v || leb 
 unfolding block_count_of correction_len_of data_codewords_of total_codewords_of
 most-all = refl
 
--- what was computed of the tables
+-- the facts that were computed of the tables
 pub record Laws (l : Level) (v : ℕ) : Type 0 where
   pub fits : block_count_of v l * correction_len_of v l ≤ total_codewords_of v
   pub count : 1 ≤ block_count_of v l
@@ -63,7 +63,7 @@ pub record Laws (l : Level) (v : ℕ) : Type 0 where
   pub most_middle : v ≤ 26 → data_codewords_of v l ≤ 1370
   pub most_small : v ≤ 9 → data_codewords_of v l ≤ 232
 
--- a bound that is wanted below some version
+-- a bound that is required below some version only
 unless : (a b n m : ℕ) → (leb a b || leb n m) ≡ true → b < a → n ≤ m
 unless a b n m h k = grind (arith, nat_tests)
 
@@ -88,7 +88,7 @@ laws-of l v a b =
       most_small = λ h. unless 10 v (data_codewords_of v l) 232 (&&-right (leb 27 v || leb (data_codewords_of v l) 1370) _ rest) (omega arith);
     }
 
--- the difference of the code is that of the definition
+-- the difference that the code computes is that of the definition
 pub data-value : (l : Level) (v t b n : ℕ) → t ≡ total_codewords_of v → b ≡ block_count_of v l → n ≡ correction_len_of v l → t - b * n ≡ data_codewords_of v l
 unfolding data_codewords_of
 data-value l v t b n et eb en = cc
@@ -97,19 +97,19 @@ data-value l v t b n et eb en = cc
 same-product : (a b c d : ℕ) → a ≡ c → b ≡ d → a * b ≡ c * d
 same-product a b c d e f = cc
 
--- the product of the code does not pass the total
+-- the product that the code computes is not above the total
 pub product-fits : (l : Level) (v t b n : ℕ) → 1 ≤ v → v ≤ 40 → t ≡ total_codewords_of v → b ≡ block_count_of v l → n ≡ correction_len_of v l → b * n ≤ t
 product-fits l v t b n h k et eb en = let f = (laws-of l v h k).fits in let e = same-product b n (block_count_of v l) (correction_len_of v l) eb en in omega (arith, f, e)
 
--- the quotient of the code fits a byte
+-- the quotient that the code computes fits a byte
 pub quotient-fits : (l : Level) (v b d : ℕ) → 1 ≤ v → v ≤ 40 → b ≡ block_count_of v l → d ≡ data_codewords_of v l → d / b ≤ 122
 quotient-fits l v b d h k eb ed = let f = (laws-of l v h k).len in let e : d / b ≡ data_codewords_of v l / block_count_of v l = cc in omega (arith, f, e)
 
--- r of k + r parts that are longer by one make r more
+-- k + r parts, of which r parts are longer by one, have r more items
 cut : (k r q : ℕ) → k * q + r * (q + 1) ≡ q * (k + r) + r
 cut k r q = omega arith
 
--- as even a cut as can be has all that was cut
+-- if items are divided as evenly as possible, the parts together have all items
 blocks-sum : (b d : ℕ) → 0 < b → (b - d % b) * (d / b) + d % b * (d / b + 1) ≡ d
 blocks-sum b d p =
     let c = cut (b - d % b) (d % b) (d / b) in
@@ -127,7 +127,7 @@ blocks-total l v r h k lr =
     let e : (block_count_of v l - r + r) * correction_len_of v l ≡ block_count_of v l * correction_len_of v l = ap (λ t. t * correction_len_of v l) g in
     omega (arith, f, e)
 
--- the blocks of each version and level hold its codewords
+-- the blocks of each version and level together have its codewords
 pub blocks-sound : (l : Level) (v : ℕ) → 1 ≤ v → v ≤ 40 → AreWhole v l (blocks_of v l)
 blocks-sound l v h k =
     let f = laws-of l v h k in
@@ -150,11 +150,11 @@ longest-all = refl
 pub blocks-short : (l : Level) (v : ℕ) → 1 ≤ v → v ≤ 40 → longest_of (blocks_of v l) ≤ 153
 blocks-short l v h k = leb-true _ _ (every-at (λ l v. leb (longest_of (blocks_of v l)) 153) longest-all l v h k)
 
--- half the error correction codewords are enough of the longest block, computed
+-- half the error correction codewords are at least the percentage `damage_of` of the longest block, computed
 damage-all : every (λ l v. leb (damage_of l * longest_of (blocks_of v l)) (100 * ((blocks_of v l).ec_len / 2))) ≡ true
 unfolding block_count_of correction_len_of data_codewords_of total_codewords_of
 damage-all = refl
 
--- the damage that the blocks of each version and level stand
+-- half the error correction codewords are at least the percentage `damage_of` of the longest block
 pub damage-stood : (l : Level) (v : ℕ) → 1 ≤ v → v ≤ 40 → damage_of l * longest_of (blocks_of v l) ≤ 100 * ((blocks_of v l).ec_len / 2)
 damage-stood l v h k = leb-true _ _ (every-at (λ l v. leb (damage_of l * longest_of (blocks_of v l)) (100 * ((blocks_of v l).ec_len / 2))) damage-all l v h k)

@@ -1,4 +1,4 @@
--- How many places of a square pass a test: as many as a list has that holds just these places, each once.
+-- The number of places of a square that pass a test is the length of a list that contains just these places, each once.
 use Rattle.std.proofs.Common.{◌≡◌, ◌≢◌, ℕ, zero, suc, ◌+◌, ◌<◌, Bool, true, false, cond, List, [], ◌∷◌, ◌++◌, length, length-append, add-zero, zero-add, refl, sym, ap, ◌∙◌, subst, inl, inr, arith}
 use Rattle.std.proofs.lemmas.Bool.{cases_lt}
 use Rattle.qr_layout.specs.declared.region.Module.{Module}
@@ -12,7 +12,7 @@ abbrev pub sum_below : ℕ → (ℕ → ℕ) → ℕ
 sum_below zero f = 0
 sum_below (suc n) f = f n + sum_below n f
 
--- one number more comes at the end
+-- the sum with one more number
 range-push : (a n : ℕ) → range_with_len a (suc n) ≡ range_with_len a n ++ (a + n) ∷ []
 range-push a zero = rw add-zero refl
 range-push a (suc n) = let e : a + 1 + n ≡ a + suc n = omega arith in ap (λ xs. a ∷ xs) (range-push (a + 1) n ∙ ap (λ k. range_with_len (a + 1) n ++ k ∷ []) e)
@@ -51,23 +51,23 @@ grid_places : (ℕ → ℕ → Bool) → ℕ → ℕ → List Module
 grid_places p zero s = []
 grid_places p (suc r) s = row_places p r s ++ grid_places p r s
 
--- what a place of a row is
+-- the facts of a place of a row in the list
 abbrev RowFact : (ℕ → ℕ → Bool) → ℕ → ℕ → Module → Type 0
 RowFact p r n m = (m.row ≡ r) × (m.col < n) × Passes p m
 
--- one more column adds its place, or none
+-- one more column adds its place, if the place passes
 row-cond : (p : ℕ → ℕ → Bool) (r n : ℕ) (t : Bool) (xs : List Module) → (t ≡ true → p r n ≡ true) → ((m : Module) → Mem m xs → RowFact p r n m) → (m : Module) → Mem m (cond t (at r n ∷ xs) xs) → RowFact p r (suc n) m
 row-cond p r n true xs i f m (inl e) = subst (RowFact p r (suc n)) e (refl, omega arith, i refl)
 row-cond p r n true xs i f m (inr k) = let w = f m k in let l = w.1 in (w.0, omega arith, w.2)
 row-cond p r n false xs i f m k = let w = f m k in let l = w.1 in (w.0, omega arith, w.2)
 
--- what is listed of a row is there and passes
+-- each place in the list of a row is in the row and passes
 row-facts : (p : ℕ → ℕ → Bool) (r n : ℕ) (m : Module) → Mem m (row_places p r n) → RowFact p r n m
 unfolding row_places
 row-facts p r zero m k = absurd k
 row-facts p r (suc n) m k = row-cond p r n (p r n) (row_places p r n) (λ e. e) (row-facts p r n) m k
 
--- what passes at one more column is listed
+-- if the place at one more column passes, it is in the list
 row-has-cond : (r n : ℕ) (m : Module) (t : Bool) (xs : List Module) → (m.col ≡ n → t ≡ true) → m.row ≡ r → ((m.col < n) → Mem m xs) → m.col < suc n → Mem m (cond t (at r n ∷ xs) xs)
 row-has-cond r n m t xs i e f l = elim (cases_lt m.col n) [
   | inl k ↦ later t (f k)
@@ -79,24 +79,24 @@ row-has-cond r n m t xs i e f l = elim (cases_lt m.col n) [
     later true k = inr k
     later false k = k
 
--- what passes in a row is listed
+-- each place of a row that passes is in the list
 row-has : (p : ℕ → ℕ → Bool) (r n : ℕ) (m : Module) → RowFact p r n m → Mem m (row_places p r n)
 unfolding row_places
 row-has p r zero m w = absurd (let l = w.1 in omega arith)
 row-has p r (suc n) m w = row-has-cond r n m (p r n) (row_places p r n) (λ e. (ap (λ z. p z n) (sym w.0) ∙ ap (λ z. p m.row z) (sym e)) ∙ w.2) w.0 (λ l. row-has p r n m (w.0, l, w.2)) w.1
 
--- one more place of a row is a new one
+-- one more place of a row was not in the list before
 row-distinct-cond : (r n : ℕ) (t : Bool) (xs : List Module) → ((m : Module) → Mem m xs → m.col < n) → Distinct xs → Distinct (cond t (at r n ∷ xs) xs)
 row-distinct-cond r n true xs f d = (All-of-Mem (λ m. at r n ≢ m) xs (λ m k e. let l = f m k in let g : n ≡ m.col = ap (λ (z : Module). z.col) e in absurd (omega arith)), d)
 row-distinct-cond r n false xs f d = d
 
--- no place of a row is listed twice
+-- no place of a row is in the list twice
 row-distinct : (p : ℕ → ℕ → Bool) (r n : ℕ) → Distinct (row_places p r n)
 unfolding row_places
 row-distinct p r zero = tt
 row-distinct p r (suc n) = row-distinct-cond r n (p r n) (row_places p r n) (λ m k. (row-facts p r n m k).1) (row-distinct p r n)
 
--- the list of a row is as long as its sum
+-- the length of the list of a row is its sum
 row-length : (p : ℕ → ℕ → Bool) (r n : ℕ) → length (row_places p r n) ≡ sum_below n (λ c. cond (p r c) 1 0)
 unfolding row_places
 row-length p r zero = refl
@@ -106,16 +106,16 @@ row-length p r (suc n) = one (p r n) (row_places p r n) ∙ ap (λ z. cond (p r 
     one true xs = omega arith
     one false xs = omega arith
 
--- what a place of the square is
+-- the facts of a place of the square in the list
 abbrev GridFact : (ℕ → ℕ → Bool) → ℕ → ℕ → Module → Type 0
 GridFact p r s m = (m.row < r) × (m.col < s) × Passes p m
 
--- two lists without a common item and without repeats, joined
+-- two lists without repeats and without a common item, joined, have no repeats
 Distinct-append : (xs ys : List Module) → Distinct xs → Distinct ys → ((m : Module) → Mem m xs → Mem m ys → ⊥) → Distinct (xs ++ ys)
 Distinct-append [] ys d e f = e
 Distinct-append (x ∷ xs) ys d e f = (All-of-Mem (λ m. x ≢ m) (xs ++ ys) (λ m k g. elim (Mem-append m xs ys k) [ inl l ↦ Mem-at (λ z. x ≢ z) xs m d.0 l g | inr l ↦ f m (inl g) l ]), Distinct-append xs ys d.1 e (λ m k l. f m (inr k) l))
 
--- what is listed of the square is there and passes
+-- each place in the list of the square is in the square and passes
 grid-facts : (p : ℕ → ℕ → Bool) (r s : ℕ) (m : Module) → Mem m (grid_places p r s) → GridFact p r s m
 unfolding grid_places
 grid-facts p zero s m k = absurd k
@@ -124,7 +124,7 @@ grid-facts p (suc r) s m k = elim (Mem-append m (row_places p r s) (grid_places 
   | inr l ↦ let w = grid-facts p r s m l in let a = w.0 in (omega arith, w.1, w.2)
 ]
 
--- what passes in the square is listed
+-- each place of the square that passes is in the list
 grid-has : (p : ℕ → ℕ → Bool) (r s : ℕ) (m : Module) → GridFact p r s m → Mem m (grid_places p r s)
 unfolding grid_places
 grid-has p zero s m w = absurd (let l = w.0 in omega arith)
@@ -133,24 +133,24 @@ grid-has p (suc r) s m w = elim (cases_lt m.row r) [
   | inr l ↦ Mem-left m (row_places p r s) (grid_places p r s) (row-has p r s m ((let a = w.0 in omega arith), w.1, w.2))
 ]
 
--- no place of the square is listed twice
+-- no place of the square is in the list twice
 grid-distinct : (p : ℕ → ℕ → Bool) (r s : ℕ) → Distinct (grid_places p r s)
 unfolding grid_places
 grid-distinct p zero s = tt
 grid-distinct p (suc r) s = Distinct-append (row_places p r s) (grid_places p r s) (row-distinct p r s) (grid-distinct p r s) (λ m k l. let a = (row-facts p r s m k).0 in let b = (grid-facts p r s m l).0 in absurd (omega arith))
 
--- the list of the square is as long as the double sum
+-- the length of the list of the square is the double sum
 grid-length : (p : ℕ → ℕ → Bool) (r s : ℕ) → length (grid_places p r s) ≡ sum_below r (λ k. sum_below s (λ c. cond (p k c) 1 0))
 unfolding grid_places
 grid-length p zero s = refl
 grid-length p (suc r) s = length-append (row_places p r s) (grid_places p r s) ∙ (ap (λ z. z + length (grid_places p r s)) (row-length p r s) ∙ ap (λ z. sum_below s (λ c. cond (p r c) 1 0) + z) (grid-length p r s))
 
--- the places that pass, as a double sum
+-- the number of places that pass, as a double sum
 pub places-sum : (s : ℕ) (p : ℕ → ℕ → Bool) → places_passing s p ≡ sum_below s (λ r. sum_below s (λ c. cond (p r c) 1 0))
 unfolding places_passing
 places-sum s p = sum-range s _ ∙ sum_below-same s _ _ (λ r h. sum-range s (λ c. cond (p r c) 1 0))
 
--- a list of the places that pass, each once, is as long as the count says
+-- the length of a list of the places that pass, each once, is the count
 pub count-of : (s : ℕ) (p : ℕ → ℕ → Bool) (ms : List Module) → Distinct ms → ((m : Module) → Mem m ms → (m.row < s) × (m.col < s) × (p m.row m.col ≡ true)) → ((m : Module) → m.row < s → m.col < s → p m.row m.col ≡ true → Mem m ms) → length ms ≡ places_passing s p
 count-of s p ms d f g =
     let a = length-le_members ms (grid_places p s s) d (λ m k. grid-has p s s m (f m k)) in

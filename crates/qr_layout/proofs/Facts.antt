@@ -1,4 +1,4 @@
--- The lemmas that other crates cite.
+-- The lemmas that other crates use.
 pub use Rattle.qr_layout.proofs.AlignmentLemmas.{IsInside, centre-inside, alignment-squares, region_in}
 pub use Rattle.qr_layout.proofs.BlockLemmas.{blocks-sound, every, every-at, laws-of}
 pub use Rattle.qr_layout.proofs.ListLemmas.{All-of-Mem, Mem, Mem-at, Rises, Rises-of-pairs, one_rising}

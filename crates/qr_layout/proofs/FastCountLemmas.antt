@@ -1,4 +1,4 @@
--- The count, computed: for each row only the blocks that meet it are looked at.
+-- The number of modules of the encoding region, computed: for each row only the rectangles that meet the row are checked.
 use Rattle.std.proofs.Common.{◌≡◌, ℕ, ◌+◌, ◌<◌, Bool, true, false, not, ◌&&◌, ◌||◌, cond, eqb, ltb, leb, List, [], ◌∷◌, refl, ap, ◌∙◌, arith}
 use Rattle.std.proofs.lemmas.Bool.Decides.{nat_tests}
 use Rattle.std.specs.List.{list_any, filter}
@@ -20,11 +20,11 @@ is_in_rows r b = leb b.top r && ltb r b.bottom
 abbrev pub is_in_columns : ℕ → Rectangle → Bool
 is_in_columns c b = leb b.left c && ltb c b.right
 
--- how many columns of a row none of its rectangles takes
+-- the number of columns of a row that are in none of the row's rectangles
 abbrev pub free_in : ℕ → List Rectangle → ℕ
 free_in s bs = sum_below s (λ c. cond (not (list_any (is_in_columns c) bs)) 1 0)
 
--- how many places of a square no rectangle takes, row by row
+-- the number of places of a square that are in no rectangle, row by row
 abbrev pub free_of : ℕ → List Rectangle → ℕ
 free_of s bs = sum_below s (λ r. free_in s (filter (is_in_rows r) bs))
 
@@ -36,7 +36,7 @@ in-parts r c b = assoc (leb b.top r && ltb r b.bottom) (leb b.left c) (ltb c b.r
     assoc true y z = refl
     assoc false y z = refl
 
--- only the rectangles that the row goes through can take a place of it
+-- only the rectangles that the row goes through can contain a place of it
 any-filter : (r c : ℕ) (bs : List Rectangle) → list_any (is_in_rectangle r c) bs ≡ list_any (is_in_columns c) (filter (is_in_rows r) bs)
 any-filter r c [] = refl
 any-filter r c (b ∷ bs) = ap (λ z. z || list_any (is_in_rectangle r c) bs) (in-parts r c b) ∙ (ap (λ z. (is_in_rows r b && is_in_columns c b) || z) (any-filter r c bs) ∙ one (is_in_rows r b))
@@ -45,7 +45,7 @@ any-filter r c (b ∷ bs) = ap (λ z. z || list_any (is_in_rectangle r c) bs) (i
     one true = refl
     one false = refl
 
--- a place inside the square is in the region where no rectangle of its row takes it
+-- a place inside the square is in the region if no rectangle of its row contains it
 region-free : (v r c : ℕ) → r < side_of v → c < side_of v → is_in_region v r c ≡ not (list_any (is_in_columns c) (filter (is_in_rows r) (taken_rectangles v)))
 region-free v r c h k =
     let p : ltb r (side_of v) ≡ true = grind (arith, nat_tests) in
@@ -56,7 +56,7 @@ region-free v r c h k =
 pub region-count : (v : ℕ) → places_passing (side_of v) (is_in_region v) ≡ free_of (side_of v) (taken_rectangles v)
 region-count v = places-sum (side_of v) (is_in_region v) ∙ sum_below-same (side_of v) _ _ (λ r h. sum_below-same (side_of v) _ _ (λ c k. ap (λ z. cond z 1 0) (region-free v r c h k)))
 
--- the count of one version is what its codewords and remainder bits want
+-- the count of one version is what its codewords and remainder bits need
 abbrev pub agrees : ℕ → Bool
 agrees i = eqb (free_of (side_of (i + 1)) (taken_rectangles (i + 1))) (module_count_of (i + 1))
 

@@ -1,8 +1,8 @@
--- Lists with the same members: how long they are, and that only one of them rises.
+-- Lists with the same members: their lengths, and that only one such list is rising.
 use Rattle.std.proofs.Common.{◌≡◌, ◌≢◌, suc, ◌≤◌, List, [], ◌∷◌, ◌++◌, length, refl, sym, ap, ◌∙◌, subst, inl, inr, ◌⊎◌, arith}
 use Rattle.std.specs.List.{All, AllPairs, AllByRecursion}
 
--- x stands in the list
+-- x is in the list
 abbrev pub Mem : {X : Type 0} → X → List X → Type 0
 Mem x [] = ⊥
 Mem x (y ∷ ys) = (y ≡ x) ⊎ Mem x ys
@@ -12,36 +12,36 @@ abbrev pub Rises : {X : Type 0} → (X → X → Type 0) → List X → Type 0
 Rises R [] = Unit {0}
 Rises R (x ∷ xs) = AllByRecursion (R x) xs × Rises R xs
 
--- no item stands twice
+-- no item is in the list twice
 abbrev pub Distinct : {X : Type 0} → List X → Type 0
 Distinct {X} xs = Rises {X = X} (λ x y. x ≢ y) xs
 
--- what holds of each item holds of one that stands in the list
+-- a property of each item is a property of an item that is in the list
 pub Mem-at : {X : Type 0} (P : X → Type 0) (xs : List X) (x : X) → AllByRecursion P xs → Mem x xs → P x
 Mem-at P [] x h m = absurd m
 Mem-at P (y ∷ ys) x h (inl e) = subst P e h.0
 Mem-at P (y ∷ ys) x h (inr m) = Mem-at P ys x h.1 m
 
--- what holds of all that stands in the list holds of each item
+-- a property of every x that is in the list is a property of each item
 pub All-of-Mem : {X : Type 0} (P : X → Type 0) (xs : List X) → ((x : X) → Mem x xs → P x) → AllByRecursion P xs
 All-of-Mem P [] f = tt
 All-of-Mem P (x ∷ xs) f = (f x (inl refl), All-of-Mem P xs (λ y m. f y (inr m)))
 
 -- ---- lengths
 
--- what stands in two joined lists stands in one of them
+-- an item of two joined lists is in one of them
 pub Mem-append : {X : Type 0} (z : X) (xs ys : List X) → Mem z (xs ++ ys) → Mem z xs ⊎ Mem z ys
 Mem-append z [] ys m = inr m
 Mem-append z (x ∷ xs) ys (inl e) = inl (inl e)
 Mem-append z (x ∷ xs) ys (inr m) = elim (Mem-append z xs ys m) [ inl k ↦ inl (inr k) | inr k ↦ inr k ]
 
--- what stands in the first list stands in both joined
+-- an item of the first list is in the joined lists
 pub Mem-left : {X : Type 0} (z : X) (xs ys : List X) → Mem z xs → Mem z (xs ++ ys)
 Mem-left z [] ys m = absurd m
 Mem-left z (x ∷ xs) ys (inl e) = inl e
 Mem-left z (x ∷ xs) ys (inr m) = inr (Mem-left z xs ys m)
 
--- what stands in the second list stands in both joined
+-- an item of the second list is in the joined lists
 pub Mem-right : {X : Type 0} (z : X) (xs ys : List X) → Mem z ys → Mem z (xs ++ ys)
 Mem-right z [] ys m = m
 Mem-right z (x ∷ xs) ys m = inr (Mem-right z xs ys m)
@@ -50,13 +50,13 @@ Mem-right z (x ∷ xs) ys m = inr (Mem-right z xs ys m)
 abbrev pub Split : {X : Type 0} → X → List X → Type 0
 Split {X} x ys = (front : List X) × (back : List X) × (ys ≡ front ++ x ∷ back)
 
--- a list with x in it, cut there
+-- a list that contains x, cut at x
 pub split : {X : Type 0} (x : X) (ys : List X) → Mem x ys → Split x ys
 split x [] m = absurd m
 split x (y ∷ ys) (inl e) = ([], ys, ap (λ z. z ∷ ys) e)
 split x (y ∷ ys) (inr m) = let w = split x ys m in (y ∷ w.0, w.1, ap (λ zs. y ∷ zs) w.2)
 
--- taking x out leaves all that is not x
+-- a list without x still contains all other items
 Mem-other : {X : Type 0} (x z : X) (front back : List X) → x ≢ z → Mem z (front ++ x ∷ back) → Mem z (front ++ back)
 Mem-other x z front back n m = elim (Mem-append z front (x ∷ back) m) [
   | inl k ↦ Mem-left z front back k
@@ -68,7 +68,7 @@ pub length-mid : {X : Type 0} (x : X) (front back : List X) → length (front ++
 length-mid x [] back = refl
 length-mid x (y ∷ ys) back = ap suc (length-mid x ys back)
 
--- a list without repeats is no longer than one that has all its items
+-- a list without repeats is no longer than a list that contains all its items
 pub length-le_members : {X : Type 0} (xs ys : List X) → Distinct xs → ((x : X) → Mem x xs → Mem x ys) → length xs ≤ length ys
 length-le_members [] ys d f = omega arith
 length-le_members (x ∷ xs) ys d f =
@@ -78,7 +78,7 @@ length-le_members (x ∷ xs) ys d f =
     let k = length-mid x w.0 w.1 in
     omega arith
 
--- a fact of each item, by recursion on the list
+-- a property of each item, by recursion on the list
 pub All-rec : {X : Type 0} (P : X → Type 0) (xs : List X) → All P xs → AllByRecursion P xs
 All-rec P [] h = tt
 All-rec P (x ∷ xs) h = (h 0 x (omega arith), All-rec P xs (λ k d l. h (suc k) d (omega arith)))
@@ -90,7 +90,7 @@ pub Rises-of-pairs : {X : Type 0} (R : X → X → Type 0) (xs : List X) → All
 Rises-of-pairs R [] h = tt
 Rises-of-pairs R (x ∷ xs) h = (All-rec (R x) xs (λ k d l. h 0 (suc k) d (omega arith) (omega arith)), Rises-of-pairs R xs (λ i j d k l. h (suc i) (suc j) d (omega arith) (omega arith)))
 
--- two rising lists with the same items are one
+-- two rising lists with the same items are equal
 pub one_rising : {X : Type 0} (R : X → X → Type 0) → ((x y : X) → R x y → R y x → ⊥) → (xs ys : List X) → Rises R xs → Rises R ys → ((x : X) → Mem x xs → Mem x ys) → ((x : X) → Mem x ys → Mem x xs) → xs ≡ ys
 one_rising R a [] [] r s f g = refl
 one_rising R a [] (y ∷ ys) r s f g = absurd (g y (inl refl))

@@ -20,7 +20,7 @@ cut-at (m ∷ ms) (suc n) d h = let w = cut-at ms n d (omega arith) in (m ∷ w.
 pub number-item : (v : ℕ) (ms : List Module) (n : ℕ) (d : Module) → IsOrder v ms → n < length ms → number_of v (get_or ms n d) ≡ n
 number-item v ms n d o h = let w = cut-at ms n d h in number-at v w.0 w.1 (get_or ms n d) (subst (IsOrder v) w.2 o) ∙ w.3
 
--- a place of the region stands in the order at the index that is its number
+-- a place of the region is in the order at the index that is its number
 pub item-number : (v : ℕ) (ms : List Module) (m d : Module) → IsOrder v ms → InRegion v m → get_or ms (number_of v m) d ≡ m
 item-number v ms m d o h =
     let w = split m ms (order-has v ms o m h) in
@@ -49,13 +49,13 @@ number-below v m l k h =
     let a = number-small v (to_come v (start_of v)) m o h in
     omega arith
 
--- two places of one number are one
+-- two places with the same number are the same place
 pub number-one : (v : ℕ) (m n : Module) → InRegion v m → InRegion v n → number_of v m ≡ number_of v n → m ≡ n
 number-one v m n h k e =
     let o = to_come-start v in
     sym (item-number v (to_come v (start_of v)) m m o h) ∙ (ap (λ i. get_or (to_come v (start_of v)) i m) e ∙ item-number v (to_come v (start_of v)) n m o k)
 
--- each number below the count is that of a place
+-- each number below the count is the number of a place
 pub number-onto : (v n : ℕ) → 1 ≤ v → v ≤ 40 → n < module_count_of v → (m : Module) × InRegion v m × (number_of v m ≡ n)
 number-onto v n l k h =
     let ms = to_come v (start_of v) in

@@ -1,4 +1,4 @@
--- There is one order, and it is as long as the count says.
+-- A version has one order, and the length of the order is the number of modules of the encoding region.
 use Rattle.std.proofs.Common.{◌≡◌, ◌≢◌, ℕ, zero, suc, ◌+◌, ◌-◌, ◌<◌, ◌≤◌, Bool, true, leb, eqb, List, [], ◌∷◌, ◌++◌, ◌&&◌, length, refl, sym, ◌∙◌, subst, inl, inr, arith}
 use borrow.Author.Tests.{leb-true}
 use Rattle.std.specs.List.{Contains}
@@ -29,7 +29,7 @@ before-asym a b h k = elim (before-parts a b h) [
   ]
 ]
 
--- what a list contains stands in it
+-- an item that a list contains is in the list
 Mem-of-Contains : {X : Type 0} (xs : List X) (x : X) → Contains xs x → Mem x xs
 Mem-of-Contains [] x (k, l, e) = absurd (omega arith)
 Mem-of-Contains (y ∷ ys) x (zero, l, e) = inl e
@@ -48,11 +48,11 @@ Before v m n = is_before (key_of v m) (key_of v n) ≡ true
 asym : (v : ℕ) (m n : Module) → Before v m n → Before v n m → ⊥
 asym v m n h k = before-asym (key_of v m) (key_of v n) h k
 
--- what stands in the order is in the region
+-- each item of the order is in the region
 pub order-mem : (v : ℕ) (ms : List Module) → IsOrder v ms → (m : Module) → Mem m ms → InRegion v m
 order-mem v ms o m k = Mem-at (InRegion v) ms m (All-rec (InRegion v) ms o.in_region) k
 
--- what is in the region stands in the order
+-- each module of the region is in the order
 pub order-has : (v : ℕ) (ms : List Module) → IsOrder v ms → (m : Module) → InRegion v m → Mem m ms
 order-has v ms o m h = Mem-of-Contains ms m (o.complete m h)
 
@@ -60,7 +60,7 @@ order-has v ms o m h = Mem-of-Contains ms m (o.complete m h)
 pub only_order : (v : ℕ) (ms ns : List Module) → IsOrder v ms → IsOrder v ns → ms ≡ ns
 only_order v ms ns o p = one_rising (Before v) (asym v) ms ns (Rises-of-pairs (Before v) ms o.rising) (Rises-of-pairs (Before v) ns p.rising) (λ m k. order-has v ns p m (order-mem v ms o m k)) (λ m k. order-has v ms o m (order-mem v ns p m k))
 
--- the region of each version has as many places as its codewords and remainder bits want
+-- the region of each version has as many places as its codewords and remainder bits need
 count-at : (i : ℕ) → i < 40 → places_passing (side_of (i + 1)) (is_in_region (i + 1)) ≡ module_count_of (i + 1)
 count-at i l = region-count (i + 1) ∙ eqb-same _ _ (below-at 40 agrees agrees-40 i l)
 
@@ -69,19 +69,19 @@ sizes-agree : below 40 (λ i. eqb (module_count_of (i + 1)) (region_size (i + 1)
 unfolding centres_of total_codewords_of remainder_bits_of
 sizes-agree = refl
 
--- the codewords and remainder bits fill what the function patterns leave
+-- the codewords and remainder bits fill all modules outside the function patterns, the format and the version information
 pub size-at : (v : ℕ) → 1 ≤ v → v ≤ 40 → module_count_of v ≡ region_size v
 size-at v l h =
     let e : v - 1 + 1 ≡ v = omega arith in
     subst (λ (k : ℕ). module_count_of k ≡ region_size k) e (eqb-same _ _ (below-at 40 (λ i. eqb (module_count_of (i + 1)) (region_size (i + 1))) sizes-agree (v - 1) (omega arith)))
 
--- and so many places the region has
+-- the region has this number of places
 pub region-size : (v : ℕ) → 1 ≤ v → v ≤ 40 → places_passing (side_of v) (is_in_region v) ≡ region_size v
 region-size v l h =
     let e : v - 1 + 1 ≡ v = omega arith in
     subst (λ (k : ℕ). places_passing (side_of k) (is_in_region k) ≡ module_count_of k) e (count-at (v - 1) (omega arith)) ∙ size-at v l h
 
--- the order has that many items
+-- the length of the order is this number
 pub order-length : (v : ℕ) (ms : List Module) → 1 ≤ v → v ≤ 40 → IsOrder v ms → length ms ≡ module_count_of v
 order-length v ms l h o =
     let e : v - 1 + 1 ≡ v = omega arith in
@@ -105,7 +105,7 @@ order-small v ms l h o = let d = order-length v ms l h o in let c = module-count
 
 -- ---- the number of a place
 
--- what stands before m in a rising list is in the relation to it
+-- each item before m in a rising list is in the relation to m
 Rises-front : {X : Type 0} (R : X → X → Type 0) (front back : List X) (m : X) → Rises R (front ++ m ∷ back) → (x : X) → Mem x front → R x m
 Rises-front R [] back m h x k = absurd k
 Rises-front R (y ∷ ys) back m h x (inl e) = subst (λ z. R z m) e (Mem-at (R y) (ys ++ m ∷ back) m h.0 (Mem-right m ys (m ∷ back) (inl refl)))
@@ -116,7 +116,7 @@ Rises-first : {X : Type 0} (R : X → X → Type 0) (front back : List X) → Ri
 Rises-first R [] back h = tt
 Rises-first R (x ∷ xs) back h = (All-of-Mem (R x) xs (λ y k. Mem-at (R x) (xs ++ back) y h.0 (Mem-left y xs back k)), Rises-first R xs back h.1)
 
--- m is in the relation to what stands after it in a rising list
+-- m is in the relation to each item after it in a rising list
 Rises-after : {X : Type 0} (R : X → X → Type 0) (front back : List X) (m : X) → Rises R (front ++ m ∷ back) → (x : X) → Mem x back → R m x
 Rises-after R [] back m h x k = Mem-at (R m) back x h.0 k
 Rises-after R (y ∷ ys) back m h x k = Rises-after R ys back m h.1 x k
@@ -125,7 +125,7 @@ Rises-after R (y ∷ ys) back m h x k = Rises-after R ys back m h.1 x k
 &&-both : (a b : Bool) → a ≡ true → b ≡ true → (a && b) ≡ true
 &&-both a b e f = rw (e, f) refl
 
--- a place of the order has the number of places before it
+-- the number of a place of the order is the number of places before it
 pub number-at : (v : ℕ) (front back : List Module) (m : Module) → IsOrder v (front ++ m ∷ back) → number_of v m ≡ length front
 unfolding number_of
 number-at v front back m o =

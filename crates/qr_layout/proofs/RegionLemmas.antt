@@ -1,22 +1,22 @@
--- What every module of the encoding region has: a row and a column inside the square, and not column 6. Besides, small
--- facts of tests.
+-- Each module of the encoding region is in a row and a column inside the square, and not in column 6. Besides, there are
+-- small facts of tests.
 use Rattle.std.proofs.Common.{◌≡◌, ℕ, ◌<◌, Bool, true, false, not, ◌&&◌, ◌||◌, ltb, refl, arith}
 use Rattle.std.proofs.lemmas.Bool.Decides.{nat_tests}
 use Rattle.qr_layout.specs.declared.region.Module.{Module}
 use Rattle.qr_layout.specs.Region.{is_corner, is_timing, is_version_information, is_alignment, is_in_region, InRegion}
 use Rattle.qr_layout.specs.Version.{side_of}
 
--- of two tests that pass together the first passes
+-- if two tests pass together, the first one passes
 pub &&-left : (a b : Bool) → (a && b) ≡ true → a ≡ true
 &&-left true b e = refl
 &&-left false b e = e
 
--- of two tests that pass together the second passes
+-- if two tests pass together, the second one passes
 pub &&-right : (a b : Bool) → (a && b) ≡ true → b ≡ true
 &&-right true b e = e
 &&-right false b e = cc
 
--- a module of the region is inside the square, and no part of the rest
+-- a module of the region is inside the square, and in no part outside the region
 record IsFree (v r c : ℕ) : Type 0 where
   row : ltb r (side_of v) ≡ true
   col : ltb c (side_of v) ≡ true

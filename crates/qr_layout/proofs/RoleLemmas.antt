@@ -1,4 +1,4 @@
--- Where the bits of the format and version information stand.
+-- The places of the bits of the format and version information.
 use Rattle.std.proofs.Common.{◌≡◌, ℕ, zero, suc, ◌+◌, ◌-◌, ◌*◌, ◌<◌, ◌≤◌, Bool, true, false, ◌&&◌, ◌||◌, cond, eqb, ltb, leb, Option, None, Some, refl, sym, ap, ◌∙◌, subst, inl, inr, ◌⊎◌, arith}
 use Rattle.std.proofs.lemmas.Bool.Decides.{nat_tests}
 use Rattle.std.proofs.lemmas.Bool.{cases_lt}
@@ -6,7 +6,7 @@ use Rattle.std.specs.List.{find, range_with_len}
 use Rattle.qr_layout.specs.Version.{side_of}
 use Rattle.qr_layout.specs.Role.{first_place, second_place, version_place, transposed, is_at, format_bit_at, version_bit_at}
 
--- a test passes or not
+-- a test passes or fails
 pub decide : (b : Bool) → (b ≡ true) ⊎ (b ≡ false)
 decide true = inl refl
 decide false = inr refl
@@ -50,44 +50,44 @@ first-none n p f = found-none n 0 p (λ j a b q. f j (omega arith) q)
 pub first-at : (n : ℕ) (p : ℕ → Bool) (i : ℕ) → find p (range_with_len 0 n) ≡ Some i → (i < n) × (p i ≡ true)
 first-at n p i h = let w = found-at n 0 p i h in let l = w.0 in (omega arith, w.1)
 
--- bit i of the format information stands at (r, c)
+-- bit i of the format information is at (r, c)
 abbrev pub stands : ℕ → ℕ → ℕ → ℕ → Bool
 stands s r c i = is_at (first_place i) r c || is_at (second_place s i) r c
 
--- the one bit that may stand at a place of row 8 or column 8
+-- the only bit that may be at a place of row 8 or column 8
 abbrev bit_here : ℕ → ℕ → ℕ → ℕ
 bit_here s r c = cond (eqb c 8) (cond (ltb r 6) r (cond (ltb r 9) (r - 1) (r + 15 - s))) (cond (eqb c 7) 8 (cond (ltb c 6) (14 - c) (s - 1 - c)))
 
--- a bit at its first place is the one that may stand there
+-- if a bit has its first place here, it is the bit that may be here
 first-here : (s r c i : ℕ) → 21 ≤ s → i < 15 → is_at (first_place i) r c ≡ true → i ≡ bit_here s r c
 first-here s r c i l a h = grind (arith, nat_tests)
 
--- a bit at its second place is the one that may stand there
+-- if a bit has its second place here, it is the bit that may be here
 second-here : (s r c i : ℕ) → 21 ≤ s → i < 15 → is_at (second_place s i) r c ≡ true → i ≡ bit_here s r c
 second-here s r c i l a h = grind (arith, nat_tests)
 
--- one of two tests passed
+-- if one of two tests passes, the first or the second passes
 pub either : (a b : Bool) → (a || b) ≡ true → (a ≡ true) ⊎ (b ≡ true)
 either true b h = inl refl
 either false b h = inr h
 
--- a bit at a place is the one that may stand there
+-- a bit that is at a place is the bit that may be there
 stands-here : (s r c i : ℕ) → 21 ≤ s → i < 15 → stands s r c i ≡ true → i ≡ bit_here s r c
 stands-here s r c i l a h = elim (either (is_at (first_place i) r c) (is_at (second_place s i) r c) h) [
   | inl e ↦ first-here s r c i l a e
   | inr e ↦ second-here s r c i l a e
 ]
 
--- no two bits of the format information stand at one place
+-- no two bits of the format information are at one place
 only-format : (s r c i j : ℕ) → 21 ≤ s → i < 15 → j < 15 → stands s r c i ≡ true → stands s r c j ≡ true → j ≡ i
 only-format s r c i j l a b h k = stands-here s r c j l b k ∙ sym (stands-here s r c i l a h)
 
--- the bit that stands at a place is the one that is found there
+-- the bit that is at a place is the bit that is found there
 pub format-some : (s r c i : ℕ) → 21 ≤ s → i < 15 → stands s r c i ≡ true → Some i ≡ format_bit_at s r c
 unfolding format_bit_at
 format-some s r c i l a h = sym (first-some 15 (stands s r c) i a h (λ j b k. only-format s r c i j l a b h k))
 
--- where no bit stands none is found
+-- if no bit is at a place, no bit is found there
 pub format-none : (s r c : ℕ) → ((j : ℕ) → j < 15 → stands s r c j ≡ true → ⊥) → None ≡ format_bit_at s r c
 unfolding format_bit_at
 format-none s r c f = sym (first-none 15 (stands s r c) f)
@@ -116,27 +116,27 @@ format-seven s c l h = format-some s 8 c 8 l (omega arith) (grind (arith, nat_te
 pub format-right : (s c : ℕ) → 21 ≤ s → s - 8 ≤ c → c < s → Some (s - 1 - c) ≡ format_bit_at s 8 c
 format-right s c l h k = format-some s 8 c (s - 1 - c) l (omega arith) (grind (arith, nat_tests))
 
--- no bit stands where a timing pattern crosses column 8, nor between the finder patterns
+-- no bit is where a timing pattern crosses column 8, nor between the finder patterns
 pub format-no_row : (s r : ℕ) → 21 ≤ s → (r ≡ 6) ⊎ ((9 ≤ r) × (r ≤ s - 8)) → None ≡ format_bit_at s r 8
 format-no_row s r l (inl e) = format-none s r 8 (λ j b h. grind (arith, nat_tests))
 format-no_row s r l (inr e) = let a = e.0 in let d = e.1 in format-none s r 8 (λ j b h. grind (arith, nat_tests))
 
--- no bit stands where a timing pattern crosses row 8, nor between the finder patterns
+-- no bit is where a timing pattern crosses row 8, nor between the finder patterns
 pub format-no_column : (s c : ℕ) → 21 ≤ s → (c ≡ 6) ⊎ ((9 ≤ c) × (c < s - 8)) → None ≡ format_bit_at s 8 c
 format-no_column s c l (inl e) = format-none s 8 c (λ j b h. grind (arith, nat_tests))
 format-no_column s c l (inr e) = let a = e.0 in let d = e.1 in format-none s 8 c (λ j b h. grind (arith, nat_tests))
 
--- no bit stands off row 8 and column 8
+-- no bit is outside row 8 and column 8
 pub format-off : (s r c : ℕ) → 21 ≤ s → (r ≡ 8 → ⊥) → (c ≡ 8 → ⊥) → None ≡ format_bit_at s r c
 format-off s r c l a d = format-none s r c (λ j b h. grind (arith, nat_tests))
 
 -- ---- the version information
 
--- bit i of the version information stands at (r, c)
+-- bit i of the version information is at (r, c)
 abbrev pub stands_for_version : ℕ → ℕ → ℕ → ℕ → Bool
 stands_for_version s r c i = is_at (version_place s i) r c || is_at (transposed (version_place s i)) r c
 
--- no two bits of the version information stand at one place
+-- no two bits of the version information are at one place
 only-version : (s r c i j : ℕ) → 21 ≤ s → i < 18 → j < 18 → stands_for_version s r c i ≡ true → stands_for_version s r c j ≡ true → j ≡ i
 only-version s r c i j l a b h k = grind (arith, nat_tests)
 
@@ -145,15 +145,15 @@ version-found : (v r c : ℕ) (o : Option ℕ) → 7 ≤ v → o ≡ find (stand
 unfolding version_bit_at
 version-found v r c o h e = let t : ltb v 7 ≡ false = grind (arith, nat_tests) in rw t e
 
--- the bit that stands at a place is the one that is found there
+-- the bit that is at a place is the bit that is found there
 pub version-some : (v r c i : ℕ) → 7 ≤ v → i < 18 → stands_for_version (side_of v) r c i ≡ true → Some i ≡ version_bit_at v r c
 version-some v r c i l a h = version-found v r c (Some i) l (sym (first-some 18 (stands_for_version (side_of v) r c) i a h (λ j b k. only-version (side_of v) r c i j (omega arith) a b h k)))
 
--- where no bit stands none is found
+-- if no bit is at a place, no bit is found there
 pub version-none : (v r c : ℕ) → 7 ≤ v → ((j : ℕ) → j < 18 → stands_for_version (side_of v) r c j ≡ true → ⊥) → None ≡ version_bit_at v r c
 version-none v r c l f = version-found v r c None l (sym (first-none 18 (stands_for_version (side_of v) r c) f))
 
--- versions below 7 have none
+-- versions below 7 have no such bit
 pub version-small : (v r c : ℕ) → v < 7 → None ≡ version_bit_at v r c
 unfolding version_bit_at
 version-small v r c h = let t : ltb v 7 ≡ true = grind (arith, nat_tests) in rw t refl
@@ -174,7 +174,7 @@ block-below s r c l h = grind (arith, nat_tests)
 block-small : (s r c : ℕ) → 21 ≤ s → in_block s r c ≡ true → 3 * r + (c + 11 - s) < 18
 block-small s r c l h = grind (arith, nat_tests)
 
--- a bit stands only in the two blocks
+-- a bit is only in the two blocks
 block-neither : (s r c j : ℕ) → 21 ≤ s → j < 18 → in_block s r c ≡ false → in_block s c r ≡ false → stands_for_version s r c j ≡ true → ⊥
 block-neither s r c j l b h k e = grind (arith, nat_tests)
 

@@ -1,4 +1,5 @@
--- What the roles say together: which places hold the bits of a word, and that the rest is the encoding region.
+-- Which places contain the bits of the format and version information. All places that contain no such bit and have no fixed
+-- colour are the encoding region.
 use Rattle.std.proofs.Common.{◌≡◌, ℕ, ◌+◌, ◌-◌, ◌%◌, ◌<◌, ◌≤◌, Bool, true, false, not, ◌&&◌, ◌||◌, cond, eqb, ltb, [], ◌∷◌, Option, None, Some, refl, sym, ap, ◌∙◌, subst, inl, inr, ◌⊎◌, arith}
 use Rattle.std.proofs.lemmas.Bool.Decides.{nat_tests}
 use Rattle.std.proofs.lemmas.Bool.{cases_lt}
@@ -58,23 +59,23 @@ either-place m n k h = elim (either (is_at n m.row m.col) (is_at k m.row m.col) 
   | inr e ↦ inr (at-place m k e)
 ]
 
--- a bit of the format information that is found stands at one of its two places
+-- a bit of the format information that is found is at one of its two places
 found-format : (s : ℕ) (m : Module) (i : ℕ) → format_bit_at s m.row m.col ≡ Some i → (i < 15) × ((m ≡ first_place i) ⊎ (m ≡ second_place s i))
 unfolding format_bit_at
 found-format s m i h = let w = first-at 15 (λ i. is_at (first_place i) m.row m.col || is_at (second_place s i) m.row m.col) i h in (w.0, either-place m (first_place i) (second_place s i) w.1)
 
--- a bit of the format information stands only at its two places
+-- a bit of the format information is only at its two places
 pub format-only : (v : ℕ) (m : Module) (i : ℕ) → role_of v m.row m.col ≡ FormatBit i → (i < 15) × ((m ≡ first_place i) ⊎ (m ≡ second_place (side_of v) i))
 format-only v m i h = found-format (side_of v) m i (with-format (pattern_colour v m.row m.col) _ _ (version_bit_at v m.row m.col) i (sym (role-with v m.row m.col) ∙ h))
 
--- where there is version information the version is 7 or more
+-- if a place has version information, the version is 7 or more
 old-enough : (v i : ℕ) (o : Option ℕ) → cond (ltb v 7) None o ≡ Some i → (7 ≤ v) × (o ≡ Some i)
 old-enough v i o h = elim (cases_lt v 7) [
   | inl k ↦ let t : ltb v 7 ≡ true = grind (arith, nat_tests) in let e = rw t at h in cc
   | inr k ↦ let t : ltb v 7 ≡ false = grind (arith, nat_tests) in (k, rw t at h)
 ]
 
--- a bit of the version information that is found stands at one of its two places
+-- a bit of the version information that is found is at one of its two places
 found-version : (v : ℕ) (m : Module) (i : ℕ) → version_bit_at v m.row m.col ≡ Some i → (7 ≤ v) × (i < 18) × ((m ≡ version_place (side_of v) i) ⊎ (m ≡ transposed (version_place (side_of v) i)))
 unfolding version_bit_at
 found-version v m i h =
@@ -83,7 +84,7 @@ found-version v m i h =
     let w = first-at 18 p i o.1 in
     (o.0, w.0, either-place m (version_place (side_of v) i) (transposed (version_place (side_of v) i)) w.1)
 
--- a bit of the version information stands only at its two places
+-- a bit of the version information is only at its two places
 pub version-only : (v : ℕ) (m : Module) (i : ℕ) → role_of v m.row m.col ≡ VersionBit i → (7 ≤ v) × (i < 18) × ((m ≡ version_place (side_of v) i) ⊎ (m ≡ transposed (version_place (side_of v) i)))
 version-only v m i h = found-version v m i (with-version (pattern_colour v m.row m.col) _ (format_bit_at (side_of v) m.row m.col) _ i (sym (role-with v m.row m.col) ∙ h))
 
@@ -133,19 +134,19 @@ is_dark-same (FormatBit j) h = cc
 is_dark-same (VersionBit j) h = cc
 is_dark-same Region h = cc
 
--- the fifteen bits of the format information stand at their first places
+-- the fifteen bits of the format information are at their first places
 format_first : ℕ → Bool
 format_first k = below 15 (λ i. is_format i (role_of (k + 1) (first_place i).row (first_place i).col))
 
--- the fifteen bits of the format information stand at their second places
+-- the fifteen bits of the format information are at their second places
 format_second : ℕ → Bool
 format_second k = below 15 (λ i. is_format i (role_of (k + 1) (second_place (side_of (k + 1)) i).row (second_place (side_of (k + 1)) i).col))
 
--- the eighteen bits of the version information stand at their first places
+-- the eighteen bits of the version information are at their first places
 version_first : ℕ → Bool
 version_first k = below 18 (λ i. is_version i (role_of (k + 7) (version_place (side_of (k + 7)) i).row (version_place (side_of (k + 7)) i).col))
 
--- the eighteen bits of the version information stand at their second places
+-- the eighteen bits of the version information are at their second places
 version_second : ℕ → Bool
 version_second k = below 18 (λ i. is_version i (role_of (k + 7) (version_place (side_of (k + 7)) i).col (version_place (side_of (k + 7)) i).row))
 
@@ -178,7 +179,7 @@ all-dark_at : below 40 dark_at ≡ true
 unfolding dark_at is_dark role_of pattern_colour format_bit_at version_bit_at is_alignment_light centres_of
 all-dark_at = refl
 
--- each bit of the format information stands at its first place
+-- each bit of the format information is at its first place
 pub format-first : (v i : ℕ) → 1 ≤ v → v ≤ 40 → i < 15 → role_of v (first_place i).row (first_place i).col ≡ FormatBit i
 unfolding format_first
 format-first v i h k l =
@@ -186,7 +187,7 @@ format-first v i h k l =
     let t = below-at 15 (λ i. is_format i (role_of (v - 1 + 1) (first_place i).row (first_place i).col)) (below-at 40 format_first all-format_first (v - 1) (omega arith)) i l in
     is_format-same i _ (subst (λ (u : ℕ). is_format i (role_of u (first_place i).row (first_place i).col) ≡ true) e t)
 
--- and at its second place
+-- each bit of the format information is at its second place
 pub format-second : (v i : ℕ) → 1 ≤ v → v ≤ 40 → i < 15 → role_of v (second_place (side_of v) i).row (second_place (side_of v) i).col ≡ FormatBit i
 unfolding format_second
 format-second v i h k l =
@@ -194,7 +195,7 @@ format-second v i h k l =
     let t = below-at 15 (λ i. is_format i (role_of (v - 1 + 1) (second_place (side_of (v - 1 + 1)) i).row (second_place (side_of (v - 1 + 1)) i).col)) (below-at 40 format_second all-format_second (v - 1) (omega arith)) i l in
     is_format-same i _ (subst (λ (u : ℕ). is_format i (role_of u (second_place (side_of u) i).row (second_place (side_of u) i).col) ≡ true) e t)
 
--- each bit of the version information stands at its first place
+-- each bit of the version information is at its first place
 pub version-first : (v i : ℕ) → 7 ≤ v → v ≤ 40 → i < 18 → role_of v (version_place (side_of v) i).row (version_place (side_of v) i).col ≡ VersionBit i
 unfolding version_first
 version-first v i h k l =
@@ -202,7 +203,7 @@ version-first v i h k l =
     let t = below-at 18 (λ i. is_version i (role_of (v - 7 + 7) (version_place (side_of (v - 7 + 7)) i).row (version_place (side_of (v - 7 + 7)) i).col)) (below-at 34 version_first all-version_first (v - 7) (omega arith)) i l in
     is_version-same i _ (subst (λ (u : ℕ). is_version i (role_of u (version_place (side_of u) i).row (version_place (side_of u) i).col) ≡ true) e t)
 
--- and at the transposed place
+-- each bit of the version information is at the transposed place
 pub version-second : (v i : ℕ) → 7 ≤ v → v ≤ 40 → i < 18 → role_of v (version_place (side_of v) i).col (version_place (side_of v) i).row ≡ VersionBit i
 unfolding version_second
 version-second v i h k l =
@@ -210,7 +211,7 @@ version-second v i h k l =
     let t = below-at 18 (λ i. is_version i (role_of (v - 7 + 7) (version_place (side_of (v - 7 + 7)) i).col (version_place (side_of (v - 7 + 7)) i).row)) (below-at 34 version_second all-version_second (v - 7) (omega arith)) i l in
     is_version-same i _ (subst (λ (u : ℕ). is_version i (role_of u (version_place (side_of u) i).col (version_place (side_of u) i).row) ≡ true) e t)
 
--- the module beside the bottom left finder pattern is dark
+-- the dark module, beside the bottom left finder pattern, is dark
 pub dark-module : (v : ℕ) → 1 ≤ v → v ≤ 40 → role_of v (side_of v - 8) 8 ≡ Fixed true
 unfolding dark_at
 dark-module v h k =
@@ -226,7 +227,7 @@ record IsFree (a : Option Bool) (t : Bool) (f g : Option ℕ) : Type 0 where
   no_format : f ≡ None
   no_version : g ≡ None
 
--- a role that is the region comes from no part
+-- if the role is the region, the place has no colour and no bit and is not the dark module
 with-region : (a : Option Bool) (t : Bool) (f g : Option ℕ) → role_with a t f g ≡ Region → IsFree a t f g
 with-region (Some x) t f g h = cc
 with-region None true f g h = cc
@@ -234,7 +235,7 @@ with-region None false (Some j) g h = cc
 with-region None false None (Some j) h = cc
 with-region None false None None h = record { no_pattern = refl; not_dark = refl; no_format = refl; no_version = refl }
 
--- where no part takes the module its role is the region
+-- if a place has no colour and no bit and is not the dark module, its role is the region
 free-region : (a : Option Bool) (t : Bool) (f g : Option ℕ) → a ≡ None → t ≡ false → f ≡ None → g ≡ None → role_with a t f g ≡ Region
 free-region a t f g i j k l = rw (i, j, k, l) refl
 
@@ -242,7 +243,7 @@ free-region a t f g i j k l = rw (i, j, k, l) refl
 abbrev colour_with : Bool → Bool → Bool → Bool → Bool → Bool → Bool → Bool → Bool → Option Bool
 colour_with x y z w e b d p q = cond x (Some b) (cond y (Some false) (cond z (Some d) (cond w (Some p) (cond e (Some q) None))))
 
--- the tests that a place off the function patterns fails
+-- the tests that a place outside the function patterns fails
 record IsOffPatterns (x y z w e : Bool) : Type 0 where
   off_finder : x ≡ false
   off_separator : y ≡ false
@@ -250,7 +251,7 @@ record IsOffPatterns (x y z w e : Bool) : Type 0 where
   off_column : w ≡ false
   off_alignment : e ≡ false
 
--- where there is no colour each test fails
+-- if a place has no colour, each of these tests fails
 colour-none : (x y z w e b d p q : Bool) → colour_with x y z w e b d p q ≡ None → IsOffPatterns x y z w e
 colour-none true y z w e b d p q h = cc
 colour-none false true z w e b d p q h = cc
@@ -259,12 +260,12 @@ colour-none false false false true e b d p q h = cc
 colour-none false false false false true b d p q h = cc
 colour-none false false false false false b d p q h = record { off_finder = refl; off_separator = refl; off_row = refl; off_column = refl; off_alignment = refl }
 
--- a place without a colour is off the function patterns
+-- a place without a colour is outside the function patterns
 pattern-none : (v r c : ℕ) → pattern_colour v r c ≡ None → IsOffPatterns (ltb (finder_ring (side_of v) r c) 4) (eqb (finder_ring (side_of v) r c) 4) (eqb r 6) (eqb c 6) (is_alignment v r c)
 unfolding pattern_colour
 pattern-none v r c h = colour-none _ _ _ _ (is_alignment v r c) (not (eqb (finder_ring (side_of v) r c) 2)) (eqb (c % 2) 0) (eqb (r % 2) 0) (not (is_alignment_light v r c)) h
 
--- a place off the function patterns has no colour
+-- a place outside the function patterns has no colour
 none-pattern : (v r c : ℕ) → 5 ≤ finder_ring (side_of v) r c → (r ≡ 6 → ⊥) → (c ≡ 6 → ⊥) → is_alignment v r c ≡ false → pattern_colour v r c ≡ None
 unfolding pattern_colour
 none-pattern v r c h k l a =
@@ -366,7 +367,7 @@ truth : (b : Bool) → (b ≡ true → ⊥) → b ≡ false
 truth true f = absurd (f refl)
 truth false f = refl
 
--- a place that no pattern, bit or dark module takes is off the corners
+-- a place that is in no pattern, contains no bit and is not the dark module is outside the corners
 corners-free : (s r c : ℕ) → 21 ≤ s → r < s → c < s → 5 ≤ finder_ring s r c → (r ≡ 6 → ⊥) → (c ≡ 6 → ⊥) → is_dark_module s r c ≡ false → format_bit_at s r c ≡ None → list_any (is_in_rectangle r c) (corner_rectangles s) ≡ false
 corners-free s r c l i j k m n d f = truth _ (λ h. elim (corner-cases s r c l h) [
   | inl w ↦ corner-left s r c l k m n f w.0 w.1
@@ -443,7 +444,7 @@ blocks-tests v r c h = let t : ltb v 7 ≡ false = grind (arith, nat_tests) in r
 blocks-none : (v r c : ℕ) → v < 7 → list_any (is_in_rectangle r c) (version_rectangles v (side_of v)) ≡ false
 blocks-none v r c h = let t : ltb v 7 ≡ true = grind (arith, nat_tests) in rw t refl
 
--- a place has no bit of the version information just where it is in no block of it
+-- a place has no bit of the version information exactly if it is in no block of version information
 version-free : (v r c : ℕ) → version_bit_at v r c ≡ None → list_any (is_in_rectangle r c) (version_rectangles v (side_of v)) ≡ false
 version-free v r c h = elim (cases_lt v 7) [
   | inl k ↦ blocks-none v r c k
@@ -466,7 +467,7 @@ free-version v r c h = elim (cases_lt v 7) [
 
 -- ---- the law
 
--- what the encoding region is free of
+-- the parts that do not contain a place of the encoding region
 record IsClear (a b d e : Bool) : Type 0 where
   no_corner : a ≡ false
   no_timing : b ≡ false
@@ -496,11 +497,11 @@ region-role v r c l i j h =
 ring-far : (n : ℕ) → ltb n 4 ≡ false → eqb n 4 ≡ false → 5 ≤ n
 ring-far n h k = grind (arith, nat_tests)
 
--- what the test of row or column 6 means where it fails
+-- what it means that the test of row 6 or column 6 fails
 not-six : (n : ℕ) → eqb n 6 ≡ false → n ≡ 6 → ⊥
 not-six n h e = grind (arith, nat_tests)
 
--- and no other module has
+-- a module with the role Region is in the encoding region
 pub role-region : (v r c : ℕ) → 1 ≤ v → r < side_of v → c < side_of v → role_of v r c ≡ Region → is_in_region v r c ≡ true
 role-region v r c l i j h =
     let s = side_of v in

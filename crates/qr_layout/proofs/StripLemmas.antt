@@ -1,4 +1,4 @@
--- The places of the strips, of which those of the region are the order.
+-- The places of the strips, one strip after the other, are the order once the places outside the region are left out.
 use Rattle.std.proofs.Common.{◌≡◌, ℕ, zero, suc, ◌+◌, ◌-◌, ◌*◌, ◌%◌, ◌<◌, ◌≤◌, Bool, true, false, not, cond, eqb, ltb, List, [], ◌∷◌, ◌++◌, refl, sym, ap, ◌∙◌, arith}
 use Rattle.std.proofs.lemmas.List.Elements.{All-from_recursion}
 use Rattle.std.proofs.lemmas.Bool.Decides.{nat_tests}
@@ -41,7 +41,7 @@ right-again : (s : ℕ) (a : Cursor) → a.second ≡ false → (next_of s (next
 unfolding next_of
 right-again s a e = grind (arith, nat_tests)
 
--- of the places of rows those of the region are what the walk over it yields
+-- of the places of rows, those in the region are the places that the walk over the rows yields
 kept : (v n : ℕ) (a : Cursor) → a.second ≡ false → in_region_of v (both_of (pairs_within v n a)) ≡ places_within v (2 * n) a
 kept v zero a e = ap (λ (z : List Module). in_region_of v (both_of z)) (pairs-nil v a) ∙ sym (places-nil v a)
 kept v (suc n) a e =
@@ -131,7 +131,7 @@ both-append : (xs ys : List Module) → both_of (xs ++ ys) ≡ both_of xs ++ bot
 both-append [] ys = refl
 both-append (x ∷ xs) ys = ap (λ (z : List Module). x ∷ record { row = x.row; col = x.col - 1 } ∷ z) (both-append xs ys)
 
--- the places of strips are both places of all their rows
+-- the places of strips are the right and the left places of all their rows
 places-both : (s : ℕ) (xs : List Strip) → both_of (all_rows s xs) ≡ places_of s xs
 places-both s [] = refl
 places-both s (x ∷ xs) = both-append (rows_from s x 0 s) (all_rows s xs) ∙ ap (λ (z : List Module). both_of (rows_from s x 0 s) ++ z) (places-both s xs)
@@ -148,7 +148,7 @@ start-row v =
     let e : side_of v - 1 - 0 ≡ 16 + 4 * v = omega arith in
     ap (λ z. at_row (side_of v) (8 + 2 * v) z 0) t ∙ (λ i. record { strips = 8 + 2 * v; row = e i; second = false; upward = true })
 
--- of the places of all strips those of the region have the order
+-- of the places of all strips, those in the region are the order
 pub strips-order : (v n : ℕ) → n ≡ v → IsOrder v (in_region_of v (places_of (side_of v) (strips_to_come (8 + 2 * n))))
 unfolding to_come
 strips-order v n e =
@@ -170,7 +170,7 @@ strip-inside v p l = (least p, most p l)
     most : (p : ℕ) → suc p ≤ 8 + 2 * v → (strip_at (suc p)).right < side_of v
     most p l = grind (arith, nat_tests)
 
--- so are all strips
+-- all strips of a symbol are inside
 all-inside : (v p : ℕ) → p ≤ 8 + 2 * v → AllByRecursion (Inside v) (strips_to_come p)
 all-inside v zero l = tt
 all-inside v (suc p) l = (strip-inside v p l, all-inside v p (omega arith))

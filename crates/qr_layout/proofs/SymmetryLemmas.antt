@@ -8,7 +8,7 @@ use Rattle.qr_layout.specs.Region.{is_alignment, is_corner, is_in_region, is_tim
 use Rattle.qr_layout.specs.Version.{side_of}
 use Rattle.qr_layout.proofs.AlignmentLemmas.{any-places, list_any-same}
 
--- no item passes a test that none passes
+-- no item passes a test that always fails
 any-none : {X : Type 0} (xs : List X) → list_any (λ _. false) xs ≡ false
 any-none [] = refl
 any-none (x ∷ xs) = any-none xs
@@ -56,7 +56,7 @@ timing-symmetric r c = grind (arith, nat_tests)
 version-symmetric : (v r c : ℕ) → is_version_information v r c ≡ is_version_information v c r
 version-symmetric v r c = ap (λ b. leb 7 v && b) (or_comm (is_version_block (side_of v) r c) (is_version_block (side_of v) c r))
 
--- a place is in the encoding region if that with row and column exchanged is
+-- a place is in the encoding region exactly if the place with row and column exchanged is in it
 pub region-symmetric : (v r c : ℕ) → is_in_region v r c ≡ is_in_region v c r
 unfolding is_in_region
 region-symmetric v r c =

@@ -43,7 +43,7 @@ format-at l first mask i e k h f =
 
 -- ---- the remainders
 
--- the shifts that long division takes
+-- the shifts of the divisor that long division uses
 shifts_of : ℕ → ℕ → ℕ → ℕ → List ℕ
 shifts_of n divisor zero x = []
 shifts_of n divisor (suc k) x = cond (eqb (bit_at x (n + k)) 1) (k ∷ shifts_of n divisor k (bit_xor x (divisor * 2 ^ k))) (shifts_of n divisor k x)
@@ -79,7 +79,7 @@ five-small M mask h = omega arith
 five-small Q mask h = omega arith
 five-small H mask h = omega arith
 
--- the format information holds a remainder
+-- the format information contains a remainder
 pub format-word-remainder : (l : Level) (mask : ℕ) → mask < 8 → IsFormatWord (five_bits l mask) (format_word_of l mask)
 unfolding format_word_of
 format-word-remainder l mask h = record {
@@ -88,7 +88,7 @@ format-word-remainder l mask h = record {
   word_is = refl;
 }
 
--- the version information holds a remainder
+-- the version information contains a remainder
 pub version-word-remainder : (v : ℕ) → v ≤ 40 → IsVersionWord v (version_word_of v)
 unfolding version_word_of
 version-word-remainder v h = record {

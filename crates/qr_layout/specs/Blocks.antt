@@ -1,4 +1,4 @@
--- How the codewords of a version and a level are cut into blocks. Public clauses cite this file.
+-- How the codewords of a version and a level are divided into blocks.
 use Rattle.std.specs.Prelude.{◌≡◌, ℕ, ◌≤◌, ◌-◌, ◌+◌, ◌*◌, ◌/◌, ◌%◌, min, List, [], ◌∷◌}
 use Rattle.std.specs.List.{slice_index_or}
 use Rattle.qr_layout.specs.declared.blocks.Blocks.{Blocks}
@@ -6,35 +6,36 @@ use Rattle.qr_layout.specs.declared.level.Level.{Level}
 use Rattle.qr_layout.specs.declared.level.Level.TheVariants.{L, M, Q, H}
 use Rattle.qr_layout.specs.Version.{total_codewords_of}
 
--- the error correction codewords of each block in the versions 1 to 40, in turn (ISO/IEC 18004:2015, 7.5.1, Table 9)
+-- The number of error correction codewords of each block in the versions 1 to 40, in turn (ISO/IEC 18004:2015, 7.5.1, Table
+-- 9)
 abbrev pub correction_table : Level → List ℕ
 correction_table L = 7 ∷ 10 ∷ 15 ∷ 20 ∷ 26 ∷ 18 ∷ 20 ∷ 24 ∷ 30 ∷ 18 ∷ 20 ∷ 24 ∷ 26 ∷ 30 ∷ 22 ∷ 24 ∷ 28 ∷ 30 ∷ 28 ∷ 28 ∷ 28 ∷ 28 ∷ 30 ∷ 30 ∷ 26 ∷ 28 ∷ 30 ∷ 30 ∷ 30 ∷ 30 ∷ 30 ∷ 30 ∷ 30 ∷ 30 ∷ 30 ∷ 30 ∷ 30 ∷ 30 ∷ 30 ∷ 30 ∷ []
 correction_table M = 10 ∷ 16 ∷ 26 ∷ 18 ∷ 24 ∷ 16 ∷ 18 ∷ 22 ∷ 22 ∷ 26 ∷ 30 ∷ 22 ∷ 22 ∷ 24 ∷ 24 ∷ 28 ∷ 28 ∷ 26 ∷ 26 ∷ 26 ∷ 26 ∷ 28 ∷ 28 ∷ 28 ∷ 28 ∷ 28 ∷ 28 ∷ 28 ∷ 28 ∷ 28 ∷ 28 ∷ 28 ∷ 28 ∷ 28 ∷ 28 ∷ 28 ∷ 28 ∷ 28 ∷ 28 ∷ 28 ∷ []
 correction_table Q = 13 ∷ 22 ∷ 18 ∷ 26 ∷ 18 ∷ 24 ∷ 18 ∷ 22 ∷ 20 ∷ 24 ∷ 28 ∷ 26 ∷ 24 ∷ 20 ∷ 30 ∷ 24 ∷ 28 ∷ 28 ∷ 26 ∷ 30 ∷ 28 ∷ 30 ∷ 30 ∷ 30 ∷ 30 ∷ 28 ∷ 30 ∷ 30 ∷ 30 ∷ 30 ∷ 30 ∷ 30 ∷ 30 ∷ 30 ∷ 30 ∷ 30 ∷ 30 ∷ 30 ∷ 30 ∷ 30 ∷ []
 correction_table H = 17 ∷ 28 ∷ 22 ∷ 16 ∷ 22 ∷ 28 ∷ 26 ∷ 26 ∷ 24 ∷ 28 ∷ 24 ∷ 28 ∷ 22 ∷ 24 ∷ 24 ∷ 30 ∷ 28 ∷ 28 ∷ 26 ∷ 28 ∷ 30 ∷ 24 ∷ 30 ∷ 30 ∷ 30 ∷ 30 ∷ 30 ∷ 30 ∷ 30 ∷ 30 ∷ 30 ∷ 30 ∷ 30 ∷ 30 ∷ 30 ∷ 30 ∷ 30 ∷ 30 ∷ 30 ∷ 30 ∷ []
 
--- the number of blocks in the versions 1 to 40, in turn (ISO/IEC 18004:2015, 7.5.1, Table 9)
+-- The number of blocks in the versions 1 to 40, in turn (ISO/IEC 18004:2015, 7.5.1, Table 9)
 abbrev pub block_table : Level → List ℕ
 block_table L = 1 ∷ 1 ∷ 1 ∷ 1 ∷ 1 ∷ 2 ∷ 2 ∷ 2 ∷ 2 ∷ 4 ∷ 4 ∷ 4 ∷ 4 ∷ 4 ∷ 6 ∷ 6 ∷ 6 ∷ 6 ∷ 7 ∷ 8 ∷ 8 ∷ 9 ∷ 9 ∷ 10 ∷ 12 ∷ 12 ∷ 12 ∷ 13 ∷ 14 ∷ 15 ∷ 16 ∷ 17 ∷ 18 ∷ 19 ∷ 19 ∷ 20 ∷ 21 ∷ 22 ∷ 24 ∷ 25 ∷ []
 block_table M = 1 ∷ 1 ∷ 1 ∷ 2 ∷ 2 ∷ 4 ∷ 4 ∷ 4 ∷ 5 ∷ 5 ∷ 5 ∷ 8 ∷ 9 ∷ 9 ∷ 10 ∷ 10 ∷ 11 ∷ 13 ∷ 14 ∷ 16 ∷ 17 ∷ 17 ∷ 18 ∷ 20 ∷ 21 ∷ 23 ∷ 25 ∷ 26 ∷ 28 ∷ 29 ∷ 31 ∷ 33 ∷ 35 ∷ 37 ∷ 38 ∷ 40 ∷ 43 ∷ 45 ∷ 47 ∷ 49 ∷ []
 block_table Q = 1 ∷ 1 ∷ 2 ∷ 2 ∷ 4 ∷ 4 ∷ 6 ∷ 6 ∷ 8 ∷ 8 ∷ 8 ∷ 10 ∷ 12 ∷ 16 ∷ 12 ∷ 17 ∷ 16 ∷ 18 ∷ 21 ∷ 20 ∷ 23 ∷ 23 ∷ 25 ∷ 27 ∷ 29 ∷ 34 ∷ 34 ∷ 35 ∷ 38 ∷ 40 ∷ 43 ∷ 45 ∷ 48 ∷ 51 ∷ 53 ∷ 56 ∷ 59 ∷ 62 ∷ 65 ∷ 68 ∷ []
 block_table H = 1 ∷ 1 ∷ 2 ∷ 4 ∷ 4 ∷ 4 ∷ 5 ∷ 6 ∷ 8 ∷ 8 ∷ 11 ∷ 11 ∷ 16 ∷ 16 ∷ 18 ∷ 16 ∷ 19 ∷ 21 ∷ 25 ∷ 25 ∷ 25 ∷ 34 ∷ 30 ∷ 32 ∷ 35 ∷ 37 ∷ 40 ∷ 42 ∷ 45 ∷ 48 ∷ 51 ∷ 54 ∷ 57 ∷ 60 ∷ 63 ∷ 66 ∷ 70 ∷ 74 ∷ 77 ∷ 81 ∷ []
 
--- how many error correction codewords each block has (ISO/IEC 18004:2015, 7.5.1, Table 9)
+-- The number of error correction codewords of each block of a symbol (ISO/IEC 18004:2015, 7.5.1, Table 9)
 unfoldable pub correction_len_of : ℕ → Level → ℕ
 correction_len_of v l = slice_index_or (correction_table l) (v - 1) 0
 
--- how many blocks a symbol has (ISO/IEC 18004:2015, 7.5.1, Table 9)
+-- The number of blocks of a symbol (ISO/IEC 18004:2015, 7.5.1, Table 9)
 unfoldable pub block_count_of : ℕ → Level → ℕ
 block_count_of v l = slice_index_or (block_table l) (v - 1) 0
 
--- how many data codewords a symbol has: all that are not for error correction (ISO/IEC 18004:2015, 7.4.10, Table 7)
+-- The number of data codewords of a symbol: all codewords but those for error correction (ISO/IEC 18004:2015, 7.4.10, Table
+-- 7)
 unfoldable pub data_codewords_of : ℕ → Level → ℕ
 data_codewords_of v l = total_codewords_of v - block_count_of v l * correction_len_of v l
 
--- the short and long blocks: the data codewords are divided evenly; if they do not divide evenly, the last blocks have
--- one more
--- (ISO/IEC 18004:2015, 7.5.1, Table 9)
+-- The sizes of the short and long blocks: the data codewords are divided evenly among the blocks; if they do not divide
+-- evenly, the last blocks have one more (ISO/IEC 18004:2015, 7.5.1, Table 9)
 abbrev pub blocks_of : ℕ → Level → Blocks
 blocks_of v l = record {
   short = block_count_of v l - data_codewords_of v l % block_count_of v l;
@@ -43,19 +44,20 @@ blocks_of v l = record {
   ec_len = correction_len_of v l;
 }
 
--- how many codewords the longest block has, with those for error correction (ISO/IEC 18004:2015, 7.5.1, Table 9)
+-- The number of codewords of the longest block, for data and for error correction (ISO/IEC 18004:2015, 7.5.1, Table 9)
 abbrev pub longest_of : Blocks → ℕ
 longest_of b = b.short_len + min b.long 1 + b.ec_len
 
--- of a hundred codewords of a block at a level, how many may be misread in any version [own]
+-- The percentage of a block's codewords that may be misread at a level, whatever the version [own]
 abbrev pub damage_of : Level → ℕ
 damage_of L = 9
 damage_of M = 17
 damage_of Q = 23
 damage_of H = 30
 
--- the blocks hold the data codewords and, with their error correction, all codewords of the symbol (ISO/IEC 18004:2015,
--- 7.5.1)
+-- `AreWhole v l b` holds if the blocks b together have the data codewords of the symbol and, with their error correction
+-- codewords, all of its codewords. There is a short block, and each block has data codewords and 1 to 30 error correction
+-- codewords (ISO/IEC 18004:2015, 7.5.1)
 pub record AreWhole (v : ℕ) (l : Level) (b : Blocks) : Type 0 where
   pub some : 1 ≤ b.short
   pub some_len : 1 ≤ b.short_len

@@ -11,7 +11,7 @@ use crate::region::Module;
 use crate::version::Version;
 use arrayvec::ArrayVec;
 
-// The centres of the versions 1 to 40, filled up with zeros (Annex E, Table E.1).
+// The rows of the centres, which are their columns too, in the versions 1 to 40, filled up with zeros (Annex E, Table E.1).
 static CENTRES: [[u8; 7]; 40] = [
     [0, 0, 0, 0, 0, 0, 0],
     [6, 18, 0, 0, 0, 0, 0],
@@ -55,7 +55,7 @@ static CENTRES: [[u8; 7]; 40] = [
     [6, 30, 58, 86, 114, 142, 170],
 ];
 
-// The centres of a version.
+// Returns the rows of the centres of a version, which are their columns too.
 pub(crate) fn centre_list(v: Version) -> &'static [u8]
     ensures { result.now ≡ centres_of v }
 {
@@ -69,7 +69,8 @@ pub(crate) fn centre_list(v: Version) -> &'static [u8]
 }
 
 impl Version {
-    /// The rows of the alignment patterns' centres, which are their columns too, in rising order. Version 1 has none.
+    /// Returns the rows of the alignment patterns' centres in rising order; they are the columns too. Version 1 has no
+    /// centre.
     pub fn centres(self) -> ArrayVec<u8, 7>
         ensures { result.items ≡ centres_of self }
     {
@@ -81,7 +82,7 @@ impl Version {
     }
 }
 
-// Whether a row or a column is at most two away from a centre.
+// Returns whether the row or column `at` is at most two away from `centre`.
 fn is_near(centre: u8, at: u8) -> bool
     ensures { result ≡ (nat_le (centre - 2) at && nat_lt at (centre + 3)) }
 {
@@ -92,7 +93,7 @@ fn is_near(centre: u8, at: u8) -> bool
     }
 }
 
-// Whether a row and a column of the centres meet in a corner, where a finder pattern stands.
+// Returns whether row `a` and column `b` of the centres meet in a corner that has a finder pattern.
 pub(crate) fn is_corner_pair(side: u8, a: u8, b: u8) -> bool
     requires { 21 ≤ side }
     ensures { result ≡ is_corner_pair side a b }
@@ -101,7 +102,7 @@ pub(crate) fn is_corner_pair(side: u8, a: u8, b: u8) -> bool
     a == 6 && b == 6 || a == 6 && b == last || a == last && b == 6
 }
 
-// Whether the place, near row a, is in an alignment pattern round some column of the centres.
+// Returns whether a place in column `col` near row `a` is in an alignment pattern whose centre is in row `a`.
 fn is_beside(centres: &[u8], side: u8, a: u8, col: u8) -> bool
     requires { 21 ≤ side }
     ensures { result ≡ list_any (λ b. nat_le (b - 2) col && nat_lt col (b + 3)
@@ -112,7 +113,7 @@ fn is_beside(centres: &[u8], side: u8, a: u8, col: u8) -> bool
         .any(|b| is_near(*b, col) && !is_corner_pair(side, a, *b))
 }
 
-// Whether the place is in an alignment pattern round some row and some column of the centres.
+// Returns whether a place is in an alignment pattern. `centres` are the rows and the columns of the centres.
 fn is_on_centre(centres: &[u8], side: u8, row: u8, col: u8) -> bool
     requires { 21 ≤ side }
     ensures { result ≡ list_any (λ a. nat_le (a - 2) row && nat_lt row (a + 3)
@@ -124,7 +125,7 @@ fn is_on_centre(centres: &[u8], side: u8, row: u8, col: u8) -> bool
         .any(|a| is_near(*a, row) && is_beside(centres, side, *a, col))
 }
 
-// Whether a place is in an alignment pattern.
+// Returns whether a place is in an alignment pattern.
 #[tactic(auto, using(crate::proofs::AlignmentLemmas::alignment_parts))]
 pub(crate) fn is_in_alignment(v: Version, row: u8, col: u8) -> bool
     ensures { result ≡ is_alignment v row col }
@@ -134,7 +135,7 @@ pub(crate) fn is_in_alignment(v: Version, row: u8, col: u8) -> bool
     is_on_centre(centres, side, row, col)
 }
 
-// Adds the centres in a row, from left to right.
+// Appends the centres in a row, from left to right.
 fn push_centres(places: &mut ArrayVec<Module, 49>, centres: &[u8], side: u8, row: u8)
     requires side_in { 21 ≤ side }
     requires room { array_vec_len places.old + length centres.now ≤ 49 }
@@ -149,7 +150,7 @@ fn push_centres(places: &mut ArrayVec<Module, 49>, centres: &[u8], side: u8, row
     }
 }
 
-/// The centres of the alignment patterns, from the top, in each row from the left.
+/// Returns the centres of the alignment patterns, row by row from the top, in each row from the left.
 pub fn alignment_centres(v: Version) -> ArrayVec<Module, 49>
     ensures { result.items ≡ alignment_places (side_of v) (centres_of v) }
 {

@@ -10,42 +10,42 @@ use crate::strips::Strip;
 use crate::version::Version;
 use std::alloc::AllocError;
 
-/// Two versions compare as equal exactly where they are the same.
+/// Two versions compare as equal exactly if they are the same.
 pub fn versions_are_equal(a: Version, b: Version) -> bool
     ensures { IsTrue result ↔ (a ≡ b) }
 {
     a == b
 }
 
-/// Two levels compare as equal exactly where they are the same.
+/// Two levels compare as equal exactly if they are the same.
 pub fn levels_are_equal(a: Level, b: Level) -> bool
     ensures { IsTrue result ↔ (a ≡ b) }
 {
     a == b
 }
 
-/// Two modules compare as equal exactly where they are the same.
+/// Two modules compare as equal exactly if they are the same.
 pub fn modules_are_equal(a: Module, b: Module) -> bool
     ensures { IsTrue result ↔ (a ≡ b) }
 {
     a == b
 }
 
-/// Two roles compare as equal exactly where they are the same.
+/// Two roles compare as equal exactly if they are the same.
 pub fn roles_are_equal(a: Role, b: Role) -> bool
     ensures { IsTrue result ↔ (a ≡ b) }
 {
     a == b
 }
 
-/// Two cuts into blocks compare as equal exactly where they are the same.
+/// Two divisions into blocks compare as equal exactly if they are the same.
 pub fn blocks_are_equal(a: Blocks, b: Blocks) -> bool
     ensures { IsTrue result ↔ (a ≡ b) }
 {
     a == b
 }
 
-/// Two strips compare as equal exactly where they are the same.
+/// Two strips compare as equal exactly if they are the same.
 pub fn strips_are_equal(a: Strip, b: Strip) -> bool
     ensures { IsTrue result ↔ (a ≡ b) }
 {
@@ -80,7 +80,7 @@ pub fn role_clones(a: Role) -> Result<Role, AllocError>
     a.clone()
 }
 
-/// A clone of a cut into blocks is the same cut into blocks.
+/// A clone of a division into blocks is the same division into blocks.
 pub fn blocks_clones(a: Blocks) -> Result<Blocks, AllocError>
     ensures { IfOk result (λ b. b ≡ a) }
 {
@@ -99,7 +99,7 @@ mod tests {
     use super::*;
     use std::test::Fail;
 
-    // Equal where each field is, and unequal where one is not.
+    // Values are equal if all their fields are equal, and unequal if one field differs.
     #[test]
     fn equal_and_unequal_values(rt: HostRuntime) -> Result<(), Fail> {
         let (first, second) = (Version::FIRST, Version::new(2).ok_or("no version 2")?);

@@ -1,5 +1,5 @@
-//! Laws that hold for every version, level and mask. Their statements are the clauses; except for `nth_place`, which
-//! walks, `first_version` and `default_module`, they do nothing.
+//! Laws that hold for every version, level and mask. The contracts are the laws; the functions do nothing, except for
+//! `nth_place`, which walks, `first_version` and `default_module`.
 
 ghost use Rattle.std.specs.Prelude.{◌≡◌, ◌<◌, ◌≤◌, ◌-◌, ◌*◌, ◌/◌, ◌⊎◌, ◌↔◌, true, ℕ, List, ◌∷◌, ◌++◌, length, map, slice_get};
 ghost use Rattle.std.specs.List.{range_with_len};
@@ -25,36 +25,36 @@ use crate::order::walk;
 use crate::region::Module;
 use crate::version::Version;
 
-/// There is only one order.
+/// A version has only one order of the modules of the encoding region.
 pub fn order_is_one(v: Version)
     ensures { (ms ns : List Module) → IsOrder v ms → IsOrder v ns → ms ≡ ns }
 {}
 
-/// The order is as long as the codewords and the remainder bits want, at most 29,648 modules.
+/// The order has one module for each codeword bit and remainder bit, at most 29,648.
 pub fn order_is_full(v: Version)
     ensures count { (ms : List Module) → IsOrder v ms → length ms ≡ module_count_of v }
     ensures most { module_count_of v ≤ 29648 }
 {}
 
-/// The region is the square less the corners, the timing patterns between them, the alignment patterns and the version
-/// information; and so many modules are there for the codewords and the remainder bits.
+/// The encoding region is the square without the corners, the timing patterns between them, the alignment patterns and the
+/// version information, and has exactly as many modules as the codewords and remainder bits need.
 pub fn region_is_counted(v: Version)
     ensures region { places_passing (side_of v) (is_in_region v) ≡ region_size v }
     ensures filled { module_count_of v ≡ region_size v }
 {}
 
-/// The region is the same when rows and columns are exchanged.
+/// The encoding region is the same when rows and columns are exchanged.
 pub fn region_is_symmetric(v: Version)
     ensures { (r c : ℕ) → is_in_region v r c ≡ is_in_region v c r }
 {}
 
-/// A place's number is how many places stand before it in the order.
+/// The number of a place in the encoding region is the number of places before it in the order.
 pub fn number_counts(v: Version)
     ensures { (front back : List Module) (m : Module) → IsOrder v (front ++ m ∷ back)
         → number_of v m ≡ length front }
 {}
 
-/// The places of the region and the numbers below the count of its modules belong to each other, one to one.
+/// Numbering the region's modules in order is a bijection onto the numbers below the count of the modules.
 pub fn numbers_are_places(v: Version)
     ensures below { (m : Module) → InRegion v m → number_of v m < module_count_of v }
     ensures one_place { (m n : Module) → InRegion v m → InRegion v n
@@ -63,20 +63,20 @@ pub fn numbers_are_places(v: Version)
         → (m : Module) × InRegion v m × (number_of v m ≡ n) }
 {}
 
-/// The place at which the bit of a number stands, found by a walk: none past the last.
+/// Returns the module with this number in the order, counted from 0 and found by a walk, or `None` past the last module.
 pub fn nth_place(v: Version, number: usize) -> Option<Module>
     ensures { (ms : List Module) → IsOrder v ms → result ≡ slice_get ms number }
 {
     walk(v).nth(number)
 }
 
-/// From version 2 on the centres are those of the rule of their spacing.
+/// From version 2 on, the rows of the alignment patterns' centres follow from the rule of their spacing.
 #[tactic(auto, unfolding(crate::specs::Alignment::centres_of))]
 pub fn centres_are_spaced()
     ensures { map centres_of (range_with_len 2 39) ≡ map spaced_centres (range_with_len 2 39) }
 {}
 
-/// The data codewords of all versions and levels are those that Table 7 prints.
+/// The numbers of data codewords in all versions and levels are those that Table 7 prints.
 #[tactic(auto, unfolding(crate::specs::Blocks::data_codewords_of, crate::specs::Blocks::block_count_of, crate::specs::Blocks::correction_len_of, crate::specs::Version::total_codewords_of))]
 pub fn data_codewords_compute()
     ensures l { map (λ v. data_codewords_of v L) all_versions ≡ printed_data L }
@@ -85,8 +85,8 @@ pub fn data_codewords_compute()
     ensures h { map (λ v. data_codewords_of v H) all_versions ≡ printed_data H }
 {}
 
-/// The error correction codewords of a block are as many as Table 9 prints, by its number of misread codewords that can
-/// be mended, in all versions and levels.
+/// In all versions and levels, the number of error correction codewords of a block follows from the number of misread
+/// codewords of a block that can be mended, as Table 9 prints it.
 #[tactic(auto, unfolding(crate::specs::Blocks::correction_len_of))]
 pub fn correction_lens_compute()
     ensures l { map (λ v. correction_len_of v L) all_versions ≡ map (printed_correction L) all_versions }
@@ -95,45 +95,45 @@ pub fn correction_lens_compute()
     ensures h { map (λ v. correction_len_of v H) all_versions ≡ map (printed_correction H) all_versions }
 {}
 
-/// The blocks hold the codewords of the symbol.
+/// The blocks together have all codewords of the symbol.
 pub fn blocks_are_whole(v: Version, level: Level)
     ensures { AreWhole v level (blocks_of v level) }
 {}
 
-/// A block has at most 153 codewords, those for error correction included, and in version 27 at level L some have so
-/// many.
+/// A block has at most 153 codewords, for data and for error correction together. Some blocks of version 27 at level L have
+/// 153 codewords.
 #[tactic(auto, unfolding(crate::specs::Blocks::data_codewords_of, crate::specs::Blocks::block_count_of, crate::specs::Blocks::correction_len_of, crate::specs::Version::total_codewords_of))]
 pub fn blocks_are_short(v: Version, level: Level)
     ensures most { longest_of (blocks_of v level) ≤ 153 }
     ensures reached { longest_of (blocks_of 27 L) ≡ 153 }
 {}
 
-/// A block is still known for certain if at most half as many of its codewords are misread as it has for error
-/// correction. That half is at least 9 % of the block at L, 17 % at M, 23 % at Q and 30 % at H.
+/// A block is still known for certain if the number of its misread codewords is at most half the number of its error
+/// correction codewords. That half is at least 9 % of the block at L, 17 % at M, 23 % at Q and 30 % at H.
 pub fn blocks_stand_damage(v: Version, level: Level)
     ensures { damage_of level * longest_of (blocks_of v level)
         ≤ 100 * ((blocks_of v level).ec_len / 2) }
 {}
 
-/// How many data codewords there are at most, by the versions that share the widths of the character count indicators.
+/// Upper limits of the number of data codewords, for the versions that share the widths of the character count indicators.
 pub fn data_is_bounded(v: Version, level: Level)
     ensures small { v ≤ 9 → data_codewords_of v level ≤ 232 }
     ensures middle { v ≤ 26 → data_codewords_of v level ≤ 1370 }
     ensures most { data_codewords_of v level ≤ 2956 }
 {}
 
-/// The format information is five bits and their remainder.
+/// The word of the format information is five bits followed by their remainder.
 pub fn format_words_are_remainders(level: Level, mask: u8)
     ensures { mask < 8 → IsFormatWord (five_bits level mask) (format_word_of level mask) }
 {}
 
-/// The version information is six bits and their remainder.
+/// The word of the version information is six bits followed by their remainder.
 pub fn version_words_are_remainders(v: Version)
     ensures { IsVersionWord v (version_word_of v) }
 {}
 
-/// The definitions of the two words compute the examples that Annexes C and D work out, and four more of their tables'
-/// rows.
+/// The definitions of the two words compute the examples that Annexes C and D work out, and four more rows of the tables
+/// of these annexes.
 #[tactic(auto, unfolding(crate::specs::Format::format_word_of, crate::specs::Format::version_word_of, crate::specs::Format::remainder_of))]
 pub fn words_compute()
     ensures l { format_word_of L 0 ≡ 0x77C4 }
@@ -144,7 +144,7 @@ pub fn words_compute()
     ensures version_40 { version_word_of 40 ≡ 0x28C69 }
 {}
 
-/// What row 8, column 8 and row 6 of version 1 hold is what the standard's figures show there.
+/// Row 8, column 8 and row 6 of version 1 contain what the standard's figures show there.
 #[tactic(auto, unfolding(crate::specs::Role::role_of, crate::specs::Role::pattern_colour, crate::specs::Role::is_alignment_light, crate::specs::Role::format_bit_at, crate::specs::Role::version_bit_at, crate::specs::Alignment::centres_of))]
 pub fn roles_compute()
     ensures across { map (role_of 1 8) (range_with_len 0 21) ≡ row_8 }
@@ -162,7 +162,7 @@ pub fn patterns_compute()
     ensures version_below { map (λ c. map (λ r. role_of 7 r c) (range_with_len 34 3)) (range_with_len 0 6) ≡ version_figure }
 {}
 
-/// Each bit of the format information stands at its two places and nowhere else.
+/// Each bit of the format information is at its two places and nowhere else.
 pub fn format_bits_have_places(v: Version)
     ensures first { (i : ℕ) → i < 15
         → role_of v (first_place i).row (first_place i).col ≡ FormatBit i }
@@ -173,7 +173,8 @@ pub fn format_bits_have_places(v: Version)
         → (i < 15) × ((m ≡ first_place i) ⊎ (m ≡ second_place (side_of v) i)) }
 {}
 
-/// From version 7 on each bit of the version information stands at its two places, and it stands nowhere else.
+/// From version 7 on, each bit of the version information is at its two places and nowhere else. Below version 7 no place
+/// contains such a bit.
 pub fn version_bits_have_places(v: Version)
     ensures first { (i : ℕ) → 7 ≤ v → i < 18
         → role_of v (version_place (side_of v) i).row (version_place (side_of v) i).col
@@ -186,12 +187,13 @@ pub fn version_bits_have_places(v: Version)
         × ((m ≡ version_place (side_of v) i) ⊎ (m ≡ transposed (version_place (side_of v) i))) }
 {}
 
-/// The module beside the bottom left finder pattern is dark.
+/// The dark module, beside the bottom left finder pattern, is dark.
 pub fn dark_module_is_dark(v: Version)
     ensures { role_of v (side_of v - 8) 8 ≡ Fixed true }
 {}
 
-/// A module of the square is no pattern and no bit of a word exactly where it is in the encoding region.
+/// A module of the square is in the encoding region exactly if it has no fixed colour and contains no bit of the format or
+/// version information.
 pub fn region_is_the_rest(v: Version)
     ensures { (r c : ℕ) → r < side_of v → c < side_of v
         → (role_of v r c ≡ Region) ↔ (is_in_region v r c ≡ true) }

@@ -1,7 +1,7 @@
 //! The four levels of error correction (ISO/IEC 18004:2015, 7.5.1).
 
-/// How much of a damaged symbol can be restored, by the standard's rounded figures: 7 % of the codewords at L, 15 % at M,
-/// 25 % at Q and 30 % at H.
+/// A level of error correction: how much damage of a symbol can be mended. In the standard's rounded figures it is 7 % of
+/// the codewords at L, 15 % at M, 25 % at Q and 30 % at H.
 #[derive(Clone, Copy, Debug, PartialEq, Eq)]
 pub enum Level {
     L,

@@ -1,5 +1,5 @@
-//! The walk over the encoding region: strips of two columns from the right, upward and downward in turn, in each row
-//! the right module first, with column 6 in no strip (ISO/IEC 18004:2015, 7.7.3).
+//! The walk over the encoding region: strips of two columns from right to left, upward and downward in turn, and in each row
+//! the right module first. No strip contains column 6 (ISO/IEC 18004:2015, 7.7.3).
 
 ghost use Rattle.std.specs.Prelude.{◌≡◌, ◌<◌, ◌≤◌, ◌↔◌, IfSome, IsSome, List, length};
 ghost use Rattle.std.specs.Iterator.{YieldsFirst, item_count};
@@ -13,8 +13,8 @@ use crate::region::{Module, is_in_region};
 use crate::version::Version;
 use std::marker::Model;
 
-// Where a walk stands: in which strip, counted from the left and from 1, in which row, whether at the left module, and
-// which way it goes. At strip 0 the walk is over.
+// A position of the walk. `strips` is the strip: 1 is the leftmost strip, and 0 is past the end of the walk. `second` says
+// that the position is the left module of the row, and `upward` is the direction.
 #[derive(Clone, Copy)]
 struct Cursor {
     strips: u8,
@@ -91,7 +91,8 @@ impl Cursor {
     }
 }
 
-/// A walk over the encoding region, seen as the modules that are still to come. It keeps a position and a direction.
+/// A walk over the encoding region. Its view is the list of the modules that are still to come. It stores a position and a
+/// direction.
 #[derive(Drop)]
 pub struct Steps {
     version: Version,
@@ -131,7 +132,8 @@ impl Iterator for Steps {
     }
 }
 
-/// The modules of the encoding region, in the order in which the bits of the message fill them.
+/// Returns the modules of the encoding region, in the order in which the bits of the codewords and the remainder bits fill
+/// them.
 pub fn walk(v: Version) -> Steps
     ensures order { IsOrder v result }
     ensures count { length result ≡ module_count_of v }
@@ -147,8 +149,8 @@ pub fn walk(v: Version) -> Steps
     }
 }
 
-/// The modules that come after `m` in the walk. There is none where `m` is not in the encoding region, inside the
-/// symbol or not.
+/// Returns the modules that come after `m` in the walk, or `None` if `m` is not in the encoding region. `m` may be outside
+/// the symbol.
 pub fn walk_after(v: Version, m: Module) -> Option<Steps>
     ensures given { IsSome result ↔ InRegion v m }
     ensures rest { IfSome result (IsOrderAfter v m) }
@@ -164,7 +166,7 @@ pub fn walk_after(v: Version, m: Module) -> Option<Steps>
     })
 }
 
-/// How many modules the encoding region has, from 208 to 29,648.
+/// Returns the number of modules of the encoding region, from 208 to 29,648.
 pub fn region_len(v: Version) -> u32
     ensures count { result ≡ module_count_of v }
     ensures length { (ms : List Module) → IsOrder v ms → length ms ≡ result }

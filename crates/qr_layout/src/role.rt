@@ -1,5 +1,5 @@
-//! What each module of a symbol holds: a colour that is fixed, a bit of the format or version information, or a bit of
-//! the message (ISO/IEC 18004:2015, 6.3 and 7.7.2).
+//! What each module of a symbol contains: a colour that is fixed, a bit of the format or version information, or a bit of
+//! the codewords (ISO/IEC 18004:2015, 6.3 and 7.7.2).
 
 ghost use Rattle.std.specs.Prelude.{◌≡◌, ◌≢◌, ◌<◌, ◌≤◌, ◌==◌, ◌&&◌, not};
 ghost use Rattle.std.specs.List.{list_any};
@@ -12,16 +12,16 @@ use crate::alignment::{centre_list, is_corner_pair, is_in_alignment};
 use crate::region::{Module, is_in_version_block};
 use crate::version::Version;
 
-/// What a module holds.
+/// What a module contains.
 #[derive(Clone, Copy, Debug, PartialEq, Eq)]
 pub enum Role {
     /// A colour that is the same in each symbol of the version: true is dark.
     Fixed(bool),
-    /// A bit of the format information, 0 being the lowest and 14 the highest.
+    /// A bit of the format information, from bit 0, the lowest, to bit 14, the highest.
     FormatBit(u8),
-    /// A bit of the version information, 0 being the lowest and 17 the highest.
+    /// A bit of the version information, from bit 0, the lowest, to bit 17, the highest.
     VersionBit(u8),
-    /// A bit of a codeword, or a remainder bit: the encoding region.
+    /// A module of the encoding region: a bit of a codeword, or a remainder bit.
     Region,
 }
 
@@ -45,7 +45,7 @@ fn is_first_ring(a: u8, b: u8, row: u8, col: u8) -> bool
     ring(a, b, row, col) == 1
 }
 
-// Whether the place is on the light ring round (a, b) for some b.
+// Returns whether a place is on the light ring of an alignment pattern whose centre is in row `a`.
 fn is_light_beside(centres: &[u8], side: u8, a: u8, row: u8, col: u8) -> bool
     requires { 21 ≤ side }
     ensures { result ≡ list_any (λ b. not (is_corner_pair side a b) && ring_of a b row col == 1)
@@ -54,7 +54,7 @@ fn is_light_beside(centres: &[u8], side: u8, a: u8, row: u8, col: u8) -> bool
     centres.iter().any(|b| !is_corner_pair(side, a, *b) && is_first_ring(a, *b, row, col))
 }
 
-// Whether the place is on the light ring round (a, b) for some a and some b.
+// Returns whether a place is on the light ring of an alignment pattern. `centres` are the rows and columns of the centres.
 fn is_light_among(centres: &[u8], side: u8, row: u8, col: u8) -> bool
     requires { 21 ≤ side }
     ensures { result ≡ list_any (λ a. list_any (λ b. not (is_corner_pair side a b)
@@ -73,7 +73,7 @@ fn is_alignment_light(v: Version, row: u8, col: u8) -> bool
     is_light_among(centres, side, row, col)
 }
 
-// The colour of a function pattern's module.
+// Returns the colour of a module of a finder, separator, timing or alignment pattern, or `None` for any other module.
 #[tactic(auto, unfolding(crate::specs::Role::pattern_colour))]
 fn pattern_colour(v: Version, row: u8, col: u8) -> Option<bool>
     ensures { result ≡ pattern_colour v row col }
@@ -97,7 +97,7 @@ fn pattern_colour(v: Version, row: u8, col: u8) -> Option<bool>
     None
 }
 
-/// Where a bit of the format information, from 0 to 14, stands beside the top left finder pattern
+/// Returns the place of a bit of the format information, from 0 to 14, beside the top left finder pattern
 /// (ISO/IEC 18004:2015, 7.9.1).
 pub fn format_place(bit: u8) -> Module
     requires { bit < 15 }
@@ -122,7 +122,7 @@ pub fn format_place(bit: u8) -> Module
     Module { row, col }
 }
 
-/// Where a bit of the format information, from 0 to 14, stands beside the other two finder patterns
+/// Returns the place of a bit of the format information, from 0 to 14, beside the other two finder patterns
 /// (ISO/IEC 18004:2015, 7.9.1).
 pub fn second_format_place(v: Version, bit: u8) -> Module
     requires { bit < 15 }
@@ -136,7 +136,7 @@ pub fn second_format_place(v: Version, bit: u8) -> Module
     Module { row, col }
 }
 
-// The bit of the format information in column 8.
+// Returns which bit of the format information is in this row of column 8, if a bit is there.
 fn format_bit_down(side: u8, row: u8) -> Option<u8>
     requires least { 21 ≤ side }
     requires most { side ≤ 177 }
@@ -156,7 +156,7 @@ fn format_bit_down(side: u8, row: u8) -> Option<u8>
     }
 }
 
-// The bit of the format information in row 8.
+// Returns which bit of the format information is in this column of row 8, if a bit is there.
 fn format_bit_across(side: u8, col: u8) -> Option<u8>
     requires least { 21 ≤ side }
     requires col_in { col < side }
@@ -210,7 +210,7 @@ fn version_bit(v: Version, row: u8, col: u8) -> Option<u8>
     None
 }
 
-/// What the module at a row and a column, both below the side, holds.
+/// Returns what the module in this row and this column contains; both have to be below the side.
 #[tactic(auto, unfolding(crate::specs::Role::role_of))]
 pub fn cell(v: Version, row: u8, col: u8) -> Role
     requires row_in { row < side_of v }

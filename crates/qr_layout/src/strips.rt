@@ -1,5 +1,5 @@
-//! A symbol is filled in strips of two columns, from the right. The walk over the encoding region passes over those places
-//! of a strip that hold patterns or information (ISO/IEC 18004:2015, 7.7.3).
+//! The strips of two columns in which a symbol is filled, from right to left. The walk over the encoding region skips those
+//! places of a strip that contain patterns or information (ISO/IEC 18004:2015, 7.7.3).
 
 ghost use Rattle.std.specs.Prelude.{◌<◌, ◌≤◌, List};
 ghost use Rattle.std.specs.Iterator.{YieldsFirst, item_count};
@@ -12,19 +12,20 @@ ghost use Rattle.qr_layout.specs.declared.strips.Strip.{Strip};
 use crate::version::Version;
 use std::marker::Model;
 
-/// Two columns that are filled row by row, in each row the right module first.
+/// A strip: two columns that are filled row by row, in each row the right module first.
 #[derive(Clone, Copy, Debug, PartialEq, Eq)]
 pub struct Strip {
-    /// The right column.
+    /// The right column of the strip.
     pub right: u8,
-    /// Whether the last row comes first.
+    /// Whether the strip is filled from the last row to the first.
     pub upward: bool,
 }
 
-/// The strips of a symbol, seen as those that are still to come.
+/// The strips of a symbol. The view is the list of the strips that are still to come.
 #[derive(Drop)]
 pub struct Strips {
-    // How many are still to come: the next one's number, counted from the left and from 1.
+    // The number of strips that are still to come. This is also the index of the next strip, counted from the left and from
+    // 1.
     left: u8,
 }
 
@@ -59,8 +60,8 @@ impl Iterator for Strips {
     }
 }
 
-/// All strips, from the right. Those of their places that are in the encoding region come in the order in which the bits
-/// of the message fill them.
+/// Returns all strips, from right to left. Those of their places that are in the encoding region come in the order in which
+/// the bits of the codewords fill them.
 pub fn all_strips(v: Version) -> Strips
     ensures order { IsOrder v (in_region_of v (places_of (side_of v) result)) }
     ensures inside { All (λ x. (1 ≤ x.right) × (x.right < side_of v)) result }

@@ -1,4 +1,4 @@
--- The places of a row where the colour changes, and the runs between them.
+-- The columns of a row in which the colour changes, and the runs between them.
 use Rattle.std.proofs.Common.{◌≡◌, ◌≢◌, ℕ, zero, suc, ◌+◌, ◌-◌, ◌<◌, ◌≤◌, min, eqb, ltb, leb, ◌&&◌, not, Bool, true, false, refl, sym, ap, ◌∙◌, inl, inr, arith}
 use Rattle.std.proofs.lemmas.Bool.{cases_lt}
 use Rattle.std.proofs.lemmas.Bool.Decides.{nat_tests}
@@ -21,7 +21,7 @@ kept line c e =
     same false true f = cc
     same false false f = refl
 
--- a place with a change has not
+-- a place with a change has the other colour
 changed : (line : ℕ → Bool) (c : ℕ) → is_change line (suc c) ≡ true → line (suc c) ≡ not (line c)
 unfolding is_change
 changed line c e =
@@ -41,7 +41,7 @@ steady line a (suc d) none =
     let e : a + suc d ≡ suc (a + d) = omega arith in
     ap line e ∙ kept line (a + d) (none (suc (a + d)) (omega arith) (omega arith)) ∙ steady line a d (λ c l m. none c l (omega arith))
 
--- the same between two places
+-- between two places without changes the colour stays
 steady-to : (line : ℕ → Bool) (a b : ℕ) → a ≤ b → ((c : ℕ) → a < c → c ≤ b → is_change line c ≡ false) → line b ≡ line a
 steady-to line a b le none =
     let e : a + (b - a) ≡ b = omega arith in
@@ -66,7 +66,7 @@ dark-at-first line zero none here = first (line 0) here
     first false e = cc
 dark-at-first line (suc n) none here = changed line n here ∙ ap not (light-before line n (λ c l. none c (omega arith)))
 
--- of two tests that both hold
+-- the parts of a conjunction that holds
 both : (a b : Bool) → (a && b) ≡ true → (a ≡ true) × (b ≡ true)
 both true true e = (refl, refl)
 both true false e = cc
@@ -130,7 +130,7 @@ changes-alike : (f h : ℕ → Bool) (c : ℕ) → f c ≡ h c → f (c - 1) ≡
 unfolding is_change
 changes-alike f h c p q = λ i. not (is_same (p i) (ltb 0 c && q i))
 
--- a row from its first column on is the row
+-- a row from column 0 on has the changes of the whole row
 pub from-start : (g : Grid) (row c : ℕ) → is_change (colour g row) c ≡ is_change (row-from g row 0) c
 from-start g row c =
     changes-alike (colour g row) (row-from g row 0) c (sym (from-here g row 0 c (omega arith))) (sym (from-here g row 0 (c - 1) (omega arith)))
@@ -141,11 +141,11 @@ unfolding is_change
 quiet line zero e f = ap (λ b. not (is_same b false)) e
 quiet line (suc c) e f = let d = f (omega arith) in rw (e, d) (grind (arith, nat_tests))
 
--- a place that is the one taken out
+-- equal places pass the test of equality
 is-place : (c p : ℕ) → c ≡ p → eqb c p ≡ true
 is-place c p e = grind (arith, nat_tests)
 
--- a place that is not
+-- without place p, the test of any other place is as before
 other-place : (a : Bool) (c p : ℕ) → c ≢ p → (a && not (eqb c p)) ≡ a
 other-place true c p ne = let t : eqb c p ≡ false = grind (arith, nat_tests) in ap not t
 other-place false c p ne = refl

@@ -1,4 +1,4 @@
--- Words of neighbouring rows against the tests of a column.
+-- Bit operations on neighbouring rows compute the tests of all columns.
 use Rattle.std.proofs.Common.{◌≡◌, ℕ, ◌+◌, ◌-◌, ◌*◌, ◌<◌, ◌≤◌, List, [], ◌∷◌, eqb, ltb, Bool, true, false, not, ◌&&◌, cond, refl, sym, ap, ◌∙◌, inl, inr, arith}
 use Rattle.std.proofs.lemmas.Bool.{cases_lt}
 use Rattle.std.proofs.lemmas.Bool.Decides.{nat_tests}
@@ -11,7 +11,7 @@ use Rattle.qr_matrix.proofs.SumLemmas.{count_below-same, count_below-cut, sum_be
 use Rattle.qr_matrix.proofs.RowLemmas.{joins-past}
 use Rattle.qr_matrix.proofs.BoolLemmas.{and-false, not-not}
 
--- the line of no bits has no place
+-- the bit row of zeros has no bit set
 pub has-nothing : (c : ℕ) → has (0 ∷ 0 ∷ 0 ∷ []) c ≡ false
 unfolding has line_of has_bit
 has-nothing c = ap (λ z. eqb z 1) (bit_at-zero c)
@@ -23,7 +23,7 @@ joins-down-bit s line c r x i d h e f g =
     let t : ltb (r + 1) s ≡ true = grind (arith, nat_tests) in
     e ∙ (ap (λ z. z && not d) f ∙ (ap (λ z. ltb c s && not z) g ∙ (ap (λ z. ltb c s && z) (not-not (is_same (line r) (line (r + 1)))) ∙ ap (λ z. ltb c s && (z && is_same (line r) (line (r + 1)))) (sym t))))
 
--- no place of the last row is joined to one below
+-- no place of the last row is joined to a place below
 pub joins-down-none : (s : ℕ) (line : ℕ → Bool) (c r : ℕ) (x : Bool) → s ≤ r + 1 → x ≡ false → x ≡ (ltb c s && joins s line r)
 joins-down-none s line c r x h e = e ∙ sym (and-false (ltb c s) (joins s line r) (joins-past s line r h))
 
@@ -73,7 +73,7 @@ pub guarded-size : (s : ℕ) (words : List ℕ) (p : ℕ → Bool) → s ≤ 192
 unfolding size_of
 guarded-size s words p l h = guarded-count s (has words) p l h
 
--- what a row adds to the runs of the columns, counted on its places
+-- what a row adds to the cost of the runs of the columns, counted on its bits
 pub share-of : (s : ℕ) (dark : ℕ → ℕ → Bool) (r n : ℕ) (f a : List ℕ) → s ≤ 192 → ((c : ℕ) → has f c ≡ (ltb c s && begins_five s (λ i. dark i c) r)) → ((c : ℕ) → has a c ≡ (ltb 0 r && (ltb c s && joins s (λ i. dark i c) (r - 1)))) → n ≡ size_of f + 2 * count_below 192 (λ c. has f c && not (has a c)) → n ≡ row_share s dark r
 unfolding row_share
 share-of s dark r n f a l hf ha e =

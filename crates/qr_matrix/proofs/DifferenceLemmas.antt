@@ -9,7 +9,7 @@ use Rattle.qr_matrix.specs.Penalty.{is_same, sum_below, count_below}
 use Rattle.qr_matrix.specs.Difference.{differs, difference_count}
 use Rattle.qr_matrix.proofs.RowLemmas.{size-is}
 
--- a colour is that of itself
+-- a colour is the same as itself
 same-self : (b : Bool) → is_same b b ≡ true
 same-self true = refl
 same-self false = refl
@@ -18,7 +18,7 @@ same-self false = refl
 abbrev one_if : Bool → ℕ
 one_if b = cond b 1 0
 
--- colours that are not different are one
+-- colours that are not different are equal
 same-is : (a b : Bool) → one_if (not (is_same a b)) ≡ 0 → a ≡ b
 same-is true true e = refl
 same-is false false e = refl
@@ -29,7 +29,7 @@ same-is false true e = cc
 differs-past : (x y : Bool) → x ≡ false → y ≡ false → not (is_same x y) ≡ false
 differs-past x y e f = ap (λ z. not (is_same z y)) e ∙ ap (λ z. not (is_same false z)) f
 
--- the places that just one of two rows has are those at which the rows differ
+-- the bits that are set in exactly one of two rows are the places at which the rows differ
 pub row-differs : (g h : Grid) (r : ℕ) (d a b : List ℕ) → g.side ≤ 192 → ((c : ℕ) → has d c ≡ not (is_same (has a c) (has b c)))
     → ((c : ℕ) → has a c ≡ colour g r c) → ((c : ℕ) → has b c ≡ colour h r c)
     → ((c : ℕ) → g.side ≤ c → has a c ≡ false) → ((c : ℕ) → g.side ≤ c → has b c ≡ false)
@@ -39,7 +39,7 @@ row-differs g h r d a b few x p q past beyond =
     (λ c _. x c ∙ (ap (λ z. not (is_same z (has b c))) (p c) ∙ ap (λ z. not (is_same (colour g r c) z)) (q c)))
     (λ c k. differs-past (colour g r c) (colour h r c) (sym (p c) ∙ past c k) (sym (q c) ∙ beyond c k))
 
--- a sum of 0 has no term but 0
+-- if a sum is 0, each term is 0
 term-zero : (n : ℕ) (f : ℕ → ℕ) → sum_below n f ≡ 0 → (k : ℕ) → k < n → f k ≡ 0
 term-zero zero f e k l = absurd (omega arith)
 term-zero (suc n) f e k l = elim (cases_lt k n) [
@@ -47,7 +47,7 @@ term-zero (suc n) f e k l = elim (cases_lt k n) [
   | inr m ↦ let same : k ≡ n = omega arith in let here = ap f same in omega arith
 ]
 
--- a sum of nothing but 0 is 0
+-- if each term is 0, the sum is 0
 sum-zero : (n : ℕ) (f : ℕ → ℕ) → ((k : ℕ) → k < n → f k ≡ 0) → sum_below n f ≡ 0
 sum-zero zero f e = refl
 sum-zero (suc n) f e = let here = e n (omega arith) in let rest = sum-zero n f (λ k l. e k (omega arith)) in omega arith

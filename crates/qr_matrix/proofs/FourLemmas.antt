@@ -1,4 +1,4 @@
--- Four places of a line set at once.
+-- Four bits of a bit row replaced at once.
 use Rattle.std.proofs.Common.{List, length, get_or, set, ◌≡◌, ℕ, ◌+◌, ◌-◌, ◌*◌, ◌/◌, ◌%◌, ◌^◌, ◌<◌, ◌≤◌, eqb, ltb, leb, Bool, true, false, not, ◌&&◌, cond, bit_and, bit_xor, refl, sym, ap, ◌∙◌, inl, inr, arith}
 use Rattle.std.proofs.lemmas.Nat.{and_le_r, xor_lt}
 use Rattle.std.proofs.Math.Nat.{mul-le-mul_right}
@@ -26,7 +26,7 @@ replaced n b m t e = ap (λ z. not (is_same n (not (is_same n b) && z))) e ∙ t
     told false false true = refl
     told false false false = refl
 
--- where the mask does not let it, the other bit does not matter
+-- if the mask does not let a bit change, the other bit does not matter
 spared : (n b d m t : Bool) → m ≡ false → t ≡ false → not (is_same n (not (is_same n b) && m)) ≡ cond t d n
 spared n b d m t e f = replaced n b m false e ∙ sym (ap (λ z. cond z d n) f)
 
@@ -79,7 +79,7 @@ four-put ws c i k b bits l w h n e f g few =
 
 -- ---- four places of a square
 
--- one place of a row that was given other colours is painted
+-- one place of a row that has another colour is painted
 painted-row : (g : Grid) (row col : ℕ) (f : ℕ → Bool) (b : Bool) → painted (with_row g row f) row col b ≡ with_row g row (λ c. cond (eqb c col) b (f c))
 painted-row g row col f b = square-same g.side (λ r c. cond (eqb r row && eqb c col) b (colour (with_row g row f) r c)) (λ r c. cond (eqb r row) (cond (eqb c col) b (f c)) (colour g r c)) (λ r c l m.
     ap (λ z. cond (eqb r row && eqb c col) b z) (colour-square g.side (λ r c. cond (eqb r row) (f c) (colour g r c)) r c l m) ∙ told (eqb r row) (eqb c col) (f c) (colour g r c))
@@ -88,7 +88,7 @@ painted-row g row col f b = square-same g.side (λ r c. cond (eqb r row && eqb c
     told true u x y = refl
     told false u x y = refl
 
--- one place of a square
+-- one place of a square that has another colour is painted
 painted-first : (g : Grid) (row col : ℕ) (b : Bool) → painted g row col b ≡ with_row g row (λ c. cond (eqb c col) b (colour g row c))
 painted-first g row col b = square-same g.side (λ r c. cond (eqb r row && eqb c col) b (colour g r c)) (λ r c. cond (eqb r row) (cond (eqb c col) b (colour g row c)) (colour g r c)) (λ r c l m.
     let same : eqb r row ≡ true → colour g r c ≡ colour g row c = λ h. let q : r ≡ row = grind (arith, nat_tests) in ap (λ z. colour g z c) q in

@@ -1,4 +1,4 @@
--- Rows of words as a square.
+-- Bit rows as a square of colours.
 use Rattle.std.proofs.Common.{◌≡◌, ℕ, ◌<◌, ◌≤◌, Bool, true, false, not, ◌&&◌, ◌||◌, cond, eqb, ltb, leb, ◌+◌, List, [], ◌∷◌, length, get_or, set, replicate, refl, sym, ap, subst, ◌∙◌, inl, inr, arith}
 use mathlib.Core.Path.{fun_ext}
 use Rattle.std.proofs.lemmas.Bool.{cases_lt, cases_eq}
@@ -12,7 +12,7 @@ use Rattle.qr_matrix.proofs.BoolLemmas.{and-false}
 use Rattle.qr_matrix.proofs.ColumnLemmas.{has-nothing}
 use Rattle.qr_matrix.proofs.GridLemmas.{square-same, colour-square, colour-outside}
 
--- the line of no words has no place
+-- the bit row of no words has no bit set
 has-none : (c : ℕ) → has [] c ≡ false
 unfolding has has_bit line_of
 has-none c = ap (λ z. eqb z 1) (bit_at-zero c)
@@ -32,27 +32,27 @@ colour-is s rows r c e h = elim (cases_lt r s) [
   | inr l ↦ colour-outside s (dark_in rows) r c (inl l) ∙ sym (dark-under rows r c (omega arith))
 ]
 
--- so they are one function
+-- so the colours of the square and of the rows are the same function
 pub colours-are : (s : ℕ) (rows : List (List ℕ)) (g : Grid) → square s (dark_in rows) ≡ g → length rows ≡ s → ((r c : ℕ) → s ≤ c → dark_in rows r c ≡ false) → dark_in rows ≡ colour g
 colours-are s rows g v e h = sym (fun_ext (λ r. fun_ext (λ c. colour-is s rows r c e h))) ∙ ap colour v
 
 -- ---- the steps of a matrix
 
--- a row that is read is the line of its number
+-- a row that is read is the bit row of its index
 read-line : (rows : List (List ℕ)) (row i : ℕ) (words : List ℕ) → i ≡ row → row < length rows → words ≡ get_or rows i words → words ≡ get_or rows row []
 read-line rows row i words e l w = get_or_read rows i words (omega arith) w [] ∙ ap (λ z. get_or rows z []) e
 
--- its places are the colours of the row
+-- its bits are the colours of the row
 pub row-read : (s row i : ℕ) (rows : List (List ℕ)) (words : List ℕ) (g : Grid) → square s (dark_in rows) ≡ g → i ≡ row → row < length rows → length rows ≡ s → ((r c : ℕ) → s ≤ c → dark_in rows r c ≡ false) → words ≡ get_or rows i words → (c : ℕ) → has words c ≡ colour g row c
 unfolding dark_in
 row-read s row i rows words g v e l q h w c = ap (λ z. has z c) (read-line rows row i words e l w) ∙ ap (λ (f : ℕ → ℕ → Bool). f row c) (colours-are s rows g v q h)
 
--- it has none past the side
+-- it has no bit set past the side
 pub row-past : (s row i : ℕ) (rows : List (List ℕ)) (words : List ℕ) → i ≡ row → row < length rows → ((r c : ℕ) → s ≤ c → dark_in rows r c ≡ false) → words ≡ get_or rows i words → (c : ℕ) → s ≤ c → has words c ≡ false
 unfolding dark_in
 row-past s row i rows words e l h w c k = ap (λ z. has z c) (read-line rows row i words e l w) ∙ h row c k
 
--- the colours after a line is written
+-- the colours after a bit row is written
 dark-set : (rows : List (List ℕ)) (row col : ℕ) (words : List ℕ) (b : Bool) → row < length rows → ((i : ℕ) → has words i ≡ cond (eqb i col) b (has (get_or rows row []) i)) → (r c : ℕ) → dark_in (set rows row words) r c ≡ cond (eqb r row && eqb c col) b (dark_in rows r c)
 unfolding dark_in
 dark-set rows row col words b l h r c = elim (cases_eq r row) [
@@ -65,13 +65,13 @@ dark-set rows row col words b l h r c = elim (cases_eq r row) [
       ap (λ z. has z c) (get_or-set_other rows row r words [] e) ∙ ap (λ z. cond (z && eqb c col) b (has (get_or rows r []) c)) (sym t)
 ]
 
--- the colours after a module is given one
+-- the colours after a module is set
 pub rows-set : (s row col i : ℕ) (rows : List (List ℕ)) (words new : List ℕ) (b : Bool) → i ≡ row → row < length rows → words ≡ get_or rows i words → ((k : ℕ) → has new k ≡ cond (eqb k col) b (has words k)) → (r c : ℕ) → dark_in (set rows i new) r c ≡ cond (eqb r row && eqb c col) b (dark_in rows r c)
 rows-set s row col i rows words new b e l q h r c =
     let w : words ≡ get_or rows row [] = get_or_read rows i words (omega arith) q [] ∙ ap (λ z. get_or rows z []) e in
     ap (λ z. dark_in (set rows z new) r c) e ∙ dark-set rows row col new b l (λ k. h k ∙ ap (λ z. cond (eqb k col) b (has z k)) w) r c
 
--- no bit stands past the side after it
+-- no bit past the side is set after it
 pub inside-set : (s row col : ℕ) (rows new : List (List ℕ)) (b : Bool) → col < s → ((r c : ℕ) → dark_in new r c ≡ cond (eqb r row && eqb c col) b (dark_in rows r c)) → ((r c : ℕ) → s ≤ c → dark_in rows r c ≡ false) → (r c : ℕ) → s ≤ c → dark_in new r c ≡ false
 inside-set s row col rows new b l h i r c k =
     let e : eqb c col ≡ false = grind (arith, nat_tests) in
@@ -83,9 +83,9 @@ write-step s row col rows new g b v h =
     square-same s (dark_in new) (λ r c. cond (eqb r row && eqb c col) b (colour (square s (dark_in rows)) r c)) (λ r c l m. h r c ∙ ap (λ z. cond (eqb r row && eqb c col) b z) (sym (colour-square s (dark_in rows) r c l m)))
     ∙ ap (λ (z : Grid). painted z row col b) v
 
--- ---- a line that is written
+-- ---- a bit row that is written
 
--- the colours after a line is written
+-- the colours after a bit row is written
 pub line-set : (rows : List (List ℕ)) (row i : ℕ) (words : List ℕ) → i ≡ row → row < length rows → (r c : ℕ) → dark_in (set rows i words) r c ≡ cond (eqb r row) (has words c) (dark_in rows r c)
 unfolding dark_in
 line-set rows row i words f l r c = ap (λ z. has (get_or (set rows z words) r []) c) f ∙ elim (cases_eq r row) [
@@ -97,7 +97,7 @@ line-set rows row i words f l r c = ap (λ z. has (get_or (set rows z words) r [
       ap (λ z. has z c) (get_or-set_other rows row r words [] e) ∙ ap (λ z. cond z (has words c) (has (get_or rows r []) c)) (sym t)
 ]
 
--- no bit stands past the side after it
+-- no bit past the side is set after it
 pub line-inside : (s row : ℕ) (rows new : List (List ℕ)) (words : List ℕ) → ((r c : ℕ) → dark_in new r c ≡ cond (eqb r row) (has words c) (dark_in rows r c)) → ((c : ℕ) → s ≤ c → has words c ≡ false) → ((r c : ℕ) → s ≤ c → dark_in rows r c ≡ false) → (r c : ℕ) → s ≤ c → dark_in new r c ≡ false
 line-inside s row rows new words h w i r c k = h r c ∙ both_false (eqb r row) (has words c) (dark_in rows r c) (w c k) (i r c k)
   where
@@ -124,7 +124,7 @@ masked-bit d false w r x e f = e ∙ (ap (λ z. not (is_same false z)) f ∙ tol
     told true = refl
     told false = refl
 
--- where both lines have no place the line has none
+-- a bit that is set neither in the plain row nor in `within` is not set in the masked row
 pub masked-past : (d p w r x : Bool) → d ≡ not (is_same p x) → x ≡ (w && r) → p ≡ false → w ≡ false → d ≡ false
 masked-past d p w r x e f g h = e ∙ (ap (λ z. not (is_same z x)) g ∙ ap (λ z. not (is_same false z)) (f ∙ ap (λ z. z && r) h))
 
@@ -158,13 +158,13 @@ filled-light left right c d p x a b e f ea eb =
     told false true = refl
     told false false = refl
 
--- what a matrix is seen as is a square of its own colours
+-- the view of a matrix is a square of its own colours
 pub view-square : (s : ℕ) (rows : List (List ℕ)) (g : Grid) → square s (dark_in rows) ≡ g → g ≡ square g.side (colour g)
 view-square s rows g v = subst (λ (x : Grid). x ≡ square x.side (colour x)) v (square-same s (dark_in rows) (colour (square s (dark_in rows))) (λ r c l m. sym (colour-square s (dark_in rows) r c l m)))
 
 -- ---- rectangles
 
--- at first none is filled
+-- at first no row is filled
 pub rectangle-none : (g : Grid) (top left right : ℕ) (dark : Bool) → g ≡ square g.side (colour g) → g ≡ with_rectangle g top top left right dark
 rectangle-none g top left right dark e = e ∙ square-same g.side (colour g) (λ r c. cond (leb top r && ltb r top && leb left c && ltb c right) dark (colour g r c)) (λ r c l m.
     let t : (leb top r && ltb r top) ≡ false = grind (arith, nat_tests) in
@@ -203,6 +203,6 @@ dark-replicate n rows r c e = elim (cases_lt r n) [
   | inr l ↦ let f = rows-long n rows e in dark-under rows r c (omega arith)
 ]
 
--- so is their square
+-- the square of rows of zeros is light
 pub light-square : (s : ℕ) (rows : List (List ℕ)) → ((r c : ℕ) → dark_in rows r c ≡ false) → square s (dark_in rows) ≡ square s (λ _ _. false)
 light-square s rows h = square-same s (dark_in rows) (λ _ _. false) (λ r c _ _. h r c)

@@ -1,4 +1,4 @@
--- The cost of the maximal runs is the cost place by place.
+-- The cost of the maximal runs of a line is the cost that is counted module by module.
 use Rattle.std.proofs.Common.{◌≡◌, ℕ, zero, suc, ◌+◌, ◌-◌, ◌*◌, ◌<◌, ◌≤◌, ◌⊎◌, inl, inr, eqb, ltb, leb, Bool, true, false, not, ◌&&◌, ◌||◌, cond, refl, sym, ap, ◌∙◌, subst, arith}
 use Rattle.std.proofs.lemmas.Bool.{cases_lt, false≢true}
 use Rattle.std.proofs.lemmas.Bool.Decides.{nat_tests}
@@ -337,7 +337,8 @@ open-end s line = elim (cases_lt 0 s) [
   | inr h ↦ let e : ltb 0 s ≡ false = grind (arith, nat_tests) in ap (λ z. cond (z && joins s line (s - 1)) (left s line s - 3) 0) e
 ]
 
--- the maximal runs cost 1 for each place where five equal ones begin, and 2 more where the one before is not equal or there is none
+-- the maximal runs cost 1 for each place where five equal ones begin, and 2 more where the one before is not equal or there
+-- is none
 pub runs-by-places : (s : ℕ) (line : ℕ → Bool) → run_cost s line ≡ place_cost s line
 unfolding run_cost place_cost
 runs-by-places s line =

@@ -1,4 +1,4 @@
--- Lines of two rows against the test of a square of two by two modules.
+-- Bit operations on two rows compute the test of a square of two by two modules.
 use Rattle.std.proofs.Common.{◌≡◌, ℕ, ◌+◌, ◌≤◌, List, ltb, Bool, true, false, ◌&&◌, refl, sym, ap, ◌∙◌, subst, arith}
 use Rattle.std.proofs.lemmas.Bool.Decides.{nat_tests}
 use Rattle.qr_matrix.specs.Line.{has}

@@ -6,13 +6,15 @@ use Rattle.qr_matrix.specs.Runs.{is_change}
 use Rattle.qr_matrix.specs.declared.dark_runs.DarkRuns.{DarkRuns}
 use Rattle.qr_matrix.specs.declared.dark_runs.Run.{Run}
 
--- the dark runs of a row from a column on: the places where the colour changes, all before that column being light [own]
+-- `AreRunsFrom g row runs` holds if `runs` are the dark runs of a row of the square g from column `runs.col` on. They are
+-- given by the columns in which the colour changes, where all columns before `runs.col` count as light [own]
 pub record AreRunsFrom (g : Grid) (row : ℕ) (runs : DarkRuns) : Type 0 where
   pub few : g.side ≤ 177
   pub past : (c : ℕ) → g.side ≤ c → colour g row c ≡ false
   pub changes : (c : ℕ) → c < 192 → has runs.changes c ≡ is_change (λ k. nat_le runs.col k && colour g row k) c
 
--- the first dark run of a row from column `col` on, as long as it can be [own]
+-- `IsFirstRun g row col run` holds if `run` is the first dark run of the row from column `col` on, as long as it can be
+-- [own]
 pub record IsFirstRun (g : Grid) (row col : ℕ) (run : Run) : Type 0 where
   pub after : col ≤ run.start
   pub some : run.start < run.end
@@ -21,7 +23,8 @@ pub record IsFirstRun (g : Grid) (row col : ℕ) (run : Run) : Type 0 where
   pub dark : (c : ℕ) → run.start ≤ c → c < run.end → colour g row c ≡ true
   pub stops : colour g row run.end ≡ false
 
--- of the dark runs of a row the first is given, and those after it are left; or there is none [own]
+-- `GivesRun old r new` holds if r is the first of the dark runs `old`, and `new` are the runs after it; or if r is no run
+-- and `old` has no run [own]
 abbrev pub GivesRun : DarkRuns → Option Run → DarkRuns → Type 0
 GivesRun old None new = (g : Grid) (row : ℕ) → AreRunsFrom g row old → (c : ℕ) → old.col ≤ c → colour g row c ≡ false
 GivesRun old (Some run) new = (g : Grid) (row : ℕ) → AreRunsFrom g row old

@@ -1,4 +1,4 @@
-//! The runs of dark modules of a row, found by the columns in which the colour changes.
+//! Finds the runs of dark modules of a row, by the columns in which the colour changes.
 
 ghost use Rattle.std.specs.Prelude.{◌≡◌, ℕ, ◌<◌, ◌-◌, false};
 ghost use Rattle.qr_matrix.specs.Line.{has};
@@ -13,10 +13,10 @@ pub struct Run {
     pub end: u8,
 }
 
-/// The runs of dark modules of a row from a column on, from the left.
+/// An iterator over the runs of dark modules of a row from a column on, from left to right.
 #[derive(Drop)]
 pub struct DarkRuns {
-    // The columns that are still to come in which the colour changes, if all before the column is taken as light.
+    // The columns from `col` on in which the colour changes, where all columns before `col` count as light.
     changes: Line,
     col: u8,
     ghost later: { (c : ℕ) → c < col → has changes c ≡ false },
@@ -26,7 +26,7 @@ impl Matrix {
     ghost use Rattle.std.specs.Prelude.{◌≡◌, ◌<◌};
     ghost use Rattle.qr_matrix.specs.DarkRuns.{AreRunsFrom};
 
-    /// The runs of dark modules of a row, from the left, each as long as it can be.
+    /// Returns the runs of dark modules of a row, from left to right, each run as long as it can be.
     pub fn dark_runs(&self, row: u8) -> DarkRuns
         requires { row < self.now.side }
         ensures start { result.col ≡ 0 }

@@ -1,4 +1,4 @@
-//! How many modules of two squares differ.
+//! Counts the modules in which two squares differ.
 
 ghost use Rattle.std.specs.Prelude.{◌≡◌};
 ghost use Rattle.qr_matrix.specs.Difference.{difference_count};
@@ -22,7 +22,7 @@ mod tests {
     use super::*;
     use std::test::Fail;
 
-    // Two squares of three words in a row, which are light but for the dark modules listed.
+    // Two squares with three words in each row. All modules are light but the listed ones, which are dark.
     #[test]
     fn differences_are_counted(rt: HostRuntime) -> Result<(), Fail> {
         let rows = [

@@ -1,6 +1,6 @@
-//! The laws of the penalty's counts (ISO/IEC 18004:2015, 7.8.3.1, Table 11): what is counted on rows of words is what
-//! the definitions count module by module, for every square. The first two functions do nothing, their contracts are
-//! the laws; the others count, and their contracts say what.
+//! The laws of the penalty's counts (ISO/IEC 18004:2015, 7.8.3.1, Table 11): what the code counts on words is what the
+//! definitions count module by module, for every square. The functions without a parameter do nothing: their contracts are
+//! the laws. The other functions count, and their contracts say what they count.
 
 ghost use Rattle.std.specs.Prelude.{◌≡◌, ◌↔◌, ◌<◌, ℕ, Bool};
 ghost use Rattle.qr_matrix.specs.Penalty.{over_lines, run_cost, square_count, window_count, penalty_of};
@@ -13,8 +13,9 @@ use crate::matrix::Matrix;
 use crate::runs::runs_and_squares;
 use crate::windows::window_count;
 
-/// The definition of the penalty computes the points of these squares, which are counted by hand from Table 11; and it
-/// finds the ratio of a finder pattern after and before four light modules, at whatever place of a line.
+/// The definition of the penalty computes the points of these squares, which were counted by hand from Table 11. It also
+/// finds the ratio of a finder pattern before and after four light modules, at the beginning of a row, and later in a row or
+/// a column.
 #[tactic(auto, unfolding(crate::specs::Penalty::penalty_of, crate::specs::Penalty::over_lines, crate::specs::Penalty::run_cost, crate::specs::Penalty::is_run, crate::specs::Penalty::window_count, crate::specs::Penalty::is_window, crate::specs::Penalty::square_count, crate::specs::Penalty::is_square_of_two, crate::specs::Penalty::dark_count, crate::specs::Penalty::dark_cost))]
 pub fn penalties_compute()
     ensures one { penalty_of 1 all_light ≡ 100 }
@@ -26,34 +27,34 @@ pub fn penalties_compute()
     ensures inside { over_lines 75 (ratio_in_a_row 60) (window_count 75) ≡ 2 }
 {}
 
-/// The runs of a line cost 1 for each place where five equal modules begin, and 2 more where the module before them is
-/// not equal or there is none.
+/// The runs of a row or column cost 1 point for each module at which five equal modules begin, and 2 more if the module
+/// before these is not equal or there is none.
 pub fn runs_cost_by_places()
     ensures { (side : ℕ) (line : ℕ → Bool) → run_cost side line ≡ place_cost side line }
 {}
 
-/// The cost of runs that is counted on words is that of the runs of all rows and columns.
+/// Returns the cost of the runs of all rows and columns, counted on words.
 pub fn runs_on_words(m: &Matrix) -> u32
     ensures { result ≡ over_lines m.now.side (colour m.now) (run_cost m.now.side) }
 {
     runs_and_squares(m, m.words()).0
 }
 
-/// The squares of two by two modules of one colour that are counted on words are all there are.
+/// Returns the number of squares of two by two modules of one colour, counted on words.
 pub fn squares_on_words(m: &Matrix) -> u32
     ensures { result ≡ square_count m.now.side (colour m.now) }
 {
     runs_and_squares(m, m.words()).1
 }
 
-/// The windows that are counted on words are those of all rows and columns.
+/// Returns the number of windows of all rows and columns, counted on words.
 pub fn windows_on_words(m: &Matrix) -> u32
     ensures { result ≡ over_lines m.now.side (colour m.now) (window_count m.now.side) }
 {
     window_count(m, m.words())
 }
 
-/// Two squares of one side differ at no place exactly if they have the same colour everywhere.
+/// The number of differences of two squares is 0 exactly if they have the same colour at each place of the first square.
 pub fn differences_tell_squares_apart()
     ensures { (g h : Grid) → (difference_count g h ≡ 0)
         ↔ ((r c : ℕ) → r < g.side → c < g.side → colour g r c ≡ colour h r c) }

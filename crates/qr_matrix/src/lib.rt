@@ -1,5 +1,5 @@
-//! The square of modules that makes a symbol, in rows of words, and its penalty and the differences of two,
-//! counted on these.
+//! The square of modules that makes a symbol, stored as bit rows of three words. This crate also counts the penalty of a
+//! square and the differences of two squares.
 #![tactic(auto)]
 
 mod dark_runs;

@@ -14,7 +14,7 @@ use std::marker::Model;
 #[derive(Drop)]
 pub struct Matrix {
     side: u8,
-    // Each row as a line of bits, column 0 the lowest, with none from the side on.
+    // Each row as a bit row: column 0 is the lowest bit, and no bit from the side on is set.
     rows: Vec<Line>,
 }
 
@@ -32,7 +32,7 @@ impl Model for Matrix {
 }
 
 impl Matrix {
-    /// A square of light modules, with 1 to 177 on a side.
+    /// Returns a square of light modules, with 1 to 177 modules on a side.
     pub fn new(alloc: Global, side: u8) -> Result<Matrix, AllocError>
         requires least { 1 ≤ side }
         requires most { side ≤ 177 }
@@ -42,7 +42,7 @@ impl Matrix {
         Ok(Matrix { side, rows })
     }
 
-    /// How many modules are on a side.
+    /// Returns the number of modules on a side.
     pub fn side(&self) -> u8
         ensures value { result ≡ self.now.side }
         ensures least { 1 ≤ result }
@@ -51,7 +51,7 @@ impl Matrix {
         self.side
     }
 
-    /// Whether a module is dark.
+    /// Returns whether a module is dark.
     pub fn dark(&self, row: u8, col: u8) -> bool
         requires row_in { row < self.now.side }
         requires col_in { col < self.now.side }
@@ -60,7 +60,8 @@ impl Matrix {
         self.rows[usize::from(row)].at(col)
     }
 
-    /// Four modules of a row from a column on that is a multiple of four, the first the lowest bit.
+    /// Returns four modules of a row, from column `col` on, as a number. Column `col` is the lowest bit; `col` is a multiple
+    /// of four.
     pub fn four(&self, row: u8, col: u8) -> u8
         requires row_in { row < self.now.side }
         requires col_in { col + 4 ≤ self.now.side }
@@ -71,8 +72,8 @@ impl Matrix {
         self.rows[usize::from(row)].four(col)
     }
 
-    /// Where the run of equal modules from `col` on ends: the least column after `col` whose
-    /// colour in that row differs from that at `col`, or the side where there is none.
+    /// Returns the end of the run of equal modules from `col` on: the least column after `col` whose
+    /// colour in this row differs from that at `col`, or the side if there is no such column.
     pub fn run_end(&self, row: u8, col: u8) -> u8
         requires row_in { row < self.now.side }
         requires col_in { col < self.now.side }
@@ -83,7 +84,7 @@ impl Matrix {
         later.first().min(side)
     }
 
-    // The columns of a row whose colour is not that of the column before them; before column 0 all is light.
+    // Returns the columns of a row whose colour differs from that of the column before; before column 0 all is light.
     pub(crate) fn changes(&self, row: u8) -> Line
         requires { row < self.now.side }
         ensures changes { (c : ℕ) → c < 192 → has result c ≡ is_change (colour self.now row) c }
@@ -94,7 +95,7 @@ impl Matrix {
         line ^ line.shifted_right()
     }
 
-    // A row as a line, which has no place from the side on.
+    // Returns a row as a bit row. No bit from the side on is set.
     pub(crate) fn line(&self, row: usize) -> Line
         requires { row < self.now.side }
         ensures colours { (c : ℕ) → has result c ≡ colour self.now row c }
@@ -104,7 +105,7 @@ impl Matrix {
         self.rows[row]
     }
 
-    // The modules of one word of a row, that in column `64 * number` the lowest bit.
+    // Returns the modules of one word of a row; the module in column `64 * number` is the lowest bit.
     pub(crate) fn word(&self, row: usize, number: usize) -> u64
         requires row_in { row < self.now.side }
         requires word_in { number < 3 }
@@ -113,7 +114,7 @@ impl Matrix {
         self.rows[row].word(number)
     }
 
-    // In how many words a row is.
+    // Returns the number of words that a row fills, the last one in part.
     pub(crate) fn words(&self) -> u8
         ensures least { 64 * (result - 1) < self.now.side }
         ensures most { self.now.side ≤ 64 * result }
@@ -122,8 +123,8 @@ impl Matrix {
         (self.side - 1) / 64 + 1
     }
 
-    // A row as a line. The caller tells in how many words it is: where that is a number of the source, the compiler leaves out
-    // what would be done with the others.
+    // Returns a row as a bit row. `words` is the number of words that a row fills. If it is a constant, the compiler leaves
+    // out what would be done with the other words.
     #[inline(always)]
     pub(crate) fn line_in(&self, row: usize, words: u8) -> Line
         requires row_in { row < self.now.side }
@@ -137,7 +138,7 @@ impl Matrix {
         self.line(row) & Line::below(64 * words)
     }
 
-    /// Gives one module its colour.
+    /// Sets the colour of one module.
     pub fn set(&mut self, row: u8, col: u8, dark: bool)
         requires row_in { row < self.old.side }
         requires col_in { col < self.old.side }
@@ -146,7 +147,8 @@ impl Matrix {
         self.rows[usize::from(row)].put(col, dark);
     }
 
-    /// Gives four modules of a row their colours, from a column on that is a multiple of four, the first by the lowest bit.
+    /// Sets the colours of four modules of a row, from column `col` on, to the bits of `bits`. Column `col` gets the lowest
+    /// bit; `col` is a multiple of four.
     pub fn set_four(&mut self, row: u8, col: u8, bits: u8)
         requires row_in { row < self.old.side }
         requires col_in { col + 4 ≤ self.old.side }
@@ -158,7 +160,7 @@ impl Matrix {
         self.rows[usize::from(row)].put_four(col, bits);
     }
 
-    // Gives a row the colours of a line.
+    // Sets the colours of a row to the bits of a bit row.
     fn set_line(&mut self, row: u8, line: Line)
         requires row_in { row < self.old.side }
         requires past { (c : ℕ) → self.old.side ≤ c → has line c ≡ false }
@@ -167,7 +169,7 @@ impl Matrix {
         self.rows[usize::from(row)] = line;
     }
 
-    // Gives the modules of one word of a row the colours of its bits.
+    // Sets the colours of the modules of one word of a row to the bits of a word.
     pub(crate) fn set_word(&mut self, row: usize, number: usize, word: u64)
         requires row_in { row < self.old.side }
         requires word_in { number < 3 }
@@ -178,7 +180,7 @@ impl Matrix {
         self.rows[row].put_word(number, word);
     }
 
-    /// Gives a row the colours of `plain`, inverted where `within` is dark and the pattern's bit for the column is 1. The
+    /// Sets a row to the colours of `plain`, inverted where `within` is dark and the pattern's bit for the column is 1. The
     /// pattern is six bits, column 0 the lowest, and is repeated every six columns.
     pub fn set_row_masked(&mut self, row: u8, plain: &Matrix, within: &Matrix, pattern: u8)
         requires row_in { row < self.old.side }
@@ -194,7 +196,7 @@ impl Matrix {
         self.set_line(row, plain.line(index) ^ inverted);
     }
 
-    // Gives the modules of a row from `left` to before `right` one colour.
+    // Sets the modules of a row from `left` to before `right` to one colour.
     fn fill_row(&mut self, row: u8, left: u8, right: u8, dark: bool)
         requires row_in { row < self.old.side }
         requires in_order { left ≤ right }
@@ -211,7 +213,7 @@ impl Matrix {
         }
     }
 
-    /// Gives the modules of the rows from `top` to before `bottom` and the columns from `left` to before `right` one
+    /// Sets the modules of the rows from `top` to before `bottom` and the columns from `left` to before `right` to one
     /// colour.
     pub fn fill(&mut self, top: u8, bottom: u8, left: u8, right: u8, dark: bool)
         requires rows_in_order { top ≤ bottom }
@@ -220,14 +222,14 @@ impl Matrix {
         requires right_in { right ≤ self.old.side }
         ensures { self.new ≡ with_rectangle self.old top bottom left right dark }
     {
-        // Looked at, the matrix is known to be a square of its colours, also where no row is filled.
+        // For the proof: brings in the invariant, for the case of no rows.
         prove!(self.side <= 177);
         for row in top..bottom {
             self.fill_row(row, left, right, dark);
         }
     }
 
-    /// Gives each module the colour that `other` has in the place with row and column exchanged.
+    /// Sets each module to the colour that `other` has at the place with row and column exchanged.
     pub fn set_transposed(&mut self, other: &Matrix)
         requires { other.now.side ≡ self.old.side }
         ensures { self.new ≡ transposed other.now }
@@ -321,7 +323,7 @@ mod tests {
         Ok(())
     }
 
-    // A square of one word in a row, and one of three.
+    // A square with one word in each row, and one with three.
     #[test]
     fn a_square_is_transposed(rt: HostRuntime) -> Result<(), Fail> {
         let places = [

@@ -8,15 +8,15 @@ use crate::matrix::Matrix;
 use crate::runs::runs_and_squares;
 use crate::windows::window_count;
 
-// The points of Table 11: for a square of two by two modules of one colour, for a window, and for each twentieth by
-// which the dark modules are more or fewer than half.
+// The points of Table 11: for a square of two by two modules of one colour, for a window like a finder pattern, and for each
+// twentieth by which the dark modules are more or fewer than half of all modules.
 const SQUARE_POINTS: u32 = 3;
 
 const WINDOW_POINTS: u32 = 40;
 
 const BALANCE_POINTS: u32 = 10;
 
-// How many modules are dark.
+// Returns the number of dark modules. `words` is the number of words that a row fills.
 #[inline(always)]
 fn dark_count(matrix: &Matrix, words: u8) -> u32
     requires least { 64 * (words - 1) < matrix.now.side }
@@ -32,7 +32,7 @@ fn dark_count(matrix: &Matrix, words: u8) -> u32
     total
 }
 
-// 10 points for each whole twentieth by which the dark modules are more or fewer than half.
+// Returns 10 points for each whole twentieth by which the dark modules are more or fewer than half of all modules.
 fn balance_cost(modules: u32, dark: u32) -> u32
     requires some { 0 < modules }
     requires most { modules ≤ 31329 }
@@ -45,7 +45,7 @@ fn balance_cost(modules: u32, dark: u32) -> u32
     BALANCE_POINTS * (excess / modules)
 }
 
-// The penalty, where a row is in so many words.
+// Returns the penalty of a square whose rows fill `words` words each.
 #[inline(always)]
 fn penalty_in(m: &Matrix, words: u8) -> u32
     requires least { 64 * (words - 1) < m.now.side }
@@ -60,7 +60,7 @@ fn penalty_in(m: &Matrix, words: u8) -> u32
         + balance_cost(modules, dark_count(m, words))
 }
 
-/// The penalty of a square of modules: the sum of the points of Table 11 (ISO/IEC 18004:2015, 7.8.3.1).
+/// Returns the penalty of a square of modules: the sum of the points of Table 11 (ISO/IEC 18004:2015, 7.8.3.1).
 pub fn penalty(m: &Matrix) -> u32
     ensures { result ≡ penalty_of m.now.side (colour m.now) }
 {
@@ -81,7 +81,7 @@ mod tests {
         Light,
         Dark,
         Chequered,
-        // The window before four light modules, in the first row from this column on.
+        // The ratio of a finder pattern and then four light modules, in the first row from this column on.
         WindowFrom(u8),
     }
 
@@ -89,7 +89,7 @@ mod tests {
         true, false, true, true, true, false, true, false, false, false, false,
     ];
 
-    // Whether a pattern has a dark module in this row and column.
+    // Returns whether a pattern has a dark module in this row and column.
     fn is_dark(pattern: Pattern, row: u8, col: u8) -> bool {
         match pattern {
             Pattern::Light => false,
@@ -103,7 +103,7 @@ mod tests {
 
     #[test]
     fn penalties(rt: HostRuntime) -> Result<(), Fail> {
-        // Rows of one word, of two and of three, and runs and a window over the borders of words.
+        // The rows have one, two and three words. Runs and a window cross the borders of words.
         let rows = [
             ("all light", 21u8, Pattern::Light, 2098),
             ("a chequered square", 21, Pattern::Chequered, 0),

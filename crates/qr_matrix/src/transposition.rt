@@ -1,9 +1,9 @@
-//! The square transposed, each module in the place with row and column exchanged: by tiles of 64 by 64 modules, each of them
-//! one word in 64 rows.
+//! Transposes a square, so that each module moves to the place with row and column exchanged. This is done by tiles of 64 by
+//! 64 modules, each of them one word in 64 rows.
 //!
-//! The bits of a tile are exchanged in six stages. The first one takes the tile as two by two parts of 32 by 32 bits, and
-//! exchanges the upper right part with the lower left one. The next one does so in each of these parts, with parts of 16 by
-//! 16 bits, and so on down to single bits.
+//! The bits of a tile are exchanged in six stages. The first stage divides the tile into two by two parts of 32 by 32 bits,
+//! and exchanges the upper right part with the lower left part. The next stage does so in each of these parts, with parts of
+//! 16 by 16 bits, and so on down to single bits.
 
 ghost use Rattle.std.specs.Prelude.{◌≡◌, ℕ, ◌+◌, ◌-◌, ◌*◌, ◌/◌, ◌%◌, ◌<◌, ◌≤◌, ◌&&◌, ◌==◌, ◌⊎◌, nat_lt, if◌then◌else◌, false, slice_index};
 ghost use Rattle.qr_matrix.specs.Grid.{square, colour, IsSquare};
@@ -12,8 +12,8 @@ ghost use Rattle.qr_matrix.specs.Steps.{bit_in, exchanged};
 
 use crate::matrix::Matrix;
 
-// Exchanges the right parts of the upper word with the left parts of the lower one, and returns both. A part is `steps`
-// columns wide, and the mask has the columns of the left parts. Both words change by the bits in which the parts differ.
+// Exchanges the right parts of `upper` with the left parts of `lower`, and returns both words. A part is `steps` columns
+// wide, and `mask` contains the columns of the left parts. Both words change in the bits in which the parts differ.
 #[inline(always)]
 fn exchange_words(upper: u64, lower: u64, steps: usize, mask: u64) -> (u64, u64)
     requires some { 1 ≤ steps }
@@ -28,7 +28,7 @@ fn exchange_words(upper: u64, lower: u64, steps: usize, mask: u64) -> (u64, u64)
     (upper ^ difference << steps, lower ^ difference)
 }
 
-// Exchanges the parts in a group of `2 * steps` rows, from `first` on.
+// Exchanges the parts in the `2 * steps` rows from `first` on.
 #[inline(always)]
 fn exchange_rows(tile: &mut [u64; 64], first: usize, steps: usize, mask: u64)
     requires some { 1 ≤ steps }
@@ -48,7 +48,7 @@ fn exchange_rows(tile: &mut [u64; 64], first: usize, steps: usize, mask: u64)
     }
 }
 
-// Exchanges the parts in all rows, which is one stage.
+// Exchanges the parts in all rows. This is one stage.
 #[inline(always)]
 fn exchange(tile: &mut [u64; 64], steps: usize, mask: u64)
     requires some { 1 ≤ steps }
@@ -74,7 +74,8 @@ fn transpose(tile: &mut [u64; 64])
     exchange(tile, 1, 0x5555_5555_5555_5555);
 }
 
-// Returns a tile of a square: the modules of one word of each row, in the 64 rows of a band. Rows below the square are light.
+// Returns a tile of a square: the modules of one word of each row, in the 64 rows of a band. Rows below the square are
+// light.
 fn tile_of(matrix: &Matrix, band: usize, word: usize) -> [u64; 64]
     requires band_in { 64 * band ≤ matrix.now.side }
     requires word_in { word < 3 }
@@ -90,7 +91,7 @@ fn tile_of(matrix: &Matrix, band: usize, word: usize) -> [u64; 64]
     tile
 }
 
-// Gives the modules of a tile the colours of its bits.
+// Sets the modules of a tile to the colours of its bits.
 fn set_tile(matrix: &mut Matrix, band: usize, word: usize, tile: &[u64; 64])
     requires whole { IsSquare matrix.old.side matrix.old }
     requires band_in { 64 * band ≤ matrix.old.side }
@@ -107,7 +108,7 @@ fn set_tile(matrix: &mut Matrix, band: usize, word: usize, tile: &[u64; 64])
     }
 }
 
-// Gives the modules of a tile the colours that the other square has in the places with row and column exchanged.
+// Sets the modules of a tile to the colours that `other` has at the places with row and column exchanged.
 fn set_transposed_tile(matrix: &mut Matrix, other: &Matrix, band: usize, word: usize)
     requires whole { IsSquare matrix.old.side matrix.old }
     requires sides { other.now.side ≡ matrix.old.side }
@@ -123,8 +124,7 @@ fn set_transposed_tile(matrix: &mut Matrix, other: &Matrix, band: usize, word: u
     set_tile(matrix, band, word, &tile);
 }
 
-/// Gives the modules in the 64 rows of a band the colours that the other square has in the places with row and column
-/// exchanged.
+/// Sets the modules in the 64 rows of a band to the colours that `other` has at the places with row and column exchanged.
 pub(crate) fn set_transposed_band(matrix: &mut Matrix, other: &Matrix, band: usize)
     requires whole { IsSquare matrix.old.side matrix.old }
     requires sides { other.now.side ≡ matrix.old.side }

@@ -1,4 +1,4 @@
--- A value for each place, and a table of best modes. No public clause rests on how this is written.
+-- A value for each state of an assignment, and a table of best modes.
 use Rattle.std.specs.Prelude.{ℕ, ◌<◌, ◌/◌, ◌%◌, ◌^◌, Bool, List, [], ◌∷◌, IsTrue}
 use Rattle.qr_bits.specs.declared.modes.Mode.{Mode}
 use Rattle.qr_bits.specs.declared.modes.Rule.{Rule}
@@ -7,7 +7,7 @@ use Rattle.qr_bits.specs.declared.place.Place.TheVariants.{Start, Digit1, Digit2
 use Rattle.qr_bits.specs.declared.place.ByPlace.{ByPlace}
 use Rattle.qr_bits.specs.Steps.Place.{place_after, allowed, ranked, IsBestRest, IsChoice}
 
--- the value at a place
+-- The value for a state
 unfoldable pub at_place : {T : Type 0} → ByPlace T → Place → T
 at_place b Start = b.start
 at_place b Digit1 = b.digit1
@@ -19,17 +19,17 @@ at_place b InBytes = b.in_bytes
 at_place b HalfPair = b.half_pair
 at_place b WholePair = b.whole_pair
 
--- the bits of the choice of a place, from its number
+-- The number of bits of the choice for state p, from the number of the choice
 abbrev pub bits_at : ByPlace ℕ → Place → ℕ
 bits_at numbers p = at_place numbers p / 4
 
--- so small are the numbers of the rest of an input
+-- `IsSmall n` holds if the number for each state is below 40,000,000, as it is for the rest of any input
 abbrev pub IsSmall : ByPlace ℕ → Type 0
 IsSmall n =
     (n.start < 40000000) × (n.digit1 < 40000000) × (n.digit2 < 40000000) × (n.digit3 < 40000000) × (n.character1 < 40000000)
     × (n.character2 < 40000000) × (n.in_bytes < 40000000) × (n.half_pair < 40000000) × (n.whole_pair < 40000000)
 
--- where the mode of a place begins in a row of the table, in bits
+-- The bit of a row of the table at which the mode for a state begins
 abbrev pub shift_of : Place → ℕ
 shift_of Start = 0
 shift_of Digit1 = 2
@@ -41,19 +41,20 @@ shift_of InBytes = 12
 shift_of HalfPair = 14
 shift_of WholePair = 16
 
--- the mode of a place in a row of the table
+-- The mode for state p in a row of the table
 unfoldable pub mode_at : ℕ → Place → Mode
 mode_at row p = ranked (row / 2 ^ shift_of p % 4)
 
--- the row and the numbers of the first of the best choices for a byte, where rest contains the numbers after it
+-- `IsRow v r x pair rest row numbers` holds if, for each state before the byte x, `row` contains the mode of the best choice
+-- and `numbers` its number. `rest` contains the numbers for the bytes after x.
 abbrev pub IsRow : ℕ → Rule → ℕ → Bool → ByPlace ℕ → ℕ → ByPlace ℕ → Type 0
 IsRow v r x pair rest row numbers = (p : Place) → IsChoice v r p x pair (bits_at rest) (mode_at row p) (bits_at numbers p)
 
--- the modes to which a table leads, one row for each byte
+-- `follow p rows` is the modes to which a table leads from state p, one row for each byte
 unfoldable pub follow : Place → List ℕ → List Mode
 follow p [] = []
 follow p (row ∷ rows) = mode_at row p ∷ follow (place_after p (mode_at row p)) rows
 
--- From each place that has a rest, the table leads to the best.
+-- `IsBestTable v r test xs rows` holds if the table leads to the best rest from each state from which some rest is allowed.
 abbrev pub IsBestTable : ℕ → Rule → (ℕ → ℕ → Bool) → List ℕ → List ℕ → Type 0
 IsBestTable v r test xs rows = (p : Place) (ks : List Mode) → IsTrue (allowed r test p xs ks) → (n : ℕ) × IsBestRest v r test p xs (follow p rows) n

@@ -1,5 +1,4 @@
--- Only for the proof of the walk: its position, and the modules that are still to come. No public clause rests on how
--- this is written.
+-- For the proof of the walk: its position, and the modules that are still to come.
 use Rattle.std.specs.Prelude.{◌≡◌, ℕ, ◌+◌, ◌-◌, ◌*◌, ◌/◌, ◌%◌, ◌<◌, ◌≤◌, Bool, true, false, nat_lt, ◌==◌, if◌then◌else◌, List, [], ◌∷◌}
 use Prim.Native.Nat.{zero, suc}
 use Rattle.qr_layout.specs.declared.region.Module.{Module}
@@ -7,27 +6,27 @@ use Rattle.qr_layout.specs.declared.order.Cursor.{Cursor}
 use Rattle.qr_layout.specs.Region.{is_in_region}
 use Rattle.qr_layout.specs.Version.{side_of}
 
--- 0 at the right module of a row, 1 at the left
+-- 0 for the right module of a row of a strip, 1 for the left module
 abbrev pub half_of : Bool → ℕ
 half_of second = if second then 1 else 0
 
--- the column of a half of a strip, past column 6 where the strip is
+-- The column of a half of a strip; column 6 is skipped
 abbrev pub column_of : ℕ → ℕ → ℕ
 column_of strips half = let c = 2 * strips - 1 - half in if nat_lt c 6 then c else c + 1
 
--- the module at a position
+-- The module at a position
 abbrev pub place_of : Cursor → Module
 place_of a = record { row = a.row; col = column_of a.strips (half_of a.second) }
 
--- the row, counted from where the strip begins
+-- The row of a position, counted from where the strip begins
 abbrev pub rank_of : ℕ → Cursor → ℕ
 rank_of s a = if a.upward then s - 1 - a.row else a.row
 
--- how many places are left, this one included
+-- The number of positions that are left, this position included
 unfoldable pub left_of : ℕ → Cursor → ℕ
 left_of s a = a.strips * (2 * s) - (2 * rank_of s a + half_of a.second)
 
--- the next position: the other half, else the next row, else the next strip, which goes the other way
+-- The next position: the left module of the row, else the next row, else the next strip, which goes the other way
 unfoldable pub next_of : ℕ → Cursor → Cursor
 next_of s a =
     if a.second then
@@ -37,27 +36,27 @@ next_of s a =
     (if a.row + 1 == s then record { strips = a.strips - 1; row = a.row; second = false; upward = true } else record { strips = a.strips; row = a.row + 1; second = false; upward = false }))
     else record { strips = a.strips; row = a.row; second = true; upward = a.upward }
 
--- a position of version v, or the end
+-- `IsCursor v a` holds if a is a position of the walk of version v, or the end of the walk
 pub record IsCursor (v : ℕ) (a : Cursor) : Type 0 where
   pub strips_in : a.strips ≤ 8 + 2 * v
   pub row_in : a.row < side_of v
   pub turned : a.upward ≡ (a.strips % 2 == 0)
 
--- the modules of the region at the next n positions
+-- The modules of the encoding region at n positions, from position a on
 unfoldable pub places_within : ℕ → ℕ → Cursor → List Module
 places_within v zero a = []
 places_within v (suc n) a =
     if is_in_region v a.row (place_of a).col then place_of a ∷ places_within v n (next_of (side_of v) a) else places_within v n (next_of (side_of v) a)
 
--- the modules of the region from a position on
+-- The modules of the encoding region from position a on
 unfoldable pub to_come : ℕ → Cursor → List Module
 to_come v a = places_within v (left_of (side_of v) a) a
 
--- where a walk begins
+-- The position at which the walk begins
 abbrev pub start_of : ℕ → Cursor
 start_of v = record { strips = 8 + 2 * v; row = 16 + 4 * v; second = false; upward = true }
 
--- the position of a place
+-- The position of a module
 unfoldable pub cursor_at : Module → Cursor
 cursor_at m =
     let c = (if nat_lt m.col 6 then m.col else m.col - 1) in
