@@ -24,8 +24,8 @@ use Rattle.qrencode_cli.specs.declared.fault.Refusal.TheVariants as refusal
 abbrev pub input_for : SettingsView → List ℕ → List ℕ
 input_for s given = option_map_or (λ text. take INPUT_MAX text) s.string given
 
--- `held s input` is the input as the symbols contain it. Under -i it is the folded input, with its small letters as
--- capitals, as far as the allowed modes have them folded. Otherwise it is `input` itself [own]
+-- `held s input` is the input as the symbols contain it. Under -i small letters become capitals, except in byte mode
+-- only and except in kanji pairs under -k. Without -i it is `input` itself [own]
 abbrev pub held : SettingsView → List ℕ → List ℕ
 held s input = if s.fold then folded (rule_for s) input else input
 

@@ -120,8 +120,8 @@ pub record RulesOfModes : Type 0 where
   pub kanji : (s : SettingsView) → s.bytes_only ≡ false → s.kanji ≡ true → rule_for s ≡ WithKanji
   pub neither : (s : SettingsView) → s.bytes_only ≡ false → s.kanji ≡ false → rule_for s ≡ Auto
 
--- Under -i the input is folded by the modes that are allowed, and without -i it is unchanged. Under -k the second byte
--- of a kanji pair is unchanged, even if it is the code of a small letter [own].
+-- Under -i the input is folded for the allowed modes, and without -i it is unchanged. Under -k the second byte of a
+-- kanji pair is unchanged, even if it is the code of a small letter [own].
 pub record FoldingFollowsTheRule : Type 0 where
   pub folds : (s : SettingsView) (input : List ℕ) → s.fold ≡ true → held s input ≡ folded (rule_for s) input
   pub keeps : (s : SettingsView) (input : List ℕ) → s.fold ≡ false → held s input ≡ input
