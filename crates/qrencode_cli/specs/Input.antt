@@ -9,8 +9,8 @@ use Rattle.qr_devices.specs.declared.device.TheConstants.{INTERRUPTIONS_MAX}
 abbrev pub IsInputOf : Option (List ℕ) → List ℕ → Type 0
 IsInputOf bytes input = IfSome bytes (λ all. input ≡ take INPUT_MAX all)
 
--- `IsReadWithin c` holds if the counts `c` show at most 114,424 reads, at most 113,425 bytes, and no read after the end
--- of the device, after a read that failed, or after the 1,000th interruption [own]
+-- `IsReadWithin c` says how far a reader is read: in at most 114,424 reads, at most 113,425 bytes, and not after its
+-- end. At most one read failed, and at most 1,000 reads were interrupted [own]
 pub record IsReadWithin (c : ReadCounts) : Type 0 where
   pub calls : c.calls ≤ INPUT_MAX + INTERRUPTIONS_MAX
   pub given : c.given ≤ INPUT_MAX
