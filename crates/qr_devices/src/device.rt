@@ -32,7 +32,7 @@ pub struct ReadCounts {
     pub interrupted: u64,
     /// The number of bytes that reads returned.
     pub given: u64,
-    /// The number of reads into a buffer that was not empty which returned 0 bytes: the end of the input.
+    /// The number of reads that returned 0 bytes although their buffer was not empty: the end of the input was reached.
     pub ends: u64,
     /// The number of reads, also into an empty buffer, after the end of the input.
     pub past_end: u64,
