@@ -6,7 +6,8 @@ use Rattle.clap.specs.Simple.{App, matches_of, new_app, new_rule, with_rule}
 use Rattle.clap.specs.declared.builder.action.ArgAction.TheVariants.{SetTrue}
 use Rattle.clap.specs.declared.builder.value_parser.ValueParser.TheVariants as parser
 
--- `text_rule id letter` is the rule of the option called `id`, with this letter, that takes a text [own]
+-- `text_rule id letter` is the rule of an option that takes a text. Its name is `id`, and its letter on the command
+-- line is `letter` [own]
 abbrev pub text_rule : Text → ℕ → Rule
 text_rule id letter = record (new_rule id) { short = Some letter; value_names = 1 }
 
@@ -26,12 +27,12 @@ word_rule id = record (new_rule id) { value_names = 1 }
 abbrev pub flag_rule : Text → ℕ → Rule
 flag_rule id letter = record (new_rule id) { short = Some letter; action = Some SetTrue }
 
--- `letter_of text` is the first letter of the text [own]
+-- `letter_of text` is the code of the first letter of the text [own]
 abbrev pub letter_of : Text → ℕ
 letter_of text = slice_index text 0
 
 -- `command` is the command with its arguments: -l, -v with 0 to 40, -t, which must be given, -m with 0 to 100, -8, -k,
--- -i, -S, and a text [own]
+-- -i, -S, and a positional text [own]
 unfoldable pub command : App
 command = with_rule (with_rule (with_rule (with_rule (with_rule (with_rule (with_rule (with_rule (with_rule (new_app (codes "qrencode"))
     (text_rule (codes "level") (letter_of (codes "l"))))

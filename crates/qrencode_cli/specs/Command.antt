@@ -55,7 +55,8 @@ Asks words given drawing = AskFor words (λ s. IsDrawing s (held s (input_for s 
 abbrev pub Refuses : List Text → List ℕ → (SettingsView → List ℕ → Type 0) → Type 0
 Refuses words given why = AskFor words (λ s. why s (held s (input_for s given)))
 
--- `IsRefusal words given r` holds if `r` is a correct reason to refuse the command line `words` or its input [own]
+-- `IsRefusal words given r` holds if `r` is a correct reason to refuse the command line `words` or its input, where
+-- `given` are the bytes of the reader [own]
 abbrev pub IsRefusal : List Text → List ℕ → Refusal → Type 0
 IsRefusal words given (refusal.Words text) = settings_for words ≡ Err no_matches
 IsRefusal words given refusal.Level = settings_for words ≡ Err unknown_level

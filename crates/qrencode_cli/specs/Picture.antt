@@ -24,8 +24,8 @@ pub record AreSquaresOf (s : SettingsView) (input : List ℕ) (squares : List Gr
   pub series : IsSeries (smallest_of s) s.level (rule_for s) input symbols
   pub theirs : squares ≡ squares_of symbols
 
--- `AreSquares structured s input squares` holds if `squares` are the squares of the input's series, if `structured` is
--- true, or else the square of the input's one symbol [own]
+-- `AreSquares structured s input squares` holds if `squares` are the squares of the input's series, for `structured`
+-- true, or the square of the input's one symbol, for `structured` false [own]
 abbrev pub AreSquares : (structured : Bool) → SettingsView → List ℕ → List Grid → Type 0
 AreSquares true s input squares = AreSquaresOf s input squares
 AreSquares false s input squares = (square : Grid) × IsSquareOf s input square × (squares ≡ square ∷ [])

@@ -22,7 +22,7 @@ pub data Reason : Type 0 where
   unknown_type : Reason
   needs_version : Reason
 
--- The settings, as contracts see them [own]
+-- The settings, as contracts see them: versions and the margin are numbers, and the string is a list of bytes [own]
 pub record SettingsView : Type 0 where
   pub level : Level
   pub smallest : Option ℕ

@@ -155,7 +155,7 @@ fn command_line<'a>(alloc: Global) -> Result<Command<'a>, AllocError>
 
 /// Has `clap` parse the command line `words`, of which the first text is the program's name, and returns the matches.
 /// If `clap` refuses the command line, returns its message, or the help text if help is asked for, as
-/// `UsageFault::Words`.
+/// `UsageFault::Words`. Returns `UsageFault::Memory` if memory is refused.
 pub(crate) fn matches<'a>(alloc: Global, words: &'a [String]) -> Result<ArgMatches<'a>, UsageFault>
     ensures taken { IfOk result (λ m. faults_for (map string_bytes words.entry.now) ≡ []) }
     ensures rows { IfOk result (λ m. rows_of (found_of m) ≡ rows_for (map string_bytes words.entry.now)) }

@@ -63,8 +63,8 @@ fn make_picture(alloc: Global, input: &[u8], settings: &Settings) -> Result<Pict
     picture_of(alloc, input, settings)
 }
 
-// Parses the command line `words`, and encodes its string, or all of `input` if it has no string. Returns the symbols
-// together with how they are drawn. A string is cut after `INPUT_MAX` bytes.
+// Parses the command line `words`, and encodes its string, or `input` if it has no string; at most `INPUT_MAX` bytes of
+// either are encoded. Returns the symbols together with how they are drawn.
 fn picture_for<R: Source>(alloc: Global, words: &[String], input: &mut R) -> Result<Picture, Fault>
     ensures prepares { Prepares (map string_bytes words.now) (R.device input.old)
         (R.device input.new) result }

@@ -80,7 +80,7 @@ impl Settings {
     }
 }
 
-/// Why a command line is refused. If several of the causes apply, the first is returned.
+/// Why a command line is refused. If several of these causes apply, the first in this order is returned.
 #[derive(Debug, Drop, Error)]
 pub enum UsageFault {
     /// `clap` refuses the arguments. The text is its message, or the help text if help is asked for.
@@ -197,7 +197,7 @@ fn number_in(matches: &ArgMatches<'_>, id: &str, otherwise: u8) -> u8
     match matches.try_get_one::<u8>(id) {
         Ok(Some(number)) => number,
         Ok(None) => otherwise,
-        // `clap` accepts `-0` as a number of the range, but it does not parse as a `u8`. It means 0.
+        // `clap` accepts `-0` as a number in the range, but it does not parse as a `u8`. It means 0.
         Err(_) => 0,
     }
 }
