@@ -10,13 +10,13 @@ use arrayvec::ArrayVec;
 use qr_devices::{INTERRUPTIONS_MAX, Sink, Trouble};
 use thiserror::Error;
 
-/// The most bytes that one write offers.
+/// The greatest number of bytes that one write offers.
 pub const WRITE_MAX: usize = 1200;
 
 /// Why a drawing stopped.
 #[derive(Clone, Copy, Debug, PartialEq, Eq, Error)]
 pub enum DrawFault {
-    /// The writer failed, took none of some bytes, or was interrupted for the 1,000th time.
+    /// The writer failed, took no byte of a piece, or was interrupted for the 1,000th time.
     #[error("write error")]
     Write = 1,
 }

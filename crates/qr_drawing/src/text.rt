@@ -270,7 +270,8 @@ fn push_cells_of(
     }
 }
 
-// Adds the cells of the square's columns, four at a time. The last columns are not added if fewer than four are left.
+// Adds the cells of the square's columns in row `row` of the raster, four at a time. The last columns are not added if
+// fewer than four are left.
 fn push_quads(
     text: &mut ArrayVec<u8, 1200>,
     style: TextStyle,
