@@ -15,8 +15,8 @@ counted n = min n (2 ^ 64 - 1)
 abbrev pub no_reads : ReadCounts
 no_reads = record { calls = 0; failed = 0; interrupted = 0; given = 0; ends = 0; past_end = 0 }
 
--- `read_returned room returned c` adds to the counts `c` what a read into `room` bytes returned: the number of bytes,
--- with an end if it is 0 although there was room, or an interruption or a failure [own]
+-- `read_returned room returned c` is the counts `c` with the result of a read into `room` bytes: the number of bytes
+-- returned, and one more end if it is 0 although there was room; or one more interruption; or one more failure [own]
 abbrev pub read_returned : ℕ → Result ℕ Trouble → ReadCounts → ReadCounts
 read_returned room (Ok n) c =
     record c { given = counted (c.given + n); ends = if n == 0 && nat_lt 0 room then counted (c.ends + 1) else c.ends }
@@ -44,8 +44,8 @@ no_writes = record {
   settled = false;
 }
 
--- `write_returned len returned c` adds to the counts `c` what a write of `len` bytes returned: the number of bytes
--- taken, with a zero if no byte of some was taken, or an interruption or a failure [own]
+-- `write_returned len returned c` is the counts `c` with the result of a write of `len` bytes: the number of bytes
+-- taken, and one more in `zeros` if it is 0 although `len` is not; or one more interruption; or one more failure [own]
 abbrev pub write_returned : ℕ → Result ℕ Trouble → WriteCounts → WriteCounts
 write_returned len (Ok n) c =
     record c { taken = counted (c.taken + n); zeros = if n == 0 && nat_lt 0 len then counted (c.zeros + 1) else c.zeros }
@@ -81,13 +81,13 @@ AppendsBeginning old new whole = (front : List ℕ) × IsBeginning front whole �
 abbrev pub is_read_fault : ReadCounts → Bool
 is_read_fault c = nat_lt 0 c.failed || nat_le 1000 c.interrupted
 
--- `is_write_fault c` is true if the counts show a write or a flush that failed, a write that took no byte of some, or
--- the 1,000th interruption of a write (EINTR) [own]
+-- `is_write_fault c` is true if the counts show a write or a flush that failed, a write of at least one byte that took
+-- no byte, or the 1,000th interruption of a write (EINTR) [own]
 abbrev pub is_write_fault : WriteCounts → Bool
 is_write_fault c = nat_lt 0 c.failed || (nat_lt 0 c.zeros || nat_le 1000 c.interrupted)
 
--- `IsWrittenWithin c` says how far a writer is written to: at most one call failed or took no byte of some, and at most
--- 1,000 writes were interrupted [own]
+-- `IsWrittenWithin c` says how far a writer is written to: at most one call failed or took no byte of at least one, and
+-- at most 1,000 writes were interrupted [own]
 pub record IsWrittenWithin (c : WriteCounts) : Type 0 where
   pub faults : c.failed + c.zeros ≤ 1
   pub interrupted : c.interrupted ≤ INTERRUPTIONS_MAX + 1

@@ -13,15 +13,15 @@ bytes_left t = drop t.position t.bytes.items
 abbrev pub bytes_held : Trial → List ℕ
 bytes_held t = t.bytes.items
 
--- `moved m call there` is what the call numbered `call` returns if `there` bytes could be moved. The first calls are
--- interrupted, and from a stated call on all calls fail. Every other call moves as many bytes as it may, at least one
--- if there is one [own]
+-- `moved m call there` is what the call numbered `call` returns if `there` bytes could be moved. The first
+-- `interruptions` calls are interrupted. After these, the call numbered `fails_from` and all later calls fail. Every
+-- other call moves as many bytes as `at_most` allows, and at least one byte if there is one [own]
 abbrev pub moved : Manner → ℕ → ℕ → Result ℕ Trouble
 moved m call there =
     if nat_lt call m.interruptions then Err Interrupted else
     (if nat_le m.fails_from call then Err Failed else Ok (min there (max m.at_most 1)))
 
--- `free_of t` is the number of bytes for which the device still has room. It is 0 from the stated call on after which
--- writes take nothing [own]
+-- `free_of t` is the number of bytes for which the device still has room, or 0 from the call numbered `stops_from` on
+-- [own]
 abbrev pub free_of : Trial → ℕ
 free_of t = if nat_lt t.writes.calls t.manner.stops_from then t.room - length t.bytes.items else 0

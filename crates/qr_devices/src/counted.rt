@@ -19,8 +19,8 @@ fn trouble_of(error: io::Error) -> Trouble
     }
 }
 
-/// Counts the calls of a reader or a writer of the standard library. Its bytes are known if those of `inner` are: they
-/// are known for bytes in memory, and unknown for a file, a pipe or a terminal.
+/// Counts the calls of a reader or a writer of the standard library. Contracts know its bytes if they know those of
+/// `inner`: they do for bytes in memory, and do not for a file, a pipe or a terminal.
 #[derive(Drop)]
 pub struct Counted<T> {
     inner: T,
