@@ -86,8 +86,8 @@ is_read_fault c = nat_lt 0 c.failed || nat_le 1000 c.interrupted
 abbrev pub is_write_fault : WriteCounts → Bool
 is_write_fault c = nat_lt 0 c.failed || (nat_lt 0 c.zeros || nat_le 1000 c.interrupted)
 
--- `IsWrittenWithin c` says how far a writer is written to: at most one call failed or took no byte of at least one, and
--- at most 1,000 writes were interrupted [own]
+-- `IsWrittenWithin c` says how far a writer is written to. At most one call failed, or was a write of at least one byte
+-- that took no byte; and at most 1,000 writes were interrupted [own]
 pub record IsWrittenWithin (c : WriteCounts) : Type 0 where
   pub faults : c.failed + c.zeros ≤ 1
   pub interrupted : c.interrupted ≤ INTERRUPTIONS_MAX + 1
