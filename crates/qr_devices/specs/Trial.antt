@@ -1,25 +1,27 @@
--- What a device over bytes in memory shows of itself, and how it misbehaves. Public clauses cite this file.
+-- The bytes of a device in memory, and how it misbehaves.
 use Rattle.std.specs.Prelude.{ℕ, ◌-◌, min, max, nat_lt, nat_le, List, length, drop, Result, Ok, Err, if◌then◌else◌}
 use Rattle.qr_devices.specs.declared.device.Trouble.{Trouble}
 use Rattle.qr_devices.specs.declared.device.Trouble.TheVariants.{Interrupted, Failed}
 use Rattle.qr_devices.specs.declared.trial.Manner.{Manner}
 use Rattle.qr_devices.specs.declared.trial.Trial.{Trial}
 
--- the bytes that it has still to give [own]
+-- `bytes_left t` is the bytes that are still to be read from the device [own]
 abbrev pub bytes_left : Trial → List ℕ
 bytes_left t = drop t.position t.bytes.items
 
--- the bytes that it holds [own]
+-- `bytes_held t` is the bytes that the device contains [own]
 abbrev pub bytes_held : Trial → List ℕ
 bytes_held t = t.bytes.items
 
--- what a call of this number answers if there are so many bytes or places: interruptions come first, then failures; else
--- as many as may be moved, at least one [own]
+-- `moved m call there` is what the call numbered `call` returns if `there` bytes could be moved. The first
+-- `interruptions` calls are interrupted. After these, the call numbered `fails_from` and all later calls fail. Every
+-- other call moves as many bytes as `at_most` allows, and at least one byte if there is one [own]
 abbrev pub moved : Manner → ℕ → ℕ → Result ℕ Trouble
 moved m call there =
     if nat_lt call m.interruptions then Err Interrupted else
     (if nat_le m.fails_from call then Err Failed else Ok (min there (max m.at_most 1)))
 
--- how many bytes a writer takes from its next call on, 0 from a stated call on [own]
+-- `free_of t` is the number of bytes for which the device still has room, or 0 from the call numbered `stops_from` on
+-- [own]
 abbrev pub free_of : Trial → ℕ
 free_of t = if nat_lt t.writes.calls t.manner.stops_from then t.room - length t.bytes.items else 0

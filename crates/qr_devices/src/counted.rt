@@ -1,4 +1,4 @@
-//! A reader or a writer of std as a device whose calls are counted.
+//! A reader or a writer of the standard library as a device whose calls are counted.
 
 ghost use Rattle.std.specs.Prelude.{◌≡◌, ◌↔◌};
 ghost use Rattle.std.specs.IoError.{error_kind};
@@ -8,7 +8,7 @@ ghost use Rattle.qr_devices.specs.Device.{no_reads, no_writes};
 use crate::device::{ReadCounts, Sink, Source, Trouble, WriteCounts};
 use std::io::{self, ErrorKind, Read, Write};
 
-// What an error of std is to a device.
+// Returns whether an I/O error is an interruption or a failure.
 fn trouble_of(error: io::Error) -> Trouble
     ensures { result ≡ Trouble.Interrupted ↔ error_kind error ≡ ErrorKind.Interrupted }
 {
@@ -19,8 +19,8 @@ fn trouble_of(error: io::Error) -> Trouble
     }
 }
 
-/// A reader or a writer of std. Its bytes are those that `inner` tells: known for bytes in memory,
-/// unknown for a file, a pipe or a terminal.
+/// Counts the calls of a reader or a writer of the standard library. Contracts know its bytes if they know those of
+/// `inner`: they do for bytes in memory, and do not for a file, a pipe or a terminal.
 #[derive(Drop)]
 pub struct Counted<T> {
     inner: T,
@@ -29,7 +29,7 @@ pub struct Counted<T> {
 }
 
 impl<T> Counted<T> {
-    /// A device over `inner`, with all counts at 0.
+    /// Returns a device over `inner`, with all counts at 0.
     pub fn new(inner: T) -> Self
         ensures inner { result.inner ≡ inner }
         ensures reads { result.reads ≡ no_reads }
@@ -42,7 +42,7 @@ impl<T> Counted<T> {
         }
     }
 
-    /// The reader or the writer.
+    /// Returns the reader or the writer.
     pub fn into_inner(self) -> T
         ensures { result ≡ self.inner }
     {

@@ -1,7 +1,7 @@
-//! What the command reads from and writes to: two traits, and the counts of how their calls went.
+//! Two traits for what the command reads from and writes to, and the counts of how their calls went.
 //!
-//! A device tells its bytes to contracts where it knows them. Its counts are always known, so a
-//! contract can say exactly when a fault was the device's.
+//! Contracts state the bytes of a device if they are known. Its counts are always known, so a contract can say exactly
+//! when a device is the cause of a fault.
 
 ghost use Rattle.std.specs.Prelude.{◌≡◌, ◌≤◌, IfOk, length};
 ghost use Rattle.std.specs.Io.KnownBytes.{Keeps, ReadConsumes, WriteAppends};
@@ -12,34 +12,34 @@ ghost use Rattle.qr_devices.specs.declared.device.WriteCounts.{WriteCounts};
 /// How many interruptions (EINTR) of one device are tried again.
 pub const INTERRUPTIONS_MAX: u16 = 999;
 
-/// Why a call of a device gave or took nothing.
+/// Why a read, a write or a flush of a device failed.
 #[derive(Clone, Copy, Debug, PartialEq, Eq)]
 pub enum Trouble {
     /// The call was interrupted (EINTR), and may be tried again.
     Interrupted,
-    /// It may not.
+    /// The call failed, and is not tried again.
     Failed,
 }
 
 /// How the reads of a device went. Each count stops at `u64::MAX`.
 #[derive(Clone, Copy, Debug, PartialEq, Eq)]
 pub struct ReadCounts {
-    /// All reads.
+    /// The number of all reads.
     pub calls: u64,
-    /// The reads that failed.
+    /// The number of reads that failed.
     pub failed: u64,
-    /// The reads that were interrupted.
+    /// The number of reads that were interrupted.
     pub interrupted: u64,
-    /// The bytes given.
+    /// The number of bytes that reads returned.
     pub given: u64,
-    /// The reads into some bytes that gave none.
+    /// The number of reads that returned 0 bytes although their buffer was not empty: the end of the input was reached.
     pub ends: u64,
-    /// The reads after one of those, into some bytes or into none.
+    /// The number of reads, also into an empty buffer, after the end of the input.
     pub past_end: u64,
 }
 
 impl ReadCounts {
-    /// The counts of a device that was not read yet.
+    /// The counts of a device before its first read.
     pub const NONE: ReadCounts = ReadCounts {
         calls: 0,
         failed: 0,
@@ -49,7 +49,7 @@ impl ReadCounts {
         past_end: 0,
     };
 
-    /// Counts a read into `room` bytes.
+    /// Counts a read into a buffer of `room` bytes that returned `answer`.
     pub fn add(&mut self, room: usize, answer: Result<usize, Trouble>)
         ensures { self.new ≡ read_counted room answer self.old }
     {
@@ -73,26 +73,26 @@ impl ReadCounts {
 /// How the writes and flushes of a device went. Each count stops at `u64::MAX`.
 #[derive(Clone, Copy, Debug, PartialEq, Eq)]
 pub struct WriteCounts {
-    /// All writes and flushes.
+    /// The number of all writes and flushes.
     pub calls: u64,
-    /// The writes that failed, and the flushes that failed or were interrupted.
+    /// The number of writes that failed, and of flushes that failed or were interrupted.
     pub failed: u64,
-    /// The writes that were interrupted.
+    /// The number of writes that were interrupted.
     pub interrupted: u64,
-    /// The writes of some bytes of which none was taken.
+    /// The number of writes of at least one byte of which no byte was taken.
     pub zeros: u64,
-    /// The bytes taken.
+    /// The number of bytes that were taken.
     pub taken: u64,
-    /// The greatest length of a write.
+    /// The greatest number of bytes that a write offered.
     pub offered: usize,
-    /// All flushes.
+    /// The number of all flushes.
     pub flushes: u64,
-    /// Whether the last call was a flush that went well.
+    /// Whether the last call was a flush that succeeded.
     pub settled: bool,
 }
 
 impl WriteCounts {
-    /// The counts of a device that was not written to yet.
+    /// The counts of a device before its first write.
     pub const NONE: WriteCounts = WriteCounts {
         calls: 0,
         failed: 0,
@@ -104,7 +104,7 @@ impl WriteCounts {
         settled: false,
     };
 
-    /// Counts a write of `len` bytes.
+    /// Counts a write of `len` bytes that returned `answer`.
     pub fn add(&mut self, len: usize, answer: Result<usize, Trouble>)
         ensures { self.new ≡ write_counted len answer self.old }
     {
@@ -123,7 +123,7 @@ impl WriteCounts {
         }
     }
 
-    /// Counts a flush. An interrupted one counts as failed.
+    /// Counts a flush that returned `answer`. An interrupted flush counts as failed.
     pub fn add_flush(&mut self, answer: Result<(), Trouble>)
         ensures { self.new ≡ flush_counted answer self.old }
     {
@@ -136,35 +136,35 @@ impl WriteCounts {
     }
 }
 
-/// Bytes that can be read.
+/// A device that bytes are read from.
 pub trait Source {
     ghost use Rattle.qr_devices.specs.Device.{Reader};
 
-    // The bytes that reads will give from here on, where they are known, and how the reads so far went.
+    // The bytes that are still to be read, if they are known, and the counts of the reads so far.
     ghost device: { Self → Reader };
 
-    /// Gives some bytes to the front of `buf`, and answers how many: none only at the end of the
-    /// input, or where `buf` is empty.
+    /// Reads some bytes into the first bytes of `buf`, and returns how many. Returns 0 only at the end of the input, or
+    /// if `buf` is empty.
     fn read(&mut self, buf: &mut [u8]) -> Result<usize, Trouble>
         ensures bound { IfOk result (λ n. n ≤ length buf.new) }
         ensures bytes { ReadConsumes (device self.old).remaining (device self.new).remaining result buf.new }
         ensures counted { (device self.new).counts ≡ read_counted (length buf.new) result (device self.old).counts };
 }
 
-/// A place that takes bytes.
+/// A device that bytes are written to.
 pub trait Sink {
     ghost use Rattle.qr_devices.specs.Device.{Writer};
 
-    // The bytes taken so far, where they are known, and how the writes and flushes so far went.
+    // The bytes taken so far, if they are known, and the counts of the writes and flushes so far.
     ghost device: { Self → Writer };
 
-    /// Takes some bytes from the front of `buf`, and answers how many.
+    /// Takes some of the first bytes of `buf`, and returns how many.
     fn write(&mut self, buf: &[u8]) -> Result<usize, Trouble>
         ensures bound { IfOk result (λ n. n ≤ length buf.now) }
         ensures bytes { WriteAppends (device self.old).taken (device self.new).taken result buf.now }
         ensures counted { (device self.new).counts ≡ write_counted (length buf.now) result (device self.old).counts };
 
-    /// Passes on what was taken.
+    /// Passes on the bytes that were taken.
     fn flush(&mut self) -> Result<(), Trouble>
         ensures bytes { Keeps (device self.old).taken (device self.new).taken }
         ensures counted { (device self.new).counts ≡ flush_counted result (device self.old).counts };

@@ -6,28 +6,28 @@ use crate::device::{ReadCounts, Trouble, WriteCounts};
 use crate::trial::Manner;
 use std::alloc::AllocError;
 
-/// Two troubles of a device compare as equal exactly where they are the same.
+/// Two troubles of a device compare as equal exactly if they are the same.
 pub fn troubles_are_equal(a: Trouble, b: Trouble) -> bool
     ensures { IsTrue result ↔ (a ≡ b) }
 {
     a == b
 }
 
-/// Two counts of reads compare as equal exactly where they are the same.
+/// Two values of `ReadCounts` compare as equal exactly if they are the same.
 pub fn read_counts_are_equal(a: ReadCounts, b: ReadCounts) -> bool
     ensures { IsTrue result ↔ (a ≡ b) }
 {
     a == b
 }
 
-/// Two counts of writes compare as equal exactly where they are the same.
+/// Two values of `WriteCounts` compare as equal exactly if they are the same.
 pub fn write_counts_are_equal(a: WriteCounts, b: WriteCounts) -> bool
     ensures { IsTrue result ↔ (a ≡ b) }
 {
     a == b
 }
 
-/// Two manners of a device compare as equal exactly where they are the same.
+/// Two manners of a device compare as equal exactly if they are the same.
 pub fn manners_are_equal(a: Manner, b: Manner) -> bool
     ensures { IsTrue result ↔ (a ≡ b) }
 {
@@ -41,14 +41,14 @@ pub fn trouble_clones(a: Trouble) -> Result<Trouble, AllocError>
     a.clone()
 }
 
-/// A clone of counts of reads is the same counts.
+/// A clone of a `ReadCounts` is the same value.
 pub fn read_counts_clones(a: ReadCounts) -> Result<ReadCounts, AllocError>
     ensures { IfOk result (λ b. b ≡ a) }
 {
     a.clone()
 }
 
-/// A clone of counts of writes is the same counts.
+/// A clone of a `WriteCounts` is the same value.
 pub fn write_counts_clones(a: WriteCounts) -> Result<WriteCounts, AllocError>
     ensures { IfOk result (λ b. b ≡ a) }
 {
@@ -67,7 +67,7 @@ mod tests {
     use super::*;
     use std::test::Fail;
 
-    // Equal where each field is, and unequal where one is not.
+    // Values are equal if all their fields are equal, and unequal if one field differs.
     #[test]
     fn equal_and_unequal_values(rt: HostRuntime) -> Result<(), Fail> {
         let (interrupted, failed) = (Trouble::Interrupted, Trouble::Failed);

@@ -9,7 +9,8 @@ pub use crate::equality::{
 };
 use crate::trial::Manner;
 
-/// A device with no fault moves all that there is, is never interrupted, and never fails.
+/// A device without faults is never interrupted, never fails, and moves as many bytes as there are and as the caller
+/// has room for.
 pub fn well() -> Manner
     ensures at_most { result.at_most ≡ 2 ^ 64 - 1 }
     ensures interruptions { result.interruptions ≡ 0 }

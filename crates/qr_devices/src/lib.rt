@@ -1,5 +1,5 @@
-//! Devices: what is read from and written to, the counts of how that went, and devices over bytes in memory that fail as
-//! they are told.
+//! Devices: readers and writers that count how their calls went, and devices over bytes in memory that misbehave on
+//! request, for tests.
 #![tactic(auto)]
 
 mod counted;

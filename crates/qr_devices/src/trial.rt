@@ -6,23 +6,23 @@ ghost use Rattle.std.specs.Vec.{vec_len, vec_capacity};
 use crate::device::{ReadCounts, Sink, Source, Trouble, WriteCounts};
 use std::alloc::{AllocError, Global};
 
-/// How a device is to misbehave. Calls are counted from 0.
+/// How a device misbehaves. Calls are numbered from 0; reads are numbered apart from writes and flushes.
 #[derive(Clone, Copy, Debug, PartialEq, Eq)]
 pub struct Manner {
-    /// The most bytes that a call gives or takes; at least one is moved where there is one.
+    /// The greatest number of bytes that one call moves; 0 counts as 1.
     pub at_most: usize,
-    /// How many calls are interrupted before any works.
+    /// The number of calls that are interrupted, before the first call that is not.
     pub interruptions: u64,
-    /// The call from which on each read or write fails.
+    /// The number of the first read or write that fails. All later reads and writes fail too.
     pub fails_from: u64,
-    /// The call from which on each write answers 0.
+    /// The number of the first write that returns 0. All later writes return 0 too.
     pub stops_from: u64,
     /// Whether each flush fails.
     pub flush_fails: bool,
 }
 
 impl Manner {
-    /// A device with no fault.
+    /// A device without faults.
     pub const WELL: Manner = Manner {
         at_most: usize::MAX,
         interruptions: 0,
@@ -32,7 +32,7 @@ impl Manner {
     };
 }
 
-/// Bytes in memory that can be read, or room for bytes that are written. A full one answers 0.
+/// Bytes in memory that can be read, or room for bytes that are written. A write to a full device returns 0.
 #[derive(Drop)]
 pub struct Trial {
     bytes: Vec<u8>,
@@ -49,7 +49,7 @@ impl Trial {
     ghost use Rattle.qr_devices.specs.Device.{no_reads, no_writes};
     ghost use Rattle.qr_devices.specs.Trial.{bytes_held, bytes_left, moved};
 
-    /// A device that gives `bytes`.
+    /// Returns a device from which `bytes` can be read.
     pub fn reader(alloc: Global, bytes: &[u8], manner: Manner) -> Result<Trial, AllocError>
         ensures left { IfOk result (λ t. bytes_left t ≡ bytes.now) }
         ensures unread { IfOk result (λ t. t.reads ≡ no_reads) }
@@ -65,7 +65,7 @@ impl Trial {
         })
     }
 
-    /// A device that takes `room` bytes, for which it has the memory.
+    /// Returns a device that takes up to `room` bytes. The memory for them is allocated here.
     pub fn writer(alloc: Global, room: usize, manner: Manner) -> Result<Trial, AllocError>
         ensures held { IfOk result (λ t. bytes_held t ≡ []) }
         ensures unwritten { IfOk result (λ t. t.writes ≡ no_writes) }
@@ -82,28 +82,28 @@ impl Trial {
         })
     }
 
-    /// The bytes that it holds.
+    /// Returns the bytes that the device contains: all bytes of a reader, or those that a writer took so far.
     pub fn bytes(&self) -> &[u8]
         ensures { result.now ≡ bytes_held self.now }
     {
         self.bytes.as_slice()
     }
 
-    /// How the reads so far went.
+    /// Returns the counts of the reads so far.
     pub fn reads(&self) -> ReadCounts
         ensures { result ≡ self.now.reads }
     {
         self.reads
     }
 
-    /// How the writes and flushes so far went.
+    /// Returns the counts of the writes and flushes so far.
     pub fn writes(&self) -> WriteCounts
         ensures { result ≡ self.now.writes }
     {
         self.writes
     }
 
-    // Gives the next `n` bytes to the front of `buf`.
+    // Copies the next `n` bytes to the first `n` bytes of `buf`.
     fn give(&mut self, buf: &mut [u8], n: usize)
         requires there { self.old.position + n ≤ vec_len self.old.bytes }
         requires fits { n ≤ length buf.old }
@@ -118,7 +118,7 @@ impl Trial {
         self.position = end;
     }
 
-    // How many bytes a call moves, of those there are.
+    // Returns how many of `there` bytes the call numbered `call` moves, or how it fails.
     fn moved(&self, call: u64, there: usize) -> Result<usize, Trouble>
         ensures value { result ≡ moved self.now.manner call there }
         ensures bound { IfOk result (λ n. n ≤ there) }

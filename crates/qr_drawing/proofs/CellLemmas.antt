@@ -1,4 +1,4 @@
--- The cells of a line by the bits of their places, and the room that they take.
+-- The cells of a line by the bits of their modules, and the room that they take.
 use Rattle.std.proofs.Common.{◌≡◌, ◌++◌, ◌∙◌, ◌<◌, ◌≤◌, ◌+◌, ◌-◌, ◌*◌, ◌/◌, ◌%◌, ℕ, Bool, true, false, not, List, [], ◌∷◌, length, length-append, append_assoc, refl, sym, ap, arith}
 use Rattle.std.proofs.Math.Nat.{add-mul, mul-le-mul_right}
 use Rattle.qr_matrix.specs.Grid.{Grid, colour}
@@ -13,28 +13,28 @@ use Rattle.qr_drawing.specs.declared.text.TextStyle.TheVariants.{Plain, Inverse,
 use Rattle.qr_drawing.proofs.LineLemmas.{texts_below-add, texts_below-alike, texts_below-length}
 use Rattle.qr_drawing.proofs.PathLemmas.{is_dark_at_inside}
 
--- no bit of 0 is set, computed
+-- no bit of 0 is set: computed
 none-set : all_below 4 (λ k. is_same (has_bit 0 k) false) ≡ true
 unfolding has_bit
 none-set = refl
 
--- four places of a row that shows none of the square
+-- four places of a row of the raster that shows no row of the square
 pub dark_none : (margin : ℕ) (g : Grid) (y col : ℕ) → ((x : ℕ) → is_dark_at margin g y x ≡ false) → AreDark margin g y col 0
 dark_none margin g y col h k lt =
     same-same (has_bit 0 k) false (below-at 4 (λ k. is_same (has_bit 0 k) false) none-set k lt) ∙ sym (h (margin + (col + k)))
 
--- four places of a row that shows one of the square
+-- four places of a row of the raster that shows a row of the square
 pub dark_four : (margin : ℕ) (g : Grid) (y row col bits : ℕ) → margin + row ≡ y → row < g.side → col + 4 ≤ g.side
     → ((k : ℕ) → k < 4 → has_bit bits k ≡ colour g row (col + k)) → AreDark margin g y col bits
 dark_four margin g y row col bits e inside fits h k lt =
     h k lt ∙ sym (ap (λ r. is_dark_at margin g r (margin + (col + k))) (sym e) ∙ is_dark_at_inside margin row (col + k) g inside (omega arith))
 
--- four bits, each the other one, computed
+-- each of the four lowest bits of `15 - bits` is the opposite bit: computed
 all-others : all_below 16 (λ b. all_below 4 (λ k. is_same (has_bit (15 - b) k) (not (has_bit b k)))) ≡ true
 unfolding has_bit
 all-others = refl
 
--- each bit is the other one
+-- each bit of `15 - bits` is the opposite bit
 other-bit : (b k : ℕ) → b < 16 → k < 4 → has_bit (15 - b) k ≡ not (has_bit b k)
 other-bit b k l m = same-same (has_bit (15 - b) k) (not (has_bit b k)) (below-at 4 (λ k. is_same (has_bit (15 - b) k) (not (has_bit b k))) (below-at 16 (λ b. all_below 4 (λ k. is_same (has_bit (15 - b) k) (not (has_bit b k)))) all-others b l) k m)
 
@@ -62,7 +62,7 @@ cell-length HalfBlocks true false = omega arith
 cell-length HalfBlocks false true = omega arith
 cell-length HalfBlocks false false = omega arith
 
--- after n texts of at most b bytes there is room for d more, where there was for o
+-- if there was room for `o` bytes, then after n texts of at most b bytes there is room for d bytes
 pub room-left : (h t : List ℕ) (n d o b room : ℕ) (text : ℕ → List ℕ) → ((k : ℕ) → length (text k) ≤ b) → t ≡ h ++ texts_below n text
     → n + d ≤ o → length h + o * b ≤ room → length t + d * b ≤ room
 room-left h t n d o b room text most e le fits =
@@ -78,7 +78,8 @@ cell-of Plain margin g y x = refl
 cell-of Inverse margin g y x = refl
 cell-of HalfBlocks margin g y x = refl
 
--- a line is the cells of the margin and of the columns of the square by fours, and those after them and a newline
+-- a line is the cells of the margin, of the square's columns by fours, and of the remaining columns and margin, and a
+-- newline
 pub line-parts : (style : TextStyle) (margin : ℕ) (g : Grid) (y : ℕ) → cells_of_line style margin g y ++ 10 ∷ []
     ≡ (texts_below margin (λ i. cell_at style margin g (top_row style y) (0 + i))
     ++ texts_below (g.side / 4 * 4) (λ i. cell_at style margin g (top_row style y) (margin + i)))

@@ -1,4 +1,4 @@
--- How the texts of places join while they are formed and put.
+-- How the texts of places join while they are added and written.
 use Rattle.std.proofs.Common.{◌≡◌, ◌++◌, ◌∙◌, ◌<◌, ◌≤◌, ◌+◌, ◌-◌, ◌*◌, ℕ, zero, suc, List, [], ◌∷◌, refl, sym, ap, arith, append_assoc, append-nil, take, length, length-append, get_or}
 use Rattle.std.proofs.Math.Nat.{suc-mul}
 use Rattle.std.specs.List.{flat_map, range_with_len}
@@ -24,11 +24,11 @@ texts_below-more n text =
     let e : 0 + n ≡ n = omega arith in
     rw (range-more 0 n, e) (flat_map-append text (range_with_len 0 n) (n ∷ []) ∙ ap (λ l. flat_map text (range_with_len 0 n) ++ l) (append-nil (text n)))
 
--- the same with the successor as it is matched
+-- the same lemma with the successor in the form that a match yields
 texts_below-suc : (n : ℕ) (text : ℕ → List ℕ) → texts_below (suc n) text ≡ texts_below n text ++ text n
 texts_below-suc n text = let e : suc n ≡ n + 1 = omega arith in ap (λ k. texts_below k text) e ∙ texts_below-more n text
 
--- the texts of n places and of d more
+-- the texts of n + d places are those of n places and of d more
 pub texts_below-add : (n d : ℕ) (text : ℕ → List ℕ) → texts_below (n + d) text ≡ texts_below n text ++ texts_below d (λ i. text (n + i))
 unfolding texts_below
 texts_below-add n zero text =
@@ -41,14 +41,14 @@ texts_below-add n (suc d) text =
     ∙ (append_assoc (texts_below n text) (texts_below d (λ i. text (n + i))) (text (n + d))
     ∙ ap (λ l. texts_below n text ++ l) (sym (texts_below-suc d (λ i. text (n + i)))))))
 
--- there are no texts where all are empty
+-- texts that are all empty are empty together
 pub texts_below-none : (n : ℕ) (text : ℕ → List ℕ) → ((k : ℕ) → k < n → text k ≡ []) → texts_below n text ≡ []
 unfolding texts_below
 texts_below-none zero text none = refl
 texts_below-none (suc n) text none =
     texts_below-suc n text ∙ (λ i. texts_below-none n text (λ k lt. none k (omega arith)) i ++ none n (omega arith) i)
 
--- the texts below n are those below m, where those between are empty
+-- if the texts from m to n are empty, the texts below n are those below m
 pub texts_below-same : (m n : ℕ) (text : ℕ → List ℕ) → m ≤ n → ((k : ℕ) → m ≤ k → k < n → text k ≡ []) → texts_below n text ≡ texts_below m text
 texts_below-same m n text le none =
     let e : n ≡ m + (n - m) = omega arith in
@@ -56,14 +56,14 @@ texts_below-same m n text le none =
     ∙ ap (λ l. texts_below m text ++ l) (texts_below-none (n - m) (λ i. text (m + i)) (λ k lt. none (m + k) (omega arith) (omega arith)))
     ∙ append-nil (texts_below m text)
 
--- texts that are the same place by place
+-- texts that are equal place by place are equal as a whole
 pub texts_below-alike : (n : ℕ) (f g : ℕ → List ℕ) → ((k : ℕ) → k < n → f k ≡ g k) → texts_below n f ≡ texts_below n g
 unfolding texts_below
 texts_below-alike zero f g h = refl
 texts_below-alike (suc n) f g h =
     texts_below-suc n f ∙ (λ i. texts_below-alike n f g (λ k lt. h k (omega arith)) i ++ h n (omega arith) i) ∙ sym (texts_below-suc n g)
 
--- n texts of at most b bytes
+-- n texts of at most b bytes are at most n * b bytes long
 pub texts_below-length : (n b : ℕ) (text : ℕ → List ℕ) → ((k : ℕ) → length (text k) ≤ b) → length (texts_below n text) ≤ n * b
 unfolding texts_below
 texts_below-length zero b text most = omega arith
@@ -91,7 +91,7 @@ pub texts-of-items : {A : Type 0} (text : A → List ℕ) (xs : List A) (d : A) 
 texts-of-items text xs d =
     ap (λ l. flat_map text l) (sym (take_all (length xs) xs (omega arith))) ∙ texts-of-first text xs d (length xs) (omega arith)
 
--- ---- texts that are formed
+-- ---- texts that are added
 
 -- before the first place nothing was added
 pub added_none : (h : List ℕ) (f : ℕ → List ℕ) → h ≡ h ++ texts_below 0 f
@@ -110,25 +110,25 @@ pub added_next : (h t u : List ℕ) (n : ℕ) (f : ℕ → List ℕ) → t ≡ h
 added_next h t u n f p q =
     q ∙ ap (λ l. l ++ f n) p ∙ append_assoc h (texts_below n f) (f n) ∙ ap (λ l. h ++ l) (sym (texts_below-more n f))
 
--- ---- texts that are put
+-- ---- texts that are written through the pen
 
--- before the first text that is not empty nothing was put
+-- before the first text that is not empty nothing was written
 pub put_none : (a : Writer) (i n : ℕ) (h : List ℕ) (text : ℕ → List ℕ) → texts_below n text ≡ [] → Writes a a i i (h ++ texts_below n text) h
 put_none a i n h text e = rw e (writes_none a i h)
 
--- no places have no text
+-- without places there is no text
 pub no-texts : (text : ℕ → List ℕ) → texts_below 0 text ≡ []
 unfolding texts_below
 no-texts text = refl
 
--- the text of place m was put, after which there is none before n
+-- the text of place m was written, and the texts from there to n are empty
 pub put_next : (a b c : Writer) (i j k m n : ℕ) (h0 h1 h2 piece : List ℕ) (text : ℕ → List ℕ) → text m ≡ piece
     → texts_below n text ≡ texts_below (m + 1) text
     → Writes a b i j (h0 ++ texts_below m text) h1 → Writes b c j k (h1 ++ piece) h2 → Writes a c i k (h0 ++ texts_below n text) h2
 put_next a b c i j k m n h0 h1 h2 piece text here same p q =
     rw (same, texts_below-more m text) (writes_on a b c i j k h0 h1 h2 (texts_below m text) (text m) p (rw here q))
 
--- the text of place m of n stopped
+-- the writer failed in the text of place m of n
 pub put_stops : (a b c : Writer) (i j m n : ℕ) (h0 h1 piece : List ℕ) (text : ℕ → List ℕ) → text m ≡ piece → m < n
     → Writes a b i j (h0 ++ texts_below m text) h1 → Stops b c j (h1 ++ piece) → Stops a c i (h0 ++ texts_below n text)
 put_stops a b c i j m n h0 h1 piece text here lt p q =

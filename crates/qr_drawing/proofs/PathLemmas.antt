@@ -1,4 +1,4 @@
--- Which paths stand in the rows of a raster, and how they join while they are put.
+-- Which paths are in the rows of a raster, and how they join while they are written.
 use Rattle.std.proofs.Common.{◌≡◌, ◌≤◌, ◌<◌, ◌+◌, ◌-◌, ◌*◌, ◌++◌, ◌∙◌, ℕ, zero, suc, Bool, true, false, List, [], length, map, get_or, refl, sym, ap, arith, append_assoc, ⊎_elim, inl, inr}
 use Rattle.std.specs.Prelude.{codes}
 use Rattle.std.proofs.Math.Nat.{eq-or-lt_of_le, suc-mul}
@@ -30,17 +30,17 @@ pub is_dark_at_left : (margin y x : ℕ) (g : Grid) → x < margin → is_dark_a
 unfolding is_dark_at
 is_dark_at_left margin y x g a = grind (arith, nat_tests)
 
--- so is the one to the right
+-- the margin to the right is light
 pub is_dark_at_right : (margin y x : ℕ) (g : Grid) → margin + g.side ≤ x → is_dark_at margin g y x ≡ false
 unfolding is_dark_at
 is_dark_at_right margin y x g a = grind (arith, nat_tests)
 
--- so is the one above
+-- the margin above is light
 pub is_dark_at_above : (margin y x : ℕ) (g : Grid) → y < margin → is_dark_at margin g y x ≡ false
 unfolding is_dark_at
 is_dark_at_above margin y x g a = grind (arith, nat_tests)
 
--- and the one below
+-- the margin below is light
 pub is_dark_at_below : (margin y x : ℕ) (g : Grid) → margin + g.side ≤ y → is_dark_at margin g y x ≡ false
 unfolding is_dark_at
 is_dark_at_below margin y x g a = grind (arith, nat_tests)
@@ -50,14 +50,14 @@ run_path-light : (top margin y x : ℕ) (g : Grid) → is_dark_at margin g y x �
 unfolding run_path begins_run
 run_path-light top margin y x g e = rw e refl
 
--- none begins to the right of a dark place
+-- no run begins to the right of a dark place
 run_path-inner : (top margin y x : ℕ) (g : Grid) → 0 < x → is_dark_at margin g y (x - 1) ≡ true → run_path top margin g y x ≡ []
 unfolding run_path begins_run
 run_path-inner top margin y x g some dark =
     let e : begins_run margin g y x ≡ false = rw dark (grind (arith, nat_tests)) in
     rw e refl
 
--- one begins at a dark place with none to its left
+-- a run begins at a dark place if the place to its left is not dark
 run_path-first : (top margin y x : ℕ) (g : Grid) → is_dark_at margin g y x ≡ true → (0 < x → is_dark_at margin g y (x - 1) ≡ false)
     → run_path top margin g y x ≡ box_path x (top + y) (run_length margin g y x)
 unfolding run_path begins_run
@@ -81,7 +81,7 @@ prefix_len-range p x (suc d) (suc n) le pass stop =
     prefix_len-range p (x + 1) d n (omega arith) (λ k a b. pass k (omega arith) (omega arith)) (λ lt. rw f (stop (omega arith))) in
     rw (e, r) (omega arith)
 
--- the first dark run of a row of a symbol from a column on, where a run that ended there left a light place
+-- the first run of dark modules in row `row` of a symbol, from column `col` on
 module _ (top margin row col : ℕ) (g : Grid) (run : Run) (row_in : row < g.side) (first : IsFirstRun g row col run) where
   -- a place of the row has its colour
   here : (k : ℕ) → margin ≤ k → k < margin + g.side → is_dark_at margin g (margin + row) k ≡ colour g row (k - margin)
@@ -93,7 +93,7 @@ module _ (top margin row col : ℕ) (g : Grid) (run : Run) (row_in : row < g.sid
   all-dark : (k : ℕ) → margin + run.start ≤ k → k < margin + run.end → is_dark_at margin g (margin + row) k ≡ true
   all-dark k a b = let w = first.within in here k (omega arith) (omega arith) ∙ first.dark (k - margin) (omega arith) (omega arith)
 
-  -- those before it have no paths
+  -- the places before the run have no paths
   pub light_run : texts_below (margin + run.start) (run_path top margin g (margin + row)) ≡ texts_below (margin + col) (run_path top margin g (margin + row))
   light_run =
       let v = first.after in
@@ -102,19 +102,19 @@ module _ (top margin row col : ℕ) (g : Grid) (run : Run) (row_in : row < g.sid
       texts_below-same (margin + col) (margin + run.start) (run_path top margin g (margin + row)) (omega arith)
       (λ k a b. run_path-light top margin (margin + row) k g (here k (omega arith) (omega arith) ∙ first.light (k - margin) (omega arith) (omega arith)))
 
-  -- nor have those after its first
+  -- the places after the run's first have no paths
   pub dark_run : texts_below (margin + run.end) (run_path top margin g (margin + row)) ≡ texts_below (margin + run.start + 1) (run_path top margin g (margin + row))
   dark_run =
       let u = first.some in
       texts_below-same (margin + run.start + 1) (margin + run.end) (run_path top margin g (margin + row)) (omega arith)
       (λ k a b. run_path-inner top margin (margin + row) k g (omega arith) (all-dark (k - 1) (omega arith) (omega arith)))
 
-  -- after it is a light place
+  -- the place after the run is light
   run-stops : is_dark_at margin g (margin + row) (margin + run.end) ≡ false
   run-stops = ⊎_elim (λ (e : run.end ≡ g.side). is_dark_at_right margin (margin + row) (margin + run.end) g (omega arith))
       (λ (lt : run.end < g.side). is_dark_at_inside margin row run.end g row_in lt ∙ first.stops) (eq-or-lt_of_le first.within)
 
-  -- and before it is none that is dark
+  -- the place before the run is not dark
   before-dark : (0 < col → colour g row col ≡ false) → 0 < margin + run.start → is_dark_at margin g (margin + row) (margin + run.start - 1) ≡ false
   before-dark light some =
       let v = first.after in
@@ -128,7 +128,7 @@ module _ (top margin row col : ℕ) (g : Grid) (run : Run) (row_in : row < g.sid
       dark-is-light : {b : Bool} → b ≡ true → b ≡ false → ⊥
       dark-is-light p q = let h : true ≡ false = sym p ∙ q in cc
 
-  -- it is so long
+  -- the length of the run is that of the definition
   dark_length : run_length margin g (margin + row) (margin + run.start) ≡ run.end - run.start
   unfolding run_length
   dark_length =
@@ -138,7 +138,7 @@ module _ (top margin row col : ℕ) (g : Grid) (run : Run) (row_in : row < g.sid
       prefix_len-range (is_dark_at margin g (margin + row)) (margin + run.start) (run.end - run.start) (raster_width margin g - (margin + run.start)) (omega arith)
       (λ k a b. all-dark k a (omega arith)) (λ lt. rw e run-stops)
 
-  -- and its path stands at its first place
+  -- the path of the run is at its first place
   pub dark_path : (x y modules : ℕ) → x ≡ margin + run.start → y ≡ top + (margin + row) → modules ≡ run.end - run.start
       → (0 < col → colour g row col ≡ false) → run_path top margin g (margin + row) (margin + run.start) ≡ box_path x y modules
   dark_path x y modules ex ey em light =
@@ -146,12 +146,12 @@ module _ (top margin row col : ℕ) (g : Grid) (run : Run) (row_in : row < g.sid
       rw (ex, ey, em) (run_path-first top margin (margin + row) (margin + run.start) g (all-dark (margin + run.start) (omega arith) (omega arith)) (before-dark light)
       ∙ ap (box_path (margin + run.start) (top + (margin + row))) dark_length)
 
--- the paths of a row to the left of the symbol are none
+-- there are no paths to the left of the symbol
 pub row_begins : (top margin y : ℕ) (g : Grid) → texts_below (margin + 0) (run_path top margin g y) ≡ []
 row_begins top margin y g =
     texts_below-none (margin + 0) (run_path top margin g y) (λ k lt. run_path-light top margin y k g (is_dark_at_left margin y k g (omega arith)))
 
--- nor are there any where the rest of a row of the symbol is light
+-- there are no paths in the rest of a row if that rest is light
 pub row_ends : (top margin row col : ℕ) (g : Grid) → row < g.side → col ≤ g.side → ((c : ℕ) → col ≤ c → colour g row c ≡ false)
     → row_path top margin g (margin + row) ≡ texts_below (margin + col) (run_path top margin g (margin + row))
 unfolding row_path
@@ -164,18 +164,18 @@ row_ends top margin row col g row_in le light =
       | inr ge ↦ is_dark_at_right margin (margin + row) k g ge
     ]))
 
--- a light row has none
+-- a light row has no paths
 row_path-light : (top margin y : ℕ) (g : Grid) → ((x : ℕ) → is_dark_at margin g y x ≡ false) → row_path top margin g y ≡ []
 unfolding row_path texts_below
 row_path-light top margin y g none =
     texts_below-none (raster_width margin g) (run_path top margin g y) (λ k lt. run_path-light top margin y k g (none k))
 
--- the paths of a symbol above its square are none
+-- there are no paths above the square of a symbol
 pub symbol_begins : (top margin : ℕ) (g : Grid) → texts_below (margin + 0) (row_path top margin g) ≡ []
 symbol_begins top margin g =
     texts_below-none (margin + 0) (row_path top margin g) (λ k lt. row_path-light top margin k g (λ x. is_dark_at_above margin k x g (omega arith)))
 
--- nor are there any below it
+-- there are no paths below the square of a symbol
 pub symbol_ends : (top margin row : ℕ) (g : Grid) → row ≡ g.side → symbol_path top margin g ≡ texts_below (margin + row) (row_path top margin g)
 unfolding symbol_path
 symbol_ends top margin row g e =
@@ -195,14 +195,14 @@ one_width grid margin k xs x one lt is =
     All-get_or (λ g. g.side ≡ (square_at (map grid xs) 0).side) (map grid xs) k (light 0) (omega arith) one in
     ap (λ m. 2 * margin + m) (ap (λ g. g.side) (sym (square_at-item grid xs k x lt is)) ∙ here)
 
--- the texts of k symbols, all told
+-- the texts of a list of k symbols
 pub texts-of-symbols : {T : Type 0} (grid : T → Grid) (text : Grid → List ℕ) (xs : List T) (k : ℕ) → k ≡ length xs
     → flat_map text (map grid xs) ≡ texts_below k (λ n. text (square_at (map grid xs) n))
 texts-of-symbols grid text xs k e =
     texts-of-items text (map grid xs) (light 0)
     ∙ ap (λ m. texts_below m (λ n. text (square_at (map grid xs) n))) (length-map xs grid ∙ sym e)
 
--- the paths of k symbols, all told
+-- the paths of a list of k symbols
 pub stack_ends : {T : Type 0} (grid : T → Grid) (margin k : ℕ) (xs : List T) → k ≡ length xs → stack_path margin (map grid xs)
     ≡ texts_below k (λ n. symbol_path (n * raster_width margin (square_at (map grid xs) n)) margin (square_at (map grid xs) n))
 unfolding stack_path
@@ -218,7 +218,7 @@ stack_at grid margin k top xs x one lt is e =
     let s = square_at-item grid xs k x lt is in
     rw (s, one_width grid margin k xs x one lt is, e) refl
 
--- one more time a number
+-- k + 1 times a number is k times the number and once more
 next-multiple : (k w : ℕ) → k * w + w ≡ (k + 1) * w
 next-multiple k w = let e : k + 1 ≡ suc k = omega arith in rw e (sym (suc-mul k w))
 
@@ -230,11 +230,11 @@ next_top grid margin k top width xs x one lt is e f =
     let w = f ∙ one_width grid margin k xs x one lt is in
     rw (e, w) (next-multiple k (raster_width margin (square_at (map grid xs) 0)))
 
--- seven pieces of a document, as they are defined and as they are put
+-- the seven pieces of a document, grouped as in the definition and as they are written
 pieces : (a b c d e f g : List ℕ) → a ++ b ++ c ++ (d ++ e ++ f) ++ g ≡ ((a ++ b ++ c ++ d) ++ e) ++ (f ++ g)
 pieces a b c d e f g = simp append_assoc
 
--- the document of a picture of this size
+-- the document of this width and height
 lines_of : ℕ → ℕ → ℕ → List Grid → List ℕ
 lines_of width height margin squares =
     declaration ++ opening width height ++ background width height ++ foreground margin squares ++ closing

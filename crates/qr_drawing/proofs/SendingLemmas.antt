@@ -12,14 +12,14 @@ use Rattle.qr_devices.specs.declared.device.Trouble.TheVariants.{Interrupted, Fa
 use Rattle.qr_devices.specs.declared.device.WriteCounts.{WriteCounts}
 use Rattle.qr_drawing.proofs.WritingLemmas.{writes_on, writes_stop}
 
--- some of the bytes that a write was offered
+-- the writer took some of the bytes that a write offered
 take-offered : (n m : ℕ) (xs : List ℕ) → n ≤ length (take m xs) → take n (take m xs) ≡ take n xs
 take-offered zero m xs le = refl
 take-offered (suc n) zero xs le = absurd (omega arith)
 take-offered (suc n) (suc m) [] le = absurd (omega arith)
 take-offered (suc n) (suc m) (x ∷ xs) le = ap (λ l. x ∷ l) (take-offered n m xs (omega arith))
 
--- a write that took none changed nothing
+-- a write that took no byte changed nothing
 nothing_more : (b c : Option (List ℕ)) (buf : List ℕ) (n : ℕ) → n ≡ 0 → Appends b c (take n buf) → Keeps b c
 nothing_more None c buf n e q = tt
 nothing_more (Some y) None buf n e q = absurd q
@@ -38,7 +38,7 @@ flushes-after v w len (Ok n) e = rw e refl
 flushes-after v w len (Err Interrupted) e = rw e refl
 flushes-after v w len (Err Failed) e = rw e refl
 
--- a write after well ones is still within bounds
+-- a write after writes without a fault is still within bounds
 within-after : (v w : WriteCounts) (len tries : ℕ) (r : Result ℕ Trouble) → w ≡ write_counted len r v → IsWell v tries → IsWrittenWithin w
 within-after v w len tries (Ok n) e h =
     let f = h.failed in let z = h.zeros in let t = h.tried in let few = h.few in
@@ -88,7 +88,7 @@ sends_again a b c text len i j p short few q e =
     } in
     rw (← append-nil text) (writes_on a b c i j (j + 1) [] [] [] text [] p one)
 
--- a write took nothing, and no other comes after it
+-- a write took nothing and was the last
 refused : (a b c : Writer) (text : List ℕ) (at len i j : ℕ) (r : Result ℕ Trouble) → Writes a b i j (take at text) [] → len ≤ 1200
     → Keeps b.taken c.taken → c.counts ≡ write_counted len r b.counts → (b.counts.taken < 2 ^ 64 → c.counts.taken ≤ counted b.counts.taken)
     → (IsWell b.counts j → is_write_fault c.counts ≡ true) → Stops a c i text
@@ -104,20 +104,20 @@ refused a b c text at len i j r p short q e most fault =
     let whole = writes_stop a b c i j [] [] (take at text) (drop at text) p one in
     rw take-append-drop at whole
 
--- it took none of some bytes
+-- the write took no byte of a text that was not empty
 pub refused-zero : (a b c : Writer) (text buf : List ℕ) (at n i j : ℕ) → n ≡ 0 → Writes a b i j (take at text) [] → 0 < length buf → length buf ≤ 1200
     → Appends b.taken c.taken (take n buf) → c.counts ≡ write_counted (length buf) (Ok n) b.counts → Stops a c i text
 refused-zero a b c text buf at n i j none p some short q e =
     refused a b c text at (length buf) i j (Ok n) p short (nothing_more b.taken c.taken buf n none q) e (λ fits. rw e (omega arith))
     (λ h. let f = h.failed in let z = h.zeros in rw (e, none, f, z) (grind (arith, nat_tests)))
 
--- it failed
+-- the write failed
 pub refused-failed : (a b c : Writer) (text : List ℕ) (at len i j : ℕ) → Writes a b i j (take at text) [] → len ≤ 1200
     → Keeps b.taken c.taken → c.counts ≡ write_counted len (Err Failed) b.counts → Stops a c i text
 refused-failed a b c text at len i j p short q e =
     refused a b c text at len i j (Err Failed) p short q e (λ fits. rw e (omega arith)) (λ h. let f = h.failed in rw (e, f) refl)
 
--- it was interrupted for the 1,000th time
+-- the write was interrupted for the 1,000th time
 pub refused-tried : (a b c : Writer) (text : List ℕ) (at len i j : ℕ) → j ≡ 999 → Writes a b i j (take at text) [] → len ≤ 1200
     → Keeps b.taken c.taken → c.counts ≡ write_counted len (Err Interrupted) b.counts → Stops a c i text
 refused-tried a b c text at len i j last p short q e =

@@ -1,4 +1,4 @@
--- How what was written of parts of a text joins.
+-- How the written parts of a text join.
 use Rattle.std.proofs.Common.{◌≡◌, ◌++◌, ◌∙◌, ℕ, List, [], OnErr, Option, Result, Ok, Err, append_assoc, append-nil, refl, sym, ap, arith, ◌<◌, ◌≤◌, ◌+◌, ◌^◌, length, length-append, subst}
 use Rattle.std.proofs.KnownBytes.{Appends-trans, Appends-nil}
 use Rattle.qr_devices.specs.Device.{AppendsBeginning, Writer, counted}
@@ -11,11 +11,11 @@ use Rattle.qr_drawing.specs.declared.pen.Pen.{Pen}
 counted-on : (a b c x y z : ℕ) → z ≡ x + y → a < 2 ^ 64 → b ≡ counted (a + x) → (b < 2 ^ 64 → c ≡ counted (b + y)) → c ≡ counted (a + z)
 counted-on a b c x y z e fits f h = let small : b < 2 ^ 64 = omega arith in let g = h small in omega arith
 
--- a count that goes on to at most so many more bytes
+-- a count that grows by the length of a part, with a bound for the part
 most-on : (a b c s h l k y t : ℕ) → s + h ≡ l → k ≡ h + y → t ≡ l + y → a < 2 ^ 64 → b ≡ counted (a + s) → (b < 2 ^ 64 → c ≤ counted (b + k)) → c ≤ counted (a + t)
 most-on a b c s h l k y t e f g fits m n = let small : b < 2 ^ 64 = omega arith in let o = n small in omega arith
 
--- a count of at most so many bytes is one of at most more
+-- a count with a bound also has every greater bound
 most-before : (a c x t y : ℕ) → t ≡ x + y → c ≤ counted (a + x) → c ≤ counted (a + t)
 most-before a c x t y e m = omega arith
 
@@ -31,7 +31,7 @@ Sends-trans a b c h0 h1 h2 x y p q = record {
   many = λ fits. counted-on _ _ _ _ _ _ (length-append p.sent q.sent) fits (p.many fits) q.many;
 }
 
--- what was sent and then a beginning of the rest is a beginning of the whole
+-- what was sent, followed by a prefix of the rest, is a prefix of the whole
 Sends-stops : (a b c : Writer) (h0 h1 x y : List ℕ)
     → Sends a b (h0 ++ x) h1 → AppendsBeginning b.taken c.taken (h1 ++ y) → AppendsBeginning a.taken c.taken (h0 ++ (x ++ y))
 Sends-stops a b c h0 h1 x y p (t, (rest, f), q) = (
@@ -54,7 +54,7 @@ writes_on a b c i j k h0 h1 h2 x y p q = record {
   flushes = q.flushes ∙ p.flushes;
 }
 
--- one part was written, and the next stopped
+-- one part was written, and the writer failed in the next
 pub writes_stop : (a b c : Writer) (i j : ℕ) (h0 h1 x y : List ℕ)
     → Writes a b i j (h0 ++ x) h1 → Stops b c j (h1 ++ y) → Stops a c i (h0 ++ (x ++ y))
 writes_stop a b c i j h0 h1 x y p q = record {
@@ -68,11 +68,11 @@ writes_stop a b c i j h0 h1 x y p q = record {
   flushes = q.flushes ∙ p.flushes;
 }
 
--- a beginning of a part is a beginning of the whole
+-- a prefix of a part is a prefix of the whole
 begins_before : (a b : Option (List ℕ)) (x y : List ℕ) → AppendsBeginning a b x → AppendsBeginning a b (x ++ y)
 begins_before a b x y (s, (rest, e), q) = (s, (rest ++ y, sym (append_assoc s rest y) ∙ ap (λ l. l ++ y) e), q)
 
--- what stopped in a part stopped in the whole
+-- a writer that failed in a part failed in the whole text
 pub stops_before : (a b : Writer) (i : ℕ) (x y : List ℕ) → Stops a b i x → Stops a b i (x ++ y)
 stops_before a b i x y p = record {
   front = begins_before a.taken b.taken x y p.front;
@@ -83,7 +83,7 @@ stops_before a b i x y p = record {
   flushes = p.flushes;
 }
 
--- what stopped in the first of two texts stopped in both
+-- a writer that failed in the first of two texts failed in both together
 pub stops_first : (a b : Writer) (i : ℕ) (h x y : List ℕ) → Stops a b i (h ++ x) → Stops a b i (h ++ (x ++ y))
 stops_first a b i h x y p = subst (λ l. Stops a b i l) (append_assoc h x y) (stops_before a b i (h ++ x) y p)
 
@@ -115,11 +115,11 @@ formed a b i j h0 h1 h2 x p e = record {
   flushes = p.flushes;
 }
 
--- one part was written, and what was held of it stopped before the next
+-- one part was written, and the writer failed in the held rest of it, before the next part
 pub stops_between : (a b c : Writer) (i j : ℕ) (h0 h1 x y : List ℕ) → Writes a b i j (h0 ++ x) h1 → Stops b c j h1 → Stops a c i (h0 ++ (x ++ y))
 stops_between a b c i j h0 h1 x y p q = writes_stop a b c i j h0 h1 x y p (stops_before b c j h1 y q)
 
--- a text of which a part is held, and then that part stopped
+-- the writer failed in the part of a text that was held
 last_stops : (a b c : Writer) (held text : List ℕ) → Sends a b text held → AppendsBeginning b.taken c.taken held → AppendsBeginning a.taken c.taken text
 last_stops a b c held text p (t, (rest, f), q) = (
   p.sent ++ t,
@@ -127,7 +127,7 @@ last_stops a b c held text p (t, (rest, f), q) = (
   Appends-trans a.taken b.taken c.taken p.sent t p.grows q,
 )
 
--- where the last part stopped, a beginning of the text was written
+-- if the writer failed in the last part, a prefix of the text was written
 pub empty_stops : (a b c : Writer) (before after : Pen) (text : List ℕ) (r : Result (Unit {0}) DrawFault) → Sends a b text before.piece.items
     → Reserves b c before after r → OnErr r (AppendsBeginning a.taken c.taken text)
 empty_stops a b c before after text (Ok t) p q = tt

@@ -1,10 +1,10 @@
--- The characters of the drawings. Public laws cite this file.
+-- The characters of the drawings, worked by hand.
 use Rattle.std.specs.Prelude.{◌≡◌, [], ◌∷◌, codes, true, false}
 use Rattle.qr_drawing.specs.Text.{ascii_module, half_blocks, line_count}
 use Rattle.qr_drawing.specs.declared.text.TextStyle.TheVariants.{HalfBlocks}
 
--- The characters of a dark and a light module; those of two modules, one above the other: the space, U+2584, U+2580 and
--- U+2588 in UTF-8; and how many lines of the latter 29 rows make [own].
+-- A dark module is `##`, and a light module is two spaces. Two modules, one above the other, are the space, U+2584,
+-- U+2580 or U+2588 in UTF-8. In half blocks 29 rows make 15 lines [own].
 pub record CharactersOfModules : Type 0 where
   pub dark : ascii_module true ≡ codes "##"
   pub light : ascii_module false ≡ codes "  "

@@ -1,74 +1,80 @@
--- The SVG document of symbols, one below the other, as a function of their rasters. Public clauses cite this file.
+-- The SVG document of symbols, one below the other, as a function of their rasters.
 use Rattle.std.specs.Prelude.{ℕ, ◌+◌, ◌-◌, ◌*◌, ◌==◌, Bool, not, ◌&&◌, ◌||◌, if◌then◌else◌, List, [], ◌++◌, length, slice_index_or, codes, decimal}
 use Rattle.std.specs.List.{prefix_len, range_with_len}
 use Rattle.qr_matrix.specs.Grid.{Grid, light}
 use Rattle.qr_drawing.specs.Raster.{is_dark_at, raster_width, texts_below}
 
--- a text, and a number in decimal digits after it [own]
+-- `numbered text number` is the text with the number in decimal digits after it [own]
 unfoldable pub numbered : List ℕ → ℕ → List ℕ
 numbered text number = text ++ decimal number
 
--- a run of dark modules begins at column x of row y: that place is dark, and there is no dark one to its left [own]
+-- `begins_run margin g y x` is true if a run of dark modules begins at column `x` of row `y`: that place is dark, and
+-- the place to its left is light or outside the raster [own]
 unfoldable pub begins_run : ℕ → Grid → ℕ → ℕ → Bool
 begins_run margin g y x = is_dark_at margin g y x && (x == 0 || not (is_dark_at margin g y (x - 1)))
 
--- how many dark modules stand in row y from column x on, up to the first light one [own]
+-- `run_length margin g y x` is the number of dark modules in row `y` from column `x` on, up to the first light module
+-- [own]
 unfoldable pub run_length : ℕ → Grid → ℕ → ℕ → ℕ
 run_length margin g y x = prefix_len (is_dark_at margin g y) (range_with_len x (raster_width margin g - x))
 
--- the path round a run: to its upper left corner, over its length, down by one, back, and closed [own]
+-- `box_path x y modules` is the path around a run: to its upper left corner, right along its length, down by one, back
+-- along its length, and closed [own]
 unfoldable pub box_path : ℕ → ℕ → ℕ → List ℕ
 box_path x y modules =
     numbered (codes "M") x ++ numbered (codes " ") y ++ numbered (codes "h") modules ++ numbered (codes "v1h-") modules
     ++ codes "z"
 
--- the path round the run that begins at column x of row y, where one does; the raster's top is at that height [own]
+-- `run_path top margin g y x` is the path around the run that begins at column `x` of row `y`, or empty if no run
+-- begins there; the top of the raster is at height `top` [own]
 unfoldable pub run_path : ℕ → ℕ → Grid → ℕ → ℕ → List ℕ
 run_path top margin g y x =
     if begins_run margin g y x then box_path x (top + y) (run_length margin g y x) else []
 
--- the paths of row y, from left to right [own]
+-- `row_path top margin g y` is the paths of row `y`, from left to right [own]
 unfoldable pub row_path : ℕ → ℕ → Grid → ℕ → List ℕ
 row_path top margin g y = texts_below (raster_width margin g) (run_path top margin g y)
 
--- the paths of a symbol, row by row; its raster's top is at that height [own]
+-- `symbol_path top margin g` is the paths of a symbol, row by row; the top of its raster is at height `top` [own]
 unfoldable pub symbol_path : ℕ → ℕ → Grid → List ℕ
 symbol_path top margin g = texts_below (raster_width margin g) (row_path top margin g)
 
--- the square of symbol k [own]
+-- `square_at squares k` is the square of symbol `k`, counted from 0 [own]
 abbrev pub square_at : List Grid → ℕ → Grid
 square_at squares k = slice_index_or squares k (light 0)
 
--- the paths of symbols: the raster of symbol k stands below those of the k symbols before it [own]
+-- `stack_path margin squares` is the paths of symbols, one below the other: the top of the raster of symbol `k` is `k`
+-- times the width of a raster below the top of the document [own]
 unfoldable pub stack_path : ℕ → List Grid → List ℕ
 stack_path margin squares =
     texts_below (length squares) (λ k. symbol_path (k * raster_width margin (square_at squares k)) margin (square_at squares k))
 
--- the line that says what the document is [own]
+-- `declaration` is the first line, which declares an XML document [own]
 unfoldable pub declaration : List ℕ
 declaration = codes "<?xml version=\"1.0\" encoding=\"UTF-8\"?>\n"
 
--- the line that opens a picture of so many modules [own]
+-- `opening width height` is the line that opens a document of `width` by `height` modules [own]
 unfoldable pub opening : ℕ → ℕ → List ℕ
 opening width height =
     numbered (codes "<svg xmlns=\"http://www.w3.org/2000/svg\" version=\"1.1\" viewBox=\"0 0 ") width
     ++ numbered (codes " ") height ++ codes "\" shape-rendering=\"crispEdges\">\n"
 
--- the line that makes the whole picture white [own]
+-- `background width height` is the line that makes the whole document white [own]
 unfoldable pub background : ℕ → ℕ → List ℕ
 background width height =
     numbered (codes "<rect x=\"0\" y=\"0\" width=\"") width ++ numbered (codes "\" height=\"") height
     ++ codes "\" fill=\"#ffffff\"/>\n"
 
--- the line that makes the dark modules black [own]
+-- `foreground margin squares` is the line that makes the dark modules black [own]
 unfoldable pub foreground : ℕ → List Grid → List ℕ
 foreground margin squares = codes "<path fill=\"#000000\" d=\"" ++ stack_path margin squares ++ codes "\"/>\n"
 
--- the line that closes the picture [own]
+-- `closing` is the line that closes the document [own]
 unfoldable pub closing : List ℕ
 closing = codes "</svg>\n"
 
--- the document of symbols of one side: as wide as the first raster, and as high as all of them [own]
+-- `svg_document margin squares` is the document of symbols of one side. It is as wide as the first raster, and as high
+-- as all rasters together [own]
 unfoldable pub svg_document : ℕ → List Grid → List ℕ
 svg_document margin squares =
     let width = raster_width margin (square_at squares 0) in

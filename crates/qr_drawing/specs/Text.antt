@@ -1,38 +1,40 @@
--- The drawing of a symbol as lines of text. Public clauses cite this file.
+-- The drawing of a symbol as lines of text. A cell is the text for one module, or for two modules, one above the other.
 use Rattle.std.specs.Prelude.{ℕ, ◌+◌, ◌*◌, ◌/◌, Bool, not, if◌then◌else◌, List, [], ◌∷◌, ◌++◌}
 use Rattle.qr_matrix.specs.Grid.{Grid}
 use Rattle.qr_drawing.specs.Raster.{is_dark_at, raster_width, texts_below}
 use Rattle.qr_drawing.specs.declared.text.TextStyle.{TextStyle}
 use Rattle.qr_drawing.specs.declared.text.TextStyle.TheVariants.{Plain, Inverse, HalfBlocks}
 
--- a dark module is `##`, a light one two spaces [own]
+-- `ascii_module dark` is `##` for a dark module, and two spaces for a light one [own]
 abbrev pub ascii_module : Bool → List ℕ
 ascii_module dark = if dark then 35 ∷ 35 ∷ [] else 32 ∷ 32 ∷ []
 
--- two modules, one above the other, as the character whose light parts are filled: the space, U+2584, U+2580 or U+2588,
--- in UTF-8 [own]
+-- `half_blocks upper lower` is two modules, one above the other, as the character whose filled parts are the light
+-- modules: the space, U+2584, U+2580 or U+2588, in UTF-8 [own]
 abbrev pub half_blocks : Bool → Bool → List ℕ
 half_blocks upper lower =
     if upper then (if lower then 32 ∷ [] else 0xE2 ∷ 0x96 ∷ 0x84 ∷ [])
     else (if lower then 0xE2 ∷ 0x96 ∷ 0x80 ∷ [] else 0xE2 ∷ 0x96 ∷ 0x88 ∷ [])
 
--- the text of cell x in line y: a module, or two modules of which the lower is light past the last row [own]
+-- `cell_of style margin g y x` is the text of cell `x` in line `y`: one module, or two modules. Below the last row of
+-- the raster the lower module is light [own]
 abbrev pub cell_of : TextStyle → ℕ → Grid → ℕ → ℕ → List ℕ
 cell_of Plain margin g y x = ascii_module (is_dark_at margin g y x)
 cell_of Inverse margin g y x = ascii_module (not (is_dark_at margin g y x))
 cell_of HalfBlocks margin g y x = half_blocks (is_dark_at margin g (2 * y) x) (is_dark_at margin g (2 * y + 1) x)
 
--- how many lines the rows of a raster make, a last row alone being a line too [own]
+-- `line_count style rows` is how many lines show the rows of a raster. In half blocks a last row without a partner
+-- makes a line too [own]
 abbrev pub line_count : TextStyle → ℕ → ℕ
 line_count Plain rows = rows
 line_count Inverse rows = rows
 line_count HalfBlocks rows = (rows + 1) / 2
 
--- the cells of line y [own]
+-- `cells_of_line style margin g y` is the cells of line `y` [own]
 abbrev pub cells_of_line : TextStyle → ℕ → Grid → ℕ → List ℕ
 cells_of_line style margin g y = texts_below (raster_width margin g) (cell_of style margin g y)
 
--- the drawing of a symbol as a text: its lines, each with a newline [own]
+-- `text_drawing style margin g` is the drawing of a symbol as a text: its lines, each with a newline [own]
 abbrev pub text_drawing : TextStyle → ℕ → Grid → List ℕ
 text_drawing style margin g =
     texts_below (line_count style (raster_width margin g)) (λ y. cells_of_line style margin g y ++ 10 ∷ [])

@@ -1,5 +1,5 @@
-//! The types of drawings, and drawing symbols. The raster of a symbol is its square with a light
-//! margin on all sides (ISO/IEC 18004:2015, 6.3.8).
+//! Draws symbols, in one of several types of drawing. The raster of a symbol is its square with a light margin on all
+//! sides (ISO/IEC 18004:2015, 6.3.8).
 
 ghost use Rattle.std.specs.Prelude.{◌≡◌, ◌≤◌, ◌<◌, ◌+◌, max, is_err, length, map, OnOk, OnErr};
 ghost use Rattle.std.specs.Io.KnownBytes.{Appends};
@@ -21,20 +21,20 @@ pub enum Drawing {
     Ascii,
     /// Two spaces for a dark module, two `#` for a light one.
     AsciiInverse,
-    /// A character of half blocks for two modules, one above the other.
+    /// One character of half blocks for two modules, one above the other.
     Utf8,
     /// A Scalable Vector Graphics document.
     Svg,
 }
 
-/// What has a square of modules, and so can be drawn.
+/// A type that has a square of modules, and so can be drawn.
 pub trait HasSquare {
     ghost use Rattle.qr_matrix.specs.Grid.{Grid};
 
-    // The modules.
+    // The modules as a grid of colours.
     ghost grid: { Self → Grid };
 
-    /// The square.
+    /// Returns the square.
     fn square(&self) -> &Matrix
         ensures { result.now ≡ grid self.now };
 }
@@ -55,7 +55,7 @@ impl HasSquare for Symbol {
     }
 }
 
-// How many modules a raster is wide and high.
+// Returns how many modules the raster of `matrix` is wide and high.
 pub(crate) fn raster_width(matrix: &Matrix, margin: u8) -> u16
     ensures value { result ≡ raster_width margin matrix.now }
     ensures most { result < 1000 }
@@ -63,7 +63,7 @@ pub(crate) fn raster_width(matrix: &Matrix, margin: u8) -> u16
     2 * u16::from(margin) + u16::from(matrix.side())
 }
 
-// Whether a place of the raster is dark.
+// Returns whether the place in row `y` and column `x` of the raster is dark.
 #[tactic(auto, unfolding(crate::specs::Raster::is_dark_at))]
 pub(crate) fn is_dark_at(matrix: &Matrix, margin: u8, y: u16, x: u16) -> bool
     ensures { result ≡ is_dark_at margin matrix.now y x }
@@ -79,7 +79,7 @@ pub(crate) fn is_dark_at(matrix: &Matrix, margin: u8, y: u16, x: u16) -> bool
     matrix.dark((y - first) as u8, (x - first) as u8)
 }
 
-// Puts the drawing of symbols.
+// Writes the drawing of symbols through `pen`. Its last bytes may remain in the pen.
 fn put_drawing<S: HasSquare, W: Sink>(
     pen: &mut Pen,
     out: &mut W,
@@ -101,12 +101,12 @@ fn put_drawing<S: HasSquare, W: Sink>(
     }
 }
 
-/// Draws symbols or other squares of one side, 1 to 16 of them: as text one after the other, as a document one below
-/// the other. Each has a light margin of so many modules on all sides (ISO/IEC 18004:2015, 6.3.8).
+/// Draws 1 to 16 symbols or other squares, which must all have the same side. A drawing as text has the symbols one
+/// after the other; an SVG document has them one below the other. Each symbol has a light margin of `margin` modules on
+/// all sides (ISO/IEC 18004:2015, 6.3.8).
 ///
-/// Takes no memory, and offers the writer at most 1,200 bytes at a time. Writes that are
-/// interrupted are tried again, 999 times in all. Where the writer is at fault, a beginning of the
-/// drawing was written.
+/// Allocates no memory, and offers the writer at most 1,200 bytes at a time. Writes that are interrupted are tried
+/// again, 999 times in all. If the writer is at fault, it took a prefix of the drawing.
 pub fn draw<S: HasSquare, W: Sink>(
     symbols: &[S],
     kind: Drawing,

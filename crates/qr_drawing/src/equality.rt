@@ -6,14 +6,14 @@ use crate::drawing::Drawing;
 use crate::pen::DrawFault;
 use std::alloc::AllocError;
 
-/// Two types of drawing compare as equal exactly where they are the same.
+/// Two types of drawing compare as equal exactly if they are the same.
 pub fn drawings_are_equal(a: Drawing, b: Drawing) -> bool
     ensures { IsTrue result ↔ (a ≡ b) }
 {
     a == b
 }
 
-/// Two faults of drawing compare as equal exactly where they are the same.
+/// Two faults of drawing compare as equal exactly if they are the same.
 pub fn draw_faults_are_equal(a: DrawFault, b: DrawFault) -> bool
     ensures { IsTrue result ↔ (a ≡ b) }
 {

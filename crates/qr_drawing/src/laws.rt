@@ -8,7 +8,7 @@ pub use crate::equality::{
     draw_fault_clones, draw_faults_are_equal, drawing_clones, drawings_are_equal,
 };
 
-/// The characters of a module and of two modules, and the last line of an odd number of rows.
+/// The characters for one module and for two modules, and the number of lines for an odd number of rows.
 pub fn characters_of_modules()
     ensures { CharactersOfModules }
 {}

@@ -1,4 +1,4 @@
-//! Drawings of symbols: as ASCII, as UTF-8 half blocks, or as a Scalable Vector Graphics document.
+//! Draws symbols: as ASCII, as UTF-8 half blocks, or as a Scalable Vector Graphics document.
 #![tactic(auto)]
 
 mod drawing;

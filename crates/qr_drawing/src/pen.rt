@@ -1,4 +1,4 @@
-//! Writing a text in pieces of at most 1,200 bytes, with no memory taken.
+//! Writes a text in pieces of at most 1,200 bytes, without allocating memory.
 
 ghost use Rattle.std.specs.Prelude.{◌≡◌, ◌+◌, ◌<◌, ◌≤◌, ◌++◌, [], max, is_err, length, MatchResult, OnOk, OnErr};
 ghost use Rattle.std.specs.Io.KnownBytes.{Appends};
@@ -10,13 +10,13 @@ use arrayvec::ArrayVec;
 use qr_devices::{INTERRUPTIONS_MAX, Sink, Trouble};
 use thiserror::Error;
 
-/// The most bytes that one write offers.
+/// The greatest number of bytes that one write offers.
 pub const WRITE_MAX: usize = 1200;
 
 /// Why a drawing stopped.
 #[derive(Clone, Copy, Debug, PartialEq, Eq, Error)]
 pub enum DrawFault {
-    /// The writer failed, took none of some bytes, or was interrupted for the 1,000th time.
+    /// The writer failed, took no byte of a piece, or was interrupted for the 1,000th time.
     #[error("write error")]
     Write = 1,
 }
@@ -29,7 +29,8 @@ pub(crate) struct Pen {
     ghost few: { interrupted < 1000 },
 }
 
-// Offers the bytes, at most 1,200 at a time, until all are taken, and returns how many writes were interrupted by then.
+// Offers the bytes to the writer, at most 1,200 at a time, until it took all of them. `interrupted` is the number of
+// writes that were interrupted before; returns that number after the last write.
 fn send<W: Sink>(out: &mut W, bytes: &[u8], interrupted: u16) -> Result<u16, DrawFault>
     requires { interrupted < 1000 }
     ensures writes { MatchResult result
@@ -62,7 +63,7 @@ fn send<W: Sink>(out: &mut W, bytes: &[u8], interrupted: u16) -> Result<u16, Dra
     Ok(tries)
 }
 
-/// Adds bytes to a text that has room for them.
+/// Adds `bytes` to `text`, which must have room for them.
 #[inline(always)]
 pub(crate) fn push_all(text: &mut ArrayVec<u8, 1200>, bytes: &[u8])
     requires room { array_vec_len text.old + length bytes.now ≤ 1200 }
@@ -86,7 +87,7 @@ impl Pen {
         }
     }
 
-    /// Writes what is held, and then holds nothing.
+    /// Writes the bytes that the pen holds, and empties the pen.
     #[inline(never)]
     pub(crate) fn empty<W: Sink>(&mut self, out: &mut W) -> Result<(), DrawFault>
         ensures writes { Reserves (W.device out.old) (W.device out.new)
@@ -98,7 +99,7 @@ impl Pen {
         Ok(())
     }
 
-    /// Makes room for so many bytes: writes what is held where fewer are free.
+    /// Makes room for `room` bytes in the pen: if fewer bytes are free, writes what the pen holds.
     #[inline(always)]
     pub(crate) fn reserve<W: Sink>(&mut self, out: &mut W, room: usize) -> Result<(), DrawFault>
         requires { room ≤ 1200 }
@@ -113,7 +114,8 @@ impl Pen {
     }
 }
 
-/// Writes a text.
+/// Writes `text`, at most 1,200 bytes at a time. Writes that are interrupted are tried again, 999 times in all. Does
+/// not flush the writer.
 pub fn write_text<W: Sink>(text: &[u8], out: &mut W) -> Result<(), DrawFault>
     ensures ok { OnOk result (Appends (W.device out.old).taken (W.device out.new).taken text.now) }
     ensures err { OnErr result (AppendsBeginning (W.device out.old).taken (W.device out.new).taken text.now) }

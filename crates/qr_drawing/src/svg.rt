@@ -1,4 +1,4 @@
-//! Drawing symbols as a Scalable Vector Graphics document: one path that goes round each run of dark modules.
+//! Draws symbols as a Scalable Vector Graphics document: one path with a box around each run of dark modules in a row.
 
 ghost use Rattle.std.specs.Prelude.{◌≡◌, ◌≤◌, ◌<◌, ◌+◌, ◌*◌, ◌++◌, ◌∷◌, [], decimal, length, map};
 ghost use Rattle.arrayvec.specs.ArrayVec.{array_vec_len};
@@ -14,16 +14,17 @@ use itoa::Buffer;
 use qr_devices::Sink;
 use qr_symbol::Matrix;
 
-// The most bytes of the path round a run.
+// The greatest number of bytes of the path around one run.
 const BOX_MAX: usize = 32;
 
-// The most bytes before the paths.
+// The greatest number of bytes before the paths.
 const HEAD_MAX: usize = 300;
 
-// The bytes after the paths.
+// The number of bytes after the paths.
 const TAIL: usize = 11;
 
-// Adds a digit. The numbers of a path are added digit by digit: by `itoa` the largest symbol would take 36 % more instructions.
+// Adds a digit. The numbers of a path are added digit by digit: with `itoa` the largest symbol would take 36 % more
+// instructions.
 fn push_digit(text: &mut ArrayVec<u8, 1200>, digit: u16)
     requires digit { digit < 10 }
     requires room { array_vec_len text.old < 1200 }
@@ -33,7 +34,7 @@ fn push_digit(text: &mut ArrayVec<u8, 1200>, digit: u16)
     text.push(b'0' + digit as u8);
 }
 
-// Adds a number of up to two decimal digits.
+// Adds `number`, which has one or two decimal digits.
 #[tactic(auto, using(crate::proofs::DigitLemmas::one_digit, crate::proofs::DigitLemmas::more_digits))]
 fn push_two(text: &mut ArrayVec<u8, 1200>, number: u16)
     requires number { number < 100 }
@@ -49,7 +50,7 @@ fn push_two(text: &mut ArrayVec<u8, 1200>, number: u16)
     }
 }
 
-// Adds a number of up to three decimal digits.
+// Adds `number`, which has one to three decimal digits.
 #[tactic(auto, using(crate::proofs::DigitLemmas::more_digits))]
 fn push_three(text: &mut ArrayVec<u8, 1200>, number: u16)
     requires number { number < 1000 }
@@ -65,7 +66,7 @@ fn push_three(text: &mut ArrayVec<u8, 1200>, number: u16)
     }
 }
 
-// Adds a number in decimal digits.
+// Adds `number` in decimal digits.
 #[tactic(auto, using(crate::proofs::DigitLemmas::more_digits))]
 fn push_number(text: &mut ArrayVec<u8, 1200>, number: u16)
     requires room { array_vec_len text.old + 5 ≤ 1200 }
@@ -81,7 +82,7 @@ fn push_number(text: &mut ArrayVec<u8, 1200>, number: u16)
     }
 }
 
-// Adds the path round a run of so many modules, whose first stands in column x of row y.
+// Adds the path around a run of `modules` modules that begins in column `x` of row `y`.
 #[tactic(auto, unfolding(crate::specs::Svg::box_path, crate::specs::Svg::numbered))]
 fn push_box(text: &mut ArrayVec<u8, 1200>, x: u16, y: u16, modules: u16)
     requires room { array_vec_len text.old + 32 ≤ 1200 }
@@ -98,7 +99,7 @@ fn push_box(text: &mut ArrayVec<u8, 1200>, x: u16, y: u16, modules: u16)
     text.push(b'z');
 }
 
-// Adds bytes, and a number in decimal digits after them.
+// Adds `bytes`, and then `number` in decimal digits.
 #[tactic(auto, unfolding(crate::specs::Svg::numbered))]
 fn push_numbered(text: &mut ArrayVec<u8, 1200>, bytes: &[u8], number: u16)
     requires room { array_vec_len text.old + length bytes.now + 5 ≤ 1200 }
@@ -110,7 +111,7 @@ fn push_numbered(text: &mut ArrayVec<u8, 1200>, bytes: &[u8], number: u16)
     push_all(text, digits.format(number).as_bytes());
 }
 
-// Adds the line that opens a picture of so many modules.
+// Adds the line that opens a document of `width` by `height` modules.
 fn push_opening(text: &mut ArrayVec<u8, 1200>, width: u16, height: u16)
     requires room { array_vec_len text.old + 120 ≤ 1200 }
     ensures items { text.new.items ≡ text.old.items ++ opening width height }
@@ -122,7 +123,7 @@ fn push_opening(text: &mut ArrayVec<u8, 1200>, width: u16, height: u16)
     push_all(text, b"\" shape-rendering=\"crispEdges\">\n");
 }
 
-// Adds the line that makes a picture of so many modules white.
+// Adds the line that makes all `width` by `height` modules white.
 #[tactic(auto, unfolding(crate::specs::Svg::background))]
 fn push_background(text: &mut ArrayVec<u8, 1200>, width: u16, height: u16)
     requires room { array_vec_len text.old + 80 ≤ 1200 }
@@ -134,7 +135,7 @@ fn push_background(text: &mut ArrayVec<u8, 1200>, width: u16, height: u16)
     push_all(text, b"\" fill=\"#ffffff\"/>\n");
 }
 
-// Adds what is before the paths of a picture of so many modules.
+// Adds all that is before the paths in a document of `width` by `height` modules.
 fn push_head(text: &mut ArrayVec<u8, 1200>, width: u16, height: u16)
     requires room { array_vec_len text.old + 300 ≤ 1200 }
     ensures { text.new.items ≡ text.old.items ++ head width height }
@@ -145,7 +146,8 @@ fn push_head(text: &mut ArrayVec<u8, 1200>, width: u16, height: u16)
     push_all(text, b"<path fill=\"#000000\" d=\"");
 }
 
-// Puts the paths of a row of a symbol; `top` is the height of the rasters above it.
+// Writes the paths of row `row` of a symbol through `pen`. `top` is the height of the rasters above the symbol's
+// raster.
 fn put_row<W: Sink>(
     pen: &mut Pen,
     out: &mut W,
@@ -173,7 +175,7 @@ fn put_row<W: Sink>(
     Ok(())
 }
 
-// Puts the paths of a symbol; `top` is the height of the rasters above it.
+// Writes the paths of a symbol through `pen`. `top` is the height of the rasters above the symbol's raster.
 fn put_symbol<W: Sink>(
     pen: &mut Pen,
     out: &mut W,
@@ -191,7 +193,7 @@ fn put_symbol<W: Sink>(
     Ok(())
 }
 
-// Puts the paths of symbols, one below the other.
+// Writes the paths of symbols, one below the other, through `pen`.
 fn put_stack<S: HasSquare, W: Sink>(
     pen: &mut Pen,
     out: &mut W,
@@ -212,7 +214,7 @@ fn put_stack<S: HasSquare, W: Sink>(
     Ok(())
 }
 
-/// Puts the document of symbols of one side, one below the other.
+/// Writes the document of symbols of one side, one below the other, through `pen`.
 pub(crate) fn put_document<S: HasSquare, W: Sink>(
     pen: &mut Pen,
     out: &mut W,

@@ -1,4 +1,5 @@
-//! Symbols as lines of text: two characters for a module, or one character for two modules, one above the other.
+//! Draws symbols as lines of text. A cell of a line is two characters for a module, or one character for two modules,
+//! one above the other.
 
 ghost use Rattle.std.specs.Prelude.{◌≡◌, ℕ, ◌≤◌, ◌<◌, ◌+◌, ◌-◌, ◌*◌, ◌/◌, ◌%◌, ◌++◌, ◌∷◌, [], map, IfSome};
 ghost use Rattle.std.specs.List.{flat_map};
@@ -23,11 +24,11 @@ pub(crate) enum TextStyle {
     Plain,
     /// Two spaces for a dark module, two `#` for a light one.
     Inverse,
-    /// A character of half blocks for two modules, one above the other.
+    /// One character of half blocks for two modules, one above the other.
     HalfBlocks,
 }
 
-// The most bytes of a cell.
+// Returns the greatest number of bytes of a cell.
 fn cell_room(style: TextStyle) -> usize
     ensures value { result ≡ cell_room style }
     ensures most { result ≤ 3 }
@@ -38,7 +39,7 @@ fn cell_room(style: TextStyle) -> usize
     }
 }
 
-// The row of the raster that line y shows, or the upper one of two.
+// Returns the row of the raster that line `y` shows, or the upper one of the two rows that it shows.
 fn top_row(style: TextStyle, y: u16) -> u16
     requires { y < 1000 }
     ensures value { result ≡ top_row style y }
@@ -50,7 +51,7 @@ fn top_row(style: TextStyle, y: u16) -> u16
     }
 }
 
-// How many lines the rows of a raster make.
+// Returns how many lines show `rows` rows of a raster.
 fn line_count(style: TextStyle, rows: u16) -> u16
     requires { rows < 1000 }
     ensures value { result ≡ line_count style rows }
@@ -72,7 +73,7 @@ fn push_module(text: &mut ArrayVec<u8, 1200>, dark: bool)
     text.push(character);
 }
 
-// Adds two modules as a character of half blocks, whose filled parts are light.
+// Adds two modules as one character of half blocks, of which the filled parts are light modules.
 fn push_half_block(text: &mut ArrayVec<u8, 1200>, upper: bool, lower: bool)
     requires room { array_vec_len text.old + 3 ≤ 1200 }
     ensures items { text.new.items ≡ text.old.items ++ half_blocks upper lower }
@@ -92,7 +93,7 @@ fn push_half_block(text: &mut ArrayVec<u8, 1200>, upper: bool, lower: bool)
     text.push(last);
 }
 
-// Adds a cell: a module, or in half blocks that module and the one below it.
+// Adds a cell: the module `upper`, or in half blocks `upper` and the module `lower` below it.
 fn push_cell(text: &mut ArrayVec<u8, 1200>, style: TextStyle, upper: bool, lower: bool)
     requires room { array_vec_len text.old + cell_room style ≤ 1200 }
     ensures { text.new.items ≡ text.old.items ++ cell_text style upper lower }
@@ -104,7 +105,7 @@ fn push_cell(text: &mut ArrayVec<u8, 1200>, style: TextStyle, upper: bool, lower
     }
 }
 
-// The row of the square that a row of the raster shows, if any.
+// Returns the row of the square that row `row` of the raster shows, or `None` if `row` is in the margin.
 #[tactic(auto, using(crate::proofs::PathLemmas::is_dark_at_above, crate::proofs::PathLemmas::is_dark_at_below))]
 fn square_row(matrix: &Matrix, margin: u8, row: u16) -> Option<u8>
     ensures { ShowsRow margin matrix.now row result }
@@ -119,8 +120,8 @@ fn square_row(matrix: &Matrix, margin: u8, row: u16) -> Option<u8>
     Some((row - first) as u8)
 }
 
-// Four places of a row, from a column on that is a multiple of four: the first is the lowest bit, and the bit of a dark
-// place is set. All are light where there is no row.
+// Returns the colours of four modules of a row of the square, from column `col` on, which is a multiple of four. Bit 0
+// is the module in column `col`; a bit is set if its module is dark. All four are light if `row` is `None`.
 #[inline(always)]
 #[tactic(auto, using(crate::proofs::CellLemmas::dark_none))]
 fn dark_bits(matrix: &Matrix, row: Option<u8>, col: u8) -> u8
@@ -136,7 +137,7 @@ fn dark_bits(matrix: &Matrix, row: Option<u8>, col: u8) -> u8
     }
 }
 
-// Four modules as two characters each, of which the first is the lowest bit.
+// Returns four modules as two characters each. Bit 0 of `bits` is the first module, and a set bit is a dark module.
 #[tactic(auto, unfolding(qr_matrix::specs::Line::has_bit, crate::specs::Raster::texts_below))]
 fn ascii_quad(bits: u8) -> [u8; 8]
     requires { bits < 16 }
@@ -162,7 +163,7 @@ fn ascii_quad(bits: u8) -> [u8; 8]
     }
 }
 
-// Whether one of the lowest four bits is set.
+// Returns whether bit `place` of `bits` is set, where `place` is less than four.
 #[tactic(auto, using(std::proofs::lemmas::Nat::Bits::shr_and_one), unfolding(qr_matrix::specs::Line::has_bit))]
 fn is_set(bits: u8, place: u8) -> bool
     requires { place < 4 }
@@ -171,7 +172,8 @@ fn is_set(bits: u8, place: u8) -> bool
     bits >> place & 1 == 1
 }
 
-// Adds four modules and the four below them as characters of half blocks, of which the first is the lowest bit.
+// Adds four modules and the four modules below them as four characters of half blocks. Bit 0 of `upper` and of `lower`
+// is the first module.
 #[tactic(auto, unfolding(crate::specs::Raster::texts_below))]
 fn push_half_block_quad(text: &mut ArrayVec<u8, 1200>, upper: u8, lower: u8)
     requires room { array_vec_len text.old + 12 ≤ 1200 }
@@ -183,7 +185,7 @@ fn push_half_block_quad(text: &mut ArrayVec<u8, 1200>, upper: u8, lower: u8)
     push_half_block(text, is_set(upper, 3), is_set(lower, 3));
 }
 
-// Adds four cells, of which the first is the lowest bit.
+// Adds four cells. Bit 0 of `upper` and of `lower` is the first cell.
 #[inline(always)]
 #[tactic(auto, using(crate::proofs::CellLemmas::quad_inverse))]
 fn push_quad(text: &mut ArrayVec<u8, 1200>, style: TextStyle, upper: u8, lower: u8)
@@ -198,7 +200,7 @@ fn push_quad(text: &mut ArrayVec<u8, 1200>, style: TextStyle, upper: u8, lower: 
     }
 }
 
-// Adds so many cells of a row of the raster, from a column on.
+// Adds `count` cells of row `row` of the raster, from column `first` on.
 fn push_cells(
     text: &mut ArrayVec<u8, 1200>,
     style: TextStyle,
@@ -244,7 +246,7 @@ fn push_cells(
     }
 }
 
-// The same, in a copy for each style, so that the loop looks at no style.
+// Does what `push_cells` does. It is compiled once for each style, so that its loop does not branch on the style.
 #[inline(always)]
 fn push_cells_of(
     text: &mut ArrayVec<u8, 1200>,
@@ -268,7 +270,8 @@ fn push_cells_of(
     }
 }
 
-// Adds the cells of the columns of the square, four at a time, as far as there are four.
+// Adds the cells of the square's columns in row `row` of the raster, four at a time. The last columns are not added if
+// fewer than four are left.
 fn push_quads(
     text: &mut ArrayVec<u8, 1200>,
     style: TextStyle,
@@ -288,7 +291,7 @@ fn push_quads(
     }
 }
 
-// The same, in a copy for each style.
+// Does what `push_quads` does. It is compiled once for each style.
 #[inline(always)]
 fn push_quads_of(
     text: &mut ArrayVec<u8, 1200>,
@@ -314,7 +317,8 @@ fn push_quads_of(
     }
 }
 
-// Puts a line: the margin, the columns of the square by fours, and the columns and the margin after those.
+// Writes line `y` through `pen`: the margin, the columns of the square by fours, and then the remaining columns and the
+// margin.
 fn put_line<W: Sink>(
     pen: &mut Pen,
     out: &mut W,
@@ -349,7 +353,7 @@ fn put_line<W: Sink>(
     Ok(())
 }
 
-// Puts the lines of a symbol.
+// Writes the lines of a symbol through `pen`.
 fn put_lines<W: Sink>(
     pen: &mut Pen,
     out: &mut W,
@@ -366,7 +370,7 @@ fn put_lines<W: Sink>(
     Ok(())
 }
 
-/// Puts the lines of symbols, one after the other.
+/// Writes the lines of symbols, one symbol after the other, through `pen`.
 pub(crate) fn put_texts<S: HasSquare, W: Sink>(
     pen: &mut Pen,
     out: &mut W,

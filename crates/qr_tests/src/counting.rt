@@ -1,10 +1,10 @@
-//! A reader and a writer of std as devices: their errors, their flushes and their counts.
+//! Readers and writers of the standard library as devices: their errors, their flushes and their counts.
 
 use qrencode_cli::{Counted, Sink, Source, Trouble};
 use std::io::{self, ErrorKind, Read, Write};
 
-// A stream whose first call is interrupted, whose second fails, and whose later ones work. It lends its counts of
-// calls and flushes to the test.
+// A stream whose first call is interrupted, whose second call fails, and whose later calls succeed. It counts calls and
+// flushes in variables of the test.
 #[derive(Drop)]
 struct Rough<'a> {
     calls: &'a mut u8,
@@ -12,7 +12,7 @@ struct Rough<'a> {
 }
 
 impl Rough<'_> {
-    // The error of the next call, if it has one.
+    // Counts a call, and returns its error if the call is to fail.
     fn error(&mut self) -> Option<io::Error> {
         *self.calls = self.calls.saturating_add(1);
         match *self.calls {

@@ -1,4 +1,4 @@
-//! The four types of drawings: lines of them, the runs that they show, the words that ask for them, and writers that fail.
+//! The four types of drawings: some of their lines and runs, the arguments that ask for them, and writers that fail.
 
 ghost use Rattle.std.specs.Prelude.{◌≡◌, IfOk};
 
@@ -15,7 +15,7 @@ static CODEWORDS: [u8; 26] = [
     0xA5, 0x24, 0xD4, 0xC1, 0xED, 0x36, 0xC7, 0x87, 0x2C, 0x55,
 ];
 
-// The symbol of `01234567` in version 1-M under mask 0.
+// Returns the symbol of `01234567` in version 1-M with mask 0.
 fn symbol(alloc: Global) -> Result<Symbol, Fail>
     ensures { IfOk result (λ s. s.matrix.side ≡ 21) }
 {
@@ -26,7 +26,7 @@ fn symbol(alloc: Global) -> Result<Symbol, Fail>
     Ok(build_masked(alloc, version, Level::M, &CODEWORDS, 0)?)
 }
 
-// The drawing of that symbol.
+// Returns the drawing of that symbol.
 fn one(alloc: Global, kind: Drawing, margin: u8) -> Result<Trial, Fail> {
     let symbols = [symbol(alloc)?];
     let mut out = Trial::writer(alloc, 8000, Manner::WELL)?;
@@ -34,12 +34,12 @@ fn one(alloc: Global, kind: Drawing, margin: u8) -> Result<Trial, Fail> {
     Ok(out)
 }
 
-// A line of a text, counted from 0.
+// Returns line `index` of a text, counted from 0.
 fn line(text: &[u8], index: usize) -> &[u8] {
     text.split(|byte| *byte == b'\n').nth(index).unwrap_or(&[])
 }
 
-// How many lines a text has.
+// Returns the number of lines of a text.
 fn line_count(text: &[u8]) -> usize {
     text.iter().filter(|byte| **byte == b'\n').count()
 }
@@ -149,7 +149,8 @@ fn svg_of_two_symbols(rt: HostRuntime) -> Result<(), Fail> {
     Ok(())
 }
 
-// Where the runs of the first row end: a finder pattern's, the light one beside it, and the last finder pattern's.
+// The ends of three runs of the first row: of a finder pattern, of the light run beside it, and of the last finder
+// pattern.
 #[test]
 fn runs_of_the_first_row(rt: HostRuntime) -> Result<(), Fail> {
     let symbol = symbol(rt.alloc())?;
@@ -200,7 +201,8 @@ fn by_words(rt: HostRuntime) -> Result<(), Fail> {
     Ok(())
 }
 
-// A writer of 100 bytes a call that fails at each call in turn, until none does, holds a beginning of the drawing.
+// A writer that takes at most 100 bytes in a call fails at call 0, at call 1, and so on, until a drawing needs no more
+// calls. It always took a prefix of the drawing.
 #[test]
 fn writers_fail_in_turn(rt: HostRuntime) -> Result<(), Fail> {
     let symbols = [symbol(rt.alloc())?];

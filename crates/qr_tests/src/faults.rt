@@ -1,4 +1,4 @@
-//! The line and the status of each fault of words and input.
+//! The line and the status of each fault of the arguments and the input.
 
 use crate::runs::{DRAW, Devices, run_with};
 use qrencode_cli::Manner;
@@ -58,7 +58,7 @@ fn of_words_and_input(rt: HostRuntime) -> Result<(), Fail> {
     Ok(())
 }
 
-// The words are refused by the parser of command lines, whose text is its own; no input is read.
+// `clap` refuses the arguments, and its text is written; no input is read.
 #[test]
 fn of_words_alone(rt: HostRuntime) -> Result<(), Fail> {
     let rows = [
@@ -122,7 +122,7 @@ fn of_words_alone(rt: HostRuntime) -> Result<(), Fail> {
     Ok(())
 }
 
-// The longest input at each level that fits a symbol in digits, and one digit more.
+// The longest input of digits that fits a symbol, at each level, and one digit more.
 #[test]
 fn of_length(rt: HostRuntime) -> Result<(), Fail> {
     let digits = vec![in rt.alloc(); b'7'; 7090]?;
@@ -146,7 +146,8 @@ fn of_length(rt: HostRuntime) -> Result<(), Fail> {
     Ok(())
 }
 
-// The longest inputs of letters and of bytes that fit a symbol at the lowest level, and one more of each.
+// The longest inputs of capital letters and of small letters that fit a symbol at the lowest level, and one letter
+// more.
 #[test]
 fn of_length_in_other_modes(rt: HostRuntime) -> Result<(), Fail> {
     for (byte, most) in [(b'A', 4296usize), (b'a', 2953)] {
@@ -169,7 +170,7 @@ fn of_length_in_other_modes(rt: HostRuntime) -> Result<(), Fail> {
     Ok(())
 }
 
-// A long input is read up to the limit and no further.
+// A long input is read up to `INPUT_MAX` bytes and no further.
 #[test]
 fn of_a_long_input(rt: HostRuntime) -> Result<(), Fail> {
     let input = vec![in rt.alloc(); b'0'; 200_000]?;
@@ -186,7 +187,7 @@ fn of_a_long_input(rt: HostRuntime) -> Result<(), Fail> {
     Ok(())
 }
 
-// Standard error that has no room for the line holds its beginning.
+// If standard error has no room for the whole line, it receives a prefix of the line.
 #[test]
 fn told_to_a_full_device(rt: HostRuntime) -> Result<(), Fail> {
     let devices = Devices {
@@ -209,7 +210,7 @@ fn told_to_a_full_device(rt: HostRuntime) -> Result<(), Fail> {
     Ok(())
 }
 
-// The line is tried again after as many interruptions as may be, and given up at one more.
+// The line of a fault is written after 999 interruptions, and is not written after 1,000.
 #[test]
 fn told_to_an_interrupted_device(rt: HostRuntime) -> Result<(), Fail> {
     for (interruptions, line) in [(999, "qrencode: input is empty\n"), (1000, "")] {
@@ -231,7 +232,7 @@ fn told_to_an_interrupted_device(rt: HostRuntime) -> Result<(), Fail> {
     Ok(())
 }
 
-// Where the words are at fault, or hold the input, the reader is not asked.
+// The reader is not called if the arguments are refused or contain the input.
 #[test]
 fn beside_a_failing_reader(rt: HostRuntime) -> Result<(), Fail> {
     let devices = Devices {

@@ -1,10 +1,10 @@
-//! The drawing of `A` in version 1-L under mask 0, as another encoder draws it.
+//! The drawing of `A` in version 1-L with mask 0, as drawn by another encoder.
 
 use crate::runs::{DRAW, Devices, run_with};
 use std::alloc::{AllocError, Global};
 use std::test::Fail;
 
-// The modules, row by row from the top, 1 being dark.
+// The modules, row by row from the top; 1 is dark.
 static ROWS: [u32; 21] = [
     0b111111100101101111111,
     0b100000100111001000001,
@@ -29,7 +29,7 @@ static ROWS: [u32; 21] = [
     0b111111101110101010111,
 ];
 
-// A line of the drawing: four modules of margin, 21 modules, and the margin again.
+// Adds a line of the drawing: four modules of margin, 21 modules, and the margin again.
 fn push_line(text: &mut Vec<u8>, modules: u32) -> Result<(), AllocError> {
     text.extend_from_slice(b"        ")?;
     for col in 0..21u32 {
@@ -43,7 +43,7 @@ fn push_line(text: &mut Vec<u8>, modules: u32) -> Result<(), AllocError> {
     text.extend_from_slice(b"        \n")
 }
 
-/// The whole drawing: 29 lines of 58 characters.
+/// Returns the whole drawing: 29 lines of 58 characters.
 pub fn drawing(alloc: Global) -> Result<Vec<u8>, AllocError> {
     let mut text = Vec::new(alloc);
     for _ in 0..4u8 {
@@ -80,7 +80,7 @@ fn is_drawn(rt: HostRuntime) -> Result<(), Fail> {
     Ok(())
 }
 
-// The fifth line from below ends so.
+// The fifth line from below is the last row of the symbol, and ends like this.
 #[test]
 fn ends_in_three_lone_modules(rt: HostRuntime) -> Result<(), Fail> {
     let r = run_with(rt.alloc(), &DRAW, b"A", Devices::WELL)?;

@@ -1,4 +1,4 @@
-//! Folding to capitals and kanji mode, as the command's options ask for them.
+//! Folding to capitals and kanji mode, by the options `-i` and `-k`.
 
 use crate::runs::{Devices, run_with};
 use qr_bits::{Mode, Rule, Segment};
@@ -6,7 +6,7 @@ use qr_layout::{Level, Version};
 use qr_symbol::{encode, read_symbol};
 use std::test::Fail;
 
-// Whether two command lines succeed with the same drawing of an input.
+// Returns whether two command lines both succeed and draw an input alike.
 fn draw_alike(
     rt: &HostRuntime,
     words: &[&str],
@@ -44,7 +44,7 @@ fn kanji_by_an_option(rt: HostRuntime) -> Result<(), Fail> {
         "pairs are not folded"
     );
     assert!(rt; draw_alike(&rt, &in_bytes, &draw, pairs)?, "in byte mode");
-    // The second byte of the pair is that of the letter a, which follows it.
+    // The second byte of the pair is the code of the letter a. A letter a follows the pair.
     let (small, large) = (b"\x93\x61a", b"\x93\x61A");
     for words in [&kanji[..], &folded[..]] {
         let a = run_with(rt.alloc(), &folded, small, Devices::WELL)?;

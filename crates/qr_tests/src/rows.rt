@@ -1,4 +1,4 @@
-//! Rows of the layers below, at their public functions.
+//! Worked values of public functions of the lower crates.
 
 ghost use Rattle.std.specs.Prelude.{◌≡◌, ◌<◌, ◌≤◌};
 ghost use Rattle.std.specs.List.{All, sum_by};
@@ -11,7 +11,7 @@ use qr_symbol::{EncodeFault, ReadFault};
 use qrencode_cli::{DrawFault, Drawing, UsageFault, options};
 use std::test::Fail;
 
-// Column 6 is in no strip: from column 7 the walk goes on in column 5, in the row where the strip before it ended.
+// Column 6 is in no strip: after column 7 the walk goes on in column 5, in the row in which the strip before it ended.
 #[test]
 fn walk_over_column_6(rt: HostRuntime) -> Result<(), Fail> {
     let version = Version::FIRST;
@@ -35,7 +35,8 @@ fn bits(version: u8, segs: &[Segment]) -> Result<u64, Fail>
     Ok(bit_len(segs, Version::new(version).ok_or("version")?))
 }
 
-// Eight digits and a letter cost most by themselves where counts are narrow, and least together where they are wide.
+// Eight digits and a letter take 60 bits as two segments of version 1, and 64 bits in version 10. In version 27, where
+// character counts are wider, one segment of 67 bits is shorter than two.
 #[test]
 fn bits_of_digits_and_a_letter(rt: HostRuntime) -> Result<(), Fail> {
     let apart = [segment(Mode::Numeric, 8), segment(Mode::Alphanumeric, 1)];
@@ -64,7 +65,7 @@ fn settings_of_words(rt: HostRuntime) -> Result<(), Fail> {
     Ok(())
 }
 
-// The numbers of faults, in the order in which their causes are looked for.
+// The numbers of faults, in the order in which the causes are checked.
 #[test]
 fn numbers_of_faults(rt: HostRuntime) {
     assert_eq!(rt; (BitFault::Memory as u8, BitFault::TooLong as u8), (1, 2));

@@ -3,10 +3,10 @@
 use qrencode_cli::{Manner, Trial, run};
 use std::alloc::{AllocError, Global};
 
-/// The words that draw one symbol of version 1, the program's name left aside.
+/// The arguments that draw one symbol of version 1, without the program's name.
 pub const DRAW: [&str; 5] = ["-8", "-v", "1", "-t", "ASCII"];
 
-/// What a run answered, and its devices after it.
+/// The exit status of a run, and its devices after it.
 #[derive(Drop)]
 pub struct Run {
     pub status: u8,
@@ -15,7 +15,7 @@ pub struct Run {
     pub err: Trial,
 }
 
-/// How the three devices of a run behave, and how many bytes the two writers take.
+/// How the three devices of a run behave, and how many bytes each of the two writers takes.
 #[derive(Clone, Copy)]
 pub struct Devices {
     pub input: Manner,
@@ -26,7 +26,7 @@ pub struct Devices {
 }
 
 impl Devices {
-    /// Devices with no fault, and room enough.
+    /// Devices without faults, with room enough.
     pub const WELL: Devices = Devices {
         input: Manner::WELL,
         out: Manner::WELL,
@@ -36,7 +36,7 @@ impl Devices {
     };
 }
 
-/// The words of a command line, after the program's name.
+/// Returns a command line: the program's name, and then `words`.
 pub fn line_of(alloc: Global, words: &[&str]) -> Result<Vec<String>, AllocError> {
     let mut list = Vec::new(alloc);
     list.push(String::from_str(alloc, "qrencode")?)?;
@@ -46,7 +46,7 @@ pub fn line_of(alloc: Global, words: &[&str]) -> Result<Vec<String>, AllocError>
     Ok(list)
 }
 
-/// Runs the command with these words, after the program's name, on this input.
+/// Runs the command with the arguments `words`, after the program's name, on `input`.
 pub fn run_with(
     alloc: Global,
     words: &[&str],

@@ -1,4 +1,5 @@
-//! Series of symbols: how many the command draws, and that all of the largest are joined again.
+//! Series of symbols: how many symbols the command draws, and that the symbols of the largest series are joined to its
+//! input.
 
 use crate::runs::{Devices, run_with};
 use qr_bits::{INPUT_MAX, Rule};
@@ -6,7 +7,8 @@ use qr_layout::{Level, Version};
 use qr_symbol::{EncodeFault, encode_series, read_series};
 use std::test::Fail;
 
-// As many symbols of version 1-H as the input takes, each in 29 lines of 58 characters.
+// In version 1-H, 7 bytes take one symbol, 8 bytes take 2, and 80 bytes take 16. Each symbol is 29 lines of 58
+// characters.
 #[test]
 fn of_version_1_h(rt: HostRuntime) -> Result<(), Fail> {
     let words = ["-S", "-8", "-v", "1", "-l", "H", "-t", "ASCII"];
@@ -31,7 +33,7 @@ fn of_version_1_h(rt: HostRuntime) -> Result<(), Fail> {
     Ok(())
 }
 
-// The largest series: 16 symbols of 2,951 bytes each, and one byte more.
+// The largest series: 16 symbols of version 40-L with 2,951 bytes each; and one byte more, which no series holds.
 #[test]
 fn of_version_40_l(rt: HostRuntime) -> Result<(), Fail> {
     let letters = vec![in rt.alloc(); b'a'; 47_217]?;

@@ -5,7 +5,7 @@ use crate::runs::{DRAW, Devices, run_with};
 use qrencode_cli::Manner;
 use std::test::Fail;
 
-// Devices that move one byte a call, after as many interruptions as are tried again.
+// Devices that move one byte in a call, after 999 interruptions, which are all tried again.
 #[test]
 fn slow_devices_do(rt: HostRuntime) -> Result<(), Fail> {
     let slow = Manner {
@@ -27,7 +27,7 @@ fn slow_devices_do(rt: HostRuntime) -> Result<(), Fail> {
     Ok(())
 }
 
-// One interruption more is a fault, of the reader or of the writer.
+// The 1,000th interruption is a fault of the reader or of the writer.
 #[test]
 fn interrupted_too_often(rt: HostRuntime) -> Result<(), Fail> {
     let tired = Manner {
@@ -53,7 +53,8 @@ fn interrupted_too_often(rt: HostRuntime) -> Result<(), Fail> {
     Ok(())
 }
 
-// A reader of one byte a call that fails at each call in turn: at the first, in the middle, and where the end would be.
+// A reader that returns one byte in a call fails at the first call, at the second, and at the call that would find the
+// end.
 #[test]
 fn readers_fail_in_turn(rt: HostRuntime) -> Result<(), Fail> {
     for call in 0..3u64 {
@@ -77,7 +78,8 @@ fn readers_fail_in_turn(rt: HostRuntime) -> Result<(), Fail> {
     Ok(())
 }
 
-// A writer of 100 bytes a call that fails, or answers 0, at each call in turn until none does.
+// A writer that takes at most 100 bytes in a call fails, or returns 0, at call 0, at call 1, and so on, until a drawing
+// needs no more calls.
 #[test]
 fn writers_fail_in_turn(rt: HostRuntime) -> Result<(), Fail> {
     let want = drawing(rt.alloc())?;

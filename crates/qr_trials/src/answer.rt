@@ -1,20 +1,20 @@
-//! What a call returned.
+//! The result of a trial.
 
 /// What a call returned.
 #[derive(Clone, Copy)]
 pub enum Answer {
-    /// What it returns with ample memory.
+    /// The value that it returns with ample memory.
     Ordinary,
-    /// The refusal of this name: memory was refused.
+    /// The error of this name, because memory was refused.
     Memory(&'static str),
-    /// Anything else.
+    /// Any other value or error.
     Other,
-    /// What it was given is no longer what it was.
+    /// The call changed its arguments.
     Changed,
 }
 
 impl Answer {
-    /// The ordinary answer, if it is the one that was worked out.
+    /// Returns `Ordinary` if the value is the expected one, which was worked out before, and otherwise `Other`.
     pub fn of(is_worked: bool) -> Answer {
         if is_worked {
             Answer::Ordinary
@@ -23,12 +23,12 @@ impl Answer {
         }
     }
 
-    /// This answer, if what the call was given is what it was.
+    /// Returns this answer if the arguments of the call are unchanged, and otherwise `Changed`.
     pub fn given(self, is_same: bool) -> Answer {
         if is_same { self } else { Answer::Changed }
     }
 
-    /// The words that tell of it.
+    /// Returns the text that is printed for this answer.
     pub fn text(self) -> &'static str {
         match self {
             Answer::Ordinary => "as worked out, arguments unchanged",

@@ -1,4 +1,4 @@
-//! The calls on segments and bits, with `HELLO WORLD` in version 1-M: one segment, and its data codewords.
+//! The calls of `qr_bits`, most of them with `HELLO WORLD` in version 1-M: its one segment and its data codewords.
 
 use crate::answer::Answer;
 use qr_bits::{
@@ -15,7 +15,7 @@ pub static SEGMENT: Segment = Segment {
     len: 11,
 };
 
-/// The data codewords.
+/// The data codewords of `HELLO WORLD` in version 1-M.
 pub static DATA: [u8; 16] = [
     0x20, 0x5B, 0x0B, 0x78, 0xD1, 0x72, 0xDC, 0x4D, 0x43, 0x40, 0xEC, 0x11, 0xEC, 0x11, 0xEC, 0x11,
 ];

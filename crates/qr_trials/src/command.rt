@@ -1,13 +1,13 @@
-//! The command over devices in memory.
+//! The calls of `qrencode_cli`, with devices in memory.
 
 use crate::answer::Answer;
 use qrencode_cli::{Manner, Trial, UsageFault, options, run};
 use std::alloc::{AllocError, Global};
 
-// The line that tells of memory that was refused.
+// The line that is written if memory is refused.
 static OUT_OF_MEMORY: &str = "qrencode: out of memory\n";
 
-// The words of a command line, the program's name first.
+// Returns a command line: the program's name, and then `words`.
 fn line(alloc: Global, words: &[&str]) -> Result<Vec<String>, AllocError> {
     let mut list = Vec::new(alloc);
     list.push(String::from_str(alloc, "qrencode")?)?;
@@ -17,7 +17,7 @@ fn line(alloc: Global, words: &[&str]) -> Result<Vec<String>, AllocError> {
     Ok(list)
 }
 
-// Whether the words are those, after the program's name.
+// Returns whether the texts of `list` after the program's name are equal to `words`.
 fn are(list: &[String], words: &[&str]) -> bool {
     list.iter()
         .skip(1)
@@ -36,8 +36,8 @@ pub fn settings(alloc: Global) -> Result<Answer, AllocError> {
     Ok(answer.given(are(&list, &words)))
 }
 
-// Runs the command. With ample memory its status is this, standard output begins like this, and the text on standard
-// error has this part.
+// Runs the command. With ample memory its status is `status`, standard output begins with `front`, and the text on
+// standard error contains `part`.
 fn ran(
     alloc: Global,
     words: &[&str],

@@ -1,7 +1,8 @@
-//! Trials of the calls that take memory. The program's word names a call; it is made once, and a line says what it
-//! returned. `tests/refused_growths` runs each trial with one growth of memory refused.
+//! Trials of the calls that allocate memory. The program's argument names a call. The program makes this call once, and
+//! prints a line that says what it returned. `tests/refused_growths` runs each trial with one growth of memory refused.
 //!
-//! What a call is given is made before the call, and compared after it with what it was made from.
+//! The arguments of a call are made before it. After the call they are compared with the values that they were made
+//! from.
 #![tactic(auto)]
 
 mod answer;
@@ -14,7 +15,7 @@ use std::alloc::{AllocError, Global};
 use std::env;
 use std::process::ExitCode;
 
-// The trials, in the order of the crates.
+// The names of the trials, in the order of the crates.
 static NAMES: [&str; 22] = [
     "Matrix::new",
     "segments",
@@ -40,7 +41,7 @@ static NAMES: [&str; 22] = [
     "run_kanji",
 ];
 
-// Makes the call of this name. An error is memory refused while what it is given was made.
+// Makes the call of this name. Returns an error if memory is refused while the call's arguments are made.
 fn trial(alloc: Global, name: &str) -> Result<Answer, AllocError> {
     match name {
         "Matrix::new" => Ok(symbols::matrix(alloc)),
@@ -69,7 +70,7 @@ fn trial(alloc: Global, name: &str) -> Result<Answer, AllocError> {
     }
 }
 
-// Says what the call of this name returned.
+// Prints what the call of this name returned, and returns whether it could be printed.
 fn tell(rt: &HostRuntime, name: &str) -> bool {
     let text = match trial(rt.alloc(), name) {
         Ok(answer) => answer.text(),

@@ -1,4 +1,5 @@
-//! The calls on symbols: those of `HELLO WORLD` in version 1-M, and the series of `ABCDEFGH` in byte mode in 1-H.
+//! The calls on symbols: on the symbol of `HELLO WORLD` in version 1-M, and on the series of `ABCDEFGH` in byte mode in
+//! 1-H.
 
 use crate::answer::Answer;
 use crate::bits::{DATA, HELLO_WORLD};
@@ -11,7 +12,7 @@ use qr_symbol::{
 };
 use std::alloc::{AllocError, Global};
 
-// The codewords of `HELLO WORLD` in version 1-M: the data codewords, then those of error correction.
+// The codewords of `HELLO WORLD` in version 1-M: the data codewords, and then the error correction codewords.
 static SENT: [u8; 26] = [
     0x20, 0x5B, 0x0B, 0x78, 0xD1, 0x72, 0xDC, 0x4D, 0x43, 0x40, 0xEC, 0x11, 0xEC, 0x11, 0xEC, 0x11,
     0xC4, 0x23, 0x27, 0x77, 0xEB, 0xD7, 0xE7, 0xE2, 0x5D, 0x17,
@@ -25,7 +26,7 @@ const READ_OUT: Answer = Answer::Memory("ReadFault::Memory, arguments unchanged"
 
 const ALLOC_OUT: Answer = Answer::Memory("AllocError, arguments unchanged");
 
-// Whether two squares have the same modules.
+// Returns whether two squares have the same modules.
 fn are_equal(a: &Matrix, b: &Matrix) -> bool {
     let side = a.side();
     if b.side() != side {
@@ -41,7 +42,7 @@ fn are_equal(a: &Matrix, b: &Matrix) -> bool {
     true
 }
 
-// Whether each symbol has the modules of the other at its place.
+// Returns whether two series have the same number of symbols, and symbols at the same position have the same modules.
 fn are_equal_series(a: &[Symbol], b: &[Symbol]) -> bool {
     a.len() == b.len()
         && a.iter()
@@ -49,7 +50,7 @@ fn are_equal_series(a: &[Symbol], b: &[Symbol]) -> bool {
             .all(|(x, y)| are_equal(&x.matrix, &y.matrix))
 }
 
-// The symbol of `HELLO WORLD` in version 1-M, or none where no memory was left.
+// Returns the symbol of `HELLO WORLD` in version 1-M, or an error if memory is refused.
 fn hello(alloc: Global) -> Result<Symbol, AllocError> {
     encode(alloc, &HELLO_WORLD, Level::M, Version::FIRST, Rule::Auto).map_err(|_| AllocError)
 }
@@ -183,7 +184,7 @@ pub fn mended_series(alloc: Global) -> Result<Answer, AllocError> {
     Ok(answer.given(are_equal(&squares[0], &same.matrix)))
 }
 
-// The series of the eight letters in byte mode in version 1-H: five and three.
+// Returns the series of `ABCDEFGH` in byte mode in version 1-H: two symbols, of five letters and of three letters.
 fn series(alloc: Global) -> Result<Vec<Symbol>, AllocError> {
     encode_series(alloc, &LETTERS, Version::FIRST, Level::H, Rule::BytesOnly).map_err(
         |_| AllocError,

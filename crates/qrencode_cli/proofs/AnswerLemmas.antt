@@ -1,4 +1,4 @@
--- Why the words and the input have one answer.
+-- A command line and an input have at most one drawing and at most one reason to be refused, and not both.
 use Rattle.std.proofs.Common.{◌≡◌, ◌≤◌, ◌∙◌, ◌&&◌, ◌==◌, inl, inr, ℕ, Bool, true, false, cond, leb, List, [], length, Option, Some, None, unwrap_or, codes, Result, Ok, Err, refl, ap, sym, subst, arith}
 use Rattle.std.specs.Option.{is_none, option_map_or}
 use Rattle.std.specs.Prelude.{option_and_then}
@@ -22,11 +22,11 @@ use Rattle.qrencode_cli.specs.declared.fault.Refusal.{Refusal}
 use Rattle.qrencode_cli.specs.Picture.{AreSquares, AreSymbols, IsTooLong, IsTooMany, smallest_of}
 use Rattle.qrencode_cli.specs.declared.fault.Refusal.TheVariants as refusal
 
--- words that are taken give one list of settings
+-- a command line has at most one list of settings
 settings-one : (words : List Text) (s t : SettingsView) → settings_for words ≡ Ok s → settings_for words ≡ Ok t → s ≡ t
 settings-one words s t a b = let e : Ok s ≡ Ok t = sym a ∙ b in cc
 
--- the settings ask for one list of squares
+-- the settings ask for at most one list of squares
 squares-one : (structured : Bool) (s : SettingsView) (input : List ℕ) (g h : List Grid) → AreSquares structured s input g → AreSquares structured s input h → g ≡ h
 squares-one true s input g h a b =
     a.theirs ∙ ap squares_of (series-one input s.level (rule_for s) (smallest_of s) a.symbols b.symbols a.series b.series) ∙ sym b.theirs
@@ -34,7 +34,7 @@ squares-one false s input g h a b =
     let same = symbol-one input s.level (smallest_of s) (rule_for s) _ _ _ _ a.0 b.0 a.1.symbol b.1.symbol in
     let e = same.2 in let f = a.2 in let k = b.2 in cc
 
--- and so for one drawing
+-- and so for at most one drawing
 drawing-one : (s : SettingsView) (input d e : List ℕ) → IsDrawing s input d → IsDrawing s input e → d ≡ e
 drawing-one s input d e a b =
     a.is_drawn ∙ ap (drawn s.kind s.margin) (squares-one s.structured s input a.squares b.squares a.symbols b.symbols) ∙ sym b.is_drawn
@@ -61,7 +61,7 @@ not-too-many s input squares h many =
     no-series x v ss (inl a) b = b.too_long a.fits
     no-series x v ss (inr a) b = let m = a.many in let n = b.too_many a.parts a.split in absurd (omega arith)
 
--- words and an input that ask for a drawing are not refused
+-- a command line and an input that have a drawing are not refused
 pub refusals-exclude : RefusalsExcludeDrawings
 refusals-exclude words given d refusal.Empty a h =
     let same = settings-one words h.settings a.settings h.taken a.taken in
@@ -82,29 +82,29 @@ refusals-exclude words given d refusal.NeedsVersion a h = let e : Ok a.settings 
 
 -- ---- one reason
 
--- no settings are a reason against them
+-- an error is not equal to settings
 err-ok : (r : Reason) (s : SettingsView) → Err r ≡ Ok s → ⊥
 err-ok r s e = cc
 
--- the settings are those that were checked
+-- if the check of the series succeeds, it returns the settings that it checked
 series-checked : (b : Bool) (t s : SettingsView) → cond b (Err needs_version) (Ok t) ≡ Ok s → t ≡ s
 series-checked true t s e = absurd (err-ok needs_version s e)
 series-checked false t s e = cc
 
--- what all settings of a level and a type have, the checked ones have
+-- a property of all settings with a level and a type holds of the checked settings too
 checked-have : (P : SettingsView → Type 0) (l : Option Level) (k : Option Drawing) (f : Level → Drawing → SettingsView) → ((l : Level) (k : Drawing) → P (f l k))
     → (s : SettingsView) → option_map_or (λ l. option_map_or (λ k. checked_series (f l k)) k (Err unknown_type)) l (Err unknown_level) ≡ Ok s → P s
 checked-have P None k f h s e = absurd (err-ok unknown_level s e)
 checked-have P (Some l) None f h s e = absurd (err-ok unknown_type s e)
 checked-have P (Some l) (Some k) f h s e = subst P (series-checked ((f l k).structured && is_none (f l k).smallest) (f l k) s e) (h l k)
 
--- what all settings of matches have, those that are taken have
+-- a property of all settings with a level and a type holds of the settings of a command line
 taken-have : (P : SettingsView → Type 0) (well : Bool) (rows : List Row) → ((l : Level) (k : Drawing) → P (settings_with rows l k))
     → (s : SettingsView) → cond well (settings_of rows) (Err no_matches) ≡ Ok s → P s
 taken-have P true rows h s e = checked-have P (option_map_or level_named (first_of (codes "level") rows) (Some level.L)) (option_and_then drawing_named (first_of (codes "type") rows)) (settings_with rows) h s e
 taken-have P false rows h s e = absurd (err-ok no_matches s e)
 
--- a version that is asked for is one of forty
+-- a version of -v is at most 40
 version-most : (n : ℕ) → unwrap_or (cond (leb 1 n && leb n 40) (Some n) None) 1 ≤ 40
 version-most n = by-test (leb 1 n) (leb n 40) (leb-true n 40)
   where
@@ -118,21 +118,21 @@ smallest-most : (words : List Text) (s : SettingsView) → settings_for words �
 smallest-most words s e =
     taken-have (λ s. smallest_of s ≤ 40) (length (faults_for words) == 0) (rows_for words) (λ l k. version-most (number_or 0 (one_of (codes "version") (rows_for words)))) s e
 
--- an empty input fits each version
+-- an empty input fits each version, so it is never too long
 empty-not-long : (words : List Text) (s : SettingsView) (input : List ℕ) → settings_for words ≡ Ok s → input ≡ [] → IsTooLong s input → ⊥
 empty-not-long words s input taken none long =
     long.1 (smallest_of s) (omega arith) (smallest-most words s taken) (subst (λ (x : List ℕ). FitsVersion (smallest_of s) s.level (rule_for s) x) (sym none) (empty_fits (smallest_of s) (rule_for s) _))
 
--- and so is no series
+-- so an empty input is never too long for a series
 empty-not-many : (s : SettingsView) (input : List ℕ) → input ≡ [] → IsTooMany s input → ⊥
 empty-not-many s input none many =
     many.1.too_long (subst (λ (x : List ℕ). FitsVersion (smallest_of s) s.level (rule_for s) x) (sym none) (empty_fits (smallest_of s) (rule_for s) _))
 
--- one symbol and a series are not asked for together
+-- settings do not ask for both one symbol and a series
 long-not-many : (s : SettingsView) (x y : List ℕ) → IsTooLong s x → IsTooMany s y → ⊥
 long-not-many s x y long many = let e : true ≡ false = sym many.0 ∙ long.0 in cc
 
--- what words ask for, as a number: why there are no settings, or that there are some
+-- a number for why a command line has no settings, or 0 if it has settings
 class_of : Result SettingsView Reason → ℕ
 class_of (Ok s) = 0
 class_of (Err no_matches) = 1
@@ -140,7 +140,7 @@ class_of (Err unknown_level) = 2
 class_of (Err unknown_type) = 3
 class_of (Err needs_version) = 4
 
--- the number of a refusal's words
+-- the number of the reason that a refusal names, or 0 if it is about the input
 class_told : Refusal → ℕ
 class_told (refusal.Words text) = 1
 class_told refusal.Level = 2
@@ -148,7 +148,7 @@ class_told refusal.Kind = 3
 class_told refusal.NeedsVersion = 4
 class_told _ = 0
 
--- a refusal tells what the words ask for
+-- a correct refusal names the reason why the command line has no settings
 class-is : (words : List Text) (given : List ℕ) (r : Refusal) → IsRefusal words given r → class_of (settings_for words) ≡ class_told r
 unfolding class_of class_told
 class-is words given (refusal.Words text) h = ap class_of h
@@ -159,13 +159,13 @@ class-is words given refusal.Empty h = ap class_of h.taken
 class-is words given refusal.TooLong h = ap class_of h.taken
 class-is words given refusal.TooMany h = ap class_of h.taken
 
--- two reasons against one input are about one list of settings
+-- two refusals of an input are about the same settings
 because-one : (words : List Text) (given : List ℕ) (P Q : SettingsView → List ℕ → Type 0) → Refuses words given P → Refuses words given Q
     → (s : SettingsView) × (settings_for words ≡ Ok s) × P s (held s (input_for s given)) × Q s (held s (input_for s given))
 because-one words given P Q h k =
     (k.settings, k.taken, subst (λ (s : SettingsView). P s (held s (input_for s given))) (settings-one words h.settings k.settings h.taken k.taken) h.holds, k.holds)
 
--- words and an input are refused for one reason at most
+-- for a command line and an input at most one refusal is correct
 pub refusals-one : RefusalsAreOne
 unfolding class_told
 refusals-one words given (refusal.Words text) (refusal.Words other) h k = tt

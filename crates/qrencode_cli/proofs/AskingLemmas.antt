@@ -1,4 +1,4 @@
--- What the words and the input ask for.
+-- The drawing that a command line and an input ask for, or the fault that occurs before any byte is written.
 use Rattle.std.proofs.Common.{◌≡◌, ◌∙◌, ◌≤◌, ℕ, Bool, true, false, List, [], ◌∷◌, take, Option, None, Some, Result, Ok, Err, MatchOption, MatchResult, refl, sym, subst, min, length, append-nil, arith, inl, inr, ◌⊎◌}
 use Rattle.std.proofs.lemmas.Bool.{cases_lt}
 use Rattle.std.proofs.lemmas.List.{take_min}
@@ -37,31 +37,31 @@ use Rattle.qrencode_cli.specs.declared.picture.Picture.{Picture}
 use Rattle.qrencode_cli.specs.declared.settings.UsageFault.{UsageFault}
 use Rattle.qrencode_cli.specs.declared.settings.UsageFault.TheVariants as usage
 
--- some input that the reader may give
+-- there is always an input that the reader may return
 any_input : (remaining : Option (List ℕ)) → (given : List ℕ) × IsInputOf remaining given
 any_input None = ([], tt)
 any_input (Some xs) = (take INPUT_MAX xs, refl)
 
--- the string of the words, cut to what is read
+-- if the command line contains a string, the input is this string, cut after `INPUT_MAX` bytes
 pub input_for-string : (s : SettingsView) (text given buf : List ℕ) (n : ℕ) → s.string ≡ Some text → buf ≡ text → n ≡ min INPUT_MAX (length buf)
     → input_for s given ≡ take n buf
 input_for-string s text given buf n e is cut =
     let whole : take n buf ≡ take INPUT_MAX text = rw (cut, is) (take_min INPUT_MAX text) in
     rw e (sym whole)
 
--- what the reader gave
+-- if the command line contains no string, the input is what the reader returned
 pub input_for-reader : (s : SettingsView) (given : List ℕ) → s.string ≡ None → input_for s given ≡ given
 input_for-reader s given e = rw e refl
 
--- under -i the symbols hold the folded input
+-- under -i the symbols contain the folded input
 pub held-folded : (s : SettingsView) (rule : Rule) (input bytes : List ℕ) → s.fold ≡ true → rule ≡ rule_for s → bytes ≡ folded rule input → held s input ≡ bytes
 held-folded s rule input bytes fold same e = rw (fold, ← same) (sym e)
 
--- without -i they hold the input
+-- without -i the symbols contain the input itself
 pub held-plain : (s : SettingsView) (input : List ℕ) → s.fold ≡ false → held s input ≡ input
 held-plain s input fold = rw fold refl
 
--- a symbol that is read as the input is joined to it
+-- if a symbol is read as the input, it is joined to the input
 joined-one : (input : List ℕ) (v : ℕ) (b : Rule) (g : Grid) → IsReadBack v b input g → IsJoined (g ∷ []) input
 unfolding AreReadBy
 joined-one input v b g h = record {
@@ -71,14 +71,14 @@ joined-one input v b g h = record {
   joined = sym (append-nil input);
 }
 
--- squares of this side are of one side
+-- squares that all have this side are of one side
 one-side : (squares : List Grid) (side : ℕ) → All (λ g. g.side ≡ side) squares → HaveOneSide squares
 one-side [] side h = All-nil (λ k. k.side ≡ 0)
 one-side (g ∷ gs) side h =
     let e : g.side ≡ side = All-head (λ k. k.side ≡ side) g gs h in
     subst (λ (n : ℕ). All (λ k. k.side ≡ n) (g ∷ gs)) (sym e) h
 
--- the one symbol of an input is what the settings ask for
+-- if a single symbol is asked for, the symbol of the input is what the settings ask for
 pub drawn-for-one : (s : SettingsView) (rule : Rule) (input : List ℕ) (version : ℕ) (symbol : Symbol) (symbols : List Symbol) → s.structured ≡ false → 1 ≤ version
     → version ≡ smallest_of s → rule ≡ rule_for s → (input ≡ [] → ⊥) → IsSymbol version s.level rule input symbol.version symbol.mask symbol.matrix
     → IsReadBack symbol.version rule input symbol.matrix → symbols ≡ symbol ∷ [] → AreDrawnFor s input symbols
@@ -96,7 +96,7 @@ drawn-for-one s rule input version symbol symbols one least e same some made rea
       one_side = All-cons (λ g. g.side ≡ symbol.matrix.side) symbol.matrix [] refl (All-nil (λ g. g.side ≡ symbol.matrix.side));
     })
 
--- why there is no one symbol is why the input has no drawing
+-- if a single symbol is asked for, a fault of `encode` is a correct reason why the input has no drawing
 pub told-one : (s : SettingsView) (input : List ℕ) (e : EncodeFault) → s.structured ≡ false → (e ≡ encode.Empty → input ≡ [])
     → (e ≡ encode.TooLong → HasNoVersion (smallest_of s) s.level (rule_for s) input)
     → (e ≡ encode.Empty) ⊎ ((e ≡ encode.TooLong) ⊎ (e ≡ encode.Memory)) → IsInputFault s input (fault_of_input e)
@@ -105,7 +105,7 @@ told-one s input encode.TooLong one empty long only = (one, long refl)
 told-one s input encode.TooMany one empty long only = elim only [ inl e ↦ absurd (cc) | inr w ↦ elim w [ inl e ↦ absurd (cc) | inr e ↦ absurd (cc) ] ]
 told-one s input encode.Memory one empty long only = tt
 
--- the series of an input is what the settings ask for
+-- if a series is asked for, the series of the input is what the settings ask for
 pub drawn-for-series : (s : SettingsView) (rule : Rule) (input : List ℕ) (version : ℕ) (symbols : List Symbol) → s.structured ≡ true → 1 ≤ version → version ≤ 40
     → version ≡ smallest_of s → rule ≡ rule_for s → (input ≡ [] → ⊥) → IsSeries version s.level rule input symbols
     → IsJoined (squares_of symbols) input → AreDrawnFor s input symbols
@@ -122,7 +122,7 @@ drawn-for-series s rule input version symbols many least most e same some series
   one_side = one-side (squares_of symbols) (side_of version) (series-side input s.level rule version symbols series);
 }
 
--- where nothing was read, nothing was read for the words
+-- if nothing was read, and the outcome is lack of memory, `ReadsFor` holds
 reads-nothing : (o : Result SettingsView Reason) (in0 : Reader) (given : List ℕ)
     → ReadsFor o in0 in0 given {T = Picture} (Err fault.Memory)
 reads-nothing (Err r) in0 given = refl
@@ -132,7 +132,7 @@ reads-nothing (Ok s) in0 given = nothing s.string
     nothing None = tt
     nothing (Some t) = refl
 
--- words that are not taken
+-- a command line without settings is refused
 refused : (words : List Text) (in0 : Reader) (why : Reason) (r : Refusal) → settings_for words ≡ Err why
     → (settings_for words ≡ Err why → IsFault words (any_input in0.remaining).0 (fault.Refused r))
     → Prepares words in0 in0 (Err (fault.Refused r))
@@ -143,7 +143,7 @@ refused words in0 why r e is = let i = any_input in0.remaining in record {
   answer = (is e, tt);
 }
 
--- words that have no settings
+-- every fault of the command line is a correct result
 pub prepares-usage : (words : List Text) (in0 : Reader) (u : UsageFault) → IsUsageFault (settings_for words) u
     → Prepares words in0 in0 (Err (fault_of_words u))
 prepares-usage words in0 (usage.Words text) h = refused words in0 _ (refusal.Words text) h (λ e. e)
@@ -158,7 +158,7 @@ prepares-usage words in0 usage.Memory h = let i = any_input in0.remaining in rec
 }
 
 module _ (words : List Text) (s : SettingsView) (taken : settings_for words ≡ Ok s) where
-  -- the answer for the input that is encoded
+  -- a correct result for the input that is encoded is correct for the command line
   answer-for : (given input : List ℕ) (r : Result Picture Fault) → input_for s given ≡ input
       → MatchResult r (λ p. IsDrawing s (held s input) (drawing_of p)) (IsInputFault s (held s input))
       → MatchResult r (λ p. Asks words given (drawing_of p)) (λ f. IsFault words given f × IsEarly f)
@@ -169,11 +169,11 @@ module _ (words : List Text) (s : SettingsView) (taken : settings_for words ≡ 
   answer-for given input (Err fault.Memory) e h = (tt, tt)
   answer-for given input (Err _) e h = absurd h
 
-  -- what was done to the reader, where the words are taken
+  -- what was done to the reader is stated by the settings, if the command line has settings
   reads-taken : (in0 in1 : Reader) (given : List ℕ) (r : Result Picture Fault) → ReadsFor (Ok s) in0 in1 given r → ReadsFor (settings_for words) in0 in1 given r
   reads-taken in0 in1 given r h = rw taken h
 
-  -- the input is the words' string
+  -- the case that the input is the string of the command line
   pub prepares-string : (in0 : Reader) (text buf : List ℕ) (n : ℕ) (r : Result Picture Fault) → s.string ≡ Some text → buf ≡ text → n ≡ min INPUT_MAX (length buf)
       → MatchResult r (λ p. IsDrawing s (held s (take n buf)) (drawing_of p)) (IsInputFault s (held s (take n buf)))
       → Prepares words in0 in0 r
@@ -184,7 +184,7 @@ module _ (words : List Text) (s : SettingsView) (taken : settings_for words ≡ 
     answer = answer-for i.0 (take n buf) r (input_for-string s text i.0 buf n string is cut) h;
   }
 
-  -- the input is what the reader gave
+  -- the case that the input is what the reader returned
   pub prepares-reader : (in0 in1 : Reader) (bytes buf : List ℕ) (r : Result Picture Fault) → s.string ≡ None → buf ≡ bytes
       → IsInputOf in0.remaining bytes → GivesInput in0 in1 bytes
       → MatchResult r (λ p. IsDrawing s (held s buf) (drawing_of p)) (IsInputFault s (held s buf))
@@ -203,7 +203,7 @@ module _ (words : List Text) (s : SettingsView) (taken : settings_for words ≡ 
       gives-for (Err fault.Memory) h = tt
       gives-for (Err _) h = gives
 
-  -- the reader was at fault, or there was no memory for the input
+  -- the case that the reader was at fault, or memory for the input was refused
   pub prepares-unread : (in0 in1 : Reader) (f : Fault) → s.string ≡ None → (f ≡ fault.Read) ⊎ (f ≡ fault.Memory)
       → Prepares words in0 in1 (Err f)
   prepares-unread in0 in1 fault.Read string only = let i = any_input in0.remaining in record {

@@ -1,4 +1,4 @@
--- From what clap states to the matches of this command.
+-- From what `clap` states about a command line to the matches of this command.
 use Rattle.std.proofs.Common.{◌≡◌, ◌==◌, ◌∙◌, cond, length, Bool, false, List, [], Err, true, refl, ap, inl, inr}
 use Rattle.std.proofs.lemmas.Bool.{eqb-true}
 use Rattle.std.proofs.lemmas.List.{nil_from_length}
@@ -30,7 +30,7 @@ rows_are a words m e h = (h (ap is_simple e ∙ is_simple-command)).0 ∙ ap (λ
 pub kinds_not_empty : (kinds : Kinds) (e : Error) → (kind_of e ≡ kind.OutOfMemory → ⊥) → HasKind kinds e → kinds ≡ [] → ⊥
 kinds_not_empty kinds e other h none = elim h [ inl memory ↦ other memory | inr among ↦ let no : IsAmong (kind_of e) [] = rw none at among in no ]
 
--- words for which clap states a fault have no settings
+-- a command line for which `clap` states a fault has no settings
 pub refused_words : (words : List Text) → (faults_for words ≡ [] → ⊥) → settings_for words ≡ Err no_matches
 refused_words words some = go (length (faults_for words) == 0) refl
   where

@@ -1,4 +1,4 @@
--- What holds while the input is read.
+-- The invariant of the loop that reads the input.
 use Rattle.std.proofs.Common.{◌≡◌, ◌+◌, ◌<◌, ◌≤◌, ◌++◌, ◌∙◌, ℕ, List, [], length, take, Option, Some, None, arith, sym, ap, refl, append-nil}
 use Rattle.std.proofs.lemmas.List.{take_all}
 use Rattle.std.proofs.Math.Seq.{take-append_seam}
@@ -8,7 +8,7 @@ use Rattle.std.specs.Io.KnownBytes.{Consumes, IsAtEnd}
 use Rattle.qr_devices.specs.Device.{no_reads}
 use Rattle.qr_devices.specs.declared.device.ReadCounts.{ReadCounts}
 
--- the counts of a device that began with none and has given so many bytes, with so many interruptions
+-- the counts of a device that started at 0, after `len` bytes and this number of interruptions
 pub record IsCounted (c : ReadCounts) (len interrupted : ℕ) : Type 0 where
   pub failed : c.failed ≡ 0
   pub interrupted_is : c.interrupted ≡ interrupted
@@ -17,14 +17,14 @@ pub record IsCounted (c : ReadCounts) (len interrupted : ℕ) : Type 0 where
   pub ends : c.ends ≡ 0
   pub past_end : c.past_end ≡ 0
 
--- where the reading of the input stands
+-- the state of the reading after these bytes and this number of interruptions
 pub record IsReading (old new : Option (List ℕ)) (before now : ReadCounts) (bytes : List ℕ) (interrupted : ℕ) : Type 0 where
   pub given : Consumes old new bytes
   pub bounded : length bytes ≤ INPUT_MAX
   pub few : interrupted ≤ 999
   pub counted : before ≡ no_reads → IsCounted now (length bytes) interrupted
 
--- as many bytes as are read at most
+-- `INPUT_MAX` bytes that were read are the input
 pub IsInputOf-full : (a b : Option (List ℕ)) (bytes : List ℕ) → Consumes a b bytes → length bytes ≤ INPUT_MAX → INPUT_MAX ≤ length bytes → IsInputOf a bytes
 IsInputOf-full None b bytes p low high = tt
 IsInputOf-full (Some x) None bytes p low high = absurd p
@@ -33,7 +33,7 @@ IsInputOf-full (Some x) (Some y) bytes p low high =
     let all : take (length bytes) x ≡ bytes = rw p (take-append_seam bytes y) in
     sym all ∙ ap (λ n. take n x) len
 
--- all the bytes up to the end
+-- all bytes up to the end of the device are the input
 pub IsInputOf-end : (a b c : Option (List ℕ)) (bytes buf : List ℕ) (n : ℕ) → Consumes a b bytes → length bytes ≤ INPUT_MAX
     → Consumes b c (take n buf) × (n ≡ 0 → 0 < length buf → IsAtEnd c) → n ≡ 0 → 0 < length buf → IsInputOf a bytes
 IsInputOf-end None b c bytes buf n p h (q, end) zero room = tt

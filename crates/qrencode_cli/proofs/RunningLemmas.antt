@@ -1,4 +1,4 @@
--- How the parts of a run make its answer.
+-- The parts of a run make a correct run.
 use Rattle.std.proofs.Common.{◌≤◌, arith, ◌≡◌, ◌∙◌, ℕ, List, [], Option, Result, Ok, Err, MatchOption, OnOk, OnErr, None, Some, IfErr, is_err, true, false, refl, sym, append-nil, length}
 use Rattle.std.specs.Io.KnownBytes.{Appends}
 use Rattle.clap.specs.Walk.{Text}
@@ -12,7 +12,7 @@ use Rattle.qrencode_cli.specs.declared.fault.Fault.TheVariants as fault
 use Rattle.qrencode_cli.specs.declared.picture.Picture.{Picture}
 use Rattle.qr_drawing.specs.declared.pen.DrawFault.{DrawFault}
 
--- showing a picture reads nothing more
+-- writing a drawing reads nothing more from the reader
 reads-on : (o : Result SettingsView Reason) (in0 in1 : Reader) (given : List ℕ) (p : Picture) (r : Result (Unit {0}) Fault)
     → IfErr r (λ f. f ≡ fault.Write) → ReadsFor o in0 in1 given {T = Picture} (Ok p) → ReadsFor o in0 in1 given r
 reads-on (Err e) in0 in1 given p r w h = h
@@ -26,7 +26,7 @@ reads-on (Ok s) in0 in1 given p r w h = on s.string h
     on None h = same r w h
     on (Some t) h = h
 
--- a picture was shown, or the writer was at fault
+-- the case that the drawing was written, or the writer was at fault
 pub attempts-shown : (words : List Text) (in0 in1 : Reader) (out0 out1 : Writer) (p : Picture) → Prepares words in0 in1 (Ok p)
     → (r : Result (Unit {0}) Fault) → OnOk r (Draws out0 out1 (drawing_of p))
     → IfErr r (λ f. (f ≡ fault.Write) × Breaks out0 out1 (drawing_of p)) → Attempts words in0 in1 out0 out1 r
@@ -50,7 +50,7 @@ shows-nothing : (words : List Text) (given : List ℕ) (out0 : Writer) (f : Faul
 shows-nothing words given out0 fault.Write h = absurd h
 shows-nothing words given out0 _ h = refl
 
--- the same fault, before and after what would have been shown
+-- what was done to the reader is the same if a fault's result has another type
 reads-fault : (o : Result SettingsView Reason) (in0 in1 : Reader) (given : List ℕ) (f : Fault)
     → ReadsFor o in0 in1 given {T = Picture} (Err f) → ReadsFor o in0 in1 given {T = Unit {0}} (Err f)
 reads-fault (Err e) in0 in1 given f h = h
@@ -64,7 +64,7 @@ reads-fault (Ok s) in0 in1 given f h = on s.string h
     on None h = same f h
     on (Some t) h = h
 
--- there was no picture
+-- the case that there is no picture
 pub attempts-refused : (words : List Text) (in0 in1 : Reader) (out0 : Writer) (f : Fault) → Prepares words in0 in1 (Err f)
     → Attempts words in0 in1 out0 out0 (Err f)
 attempts-refused words in0 in1 out0 f h = record {
@@ -75,11 +75,11 @@ attempts-refused words in0 in1 out0 f h = record {
   reads = reads-fault (settings_for words) in0 in1 h.given f h.reads;
 }
 
--- a whole text is a beginning of itself
+-- a whole text is a prefix of itself
 begins-all : (old new : Option (List ℕ)) (text : List ℕ) → Appends old new text → AppendsBeginning old new text
 begins-all old new text p = (text, ([], append-nil text), p)
 
--- standard error was told of a fault
+-- standard error received the line of a fault
 pub tells-fault : (old new : Writer) (f : Fault) (slice : List ℕ) → slice ≡ fault_line f → (r : Result (Unit {0}) DrawFault)
     → OnOk r (Appends old.taken new.taken slice) → OnErr r (AppendsBeginning old.taken new.taken slice)
     → (old.counts ≡ no_writes → is_write_fault new.counts ≡ is_err r)

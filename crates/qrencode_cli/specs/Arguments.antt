@@ -1,4 +1,4 @@
--- The command's arguments in clap's words, and what clap states of the words given to it. Public clauses cite this file.
+-- The command's arguments as rules of `clap`, and what `clap` states about a command line.
 use Rattle.std.specs.Prelude.{ℕ, true, List, codes, Some, pos, slice_index, ℤ}
 use Rattle.clap.specs.Words.{Kinds, fault_of}
 use Rattle.clap.specs.Walk.{Row, Rule, Text}
@@ -6,31 +6,33 @@ use Rattle.clap.specs.Simple.{App, matches_of, new_app, new_rule, with_rule}
 use Rattle.clap.specs.declared.builder.action.ArgAction.TheVariants.{SetTrue}
 use Rattle.clap.specs.declared.builder.value_parser.ValueParser.TheVariants as parser
 
--- an option that takes a text [own]
+-- `text_rule id letter` is the rule of an option that takes a text. Its name is `id`, and its letter on the command
+-- line is `letter` [own]
 abbrev pub text_rule : Text → ℕ → Rule
 text_rule id letter = record (new_rule id) { short = Some letter; value_names = 1 }
 
--- an option that takes a number from 0 to the given one [own]
+-- `number_rule id letter most` is the rule of an option that takes a number from 0 to `most` [own]
 abbrev pub number_rule : Text → ℕ → ℤ → Rule
 number_rule id letter most = record (text_rule id letter) { parser = Some (parser.Signed (pos 0) most) }
 
--- an option that takes a text and has to be given [own]
+-- `required_rule id letter` is the rule of an option that takes a text and must be given [own]
 abbrev pub required_rule : Text → ℕ → Rule
 required_rule id letter = record (text_rule id letter) { required = true }
 
--- a word that is no option [own]
+-- `word_rule id` is the rule of a positional argument, which belongs to no option [own]
 abbrev pub word_rule : Text → Rule
 word_rule id = record (new_rule id) { value_names = 1 }
 
--- an option that takes no value [own]
+-- `flag_rule id letter` is the rule of an option that takes no value [own]
 abbrev pub flag_rule : Text → ℕ → Rule
 flag_rule id letter = record (new_rule id) { short = Some letter; action = Some SetTrue }
 
--- the letter of a text of one [own]
+-- `letter_of text` is the code of the first letter of the text [own]
 abbrev pub letter_of : Text → ℕ
 letter_of text = slice_index text 0
 
--- the command: -l, -v with 0 to 40, -t, which has to be given, -m with 0 to 100, -8, -k, -i, -S, and a text [own]
+-- `command` is the command with its arguments: -l, -v with 0 to 40, -t, which must be given, -m with 0 to 100, -8, -k,
+-- -i, -S, and a positional text [own]
 unfoldable pub command : App
 command = with_rule (with_rule (with_rule (with_rule (with_rule (with_rule (with_rule (with_rule (with_rule (new_app (codes "qrencode"))
     (text_rule (codes "level") (letter_of (codes "l"))))
@@ -43,10 +45,11 @@ command = with_rule (with_rule (with_rule (with_rule (with_rule (with_rule (with
     (flag_rule (codes "structured") (letter_of (codes "S"))))
     (word_rule (codes "string"))
 
--- the matches that clap states for the words [own]
+-- `rows_for words` is the matches that `clap` states for the command line `words` [own]
 unfoldable pub rows_for : List Text → List Row
 rows_for words = matches_of command words
 
--- the kinds of fault that clap states for the words: none where it takes them [own]
+-- `faults_for words` is the kinds of fault that `clap` states for the command line `words`. The list is empty if `clap`
+-- accepts the command line [own]
 unfoldable pub faults_for : List Text → Kinds
 faults_for words = fault_of command words

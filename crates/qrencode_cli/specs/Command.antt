@@ -1,5 +1,4 @@
--- What the command answers to its words and its input, and what a run of it does to its devices. Public clauses cite
--- this file.
+-- What the command draws for its arguments and its input, and what a run of it does to its devices.
 use Rattle.std.specs.Prelude.{◌≡◌, ◌↔◌, ◌≤◌, ◌<◌, ◌+◌, ◌⊎◌, ℕ, List, [], length, take, max, MatchOption, None, IfErr, IsErrOf, IsTrue, MatchResult, Result, Ok, Err, is_ok, true, false, if◌then◌else◌}
 use Rattle.std.specs.Option.{option_map_or}
 use Rattle.std.specs.Io.KnownBytes.{Appends, Consumes}
@@ -20,16 +19,18 @@ use Rattle.qrencode_cli.specs.declared.fault.Fault.TheVariants as fault
 use Rattle.qrencode_cli.specs.declared.fault.Refusal.{Refusal}
 use Rattle.qrencode_cli.specs.declared.fault.Refusal.TheVariants as refusal
 
--- the input that is encoded: the words' string, or what the reader gives; no more of it than is read [own]
+-- `input_for s given` is the input that is encoded: the string among the arguments, cut after `INPUT_MAX` bytes, or the
+-- bytes `given` by the reader if there is no string [own]
 abbrev pub input_for : SettingsView → List ℕ → List ℕ
 input_for s given = option_map_or (λ text. take INPUT_MAX text) s.string given
 
--- the input as the symbols hold it: under -i with its small letters as capitals, by the rule of modes [own]
+-- `held s input` is the input as the symbols contain it. Under -i small letters become capitals, except in byte mode
+-- only and except in kanji pairs under -k. Without -i it is `input` itself [own]
 abbrev pub held : SettingsView → List ℕ → List ℕ
 held s input = if s.fold then folded (rule_for s) input else input
 
--- the settings ask for this drawing of an input: that of its symbols. They are read and joined to the input, and the
--- input is shorter than what is read, so nothing of it was cut [own]
+-- `IsDrawing s input drawing` holds if `drawing` is the drawing of the symbols that the settings `s` ask for. The
+-- symbols are read and joined to `input`. The input is shorter than `INPUT_MAX`, so no byte of it was cut off [own]
 pub record IsDrawing (s : SettingsView) (input drawing : List ℕ) : Type 0 where
   pub squares : List Grid
   pub symbols : AreSymbols s input squares
@@ -38,21 +39,24 @@ pub record IsDrawing (s : SettingsView) (input drawing : List ℕ) : Type 0 wher
   pub short : length input < INPUT_MAX
   pub is_drawn : drawing ≡ drawn s.kind s.margin squares
 
--- the words ask for settings of which this holds [own]
+-- `AskFor words P` holds if the command line `words` has settings, and `P` holds of them [own]
 pub record AskFor (words : List Text) (P : SettingsView → Type 0) : Type 0 where
   pub settings : SettingsView
   pub taken : settings_for words ≡ Ok settings
   pub holds : P settings
 
--- the words and the input ask for this drawing [own]
+-- `Asks words given drawing` holds if `drawing` is what the command line `words` asks for, where `given` are the bytes
+-- of the reader [own]
 abbrev pub Asks : List Text → List ℕ → List ℕ → Type 0
 Asks words given drawing = AskFor words (λ s. IsDrawing s (held s (input_for s given)) drawing)
 
--- the words and the input ask for what cannot be drawn, for this reason [own]
+-- `Refuses words given why` holds if the command line `words` has settings, but `why` holds of these settings and of
+-- the input, so that the input cannot be drawn [own]
 abbrev pub Refuses : List Text → List ℕ → (SettingsView → List ℕ → Type 0) → Type 0
 Refuses words given why = AskFor words (λ s. why s (held s (input_for s given)))
 
--- the refusal is that of the words and the input [own]
+-- `IsRefusal words given r` holds if `r` is a correct reason to refuse the command line `words` or its input, where
+-- `given` are the bytes of the reader [own]
 abbrev pub IsRefusal : List Text → List ℕ → Refusal → Type 0
 IsRefusal words given (refusal.Words text) = settings_for words ≡ Err no_matches
 IsRefusal words given refusal.Level = settings_for words ≡ Err unknown_level
@@ -62,52 +66,58 @@ IsRefusal words given refusal.Empty = Refuses words given (λ s input. input ≡
 IsRefusal words given refusal.TooLong = Refuses words given IsTooLong
 IsRefusal words given refusal.TooMany = Refuses words given IsTooMany
 
--- the fault is that of the words and the input; lack of memory may always come instead [own]
+-- `IsFault words given f` holds if the fault `f` can occur for the command line `words` and the bytes `given`: a
+-- refusal if it is correct, a read fault if the arguments have no string, a write fault if there is a drawing, and lack
+-- of memory always [own]
 abbrev pub IsFault : List Text → List ℕ → Fault → Type 0
 IsFault words given (fault.Refused r) = IsRefusal words given r
 IsFault words given fault.Read = AskFor words (λ s. s.string ≡ None)
 IsFault words given fault.Memory = Unit {0}
 IsFault words given fault.Write = (drawing : List ℕ) × Asks words given drawing
 
--- the whole drawing was written, and after its last byte the writer was flushed once [own]
+-- `Draws old new drawing` holds if the writer took the whole drawing, and was flushed once, after its last byte [own]
 pub record Draws (old new : Writer) (drawing : List ℕ) : Type 0 where
   pub grows : Appends old.taken new.taken drawing
   pub many : old.counts ≡ no_writes → new.counts.taken ≡ counted (length drawing)
   pub flushed : new.counts.flushes ≡ counted (old.counts.flushes + 1)
   pub settled : new.counts.settled ≡ true
 
--- a beginning of the drawing was written and nothing was flushed, or the whole was written and one flush failed; in both
--- cases no byte more than the drawing has was taken [own]
+-- `Breaks old new drawing` holds if the writer took a prefix of the drawing and was not flushed, or took the whole
+-- drawing and its one flush failed. In both cases it took no more bytes than the drawing has [own]
 abbrev pub Breaks : Writer → Writer → List ℕ → Type 0
 Breaks old new drawing = (old.counts ≡ no_writes → new.counts.taken ≤ counted (length drawing))
     × ((AppendsBeginning old.taken new.taken drawing × (new.counts.flushes ≡ old.counts.flushes))
     ⊎ (Appends old.taken new.taken drawing × (new.counts.flushes ≡ counted (old.counts.flushes + 1)) × (new.counts.settled ≡ false)))
 
--- what standard output got: the drawing, a beginning of it after a write fault, and before any other fault no call [own]
+-- `Shows words given old new outcome` says what standard output received: the drawing after success, a prefix of it or
+-- the whole after a write fault, and no call after any other fault [own]
 abbrev pub Shows : List Text → List ℕ → Writer → Writer → {T : Type 0} → Result T Fault → Type 0
 Shows words given old new (Ok t) = (drawing : List ℕ) × Asks words given drawing × Draws old new drawing
 Shows words given old new (Err fault.Write) = (drawing : List ℕ) × Asks words given drawing × Breaks old new drawing
 Shows words given old new _ = new ≡ old
 
--- all that the reader gave is the input, to its end or to as many bytes as are read [own]
+-- `GivesInput old new given` holds if `given` is all that the reader returned, and it was read to its end or to
+-- `INPUT_MAX` bytes [own]
 abbrev pub GivesInput : Reader → Reader → List ℕ → Type 0
 GivesInput old new given = Consumes old.remaining new.remaining given
     × (old.counts ≡ no_reads → new.counts.given ≡ length given)
     × (old.counts ≡ no_reads → (new.counts.ends ≡ 1) ⊎ (length given ≡ INPUT_MAX))
 
--- what a run that asks the reader did to it: all was read, unless memory or the reader was at fault [own]
+-- `Reads old new given outcome` says what a run did to a reader that it had to read: it read the whole input, unless
+-- the outcome is a read fault or lack of memory [own]
 abbrev pub Reads : Reader → Reader → List ℕ → {T : Type 0} → Result T Fault → Type 0
 Reads old new given (Err fault.Read) = Unit {0}
 Reads old new given (Err fault.Memory) = Unit {0}
 Reads old new given _ = GivesInput old new given
 
--- what a run did to the reader: nothing where the words are not taken or hold the input themselves [own]
+-- `ReadsFor settings old new given outcome` says what a run did to the reader: it made no call if the command line has
+-- no settings or contains a string, and otherwise `Reads` holds [own]
 abbrev pub ReadsFor : Result SettingsView Reason → Reader → Reader → List ℕ → {T : Type 0} → Result T Fault → Type 0
 ReadsFor (Err r) old new given outcome = new ≡ old
 ReadsFor (Ok s) old new given outcome = MatchOption s.string (Reads old new given outcome) (λ _. new ≡ old)
 
--- standard error got a beginning of a line and no byte more than the line has, and the whole unless a write of it met a
--- cause of a fault; it was not flushed [own]
+-- `IsTold old new line` says what standard error received: the whole line, or a prefix of it if the counts show the
+-- cause of a write fault. It received no more bytes than the line has, and was not flushed [own]
 abbrev pub IsTold : Writer → Writer → List ℕ → Type 0
 IsTold old new line = AppendsBeginning old.taken new.taken line
     × (old.counts ≡ no_writes → new.counts.taken ≤ counted (length line))
@@ -115,9 +125,10 @@ IsTold old new line = AppendsBeginning old.taken new.taken line
     × (old.counts ≡ no_writes → is_write_fault new.counts ≡ false → new.counts.taken ≡ counted (length line))
     × (new.counts.flushes ≡ old.counts.flushes)
 
--- what a run of the command returns and does to its devices, by its outcome: success or a fault. Where the devices'
--- counts start at 0, the outcome can only be the one that the words and the input ask for, lack of memory, or a fault
--- that the counts tell. Standard error got nothing, or the line of the fault, and the status is 0 for success [own]
+-- `Runs` says what a run of the command returns and does to its devices, for its outcome: success or a fault. If the
+-- counts of the devices start at 0, the outcome is the one that the arguments and the input determine, or lack of
+-- memory, or a fault of a device that the counts show. Standard error receives nothing after success, and otherwise the
+-- line of the fault. The status is 0 after success, and otherwise 1 [own]
 pub record Runs (words : List Text) (in0 in1 : Reader) (out0 out1 err0 err1 : Writer) (outcome : Result (Unit {0}) Fault) (status : ℕ) : Type 0 where
   pub given : List ℕ
   pub is_input : IsInputOf in0.remaining given
@@ -133,7 +144,8 @@ pub record Runs (words : List Text) (in0 in1 : Reader) (out0 out1 err0 err1 : Wr
   pub err_within : err0.counts ≡ no_writes → IsWrittenWithin err1.counts
   pub offered : out1.counts.offered ≤ max out0.counts.offered WRITE_MAX
 
--- a run of the command returns this status and does this to its devices, by some outcome [own]
+-- `RunsTo` holds if there is an outcome for which a run of the command returns this status and does this to its devices
+-- [own]
 abbrev pub RunsTo : List Text → Reader → Reader → Writer → Writer → Writer → Writer → ℕ → Type 0
 RunsTo words in0 in1 out0 out1 err0 err1 status =
     (outcome : Result (Unit {0}) Fault) × Runs words in0 in1 out0 out1 err0 err1 outcome status

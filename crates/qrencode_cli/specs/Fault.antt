@@ -1,4 +1,4 @@
--- The lines that tell of the faults of the command. Public clauses cite this file.
+-- The line that each fault of the command writes to standard error.
 use Rattle.std.specs.Prelude.{ℕ, List, codes}
 use Rattle.std.specs.String.{string_bytes}
 use Rattle.qrencode_cli.specs.declared.fault.Fault.{Fault}
@@ -6,7 +6,7 @@ use Rattle.qrencode_cli.specs.declared.fault.Fault.TheVariants as fault
 use Rattle.qrencode_cli.specs.declared.fault.Refusal.{Refusal}
 use Rattle.qrencode_cli.specs.declared.fault.Refusal.TheVariants as refusal
 
--- the line that tells of a refusal; for words that are not taken, clap's text [own]
+-- `refusal_line r` is the line for the refusal `r`. For arguments that `clap` refuses, it is the text of `clap` [own]
 abbrev pub refusal_line : Refusal → List ℕ
 refusal_line (refusal.Words text) = string_bytes text
 refusal_line refusal.Level = codes "qrencode: unknown level\n"
@@ -16,7 +16,7 @@ refusal_line refusal.Empty = codes "qrencode: input is empty\n"
 refusal_line refusal.TooLong = codes "qrencode: input does not fit\n"
 refusal_line refusal.TooMany = codes "qrencode: more than 16 symbols\n"
 
--- the line that tells of a fault [own]
+-- `fault_line f` is the line for the fault `f` [own]
 abbrev pub fault_line : Fault → List ℕ
 fault_line (fault.Refused r) = refusal_line r
 fault_line fault.Read = codes "qrencode: read error\n"

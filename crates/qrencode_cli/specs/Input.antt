@@ -1,16 +1,16 @@
--- The input that a device gives. Public clauses cite this file.
+-- The input that is read from a device, and how far a device is read.
 use Rattle.std.specs.Prelude.{◌≡◌, ◌+◌, ◌≤◌, ℕ, List, take, Option, IfSome}
 use Rattle.qr_bits.specs.declared.modes.TheConstants.{INPUT_MAX}
 use Rattle.qr_devices.specs.declared.device.ReadCounts.{ReadCounts}
 use Rattle.qr_devices.specs.declared.device.TheConstants.{INTERRUPTIONS_MAX}
 
--- the input is what the device gives up to its end, no more of it than is read; of a device whose bytes are
--- unknown this claims nothing [own]
+-- `IsInputOf bytes input` holds if `input` is the bytes of the device up to its end, or the first `INPUT_MAX` of them.
+-- If the device's bytes are unknown, it holds of every input [own]
 abbrev pub IsInputOf : Option (List ℕ) → List ℕ → Type 0
 IsInputOf bytes input = IfSome bytes (λ all. input ≡ take INPUT_MAX all)
 
--- how far a reader may be read: in at most 114,424 calls, never past 113,425 bytes, and no further after its end, after a
--- read that failed, or after one that was interrupted for the 1,000th time [own]
+-- `IsReadWithin c` says how far a reader is read: in at most 114,424 reads, at most 113,425 bytes, and not after its
+-- end. At most one read failed, and at most 1,000 reads were interrupted [own]
 pub record IsReadWithin (c : ReadCounts) : Type 0 where
   pub calls : c.calls ≤ INPUT_MAX + INTERRUPTIONS_MAX
   pub given : c.given ≤ INPUT_MAX

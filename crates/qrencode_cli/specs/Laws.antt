@@ -1,4 +1,4 @@
--- What some command lines ask for, and what holds of settings, faults and characters. Public laws cite this file.
+-- The settings of some command lines, and laws of drawings, refusals, modes, folding, statuses and faults.
 use Rattle.std.specs.Prelude.{◌≡◌, ℕ, List, [], ◌∷◌, codes, Some, None, Result, Ok, Err, MatchResult, String, true, false}
 use Rattle.std.specs.Global.{Global}
 use Rattle.clap.specs.Walk.{Text}
@@ -16,7 +16,7 @@ use Rattle.qrencode_cli.specs.declared.fault.Refusal.{Refusal}
 use Rattle.qrencode_cli.specs.declared.fault.Refusal.TheVariants as refusal
 use Rattle.qrencode_cli.specs.declared.settings.UsageFault.TheVariants as usage
 
--- the settings of words that ask for an ASCII drawing and for nothing else [own]
+-- `by_default` is the settings of the command line `-t ASCII`: every other setting has its default [own]
 abbrev pub by_default : SettingsView
 by_default = record {
   level = L;
@@ -30,15 +30,16 @@ by_default = record {
   string = None;
 }
 
--- the words give these settings, the program's name left aside [own]
+-- `IsTaken words settings` holds if the arguments `words`, written after the program's name, have these settings [own]
 abbrev pub IsTaken : List Text → SettingsView → Type 0
 IsTaken words settings = settings_for (codes "qrencode" ∷ words) ≡ Ok settings
 
--- the words are refused, the program's name left aside [own]
+-- `IsRefused words why` holds if the arguments `words`, written after the program's name, are refused for this reason
+-- [own]
 abbrev pub IsRefused : List Text → Reason → Type 0
 IsRefused words why = settings_for (codes "qrencode" ∷ words) ≡ Err why
 
--- what the words of some command lines ask for [own]
+-- Some command lines have these settings, or are refused for these reasons [own]
 pub record RowsOfWords : Type 0 where
   pub plain : IsTaken (codes "-t" ∷ codes "ASCII" ∷ []) by_default
   pub in_bytes : IsTaken (codes "-8" ∷ codes "-v" ∷ codes "1" ∷ codes "-t" ∷ codes "ascii" ∷ [])
@@ -96,43 +97,43 @@ pub record RowsOfWords : Type 0 where
   pub type_without_a_value : IsRefused (codes "-t" ∷ []) no_matches
   pub two_strings_after_dashes : IsRefused (codes "-t" ∷ codes "ASCII" ∷ codes "--" ∷ codes "A" ∷ codes "B" ∷ []) no_matches
 
--- The words and the input ask for one drawing at most [own].
+-- A command line and an input have at most one drawing [own].
 abbrev pub AnswersAreOne : Type 0
 AnswersAreOne = (words : List Text) (given d e : List ℕ) → Asks words given d → Asks words given e → d ≡ e
 
--- Words and an input that ask for a drawing are not refused [own].
+-- A command line and an input that have a drawing are not refused [own].
 abbrev pub RefusalsExcludeDrawings : Type 0
 RefusalsExcludeDrawings = (words : List Text) (given d : List ℕ) (r : Refusal) → Asks words given d → IsRefusal words given r → ⊥
 
--- the two refusals are one, clap's text left aside [own]
+-- `AreAlike r q` holds if the two refusals are equal. The texts of `clap` are not compared [own]
 abbrev pub AreAlike : Refusal → Refusal → Type 0
 AreAlike (refusal.Words text) (refusal.Words other) = Unit {0}
 AreAlike r q = r ≡ q
 
--- Words and an input are refused for one reason at most [own].
+-- For a command line and an input at most one refusal is correct [own].
 abbrev pub RefusalsAreOne : Type 0
 RefusalsAreOne = (words : List Text) (given : List ℕ) (r q : Refusal) → IsRefusal words given r → IsRefusal words given q → AreAlike r q
 
--- -8 allows byte mode alone, also beside -k; without it -k allows kanji mode too [own]
+-- -8 allows byte mode only, also beside -k. Without -8, -k allows kanji mode too [own]
 pub record RulesOfModes : Type 0 where
   pub bytes : (s : SettingsView) → s.bytes_only ≡ true → rule_for s ≡ BytesOnly
   pub kanji : (s : SettingsView) → s.bytes_only ≡ false → s.kanji ≡ true → rule_for s ≡ WithKanji
   pub neither : (s : SettingsView) → s.bytes_only ≡ false → s.kanji ≡ false → rule_for s ≡ Auto
 
--- Under -i the input is folded by the rule of modes, and without it stays. Under -k the second byte of a pair stays, though
--- it is the byte of a small letter [own].
+-- Under -i the input is folded for the allowed modes, and without -i it is unchanged. Under -k the second byte of a
+-- kanji pair is unchanged, even if it is the code of a small letter [own].
 pub record FoldingFollowsTheRule : Type 0 where
   pub folds : (s : SettingsView) (input : List ℕ) → s.fold ≡ true → held s input ≡ folded (rule_for s) input
   pub keeps : (s : SettingsView) (input : List ℕ) → s.fold ≡ false → held s input ≡ input
   pub pairs : held (record by_default { kanji = true; fold = true }) (0x93 ∷ 0x61 ∷ 0x61 ∷ []) ≡ 0x93 ∷ 0x61 ∷ 0x41 ∷ []
   pub letters : held (record by_default { fold = true }) (0x93 ∷ 0x61 ∷ 0x61 ∷ []) ≡ 0x93 ∷ 0x41 ∷ 0x41 ∷ []
 
--- A run returns 0 if it drew, and 1 for each fault [own].
+-- A run returns 0 after success, and 1 after any fault [own].
 abbrev pub StatusesAreTwo : Type 0
 StatusesAreTwo = (words : List Text) (in0 in1 : Reader) (out0 out1 err0 err1 : Writer) (outcome : Result (Unit {0}) Fault) (status : ℕ)
     → Runs words in0 in1 out0 out1 err0 err1 outcome status → MatchResult outcome (λ _. status ≡ 0) (λ _. status ≡ 1)
 
--- The line of each fault but of the words that clap refuses [own].
+-- The line of each fault, except for arguments that `clap` refuses [own].
 pub record LinesOfFaults : Type 0 where
   pub level : fault_line (fault.Refused refusal.Level) ≡ codes "qrencode: unknown level\n"
   pub type : fault_line (fault.Refused refusal.Kind) ≡ codes "qrencode: unknown type\n"
@@ -144,7 +145,7 @@ pub record LinesOfFaults : Type 0 where
   pub memory : fault_line fault.Memory ≡ codes "qrencode: out of memory\n"
   pub write : fault_line fault.Write ≡ codes "qrencode: write error\n"
 
--- The number of each fault of words [own].
+-- The number of each fault of the command line [own].
 pub record NumbersOfUsageFaults : Type 0 where
   pub words : (text : String Global) → usage_fault_number (usage.Words text) ≡ 1
   pub level : usage_fault_number usage.Level ≡ 2

@@ -1,4 +1,4 @@
--- What the words ask for. Public clauses cite this file.
+-- The settings of a command line, and why a command line is refused.
 use Rattle.std.specs.Prelude.{◌≡◌, ◌==◌, ◌&&◌, ℕ, Bool, false, nat_le, List, length, Option, Some, None, option_and_then, Result, Ok, Err, codes, if◌then◌else◌}
 use Rattle.std.specs.Option.{is_none, option_map_or}
 use Rattle.std.specs.Str.{bytes_eq, str_eq_ignore_ascii_case}
@@ -14,14 +14,15 @@ use Rattle.qr_drawing.specs.declared.drawing.Drawing.TheVariants as drawing
 use Rattle.qrencode_cli.specs.declared.settings.UsageFault.{UsageFault}
 use Rattle.qrencode_cli.specs.declared.settings.UsageFault.TheVariants as usage
 
--- why the words ask for nothing that can be drawn [own]
+-- Why a command line is refused: `clap` finds no matches, the level is unknown, the type of drawing is unknown, or a
+-- series is asked for without a version [own]
 pub data Reason : Type 0 where
   no_matches : Reason
   unknown_level : Reason
   unknown_type : Reason
   needs_version : Reason
 
--- the settings, as contracts see them [own]
+-- The settings, as contracts see them: versions and the margin are numbers, and the string is a list of bytes [own]
 pub record SettingsView : Type 0 where
   pub level : Level
   pub smallest : Option ℕ
@@ -33,11 +34,12 @@ pub record SettingsView : Type 0 where
   pub structured : Bool
   pub string : Option Text
 
--- which modes the settings allow: bytes alone under -8, and without it kanji mode too under -k [own]
+-- `rule_for s` is the modes that the settings allow: byte mode only under -8, all modes under -k without -8, and
+-- otherwise all modes but kanji mode [own]
 abbrev pub rule_for : SettingsView → Rule
 rule_for s = if s.bytes_only then BytesOnly else (if s.kanji then WithKanji else Auto)
 
--- the level that a word names, in either case of its letter [own]
+-- `level_named t` is the level that the text `t` names, in a small or a capital letter [own]
 abbrev pub level_named : Text → Option Level
 level_named t =
     if str_eq_ignore_ascii_case t (codes "l") then Some level.L else
@@ -45,7 +47,7 @@ level_named t =
     (if str_eq_ignore_ascii_case t (codes "q") then Some level.Q else
     (if str_eq_ignore_ascii_case t (codes "h") then Some level.H else None)))
 
--- the type of drawing that a word names, in either case of its ASCII letters [own]
+-- `drawing_named t` is the type of drawing that the text `t` names, in small or capital ASCII letters [own]
 abbrev pub drawing_named : Text → Option Drawing
 drawing_named t =
     if str_eq_ignore_ascii_case t (codes "ascii") then Some drawing.Ascii else
@@ -53,20 +55,22 @@ drawing_named t =
     (if str_eq_ignore_ascii_case t (codes "utf8") then Some drawing.Utf8 else
     (if str_eq_ignore_ascii_case t (codes "svg") then Some drawing.Svg else None)))
 
--- the number that is asked for, or another where none stands [own]
+-- `number_or otherwise o` is the number of an option whose text is `o`, or `otherwise` if the option is not given. A
+-- text that is not a byte counts as 0 [own]
 abbrev pub number_or : ℕ → Option Text → ℕ
 number_or otherwise o = option_map_or byte_or_zero o otherwise
 
--- the version that is asked for, none for 0 [own]
+-- `version_at o` is the version of an option whose text is `o`, if its number is from 1 to 40. For 0, and if the option
+-- is not given, there is no version [own]
 abbrev pub version_at : Option Text → Option ℕ
 version_at o = let n = number_or 0 o in if nat_le 1 n && nat_le n 40 then Some n else None
 
--- the flag stands [own]
+-- `flag_at o` is true if a flag is given: then `clap` states the text `true` for it [own]
 abbrev pub flag_at : Option Text → Bool
 flag_at o = option_map_or (λ t. bytes_eq t (codes "true")) o false
 
--- the settings, once level and type are known; where no margin is asked for it is the quiet zone of 4 modules
--- (ISO/IEC 18004:2015, 6.3.8)
+-- `settings_with rows level kind` is the settings of the matches `rows`, once level and type of drawing are known. The
+-- default margin is the quiet zone of 4 modules (ISO/IEC 18004:2015, 6.3.8)
 abbrev pub settings_with : List Row → Level → Drawing → SettingsView
 settings_with rows level kind = record {
   level = level;
@@ -80,23 +84,25 @@ settings_with rows level kind = record {
   string = first_of (codes "string") rows;
 }
 
--- a series needs a version [own]
+-- `checked_series s` is the settings `s`, or a refusal if they ask for a series without a version [own]
 abbrev pub checked_series : SettingsView → Result SettingsView Reason
 checked_series s = if s.structured && is_none s.smallest then Err needs_version else Ok s
 
--- the settings that the matches give: the level is checked first, L if none is asked for, then the type, and the version
--- of a series last [own]
+-- `settings_of rows` is the settings of the matches `rows`, or why there are none. The level is checked first; it is L
+-- if -l is not given. Then the type of drawing is checked, and last that a series has a version [own]
 abbrev pub settings_of : List Row → Result SettingsView Reason
 settings_of rows =
     option_map_or (λ l. option_map_or (λ kind. checked_series (settings_with rows l kind))
     (option_and_then drawing_named (first_of (codes "type") rows)) (Err unknown_type))
     (option_map_or level_named (first_of (codes "level") rows) (Some level.L)) (Err unknown_level)
 
--- the settings that the words give: those of the matches that clap states for them, where it states no fault [own]
+-- `settings_for words` is the settings of the command line `words`: those of the matches that `clap` states for it. If
+-- `clap` states a fault, the command line is refused [own]
 abbrev pub settings_for : List Text → Result SettingsView Reason
 settings_for words = if length (faults_for words) == 0 then settings_of (rows_for words) else Err no_matches
 
--- the fault is that of the words; lack of memory may always come instead [own]
+-- `IsUsageFault o f` holds if `f` is the fault of a command line whose settings, or reason to be refused, are `o`. Lack
+-- of memory can always occur instead [own]
 abbrev pub IsUsageFault : Result SettingsView Reason → UsageFault → Type 0
 IsUsageFault o (usage.Words text) = o ≡ Err no_matches
 IsUsageFault o usage.Level = o ≡ Err unknown_level
@@ -104,7 +110,8 @@ IsUsageFault o usage.Kind = o ≡ Err unknown_type
 IsUsageFault o usage.NeedsVersion = o ≡ Err needs_version
 IsUsageFault o usage.Memory = Unit {0}
 
--- the number of a fault of words, in the order in which they are looked for [own]
+-- `usage_fault_number f` is the number of the fault `f`: 1 to 4 in the order in which the causes are checked, and 5 for
+-- lack of memory [own]
 abbrev pub usage_fault_number : UsageFault → ℕ
 usage_fault_number (usage.Words text) = 1
 usage_fault_number usage.Level = 2

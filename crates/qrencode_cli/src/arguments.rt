@@ -1,4 +1,4 @@
-//! The command's arguments as `clap` reads them.
+//! Declares the command's arguments for `clap`, and has `clap` parse a command line.
 
 ghost use Rattle.std.specs.Prelude.{◌≡◌, [], IfErr, IfOk, map, false, codes};
 ghost use Rattle.std.specs.String.{string_bytes};
@@ -14,7 +14,8 @@ use clap::error::ErrorKind;
 use clap::{Arg, ArgAction, ArgMatches, Command};
 use std::alloc::{AllocError, Global};
 
-// What an argument is called: by the command, by the words, in help, and in its line of help.
+// The names of an option: `id` in the code, `short` on the command line, and `value` for its value in the help text.
+// `help` is its line of the help text.
 #[derive(Clone, Copy)]
 struct Name<'a> {
     id: &'a str,
@@ -23,7 +24,7 @@ struct Name<'a> {
     help: &'a str,
 }
 
-// An option that takes a text.
+// Makes an option that takes a text.
 fn text<'a>(alloc: Global, name: Name<'a>) -> Arg<'a>
     ensures rule { rule_of result ≡ text_rule name.entry.id.now name.entry.short }
     ensures local { result.global ≡ false }
@@ -34,7 +35,7 @@ fn text<'a>(alloc: Global, name: Name<'a>) -> Arg<'a>
         .help(name.help)
 }
 
-// An option that takes a number from 0 to `most`.
+// Makes an option that takes a number from 0 to `most`.
 fn number<'a>(alloc: Global, name: Name<'a>, most: i64) -> Arg<'a>
     ensures rule { rule_of result ≡ number_rule name.entry.id.now name.entry.short most }
     ensures local { result.global ≡ false }
@@ -42,7 +43,7 @@ fn number<'a>(alloc: Global, name: Name<'a>, most: i64) -> Arg<'a>
     text(alloc, name).value_parser(ValueParser::Signed(0, most))
 }
 
-// An option that takes a text and has to be given.
+// Makes an option that takes a text and must be given.
 fn required<'a>(alloc: Global, name: Name<'a>) -> Arg<'a>
     ensures rule { rule_of result ≡ required_rule name.entry.id.now name.entry.short }
     ensures local { result.global ≡ false }
@@ -50,7 +51,7 @@ fn required<'a>(alloc: Global, name: Name<'a>) -> Arg<'a>
     text(alloc, name).required(true)
 }
 
-// An option that takes no value.
+// Makes an option that takes no value.
 fn flag<'a>(alloc: Global, name: Name<'a>) -> Arg<'a>
     ensures rule { rule_of result ≡ flag_rule name.entry.id.now name.entry.short }
     ensures local { result.global ≡ false }
@@ -61,7 +62,7 @@ fn flag<'a>(alloc: Global, name: Name<'a>) -> Arg<'a>
         .action(ArgAction::SetTrue)
 }
 
-// A word that is no option.
+// Makes a positional argument, which belongs to no option.
 fn word<'a>(alloc: Global, id: &'a str, value: &'a str, help: &'a str) -> Arg<'a>
     ensures rule { rule_of result ≡ word_rule id.entry.now }
     ensures local { result.global ≡ false }
@@ -69,7 +70,7 @@ fn word<'a>(alloc: Global, id: &'a str, value: &'a str, help: &'a str) -> Arg<'a
     Arg::new(alloc, id).value_name(value).help(help)
 }
 
-// The command without its arguments.
+// Makes the command without its arguments.
 fn empty_command<'a>(alloc: Global) -> Command<'a>
     ensures { app_of result ≡ new_app (codes "qrencode") }
 {
@@ -132,7 +133,7 @@ const STRUCTURED: Name<'static> = Name {
     help: "Draw a series of up to 16 symbols where one does not hold the input; needs -v",
 };
 
-// The command with its arguments.
+// Makes the command with its arguments.
 fn command_line<'a>(alloc: Global) -> Result<Command<'a>, AllocError>
     ensures { IfOk result (λ c. app_of c ≡ command) }
 {
@@ -152,8 +153,9 @@ fn command_line<'a>(alloc: Global) -> Result<Command<'a>, AllocError>
     ))
 }
 
-/// The matches of the words, of which the first is the program's name. Where there are none, the
-/// text says why, or is the help asked for.
+/// Has `clap` parse the command line `words`, of which the first text is the program's name, and returns the matches.
+/// If `clap` refuses the command line, returns its message, or the help text if help is asked for, as
+/// `UsageFault::Words`. Returns `UsageFault::Memory` if memory is refused.
 pub(crate) fn matches<'a>(alloc: Global, words: &'a [String]) -> Result<ArgMatches<'a>, UsageFault>
     ensures taken { IfOk result (λ m. faults_for (map string_bytes words.entry.now) ≡ []) }
     ensures rows { IfOk result (λ m. rows_of (found_of m) ≡ rows_for (map string_bytes words.entry.now)) }

@@ -1,4 +1,4 @@
-//! The whole command: words, input, symbol, drawing, and the line of a fault.
+//! Runs the command: parses the arguments, reads the input, encodes it, draws the symbols, and reports a fault.
 
 ghost use Rattle.std.specs.Prelude.{◌≡◌, ◌≤◌, ◌<◌, ◌↔◌, Err, OnOk, IfErr, IsErrOf, IsTrue, max, length, map};
 ghost use Rattle.std.specs.Prelude.{MatchResult, Result};
@@ -20,7 +20,7 @@ use qr_layout::Version;
 use qr_symbol::{Symbol, encode, encode_series};
 use std::alloc::Global;
 
-// The symbols that the settings ask for of an input.
+// Encodes `input` as one symbol, or as a series under `-S`, with the level, the version and the modes of `settings`.
 fn symbols_for(alloc: Global, input: &[u8], settings: &Settings) -> Result<Vec<Symbol>, Fault>
     requires { length input.now ≤ INPUT_MAX }
     ensures { MatchResult result (λ symbols. AreDrawnFor settings.now input.now symbols.items)
@@ -37,7 +37,7 @@ fn symbols_for(alloc: Global, input: &[u8], settings: &Settings) -> Result<Vec<S
     Ok(symbols)
 }
 
-// The picture of what the symbols hold.
+// Encodes `input` as it is, without folding, and returns the symbols together with how they are drawn.
 fn picture_of(alloc: Global, input: &[u8], settings: &Settings) -> Result<Picture, Fault>
     requires { length input.now ≤ INPUT_MAX }
     ensures { MatchResult result (λ p. IsDrawing settings.now input.now (drawing_of p))
@@ -50,7 +50,7 @@ fn picture_of(alloc: Global, input: &[u8], settings: &Settings) -> Result<Pictur
     })
 }
 
-// The picture of an input under the settings.
+// Encodes `input`, which is folded first under `-i`, and returns the symbols together with how they are drawn.
 fn make_picture(alloc: Global, input: &[u8], settings: &Settings) -> Result<Picture, Fault>
     requires { length input.now ≤ INPUT_MAX }
     ensures { MatchResult result (λ p. IsDrawing settings.now (held settings.now input.now) (drawing_of p))
@@ -63,7 +63,8 @@ fn make_picture(alloc: Global, input: &[u8], settings: &Settings) -> Result<Pict
     picture_of(alloc, input, settings)
 }
 
-// The picture that the words and the input ask for.
+// Parses the command line `words`, and encodes its string, or `input` if it has no string; at most `INPUT_MAX` bytes of
+// either are encoded. Returns the symbols together with how they are drawn.
 fn picture_for<R: Source>(alloc: Global, words: &[String], input: &mut R) -> Result<Picture, Fault>
     ensures prepares { Prepares (map string_bytes words.now) (R.device input.old)
         (R.device input.new) result }
@@ -83,7 +84,7 @@ fn picture_for<R: Source>(alloc: Global, words: &[String], input: &mut R) -> Res
     }
 }
 
-// Writes the drawing of a picture, and flushes the writer after its last byte.
+// Writes the drawing of `picture` to `out`, and flushes `out` after the last byte.
 fn write_picture<W: Sink>(picture: &Picture, out: &mut W) -> Result<(), Fault>
     ensures ok { OnOk result (Draws (W.device out.old) (W.device out.new)
         (drawing_of picture.now)) }
@@ -98,7 +99,7 @@ fn write_picture<W: Sink>(picture: &Picture, out: &mut W) -> Result<(), Fault>
     out.flush().map_err(|_| Fault::Write)
 }
 
-// Runs the command without reporting a fault.
+// Runs the command, but returns a fault and does not report it.
 fn run_to_result<R: Source, W: Sink>(
     alloc: Global,
     words: &[String],
@@ -118,11 +119,11 @@ fn run_to_result<R: Source, W: Sink>(
     write_picture(&picture, out)
 }
 
-/// Runs the command: reads its words and its input, writes the drawing to `out`, and the line of a
-/// fault to `err`. Answers the status, 0 or 1.
+/// Runs the command: parses the arguments `words`, of which the first is the program's name, reads the input, and
+/// writes the drawing to `out`. After a fault it writes the fault's line to `err`. Returns the exit status, 0 or 1.
 ///
-/// Everything is computed before the first byte is written. Reads and writes that are interrupted
-/// are tried again, 999 times for the input, for the drawing and for the line.
+/// All symbols are made before the first byte is written. Reads and writes that are interrupted are tried again: 999
+/// times for the input, 999 times for the drawing, and 999 times for the line of a fault.
 pub fn run<R: Source, W: Sink, E: Sink>(
     alloc: Global,
     words: &[String],

@@ -1,4 +1,4 @@
-//! Why the command draws nothing, or not all, and the line that tells of it.
+//! The faults of the command, and the line that each fault writes to standard error.
 
 ghost use Rattle.std.specs.Prelude.{◌≡◌};
 ghost use Rattle.qrencode_cli.specs.Fault.{fault_line, refusal_line};
@@ -8,7 +8,7 @@ use qr_drawing::DrawFault;
 use qr_symbol::EncodeFault;
 use std::alloc::{AllocError, AllocFailed};
 
-/// Why the words and the input have no drawing.
+/// Why the arguments or the input are refused.
 #[derive(Debug, Drop)]
 pub(crate) enum Refusal {
     Words(String),
@@ -20,7 +20,7 @@ pub(crate) enum Refusal {
     TooMany,
 }
 
-/// Why the command draws nothing, or not all.
+/// Why the command draws nothing, or only a part of the drawing.
 #[derive(Debug, Drop)]
 pub(crate) enum Fault {
     Refused(Refusal),
@@ -30,7 +30,7 @@ pub(crate) enum Fault {
 }
 
 impl Refusal {
-    // The line that tells of it.
+    // Returns the line of the refusal. For arguments that `clap` refuses, it is the text of `clap`.
     fn line(&self) -> &[u8]
         ensures { result.now ≡ refusal_line self.now }
     {
@@ -47,7 +47,7 @@ impl Refusal {
 }
 
 impl Fault {
-    /// The line that tells of it.
+    /// Returns the line that is written to standard error for this fault.
     pub(crate) fn line(&self) -> &[u8]
         ensures { result.now ≡ fault_line self.now }
     {

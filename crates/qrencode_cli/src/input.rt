@@ -1,4 +1,4 @@
-//! Reading the input: every byte up to its end, or as many as no symbol and no series can hold.
+//! Reads the input: every byte up to its end, or the first `INPUT_MAX` bytes, more than any symbol or series holds.
 
 ghost use Rattle.std.specs.Prelude.{◌≡◌, ◌+◌, ◌≤◌, ◌↔◌, ◌⊎◌, IfErr, IfOk, IsTrue, IsErrOf, length};
 ghost use Rattle.std.specs.Io.KnownBytes.{Consumes};
@@ -13,19 +13,20 @@ use std::alloc::Global;
 
 const CHUNK: usize = 4096;
 
-/// Reads to the end of the input, or to `INPUT_MAX` bytes.
+/// Reads `input` to its end, or `INPUT_MAX` bytes of it, and returns the bytes.
 pub(crate) fn read_input<R: Source>(alloc: Global, input: &mut R) -> Result<Vec<u8>, Fault>
     ensures bytes { IfOk result (λ bytes. IsInputOf (R.device input.old).remaining bytes.items) }
     ensures bounded { IfOk result (λ bytes. length bytes.items ≤ INPUT_MAX) }
     ensures consumed { IfOk result (λ bytes. Consumes (R.device input.old).remaining (R.device input.new).remaining bytes.items) }
-    // A read fault is answered exactly where a read met its cause.
+    // `Fault::Read` is returned exactly if the counts show its cause: a read that failed, or the 1,000th interruption.
     ensures fault { (R.device input.old).counts ≡ no_reads
         → IsErrOf result Fault.Read ↔ IsTrue (is_read_fault (R.device input.new).counts) }
     ensures only { IfErr result (λ f. (f ≡ Fault.Read) ⊎ (f ≡ Fault.Memory)) }
-    // All that was given is the input, also of a device whose bytes are unknown.
+    // Every byte that the device returned is in the input. The counts show this also if the device's bytes are unknown.
     ensures given { (R.device input.old).counts ≡ no_reads
         → IfOk result (λ bytes. (R.device input.new).counts.given ≡ length bytes.items) }
-    // It was read to its end, or as far as it may be, also where its bytes are unknown.
+    // The device was read to its end, or `INPUT_MAX` bytes of it were read. The counts show this also if its bytes are
+    // unknown.
     ensures ended { (R.device input.old).counts ≡ no_reads
         → IfOk result (λ bytes. ((R.device input.new).counts.ends ≡ 1) ⊎ (length bytes.items ≡ INPUT_MAX)) }
     // No read of any kind comes after the end of the input, after `INPUT_MAX` bytes or after a fault.

@@ -6,49 +6,49 @@ ghost use Rattle.qr_devices.specs.declared.device.TheConstants.{INTERRUPTIONS_MA
 ghost use Rattle.qr_drawing.specs.declared.pen.TheConstants.{WRITE_MAX};
 ghost use Rattle.qrencode_cli.specs.Laws.{AnswersAreOne, FoldingFollowsTheRule, LinesOfFaults, NumbersOfUsageFaults, RefusalsAreOne, RefusalsExcludeDrawings, RowsOfWords, RulesOfModes, StatusesAreTwo};
 
-/// The settings, or the refusal, of each of these command lines.
+/// Command lines, each with its settings or with the reason why it is refused.
 pub fn rows_of_words()
     ensures { RowsOfWords }
 {}
 
-/// The limits that other contracts name: the most bytes of input that are read, the most that one write offers, and how
-/// many interruptions of one device are tried again.
+/// The limits that other contracts name: how many bytes of input are read at most, how many bytes one write offers at
+/// most, and how many interruptions of one device are tried again.
 pub fn limits()
     ensures input { INPUT_MAX ≡ 113425 }
     ensures piece { WRITE_MAX ≡ 1200 }
     ensures interruptions { INTERRUPTIONS_MAX ≡ 999 }
 {}
 
-/// The words and the input have one answer: one drawing at most, and where there is one no fault but of memory and of
-/// devices; and one reason at most to refuse them.
+/// Arguments and input have at most one drawing. If they have a drawing, they are not refused: then only lack of memory
+/// or a device can make the run fail. If they are refused, only one reason is correct.
 pub fn answers_are_one()
     ensures drawing { AnswersAreOne }
     ensures refusal { RefusalsExcludeDrawings }
     ensures reason { RefusalsAreOne }
 {}
 
-/// Which modes `-8` and `-k` allow.
+/// `-8` allows byte mode only, also beside `-k`. Without `-8`, `-k` allows kanji mode too.
 pub fn rules_of_modes()
     ensures { RulesOfModes }
 {}
 
-/// An input is folded under `-i` alone, and by the rule of modes: kanji pairs stay under `-k`.
+/// The input is folded under `-i` only. Under `-k` as well, kanji pairs are not changed.
 #[tactic(auto, unfolding(qr_bits::specs::Folding::folded_around_pairs, qr_bits::specs::Modes::is_kanji_pair))]
 pub fn folding_follows_the_rule()
     ensures { FoldingFollowsTheRule }
 {}
 
-/// A run returns 0 if it drew, and 1 for each fault.
+/// The status of a run is 0 if it succeeds, and 1 after any fault.
 pub fn statuses_are_two()
     ensures { StatusesAreTwo }
 {}
 
-/// The line of each fault.
+/// The line of each fault, except for arguments that `clap` refuses.
 pub fn lines_of_faults()
     ensures { LinesOfFaults }
 {}
 
-/// The number of each fault of words.
+/// The number of each `UsageFault`.
 pub fn numbers_of_usage_faults()
     ensures { NumbersOfUsageFaults }
 {}

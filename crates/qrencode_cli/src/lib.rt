@@ -1,4 +1,5 @@
-//! The command `qrencode`: its words and its run. The devices and the drawings that it uses are passed on.
+//! The command `qrencode`: it parses its arguments, reads its input, and draws the symbols. Passes on the devices of
+//! `qr_devices` and the drawings of `qr_drawing` that it uses.
 #![tactic(auto)]
 
 mod arguments;

@@ -1,4 +1,4 @@
-//! What is to be drawn.
+//! The symbols that are drawn, and how they are drawn.
 
 ghost use Rattle.std.specs.Prelude.{◌<◌, ◌≤◌, length};
 ghost use Rattle.qr_symbol.specs.Series.{squares_of};
@@ -7,7 +7,7 @@ ghost use Rattle.qr_drawing.specs.Drawing.{HaveOneSide};
 use qr_drawing::Drawing;
 use qr_symbol::Symbol;
 
-/// One symbol, or those of a series, and how they are drawn.
+/// One symbol, or the symbols of a series, with the type and the margin of their drawing.
 #[derive(Drop)]
 pub(crate) struct Picture {
     pub symbols: Vec<Symbol>,

@@ -1,4 +1,4 @@
-//! What the words ask for.
+//! Reads the settings from a command line.
 
 ghost use Rattle.std.specs.Prelude.{◌≡◌, ◌≢◌, ◌↔◌, String, Err, Ok, Some, IfOk, MatchResult, map, codes, option_and_then, option_map};
 ghost use Rattle.std.specs.Option.{option_map_or};
@@ -19,15 +19,15 @@ use std::alloc::{AllocError, Global};
 use std::marker::Model;
 use thiserror::Error;
 
-// The margin where none is asked for, in modules (6.3.8).
+// The default margin in modules: the width of the quiet zone (ISO/IEC 18004:2015, 6.3.8).
 const QUIET_ZONE: u8 = 4;
 
-/// What the words ask for.
+/// The parsed command line.
 #[derive(Debug, Drop)]
 pub struct Settings {
     /// The level of error correction.
     pub level: Level,
-    /// The smallest version that may serve, or any where none is asked for; of a series the version.
+    /// The smallest version that may be chosen, or `None` for any version. For a series, the version of its symbols.
     pub smallest: Option<Version>,
     /// The type of the drawing.
     pub kind: Drawing,
@@ -35,13 +35,13 @@ pub struct Settings {
     pub margin: u8,
     /// Whether the whole input is encoded in byte mode.
     pub bytes_only: bool,
-    /// Whether kanji mode may be used, unless the whole input is encoded in byte mode.
+    /// Whether kanji mode may be used. Without effect if the whole input is encoded in byte mode.
     pub kanji: bool,
-    /// Whether the letters a to z are encoded as capitals, unless the whole input is encoded in byte mode.
+    /// Whether the letters a to z are encoded as capitals. Without effect if the whole input is encoded in byte mode.
     pub fold: bool,
-    /// Whether a series of symbols is drawn where one does not hold the input.
+    /// Whether a series of symbols is drawn if one symbol does not hold the input.
     pub structured: bool,
-    /// The input, where the words hold it.
+    /// The input if it is an argument, or `None` if standard input is read.
     pub string: Option<String>,
 }
 
@@ -66,7 +66,7 @@ impl Model for Settings {
 }
 
 impl Settings {
-    // Which modes the segments may have.
+    // Returns the modes that segments may have.
     pub(crate) fn rule(&self) -> Rule
         ensures { result ≡ rule_for self.now }
     {
@@ -80,19 +80,19 @@ impl Settings {
     }
 }
 
-/// Why the words ask for nothing that can be drawn. The first of these that holds is answered.
+/// Why a command line is refused. If several of these causes apply, the first in this order is returned.
 #[derive(Debug, Drop, Error)]
 pub enum UsageFault {
-    /// They are not such as the command takes; the text says why, or is the help asked for.
+    /// `clap` refuses the arguments. The text is its message, or the help text if help is asked for.
     #[error("{0}")]
     Words(String),
-    /// The level is none of L, M, Q and H.
+    /// The level is not one of L, M, Q and H.
     #[error("unknown level")]
     Level,
-    /// The type is none that is drawn.
+    /// The type of drawing is unknown.
     #[error("unknown type")]
     Kind,
-    /// A series is asked for, and no version.
+    /// A series is asked for without a version.
     #[error("-S needs -v")]
     NeedsVersion,
     /// Memory was refused.
@@ -103,7 +103,7 @@ pub enum UsageFault {
 impl UsageFault {
     ghost use Rattle.qrencode_cli.specs.Settings.{usage_fault_number};
 
-    /// Its number, which stays what it is.
+    /// Returns the number of the fault. The numbers are stable.
     pub fn number(&self) -> u8
         ensures { result ≡ usage_fault_number self.now }
     {
@@ -128,14 +128,14 @@ impl From<AllocError> for UsageFault {
     }
 }
 
-// The first value of an argument.
+// Returns the first value of the argument `id`, or `None` if it is not given.
 fn text_in<'a>(matches: &ArgMatches<'a>, id: &str) -> Option<&'a str>
     ensures { option_map (λ s. s.now) result ≡ first_of id.now (rows_of (found_of matches.now)) }
 {
     matches.get_str(id)
 }
 
-// The type of drawing of this name, in either case of its letters.
+// Returns the type of drawing called `name`, in small or capital letters, or `None` if no type is called so.
 fn drawing_named(name: &str) -> Option<Drawing>
     ensures { result ≡ drawing_named name.now }
 {
@@ -152,14 +152,14 @@ fn drawing_named(name: &str) -> Option<Drawing>
     }
 }
 
-// The level that is asked for, L where none is.
+// Returns the level of `-l`, or L if `-l` is not given. Returns `None` if the level is unknown.
 fn level_in(matches: &ArgMatches<'_>) -> Option<Level>
     ensures { result ≡ option_map_or level_named (first_of (codes "level") (rows_of (found_of matches.now))) (Some Level.L) }
 {
     text_in(matches, "level").map_or(Some(Level::L), level_named)
 }
 
-// The level of this name, in either case of its letter.
+// Returns the level called `name`, in a small or a capital letter, or `None` if no level is called so.
 fn level_named(name: &str) -> Option<Level>
     ensures { result ≡ level_named name.now }
 {
@@ -176,40 +176,40 @@ fn level_named(name: &str) -> Option<Level>
     }
 }
 
-// The type of drawing that is asked for.
+// Returns the type of drawing of `-t`, or `None` if it is unknown.
 fn drawing_in(matches: &ArgMatches<'_>) -> Option<Drawing>
     ensures { result ≡ option_and_then drawing_named (first_of (codes "type") (rows_of (found_of matches.now))) }
 {
     text_in(matches, "type").and_then(drawing_named)
 }
 
-// Whether a flag stands. Its text is asked for, since that is what is known of matches.
+// Returns whether the flag `id` is given. It is read as text, since `clap`'s contracts describe values as text.
 fn flag_in(matches: &ArgMatches<'_>, id: &str) -> bool
     ensures { result ≡ flag_at (first_of id.now (rows_of (found_of matches.now))) }
 {
     text_in(matches, id) == Some("true")
 }
 
-// The number of an argument, or another where it is not given.
+// Returns the number of the option `id`, or `otherwise` if the option is not given.
 fn number_in(matches: &ArgMatches<'_>, id: &str, otherwise: u8) -> u8
     ensures { result ≡ number_or otherwise (one_of id.now (rows_of (found_of matches.now))) }
 {
     match matches.try_get_one::<u8>(id) {
         Ok(Some(number)) => number,
         Ok(None) => otherwise,
-        // Clap takes `-0` for a number, which it is not as a byte.
+        // `clap` accepts `-0` as a number in the range, but it does not parse as a `u8`. It means 0.
         Err(_) => 0,
     }
 }
 
-// The version that is asked for.
+// Returns the version of `-v`, or `None` if it is 0 or not given.
 fn version_in(matches: &ArgMatches<'_>) -> Option<Version>
     ensures { result ≡ version_at (one_of (codes "version") (rows_of (found_of matches.now))) }
 {
     Version::new(number_in(matches, "version", 0))
 }
 
-// The string of the words, copied.
+// Returns a copy of the positional argument, or `None` if it is not given.
 fn string_in(alloc: Global, matches: &ArgMatches<'_>) -> Result<Option<String>, AllocError>
     ensures { IfOk result (λ s. option_map string_bytes s ≡ first_of (codes "string") (rows_of (found_of matches.now))) }
 {
@@ -219,7 +219,7 @@ fn string_in(alloc: Global, matches: &ArgMatches<'_>) -> Result<Option<String>, 
     }
 }
 
-// The settings of the matches.
+// Reads the settings from the matches of `clap`.
 fn settings_in(alloc: Global, matches: &ArgMatches<'_>) -> Result<Settings, UsageFault>
     ensures { MatchResult result (λ s. settings_of (rows_of (found_of matches.now)) ≡ Ok s)
         (IsUsageFault (settings_of (rows_of (found_of matches.now)))) }
@@ -248,11 +248,12 @@ fn settings_in(alloc: Global, matches: &ArgMatches<'_>) -> Result<Settings, Usag
     })
 }
 
-/// Reads the words of a command line, of which the first is the program's name.
+/// Parses a command line, of which the first text is the program's name.
 ///
 /// # Errors
 ///
-/// The first that holds: `Words` if clap refuses the words, `Level`, `Kind`, and `NeedsVersion`; or `Memory`.
+/// Returns the first fault that applies: `Words` if `clap` refuses the arguments, then `Level`, `Kind` and
+/// `NeedsVersion`. Returns `Memory` if memory is refused before another fault is found.
 pub fn options(alloc: Global, words: &[String]) -> Result<Settings, UsageFault>
     ensures settings { MatchResult result (λ s. settings_for (map string_bytes words.now) ≡ Ok s)
         (IsUsageFault (settings_for (map string_bytes words.now))) }

@@ -1,17 +1,19 @@
--- What a pen does. Only private clauses cite this file.
+-- What the operations of a pen do to the pen and the writer. Only private clauses cite this file.
 use Rattle.std.specs.Prelude.{ℕ, ◌++◌, List, Result, MatchResult}
 use Rattle.qr_devices.specs.Device.{Writer}
 use Rattle.qr_drawing.specs.Steps.Writing.{Stops, Writes}
 use Rattle.qr_drawing.specs.declared.pen.DrawFault.{DrawFault}
 use Rattle.qr_drawing.specs.declared.pen.Pen.{Pen}
 
--- the pen put a text after what it held
+-- `Puts old new before after text r` says what adding the text to the pen does: some of the bytes that the pen held,
+-- and of the text, may be written, and the pen holds the rest. After an error a prefix of these bytes was written
 abbrev pub Puts : Writer → Writer → Pen → Pen → List ℕ → {T : Type 0} → Result T DrawFault → Type 0
 Puts old new before after text r = MatchResult r
     (λ _. Writes old new before.interrupted after.interrupted (before.piece.items ++ text) after.piece.items)
     (λ _. Stops old new before.interrupted (before.piece.items ++ text))
 
--- the pen wrote what it held, or held it still
+-- `Reserves old new before after r` says what making room in the pen does: some of the bytes that the pen held may be
+-- written, and the pen holds the rest. After an error a prefix of these bytes was written
 abbrev pub Reserves : Writer → Writer → Pen → Pen → {T : Type 0} → Result T DrawFault → Type 0
 Reserves old new before after r = MatchResult r
     (λ _. Writes old new before.interrupted after.interrupted before.piece.items after.piece.items)

@@ -1,11 +1,11 @@
--- What is before and after the paths of a document. Only private clauses cite this file.
+-- The parts of a document before and after the paths. Only private clauses cite this file.
 use Rattle.std.specs.Prelude.{ℕ, List, ◌++◌, codes}
 use Rattle.qr_drawing.specs.Svg.{background, closing, declaration, opening}
 
--- the lines up to the paths, and the beginning of the line with them
+-- `head width height` is the lines before the paths, and the beginning of the line with the paths
 unfoldable pub head : ℕ → ℕ → List ℕ
 head width height = declaration ++ opening width height ++ background width height ++ codes "<path fill=\"#000000\" d=\""
 
--- the end of the line with the paths, and the last line
+-- `tail` is the end of the line with the paths, and the last line
 unfoldable pub tail : List ℕ
 tail = codes "\"/>\n" ++ closing

@@ -1,31 +1,33 @@
--- What writing a part of a text does to the writer and to the piece that is held back. Only private clauses cite this file.
+-- What writing a part of a text does to the writer and to the bytes that are held back. Only private clauses cite this
+-- file.
 use Rattle.std.specs.Prelude.{◌≡◌, ◌≤◌, ◌<◌, ◌+◌, ◌^◌, ◌++◌, ℕ, max, length, List, true}
 use Rattle.std.specs.Io.KnownBytes.{Appends}
 use Rattle.qr_devices.specs.Device.{AppendsBeginning, IsWrittenWithin, Writer, counted, is_write_fault}
 use Rattle.qr_devices.specs.declared.device.WriteCounts.{WriteCounts}
 
--- no write met a cause of a fault, and so many were interrupted
+-- `IsWell c interrupted` holds if the counts show no cause of a fault, and exactly `interrupted` interruptions
 pub record IsWell (c : WriteCounts) (interrupted : ℕ) : Type 0 where
   pub failed : c.failed ≡ 0
   pub zeros : c.zeros ≡ 0
   pub tried : c.interrupted ≡ interrupted
   pub few : interrupted < 1000
 
--- some of the text went to the writer, and the rest is held
+-- `Sends old new text held` holds if the writer took a prefix of the text, and the rest of it is held
 pub record Sends (old new : Writer) (text held : List ℕ) : Type 0 where
   pub sent : List ℕ
   pub grows : Appends old.taken new.taken sent
   pub whole : sent ++ held ≡ text
   pub many : old.counts.taken < 2 ^ 64 → new.counts.taken ≡ counted (old.counts.taken + length sent)
 
--- the text was written, except for what is held; the interruptions went from `tried` to `tries`
+-- `Writes old new tried tries text held` holds if the text was written, except for the bytes that are held. The number
+-- of interruptions was `tried` before, and is `tries` now
 pub record Writes (old new : Writer) (tried tries : ℕ) (text held : List ℕ) : Type 0 where
   pub sends : Sends old new text held
   pub well : IsWell old.counts tried → IsWell new.counts tries
   pub offered : new.counts.offered ≤ max old.counts.offered 1200
   pub flushes : new.counts.flushes ≡ old.counts.flushes
 
--- a beginning of the text was written, and the writer is at fault
+-- `Stops old new tried text` holds if a prefix of the text was written, and the writer is at fault
 pub record Stops (old new : Writer) (tried : ℕ) (text : List ℕ) : Type 0 where
   pub front : AppendsBeginning old.taken new.taken text
   pub most : old.counts.taken < 2 ^ 64 → new.counts.taken ≤ counted (old.counts.taken + length text)

@@ -1,4 +1,4 @@
--- What the parts of a run come to. Only private clauses cite this file.
+-- The results of the parts of a run. Only private clauses cite this file.
 use Rattle.std.specs.Prelude.{◌≡◌, ◌<◌, ◌≤◌, ℕ, List, [], length, IfErr, Result, MatchResult}
 use Rattle.clap.specs.Walk.{Text}
 use Rattle.qrencode_cli.specs.Command.{Asks, IsFault, ReadsFor, Shows}
@@ -16,11 +16,11 @@ use Rattle.qrencode_cli.specs.declared.fault.Fault.TheVariants.{Refused, Memory,
 use Rattle.qrencode_cli.specs.declared.fault.Refusal.TheVariants.{Empty, TooLong, TooMany}
 use Rattle.qrencode_cli.specs.declared.picture.Picture.{Picture}
 
--- the drawing of a picture
+-- `drawing_of p` is the drawing of the picture `p`
 abbrev pub drawing_of : Picture → List ℕ
 drawing_of p = drawn p.kind p.margin (squares_of p.symbols.items)
 
--- the symbols are those that the settings ask for of an input, and can be drawn
+-- `AreDrawnFor s input symbols` holds if `symbols` are what the settings `s` ask for of the input, and can be drawn
 pub record AreDrawnFor (s : SettingsView) (input : List ℕ) (symbols : List Symbol) : Type 0 where
   pub asked : AreSymbols s input (squares_of symbols)
   pub joined : IsJoined (squares_of symbols) input
@@ -30,7 +30,7 @@ pub record AreDrawnFor (s : SettingsView) (input : List ℕ) (symbols : List Sym
   pub few : length symbols ≤ 16
   pub one_side : HaveOneSide (squares_of symbols)
 
--- why an input has no drawing
+-- `IsInputFault s input f` holds if the fault `f` is a correct reason why the input has no drawing, or lack of memory
 abbrev pub IsInputFault : SettingsView → List ℕ → Fault → Type 0
 IsInputFault s input (Refused Empty) = input ≡ []
 IsInputFault s input (Refused TooLong) = IsTooLong s input
@@ -38,19 +38,20 @@ IsInputFault s input (Refused TooMany) = IsTooMany s input
 IsInputFault s input Memory = Unit {0}
 IsInputFault s input _ = ⊥
 
--- the fault comes before any byte is written
+-- `IsEarly f` holds if the fault `f` comes before any byte is written
 abbrev pub IsEarly : Fault → Type 0
 IsEarly Write = ⊥
 IsEarly _ = Unit {0}
 
--- the picture that the words and the input ask for, or why there is none
+-- `Prepares words old new result` holds if `result` is the picture that the command line `words` and the reader's input
+-- ask for, or a fault that occurs before any byte is written
 pub record Prepares (words : List Text) (old new : Reader) (result : Result Picture Fault) : Type 0 where
   pub given : List ℕ
   pub is_input : IsInputOf old.remaining given
   pub reads : ReadsFor (settings_for words) old new given result
   pub answer : MatchResult result (λ p. Asks words given (drawing_of p)) (λ f. IsFault words given f × IsEarly f)
 
--- what a run came to before standard error was told of it
+-- `Attempts words in0 in1 out0 out1 result` says what a run did before it reports a fault on standard error
 pub record Attempts (words : List Text) (in0 in1 : Reader) (out0 out1 : Writer) (result : Result (Unit {0}) Fault) : Type 0 where
   pub given : List ℕ
   pub is_input : IsInputOf in0.remaining given

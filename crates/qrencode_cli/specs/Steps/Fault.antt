@@ -1,4 +1,4 @@
--- Which faults of words and of inputs the command's faults are. Only private clauses cite this file.
+-- How faults of the command line and of encoding become faults of the command. Only private clauses cite this file.
 use Rattle.qr_symbol.specs.declared.fault.EncodeFault.{EncodeFault}
 use Rattle.qr_symbol.specs.declared.fault.EncodeFault.TheVariants as encode
 use Rattle.qrencode_cli.specs.declared.fault.Fault.{Fault}
@@ -7,7 +7,7 @@ use Rattle.qrencode_cli.specs.declared.fault.Refusal.TheVariants as refusal
 use Rattle.qrencode_cli.specs.declared.settings.UsageFault.{UsageFault}
 use Rattle.qrencode_cli.specs.declared.settings.UsageFault.TheVariants as usage
 
--- the fault of words
+-- `fault_of_words f` is the command's fault for the fault `f` of the command line
 abbrev pub fault_of_words : UsageFault → Fault
 fault_of_words (usage.Words text) = fault.Refused (refusal.Words text)
 fault_of_words usage.Level = fault.Refused refusal.Level
@@ -15,7 +15,7 @@ fault_of_words usage.Kind = fault.Refused refusal.Kind
 fault_of_words usage.NeedsVersion = fault.Refused refusal.NeedsVersion
 fault_of_words usage.Memory = fault.Memory
 
--- the fault of an input
+-- `fault_of_input f` is the command's fault for the fault `f` of encoding
 abbrev pub fault_of_input : EncodeFault → Fault
 fault_of_input encode.Empty = fault.Refused refusal.Empty
 fault_of_input encode.TooLong = fault.Refused refusal.TooLong
