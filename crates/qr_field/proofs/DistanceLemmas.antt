@@ -93,7 +93,7 @@ bytes-lowered k (c ∷ p) a =
     All-cons IsByte (product c factor) (lowered k p) (product-lt c factor (All-head IsByte c p a))
     (bytes-lowered k p (All-tail IsByte c p a))
 
--- above its places k makes no coefficient 0
+-- if k is at least the length of a polynomial, `lowered k` makes none of its coefficients 0
 weight-lowered : (k : ℕ) (p : List ℕ) → k < 255 → length p ≤ k → All IsByte p → weight (lowered k p) ≡ weight p
 weight-lowered k [] h l a = refl
 weight-lowered k (c ∷ p) h l a =

@@ -27,21 +27,23 @@ printed_errors M = 4 ∷ 8 ∷ 13 ∷ 9 ∷ 12 ∷ 8 ∷ 9 ∷ 11 ∷ 11 ∷ 13 
 printed_errors Q = 6 ∷ 11 ∷ 9 ∷ 13 ∷ 9 ∷ 12 ∷ 9 ∷ 11 ∷ 10 ∷ 12 ∷ 14 ∷ 13 ∷ 12 ∷ 10 ∷ 15 ∷ 12 ∷ 14 ∷ 14 ∷ 13 ∷ 15 ∷ 14 ∷ 15 ∷ 15 ∷ 15 ∷ 15 ∷ 14 ∷ 15 ∷ 15 ∷ 15 ∷ 15 ∷ 15 ∷ 15 ∷ 15 ∷ 15 ∷ 15 ∷ 15 ∷ 15 ∷ 15 ∷ 15 ∷ 15 ∷ []
 printed_errors H = 8 ∷ 14 ∷ 11 ∷ 8 ∷ 11 ∷ 14 ∷ 13 ∷ 13 ∷ 12 ∷ 14 ∷ 12 ∷ 14 ∷ 11 ∷ 12 ∷ 12 ∷ 15 ∷ 14 ∷ 14 ∷ 13 ∷ 14 ∷ 15 ∷ 12 ∷ 15 ∷ 15 ∷ 15 ∷ 15 ∷ 15 ∷ 15 ∷ 15 ∷ 15 ∷ 15 ∷ 15 ∷ 15 ∷ 15 ∷ 15 ∷ 15 ∷ 15 ∷ 15 ∷ 15 ∷ 15 ∷ []
 
--- The number of error correction codewords of a block that only protect against misreading, in the first versions, in turn;
--- in later versions it is 0 (ISO/IEC 18004:2015, 7.5.1, Table 9)
+-- The number of misdecode protection codewords of a block, in the first versions, in turn: error correction codewords that
+-- mend nothing, so that fewer damaged blocks are taken for another message. In later versions it is 0 (ISO/IEC 18004:2015,
+-- 7.5.1, Table 9)
 abbrev pub printed_protection : Level → List ℕ
 printed_protection L = 3 ∷ 2 ∷ 1 ∷ []
 printed_protection M = 2 ∷ []
 printed_protection Q = 1 ∷ []
 printed_protection H = 1 ∷ []
 
--- The number of error correction codewords of a block: two for each misread codeword that can be mended, and those that only
--- protect against misreading (ISO/IEC 18004:2015, 7.5.1, Table 9)
+-- The number of error correction codewords of a block: two for each misread codeword that can be mended, and the
+-- misdecode protection codewords (ISO/IEC 18004:2015, 7.5.1, Table 9)
 abbrev pub printed_correction : Level → ℕ → ℕ
 printed_correction l v = 2 * slice_index_or (printed_errors l) (v - 1) 0 + slice_index_or (printed_protection l) (v - 1) 0
 
 -- The gap between neighbouring rows of centres in version v with k rows of centres, except for the first gap: the least even
--- number that is enough, and 26 in version 32 (ISO/IEC 18004:2015, Annex E)
+-- number such that k - 1 gaps of this size reach from row 6 to the last row of centres, and 26 in version 32 (ISO/IEC
+-- 18004:2015, Annex E)
 abbrev pub gap_between : ℕ → ℕ → ℕ
 gap_between v k = if v == 32 then 26 else 2 * ((side_of v - 13 + 2 * (k - 1) - 1) / (2 * (k - 1)))
 
