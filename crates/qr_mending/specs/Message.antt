@@ -29,7 +29,8 @@ pub record AreMended (b : Blocks) (t : ℕ) (d e : List ℕ) (n : ℕ) (message 
   pub each : (i : ℕ) → i < n → IsMendedBlock b t d e message (slice_index changed i) i
 
 -- `IsMendedMessage b t cw message changed` holds if the codewords cw are a damaged form of the final sequence of the
--- message: in block i item i of `changed` codewords differ, which is at most t (ISO/IEC 18004:2015, 7.5.1, 7.6).
+-- message. Item i of `changed` is the number of codewords that differ in block i, which is at most t
+-- (ISO/IEC 18004:2015, 7.5.1, 7.6).
 pub record IsMendedMessage (b : Blocks) (t : ℕ) (cw message changed : List ℕ) : Type 0 where
   pub codewords : List ℕ
   pub checks : List ℕ

@@ -25,8 +25,8 @@ MessagesLieApart v l =
     × ((blocks_of v l).ec_len + 1 ≤ differences (held_block v l mask g d m i) (held_block v l mask' g' d' m' i))
 
 -- `DamagedMessagesAreOne v l` holds if the codewords that were read from a damaged square of version v and level l
--- belong to one message at most, as long as in each block the number of codewords not read, plus twice the number of
--- codewords misread, is at most the number of error correction codewords of the block (ISO/IEC 18004:2015, 7.5.1).
+-- belong to one message at most, as long as in each block the number of erased codewords, plus twice the number of
+-- misread codewords, is at most the number of its error correction codewords (ISO/IEC 18004:2015, 7.5.1).
 abbrev pub DamagedMessagesAreOne : ℕ → Level → Type 0
 DamagedMessagesAreOne v l =
     (mask mask' : ℕ) (g g' : Grid) (d d' : List ℕ) → (m : IsMessage v l mask g d) → (m' : IsMessage v l mask' g' d')

@@ -76,8 +76,8 @@ abbrev pub check_at : List (List ℕ) → Tag → ℕ
 check_at corrections t = slice_index_or (slice_index_or corrections t.block []) t.place 0
 
 -- `IsFinalMessage b d cw` holds if cw is the final sequence of codewords for the data codewords d in the blocks b: the
--- data codewords in the order of their tags, and then the error correction codewords of all blocks in the order of
--- theirs (ISO/IEC 18004:2015, 7.5.2, 7.6).
+-- data codewords of all blocks, followed by the error correction codewords of all blocks, both in the order of their
+-- tags (ISO/IEC 18004:2015, 7.5.2, 7.6).
 pub record IsFinalMessage (b : Blocks) (d cw : List ℕ) : Type 0 where
   pub data_tags : List Tag
   pub data_order : IsTagOrder (data_cut b) data_tags

@@ -1,5 +1,5 @@
-//! Draws the modules of a symbol: the function patterns with the format and version information, and the codewords'
-//! bits, either strip by strip in the order of the walk or module by module along it
+//! Draws the modules of a symbol: the function patterns with the format and version information, and the bits of the
+//! codewords. These are drawn either strip by strip or module by module, in the order of `qr_layout::walk`
 //! (ISO/IEC 18004:2015, 7.7.2 and 7.7.3).
 
 ghost use Rattle.std.specs.Prelude.{◌≡◌, ℕ, List, ◌*◌, ◌%◌, ◌+◌, ◌-◌, ◌<◌, ◌≤◌, ◌==◌, ◌&&◌, not, if◌then◌else◌, nat_le, nat_lt, false, slice_index};
@@ -573,8 +573,8 @@ fn bit_at(codewords: &[u8], number: usize) -> bool
     is_bit_set(u32::from(codeword), 7 - (number % 8) as u8)
 }
 
-// Draws the codeword bits under a mask at the modules of the encoding region, module by module along the walk. The
-// remainder bits are 0 before they are masked, and the mask inverts them too.
+// Draws the codeword bits under a mask at the modules of the encoding region, module by module in the order of `walk`.
+// The remainder bits are 0 before they are masked, and the mask inverts them too.
 pub(crate) fn draw_along_walk(matrix: &mut Matrix, v: Version, codewords: &[u8], mask: u8)
     requires { IsSquare (side_of v) matrix.old }
     ensures { matrix.new ≡ square (side_of v) (walked_colour v codewords.now mask (colour matrix.old)) }

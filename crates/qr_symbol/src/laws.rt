@@ -101,9 +101,8 @@ pub fn messages_lie_apart(version: Version, level: Level)
     ensures { MessagesLieApart version level }
 {}
 
-/// The codewords read from a damaged square belong to one message at most, as long as in each block the number of
-/// codewords not read, plus twice the number of codewords misread, is at most the number of its error correction
-/// codewords.
+/// The codewords read from a damaged square belong to one message at most, as long as in each block the number of erased
+/// codewords, plus twice the number of misread codewords, is at most the number of its error correction codewords.
 pub fn damaged_messages_are_one(version: Version, level: Level)
     ensures { DamagedMessagesAreOne version level }
 {}

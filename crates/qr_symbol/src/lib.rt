@@ -1,5 +1,5 @@
-//! Encodes an input as one symbol or as a series of symbols, interleaves, places and masks its codewords, and reads
-//! symbols back.
+//! Encodes an input as one symbol or as a series of symbols, and reads symbols back. Interleaves codewords, places them
+//! in the square, and masks them.
 #![tactic(auto)]
 
 mod canvas;

@@ -27,8 +27,8 @@ use std::alloc::Global;
 /// which modes the segments may have. Without kanji mode the series is the shortest possible: no cut into fewer parts
 /// fits.
 ///
-/// Returns `Empty` if the input has no byte, and `TooMany` if it has more than 16 parts; without kanji mode no other cut
-/// into 16 parts fits then either.
+/// Returns `Empty` if the input has no byte, and `TooMany` if it has more than 16 parts. If kanji mode is not allowed,
+/// no other cut into 16 parts fits then.
 pub fn encode_series(
     alloc: Global,
     input: &[u8],

@@ -1,8 +1,8 @@
 //! Finds the least version that an input fits, and the segments of the input in it (ISO/IEC 18004:2015, 7.1 and 7.4.1).
 //!
 //! The number of bits of a segment depends on the version only by the width of its character count indicator, which
-//! changes only after the versions 9 and 26. So an input is cut into segments once for each of the three ranges of
-//! versions.
+//! changes only after the versions 9 and 26. So an input is cut into segments at most once for each of the three ranges
+//! of versions.
 
 ghost use Rattle.std.specs.Prelude.{◌≡◌, ◌≤◌, ◌<◌, ℕ, length, IfOk, MatchOption};
 ghost use Rattle.qr_bits.specs.declared.modes.Rule.{Rule};
@@ -24,7 +24,7 @@ const SMALL_BITS: u32 = 1856;
 // The most bits that the data codewords of a symbol up to version 26 hold.
 const MEDIUM_BITS: u32 = 10960;
 
-// The most bytes that a symbol up to version 26 holds: three digits take ten bits (7.4.3).
+// No symbol up to version 26 holds more bytes than this, since three digits take ten bits (7.4.3).
 const MEDIUM_BYTES: usize = 3288;
 
 // A version that an input fits, and the segments of the input in it.
@@ -48,9 +48,9 @@ fn last_of_width(version: Version) -> u8
     }
 }
 
-// Returns the first version of a range, 1, 10 or 27, such that the input fits no version before it: a range is skipped
-// if all its symbols have too few bits. With byte mode alone only a long input skips ranges, since more would save
-// little.
+// Returns the first version of a range, 1, 10 or 27, such that the input fits no version before it. A range is skipped
+// if all its symbols have too few bits. With byte mode alone only long inputs skip ranges, since a closer look would
+// save little.
 fn first_for(input: &[u8], rule: Rule) -> u8
     requires { length input.now ≤ INPUT_MAX }
     ensures first { 1 ≤ result }

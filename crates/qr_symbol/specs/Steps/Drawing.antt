@@ -55,8 +55,8 @@ walked_colour v cw mask other r c =
 abbrev pub placed_if : Bool → List ℕ → ℕ → Grid → ℕ → ℕ → Grid
 placed_if is_in cw number g row col = if is_in then painted g row col (codeword_bit cw number) else g
 
--- The number of the next codeword bit after a module that takes bit `number` if it is in the encoding region, and no bit
--- otherwise.
+-- The number of the next codeword bit after a module. It is `number + 1` if `is_in` is true, since a module in the
+-- encoding region takes bit `number`; otherwise it is `number`.
 abbrev pub number_after : Bool → ℕ → ℕ
 number_after is_in number = if is_in then number + 1 else number
 
