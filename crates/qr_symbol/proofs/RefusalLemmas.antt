@@ -81,7 +81,7 @@ refused-one g fault.Check f a b = inr (by_fault f b)
 refused-one g (fault.Segments x) f a b = inr (parse-refused g x f a.1 b)
 refused-one g fault.Series f a b = absurd a
 
--- if a value excludes all faults but lack of memory, and there is only one other fault, a call returns this fault
+-- if at most one fault besides lack of memory can hold, and none of these beside a value, a call returns such a fault
 -- exactly if it holds, unless memory is refused
 pub exactly : {T : Type 0} (P : T → Type 0) (U : ReadFault → Type 0) (r : Result T ReadFault) → MatchResult r P U →
     ((x : T) (e : ReadFault) → P x → U e → e ≡ fault.Memory) →
