@@ -1,4 +1,4 @@
--- What a label is. Public clauses cite this file.
+-- What a label is.
 use Rattle.std.specs.Prelude.{◌≡◌, ℕ, Bool, if◌then◌else◌, List, [], ◌∷◌, ◌++◌, map}
 use Rattle.std.specs.List.{flat_map, range_with_len}
 use Rattle.qr_layout.specs.declared.level.Level.{Level}
@@ -6,15 +6,16 @@ use Rattle.qr_bits.specs.declared.modes.Rule.TheVariants.{Auto}
 use Rattle.qr_matrix.specs.Grid.{Grid, colour}
 use Rattle.qr_symbol.specs.Encoding.{IsSymbol}
 
--- the character of a module: `#` where it is dark, and a space where it is light [own]
+-- The character of a module: `#` if it is dark, a space if it is light [own].
 abbrev pub character_of : Bool → ℕ
 character_of dark = if dark then 35 else 32
 
--- the line of a row: a character for each module, and a line feed [own]
+-- The line of a row of modules: a character for each module, and a line feed [own].
 abbrev pub line_of_row : Grid → ℕ → List ℕ
 line_of_row g row = map (λ col. character_of (colour g row col)) (range_with_len 0 g.side) ++ 10 ∷ []
 
--- the text is a label of the words: the lines of their symbol, and the words in a line of their own [own]
+-- `IsLabel words level smallest text` holds if the text is a label of the words: a line for each row of their symbol,
+-- and then a line with the words [own].
 pub record IsLabel (words : List ℕ) (level : Level) (smallest : ℕ) (text : List ℕ) : Type 0 where
   pub version : ℕ
   pub mask : ℕ

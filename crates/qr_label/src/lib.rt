@@ -1,5 +1,5 @@
-//! An example of a crate that stands on `qr_symbol`: a label, which is the symbol of some words as text, and the words below
-//! it. The contract of `label` says what it draws, down to the last character.
+//! An example of a crate that uses `qr_symbol`: a label, which is the symbol of some words as text, and the words below
+//! it. The contract of `label` says what it returns, down to the last character.
 #![tactic(auto)]
 
 ghost use Rattle.std.specs.Prelude.{◌≡◌, ◌≢◌, ◌<◌, ◌≤◌, ◌↔◌, ◌⊎◌, ◌++◌, [], length, Err, IfErr, IfOk, IsOk};
@@ -13,8 +13,9 @@ use qr_layout::{Level, Version};
 use qr_symbol::{EncodeFault, Matrix, encode};
 use std::alloc::{AllocError, Global};
 
-/// The label of some words: the lines of their symbol of this level, in the least version from `smallest` on, and then the
-/// words in a line of their own. There is no quiet zone, so the paper around it has to be light.
+/// Returns the label of some words: the rows of their symbol of this level as lines of text, in the least version from
+/// `smallest` on that the words fit, and then a line with the words. There is no quiet zone, so the paper around the
+/// label has to be light.
 ///
 /// # Errors
 ///
@@ -44,7 +45,7 @@ pub fn label(
     Ok(text)
 }
 
-// Adds the line of a row.
+// Adds the line of the row `row`.
 fn push_line(text: &mut Vec<u8>, matrix: &Matrix, row: u8) -> Result<(), AllocError>
     requires { row < matrix.now.side }
     ensures { IsOk result → text.new.items ≡ text.old.items ++ line_of_row matrix.now row }
@@ -56,7 +57,7 @@ fn push_line(text: &mut Vec<u8>, matrix: &Matrix, row: u8) -> Result<(), AllocEr
     Ok(())
 }
 
-// The character of a module.
+// Returns the character of a module.
 fn character_of(dark: bool) -> u8
     ensures { result ≡ character_of dark }
 {

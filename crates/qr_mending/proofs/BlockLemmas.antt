@@ -1,5 +1,5 @@
--- The errors of a damaged block: they are located by any polynomial that has solved the equations, and with them added the
--- block is the true one.
+-- The errors of a damaged block are located by any polynomial that solves the equations. Adding the errors to the
+-- damaged codewords gives the true block.
 use Rattle.std.proofs.Common.{◌≡◌, ℕ, zero, suc, ◌+◌, ◌-◌, ◌*◌, ◌/◌, ◌<◌, ◌≤◌, Option, Some, List, [], ◌∷◌, ◌++◌, length, map, take, drop, get_or, refl, sym, ap, ◌∙◌, subst, arith, bit_xor, length-append}
 use Rattle.std.specs.List.{All}
 use Rattle.std.specs.Int.Bits.{xor_zero_r}
@@ -33,15 +33,15 @@ pub bytes-block : (n : ℕ) (b : List ℕ) → IsBlock n b → All IsByte b
 bytes-block n b h =
     subst (λ (t : List ℕ). All IsByte t) (sym h.whole) (block-bytes h.message n h.correction h.corrects)
 
--- its first n values are 0
+-- the first n values of a block are 0
 root-block : (n : ℕ) (b : List ℕ) → IsBlock n b → (i : ℕ) → i < n → value_at i b ≡ 0
 root-block n b h i l = ap (value_at i) h.whole ∙ block-root h.message n h.correction h.corrects i l
 
--- the data codewords are all but the last n
+-- the data codewords of a block are all of its codewords but the last n
 start-block : (n : ℕ) (b : List ℕ) → (h : IsBlock n b) → length h.message ≡ length b - n
 start-block n b h = omega (arith, length-append h.message h.correction, ap length h.whole, h.corrects.count)
 
--- the error correction codewords follow them
+-- the last n codewords of a block are the error correction codewords of its data codewords
 pub block-corrects : (n : ℕ) (b : List ℕ) → IsBlock n b → IsCorrection (take (length b - n) b) n (drop (length b - n) b)
 block-corrects n b h =
     let k = length b - n in
@@ -53,7 +53,7 @@ block-corrects n b h =
 
 -- ---- errors
 
--- the sum at a place
+-- item k of the sum of two lists
 get_or-plus : (xs ys : List ℕ) (k : ℕ) → length xs ≡ length ys → k < length xs →
     get_or (plus xs ys) k 0 ≡ bit_xor (get_or xs k 0) (get_or ys k 0)
 get_or-plus [] ys k e l = absurd (omega arith)
@@ -61,7 +61,7 @@ get_or-plus (x ∷ xs) [] k e l = absurd (omega arith)
 get_or-plus (x ∷ xs) (y ∷ ys) zero e l = refl
 get_or-plus (x ∷ xs) (y ∷ ys) (suc k) e l = get_or-plus xs ys k (omega arith) (omega arith)
 
--- the coefficient at a place, counted from the last
+-- the coefficient at item k of a list, counted from the last item
 coefficient-at : (e : List ℕ) (k : ℕ) → k < length e → coefficient (length e - 1 - k) e ≡ get_or e k 0
 coefficient-at [] k l = absurd (omega arith)
 coefficient-at (c ∷ e) zero l = coefficient-head (length (c ∷ e) - 1 - zero) c e (omega arith)
@@ -70,7 +70,7 @@ coefficient-at (c ∷ e) (suc k) l =
     let h : m ≡ length e - 1 - k = omega arith in
     coefficient-tail m c e (λ g. omega (arith, g)) ∙ (ap (λ t. coefficient t e) h ∙ coefficient-at e k (omega arith))
 
--- the first values of the errors are those of the damaged block
+-- the first n values of the errors are those of the damaged block
 errors-value : (n : ℕ) (damaged b : List ℕ) → IsBlock n b → length b ≡ length damaged → All IsByte damaged →
     (i : ℕ) → i < n → value_at i (plus damaged b) ≡ value_at i damaged
 errors-value n damaged b h s a i l =
@@ -81,18 +81,18 @@ errors-value n damaged b h s a i l =
     ∙ (ap (λ t. bit_xor t (value_at i b)) (product-by_one v (value-lt i damaged a))
     ∙ (ap (bit_xor v) (root-block n b h i l) ∙ xor_zero_r v)))
 
--- so they are the syndromes
+-- so the first n values of the errors are the syndromes
 pub errors-values : (n : ℕ) (damaged b first : List ℕ) → IsBlock n b → length b ≡ length damaged → All IsByte damaged →
     HasValues first damaged → length first ≡ n → HasValues first (plus damaged b)
 errors-values n damaged b first block long a h l = record {
   each = λ k g. h.each k g ∙ sym (errors-value n damaged b block long a k (omega (arith, l, g)));
 }
 
--- the leading coefficient comes last
+-- the list of all coefficients ends with the leading 1
 pub all-low : (p : Polynomial) → IsMonic p → p.degree < length p.terms → all_of p ≡ take p.degree p.terms ++ 1 ∷ []
 all-low p m l = take_more p.terms p.degree 0 l ∙ ap (λ z. take p.degree p.terms ++ z ∷ []) m
 
--- errors that stand at roots of a polynomial are located by it
+-- if a polynomial has a root for each error, it locates the errors
 pub roots-locate : (q w e : List ℕ) → q ≡ w ++ 1 ∷ [] → All IsByte q → All IsByte e → length e ≤ 255 →
     ((m : ℕ) → m < length e → (eval (power m) q ≡ 0 → ⊥) → coefficient m e ≡ 0) → IsLocated q e
 roots-locate q w e split bytes le small roots =
@@ -110,7 +110,8 @@ roots-locate q w e split bytes le small roots =
       roots = roots;
     }
 
--- a polynomial that has solved the equations of the first values of few errors has a root at each of them
+-- if there are at most t errors, a polynomial that solves the first t equations of their values has a root for each of
+-- them
 pub solved-root : (t : ℕ) (e first q : List ℕ) (p : Polynomial) → All IsByte e → length e ≤ 255 → weight e ≤ t →
     HasValues first e → 2 * t ≤ length first → p.degree ≤ t → p.degree < length p.terms → All IsByte q → q ≡ all_of p →
     ((i : ℕ) → i < t → miss_of p (drop i first) ≡ 0) → (m : ℕ) → m < length e → (eval (power m) q ≡ 0 → ⊥) →
@@ -122,14 +123,14 @@ solved-root t e first q p le small few values long d fits bytes same solved =
     sym (dot-blend q i first e values (omega (arith, g, count, long, d)))
     ∙ (ap (λ z. dot_of z (drop i first)) same ∙ solved i g))
 
--- the error that brings a codeword to that of another list, added
+-- adding the difference of two lists to the first list gives the second list
 pub plus-cancel : (xs ys : List ℕ) → length xs ≡ length ys → plus xs (plus xs ys) ≡ ys
 plus-cancel [] ys h = refl
 plus-cancel (x ∷ xs) [] h = absurd (omega arith)
 plus-cancel (x ∷ xs) (y ∷ ys) h =
     ap (λ z. z ∷ plus xs (plus xs ys)) (xor-cancel x y) ∙ ap (λ z. y ∷ z) (plus-cancel xs ys (omega arith))
 
--- one codeword more without its error
+-- one codeword more, without its error
 pub sum-more : (xs errors items new : List ℕ) (k error : ℕ) → length errors ≡ length xs → k < length xs →
     error ≡ coefficient (length xs - 1 - k) errors → items ≡ take k (plus xs errors) →
     new ≡ items ++ bit_xor (get_or xs k 0) error ∷ [] → new ≡ take (k + 1) (plus xs errors)
@@ -145,9 +146,9 @@ sum-more xs errors items new k error long l h same push =
     ∙ (ap (λ z. take k (plus xs errors) ++ z ∷ []) here
     ∙ sym (take_more (plus xs errors) k 0 (omega (arith, l, long, count)))))
 
--- ---- series
+-- ---- the values of the errors
 
--- the next value of located errors
+-- the next value of located errors follows from the values before it
 pub value-next : (p series e : List ℕ) (v : ℕ) → IsLocated p e → HasValues series e → length p ≤ length series + 1 →
     v ≡ dot_of (low p) (take (length series - (length series - (length p - 1))) (drop (length series - (length p - 1)) series)) →
     v ≡ value_at (length series) e
@@ -159,7 +160,7 @@ value-next p series e v h s l d =
     ∙ (ap (dot_of (low p)) (take_rest series i)
     ∙ (dot-blend (low p) i series e s room ∙ (sym (h.recurrence i) ∙ ap (λ z. value_at z e) whole)))
 
--- the coefficient at a place by the inverse of its power
+-- the error at index `place` is the value of the series at the inverse of its power
 pub inverse-coefficient : (place inverse v x : ℕ) (p series e : List ℕ) → IsLocated p e →
     HasValues series e → length series ≡ 255 → place < 255 → x ≡ power inverse → v ≡ eval x series →
     power inverse ≡ power (255 - place) → v ≡ coefficient place e
@@ -167,7 +168,7 @@ inverse-coefficient place inverse v x p series e h s l m ex ev turn =
     ev
     ∙ (ap (λ z. eval z series) (ex ∙ turn) ∙ eval-coefficient place series e m h.most h.bytes l s)
 
--- the inverse of 1
+-- the inverse of 2 to the power 0
 pub inverse-one : (place inverse : ℕ) → place ≡ 0 → inverse ≡ 0 → power inverse ≡ power (255 - place)
 inverse-one place inverse e f =
     let turn : 255 - place ≡ 255 = omega arith in
@@ -175,7 +176,7 @@ inverse-one place inverse e f =
 
 -- ---- the whole list
 
--- the errors of a damaged block, located, leave the true one
+-- the damaged codewords without their located errors are the true block
 pub errors-leave : (n t : ℕ) (damaged first q items : List ℕ) (p : Polynomial) → 2 * t ≤ n → length damaged ≤ 255 →
     All IsByte damaged → HasValues first damaged → length first ≡ n → p.degree ≤ t → IsMonic p →
     p.degree < length p.terms → All IsByte q → q ≡ all_of p → ((i : ℕ) → i < t → miss_of p (drop i first) ≡ 0) →
@@ -210,7 +211,7 @@ block-passes n m b correction e h only =
     sym (only (drop (length b - m) b)
     (subst (λ (z : ℕ). IsCorrection (take (length b - z) b) n (drop (length b - z) b)) (sym e) (block-corrects n b h)))
 
--- a list differs nowhere from itself
+-- a list differs from itself in no item
 pub differences-same : (xs : List ℕ) → differences xs xs ≡ 0
 differences-same [] = refl
 differences-same (x ∷ xs) =
@@ -218,11 +219,11 @@ differences-same (x ∷ xs) =
     let f = differences-same xs in
     omega (arith, e, f)
 
--- a block is mended by no change
+-- a block is a damaged form of itself
 pub mended-same : (n t : ℕ) (b : List ℕ) → IsBlock n b → IsMended n t b b
 mended-same n t b h = record { block = h; long = refl; near = omega (arith, differences-same b) }
 
--- two blocks of one length with the same data codewords
+-- two blocks of the same length with the same data codewords are equal
 blocks-one : (n : ℕ) (b c : List ℕ) → (g : IsBlock n b) → (h : IsBlock n c) → g.message ≡ h.message → b ≡ c
 blocks-one n b c g h e =
     let f : g.correction ≡ h.correction =
@@ -230,7 +231,7 @@ blocks-one n b c g h e =
     (subst (λ (z : List ℕ). IsCorrection z n g.correction) e g.corrects) h.corrects in
     g.whole ∙ (ap (λ z. z ++ g.correction) e ∙ (ap (λ z. h.message ++ z) f ∙ sym h.whole))
 
--- the law of mended blocks of which some places could not be read
+-- the law of mended blocks with erasures
 pub erasures-one : (n spare : ℕ) (read : List (Option ℕ)) (b c : List ℕ) → length read ≤ 255 → spare ≤ n →
     IsMendedWithErasures n spare read b → IsMendedWithErasures n spare read c → b ≡ c
 erasures-one n spare read b c most enough g h =
@@ -250,7 +251,7 @@ erasures-one n spare read b c most enough g h =
     (subst (λ (z : List ℕ). errors read z ≤ t) y.whole ht) in
     blocks-one n b c x y e
 
--- a block of which each place was read
+-- a block of which all codewords were read is mended with erasures as it is without
 pub read-mended : (n spare : ℕ) (damaged b : List ℕ) → IsMended n (spare / 2) damaged b →
     IsMendedWithErasures n spare (map (λ x. Some x) damaged) b
 read-mended n spare damaged b m = record {
@@ -259,7 +260,7 @@ read-mended n spare damaged b m = record {
   near = omega (arith, m.near, erasures-read damaged, errors-read damaged b);
 }
 
--- is mended alike
+-- and the other way round: what is mended with erasures, if there are none, is mended without
 pub mended-read : (n spare : ℕ) (damaged b : List ℕ) →
     IsMendedWithErasures n spare (map (λ x. Some x) damaged) b → IsMended n (spare / 2) damaged b
 mended-read n spare damaged b m = record {

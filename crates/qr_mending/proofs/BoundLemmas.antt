@@ -1,4 +1,4 @@
--- How many codewords of a block may be changed, and how many were.
+-- Bounds on the number of codewords of a block that may be changed, and that were changed.
 use Rattle.std.proofs.Common.{◌≡◌, ℕ, ◌≤◌, ◌&&◌, true, leb, Option, None, Some, List, length, refl, arith}
 use Rattle.std.specs.List.{All}
 use Rattle.std.proofs.lemmas.List.Elements.{All-from_get_or}
@@ -12,18 +12,18 @@ use Rattle.qr_matrix.proofs.Facts.{&&-left, &&-right}
 use Rattle.qr_mending.specs.Message.{tolerance_of}
 use Rattle.qr_mending.specs.Mending.{IsMendedReadingWithout}
 
--- in each version and level from 2 to 15 codewords may be changed
+-- in each version and level, from 2 to 15 codewords may be changed, computed
 tolerance-all : every (λ l v. leb 2 (tolerance_of v l) && leb (tolerance_of v l) 15) ≡ true
 unfolding correction_len_of
 tolerance-all = refl
 
--- the same at one version and level
+-- the same bounds at one version and level
 pub tolerance-bounds : (v : ℕ) (l : Level) → 1 ≤ v → v ≤ 40 → (2 ≤ tolerance_of v l) × (tolerance_of v l ≤ 15)
 tolerance-bounds v l a b =
     let t = every-at (λ l v. leb 2 (tolerance_of v l) && leb (tolerance_of v l) 15) tolerance-all l v a b in
     (leb-true _ _ (&&-left (leb 2 (tolerance_of v l)) _ t), leb-true _ _ (&&-right (leb 2 (tolerance_of v l)) _ t))
 
--- a square that is mended has a block
+-- a mended square has at least one block
 pub changes-some : (unknown : Option Grid) (g : Grid) (v : ℕ) (l : Level) (m : ℕ) (p : Content) (x : List ℕ) → IsMendedReadingWithout unknown g v l m p x → 1 ≤ length x
 changes-some None g v l m p x h =
     let sized = h.form.sized in
@@ -36,7 +36,7 @@ changes-some (Some unknown) g v l m p x h =
     let w = blocks-sound l v sized.least sized.most in
     omega (arith, d.many, w.some)
 
--- in no block more codewords were changed than may be
+-- in each block at most as many codewords were changed as may be changed
 pub changes-few : (unknown : Option Grid) (g : Grid) (v : ℕ) (l : Level) (m : ℕ) (p : Content) (x : List ℕ) → IsMendedReadingWithout unknown g v l m p x → All (λ n. n ≤ tolerance_of v l) x
 changes-few None g v l m p x h =
     let d = h.form.damaged.mended.mended in

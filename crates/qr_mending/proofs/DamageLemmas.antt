@@ -31,7 +31,7 @@ symbol-form unknown smallest l rule x v mask g h changed least s side f d =
       damaged = d;
     }
 
--- it has a mended reading, which is the input
+-- a damaged symbol of an input can be read with its damage mended, as the input
 pub symbol-mended : (unknown : Option Grid) (smallest : ℕ) (l : Level) (rule : Rule) (x : List ℕ) (v mask : ℕ) (g h : Grid) (changed : List ℕ) →
     1 ≤ smallest → (s : IsSymbol smallest l rule x v mask g) → h.side ≡ g.side → HasFormatWithout unknown v h l mask →
     HoldsDamagedWithout unknown v l mask h s.made.message changed →
@@ -42,7 +42,7 @@ symbol-mended unknown smallest l rule x v mask g h changed least s side f d = re
   parsed = data_again v l x s.made.segments None s.made.message s.made.written;
 }
 
--- what has a mended reading is mended so, but for lack of memory
+-- a square that can be read with its damage mended is read so, unless memory is refused
 pub mended-as : (unknown : Option Grid) (g : Grid) (v : ℕ) (l : Level) (mask : ℕ) (content : Content) (changed : List ℕ) (r : Result Mended ReadFault) →
     IsMendedReadingWithout unknown g v l mask content changed →
     MatchResult r (λ m. IsMendedReadingWithout unknown g m.version m.level m.mask m.parsed m.changed.items) (IsUnmendedWithout unknown g) →
@@ -51,7 +51,7 @@ mended-as unknown g v l mask content changed (Ok m) h k =
     mended-reading-one unknown g m.version v m.level l m.mask mask m.parsed content m.changed.items changed k h
 mended-as unknown g v l mask content changed (Err e) h k = mended-not-refused unknown g v l mask content changed e h k
 
--- the same without the counts
+-- the same, without the numbers of changed codewords and wrong modules
 pub symbol-mended-as : (unknown : Option Grid) (g : Grid) (v : ℕ) (l : Level) (mask : ℕ) (content : Content) (changed : List ℕ) (r : Result Mended ReadFault) →
     IsMendedReadingWithout unknown g v l mask content changed →
     MatchResult r (λ m. IsMendedReadingWithout unknown g m.version m.level m.mask m.parsed m.changed.items) (IsUnmendedWithout unknown g) →
@@ -59,7 +59,7 @@ pub symbol-mended-as : (unknown : Option Grid) (g : Grid) (v : ℕ) (l : Level) 
 symbol-mended-as unknown g v l mask content changed (Ok m) h k = let w = mended-as unknown g v l mask content changed (Ok m) h k in (w.0, w.1, w.2, w.3)
 symbol-mended-as unknown g v l mask content changed (Err e) h k = mended-as unknown g v l mask content changed (Err e) h k
 
--- the damage of a symbol is counted
+-- the same, with the numbers of changed codewords and wrong modules
 pub symbol-counted : (unknown : Option Grid) (smallest : ℕ) (l : Level) (rule : Rule) (x : List ℕ) (v mask : ℕ) (g h : Grid) (changed : List ℕ) →
     1 ≤ smallest → (s : IsSymbol smallest l rule x v mask g) → h.side ≡ g.side → HasFormatWithout unknown v h l mask →
     HoldsDamagedWithout unknown v l mask h s.made.message changed → (r : Result Mended ReadFault) →

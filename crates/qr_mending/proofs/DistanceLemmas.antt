@@ -1,4 +1,4 @@
--- Two symbols of a version that say different things lie far apart.
+-- Two symbols of a version that contain different messages lie far apart.
 use Rattle.std.proofs.Common.{◌≡◌, ℕ, zero, suc, ◌<◌, ◌≤◌, Bool, List, refl, ◌∙◌, ap, subst, inl, inr, arith}
 use Rattle.std.proofs.lemmas.Bool.{cases_lt, cases_eq}
 use Rattle.std.proofs.lemmas.Bool.Decides.{nat_tests}
@@ -18,14 +18,14 @@ use Rattle.qr_mending.specs.Format.{bit_difference, bit_differences, copy_bit}
 use Rattle.qr_mending.specs.Distance.{FormatsLieApart, SomeBlockLiesApart, SymbolsLieApart}
 use Rattle.qr_mending.proofs.FormatLemmas.{far}
 
--- the second copy stands in the square
+-- the places of the second copy are inside the square
 second-row : (s i : ℕ) → 21 ≤ s → i < 15 → (second_place s i).row < s
 second-row s i m l = elim (cases_lt i 8) [ inl k ↦ grind (arith, nat_tests) | inr k ↦ grind (arith, nat_tests) ]
 
 second-col : (s i : ℕ) → 21 ≤ s → i < 15 → (second_place s i).col < s
 second-col s i m l = elim (cases_lt i 8) [ inl k ↦ grind (arith, nat_tests) | inr k ↦ grind (arith, nat_tests) ]
 
--- each copy of the format information of a symbol is that of its level and mask
+-- the bits of each copy in a symbol are those of the word of its level and mask
 shown : (copy : FormatCopy) (v : ℕ) (l : Level) (mask : ℕ) (cw : List ℕ) (i : ℕ) → 1 ≤ v → v ≤ 40 → mask < 8 → i < 15 →
     copy_bit copy (grid_of v l mask cw) i ≡ word_bit (format_word_of l mask) i
 unfolding colour_of
@@ -37,7 +37,7 @@ shown Second v l mask cw i p q h r =
     let b = second-col s i (omega arith) r in
     colour-square s (colour_of v l mask cw) m.row m.col a b ∙ ap (colour_by v l mask cw m.row m.col) (format-second v i p q r)
 
--- the differences of the same bits
+-- equal bits have equal numbers of differences
 pub bits-alike : (n : ℕ) (p q r s : ℕ → Bool) → ((i : ℕ) → i < n → p i ≡ r i) → ((i : ℕ) → i < n → q i ≡ s i) →
     bit_differences n p q ≡ bit_differences n r s
 bits-alike zero p q r s f g = refl
@@ -47,7 +47,7 @@ bits-alike (suc n) p q r s f g =
     let rest = bits-alike n p q r s (λ i l. f i (omega arith)) (λ i l. g i (omega arith)) in
     omega (arith, here, rest)
 
--- symbols of different levels or masks show different format information
+-- symbols of different levels or masks differ in at least seven modules of each copy of the format information
 formats-apart : (v : ℕ) (l k : Level) (m n : ℕ) (cw ds : List ℕ) → 1 ≤ v → v ≤ 40 → m < 8 → n < 8 →
     (five_bits l m ≡ five_bits k n → ⊥) → FormatsLieApart (grid_of v l m cw) (grid_of v k n ds)
 unfolding format_word_of
@@ -58,7 +58,7 @@ formats-apart v l k m n cw ds p q h j o = λ copy.
     let same = bits-alike 15 (copy_bit copy (grid_of v l m cw)) (copy_bit copy (grid_of v k n ds)) (word_bit (format_word_of l m)) (word_bit (format_word_of k n)) (λ i r. shown copy v l m cw i p q h r) (λ i r. shown copy v k n ds i p q j r) in
     omega (arith, apart, same)
 
--- messages of one level that differ
+-- different messages of one level differ in some block in more than twice as many codewords as can be mended
 blocks-apart : (v : ℕ) (l : Level) (m n : ℕ) (g h : Grid) (d e : List ℕ) → 1 ≤ v → v ≤ 40 → (a : IsMessage v l m g d) →
     (b : IsMessage v l n h e) → (d ≡ e → ⊥) → SomeBlockLiesApart v l l m n g h d e a b
 blocks-apart v l m n g h d e p q a b o =
@@ -66,14 +66,14 @@ blocks-apart v l m n g h d e p q a b o =
     let far = w.2 in
     (w.0, w.1, omega arith)
 
--- the same, the level of the second said anew
+-- the same, where the second message has an equal level by another name
 blocks-apart-at : (v : ℕ) (l k : Level) (m n : ℕ) (g h : Grid) (d e : List ℕ) → 1 ≤ v → v ≤ 40 → l ≡ k →
     (a : IsMessage v l m g d) → (b : IsMessage v k n h e) → (d ≡ e → ⊥) → SomeBlockLiesApart v l k m n g h d e a b
 blocks-apart-at v l k m n g h d e p q s a b o =
     subst (λ (z : Level). (b : IsMessage v z n h e) → SomeBlockLiesApart v l z m n g h d e a b) s
     (λ b. blocks-apart v l m n g h d e p q a b o) b
 
--- the law of damage over a whole symbol
+-- the law of the distance of whole symbols
 pub symbols-apart : (v : ℕ) → 1 ≤ v → v ≤ 40 → SymbolsLieApart v
 symbols-apart v p q l k m n cw ds d e h j a b o =
     elim (cases_eq (five_bits l m) (five_bits k n)) [

@@ -1,5 +1,6 @@
--- Erased codewords: the errors, each times the value at its place of a polynomial with a root at each erased place, are as few
--- as the misread codewords; and what locates these, with those roots too, locates all errors.
+-- Erased codewords. Each error is multiplied by the value of a polynomial that has a root for each erased codeword. Then
+-- only as many errors are left as codewords were misread. A polynomial that locates the errors left, times those roots,
+-- locates all errors.
 use Rattle.std.proofs.Common.{◌≡◌, ℕ, zero, suc, ◌+◌, ◌-◌, ◌*◌, ◌/◌, ◌<◌, ◌≤◌, Bool, true, false, Some, List, [], ◌∷◌, ◌++◌, length, map, replicate, take, drop, get_or, refl, sym, ap, ◌∙◌, subst, arith, lit<, bit_xor}
 use Rattle.std.specs.List.{All, count_by}
 use Rattle.std.specs.Int.Bits.{xor_self}
@@ -26,20 +27,20 @@ use Rattle.qr_mending.proofs.BlockLemmas.{bytes-block, errors-values, all-low, r
 
 -- ---- what was read
 
--- each codeword was read, or is erased
+-- what was read has an item for each codeword, whether it was read or erased
 pub length-read : (xs : List ℕ) (es : List Bool) → length (read_of xs es) ≡ length xs
 length-read [] es = refl
 length-read (x ∷ xs) [] = ap suc (length-read xs [])
 length-read (x ∷ xs) (true ∷ es) = ap suc (length-read xs es)
 length-read (x ∷ xs) (false ∷ es) = ap suc (length-read xs es)
 
--- where no place is marked, each was
+-- if no codeword is marked, all codewords were read
 pub read-unmarked : (xs : List ℕ) (k : ℕ) → read_of xs (replicate k false) ≡ map (λ x. Some x) xs
 read-unmarked [] k = refl
 read-unmarked (x ∷ xs) zero = ap (λ z. Some x ∷ z) (read-unmarked xs zero)
 read-unmarked (x ∷ xs) (suc k) = ap (λ z. Some x ∷ z) (read-unmarked xs k)
 
--- the erasures are the marked places
+-- the number of erased codewords is the number of marked ones
 pub erasures-marked : (xs : List ℕ) (es : List Bool) → length es ≡ length xs →
     erasures (read_of xs es) ≡ count_by (λ e. e) es
 erasures-marked [] [] h = refl
@@ -54,7 +55,7 @@ erasures-marked (x ∷ xs) (false ∷ es) h =
     let more = count-more false es in
     omega (arith, rest, more)
 
--- whether a codeword is misread: not where it is erased
+-- 1 if a codeword is misread, 0 if it is read as it should be or is erased
 abbrev pub misread : Bool → ℕ → ℕ → ℕ
 misread true x y = 0
 misread false x y = difference x y
@@ -84,17 +85,17 @@ errors-more xs ys es k b some l he hy h =
     ∙ (ap (λ z. errors (read_of (x ∷ drop k xs) (b ∷ drop k es)) z) dy
     ∙ errors-cons b x y (drop k xs) (drop k ys) (drop k es)))
 
--- ---- few errors
+-- ---- the errors that are left
 
--- the polynomial with no root but those at the erased places
+-- the polynomial whose roots are those for the erased codewords
 abbrev pub unread : List Bool → List ℕ
 unread es = rooted es (1 ∷ [])
 
--- it consists of bytes
+-- the coefficients of this polynomial are bytes
 pub bytes-unread : (es : List Bool) → All IsByte (unread es)
 bytes-unread es = bytes-rooted es (1 ∷ []) (All-cons IsByte 1 [] (lit< tt) (All-nil IsByte))
 
--- a polynomial that has a root at each erased place leaves an error for each misread codeword at most
+-- if a polynomial has a root for each erased codeword, at most one error is left for each misread codeword
 weighted-few : (g xs ys : List ℕ) (es : List Bool) → All IsByte g → All IsByte (plus xs ys) → length xs ≡ length ys →
     length es ≡ length xs → has-roots es g → weight (weighted g (plus xs ys)) ≤ errors (read_of xs es) ys
 weighted-few g [] [] es lg le h k r = omega arith
@@ -122,7 +123,7 @@ weighted-few g (x ∷ xs) (y ∷ ys) (false ∷ es) lg le h k r =
     let rest = weighted-few g xs ys es lg (All-tail IsByte c e le) (omega (arith, h)) (omega (arith, k)) r in
     omega (arith, head, same, rest)
 
--- the value of one more of the errors that are left
+-- the next value of the errors that are left
 pub modified-more : (p s e items new : List ℕ) (i v : ℕ) → All IsByte p → All IsByte e → HasValues s e →
     i + length p ≤ length s → length items ≡ i → HasValues items (weighted p e) → v ≡ dot_of p (drop i s) →
     new ≡ items ++ v ∷ [] → HasValues new (weighted p e)
@@ -132,7 +133,8 @@ modified-more p s e items new i v lp le h l count now value push =
 
 -- ---- all errors
 
--- where a polynomial has a root at each error that is left, its product with those roots has one at each error
+-- if a polynomial has a root for each error left, its product with the roots for erased codewords has a root for each
+-- error
 joined-root : (es : List Bool) (q e : List ℕ) → All IsByte q → All IsByte e →
     ((m : ℕ) → m < length (weighted (unread es) e) → (eval (power m) q ≡ 0 → ⊥) → coefficient m (weighted (unread es) e) ≡ 0) →
     (m : ℕ) → m < length e → (eval (power m) (rooted es q) ≡ 0 → ⊥) → coefficient m e ≡ 0
@@ -150,7 +152,7 @@ joined-root es q e lq le roots m l n =
     product-factor (coefficient m e) z (coefficient-lt m e le) lz some
     (sym (coefficient-weighted m g e (bytes-unread es)) ∙ roots m (omega (arith, length-weighted g e, l)) other)
 
--- the errors of a damaged block with erasures, located, leave the true one
+-- the damaged codewords with erasures, without their located errors, are the true block
 pub erasures-leave : (n spare t : ℕ) (damaged first modified items : List ℕ) (es : List Bool) (p : Polynomial) →
     length damaged ≤ 255 → length es ≡ length damaged → All IsByte damaged → HasValues first damaged → length first ≡ n →
     ((e : List ℕ) → All IsByte e → HasValues first e → HasValues modified (weighted (unread es) e)) →

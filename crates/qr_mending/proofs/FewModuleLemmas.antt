@@ -1,4 +1,4 @@
--- A symbol few of whose modules are wrong is a damaged form of what it was.
+-- A symbol with few wrong modules is a damaged form of the symbol that it was.
 use Rattle.std.proofs.Common.{◌≡◌, ℕ, ◌+◌, ◌<◌, ◌≤◌, List, [], ◌++◌, map, drop, length, get_or, refl, sym, ◌∙◌, subst, arith}
 use Rattle.std.specs.List.{range_with_len}
 use Rattle.std.proofs.lemmas.List.{get_or-drop, length-drop}
@@ -22,7 +22,7 @@ use Rattle.qr_mending.proofs.MessageLemmas.{part-len}
 use Rattle.qr_mending.proofs.ModuleLemmas.{differences-join, held-many, part-near, sent-near}
 use Rattle.qr_mending.proofs.UndamagedLemmas.{final-parts}
 
--- the format information is near to that of the symbol
+-- the format information of the square is near to that of the symbol
 pub few-format : (v : ℕ) (l : Level) (mask : ℕ) (g h : Grid) → IsFormat h l mask → DifferInFewModules v l g h → IsNearFormat First g l mask
 few-format v l mask g h f w = record {
   in_range = f.in_range;
@@ -32,7 +32,7 @@ few-format v l mask g h f w = record {
       omega (arith, same, few);
 }
 
--- a square holds a damaged form of the message of a symbol from which it differs in few modules
+-- a square that differs from a symbol in few modules contains a damaged form of its message
 pub few-held : (v : ℕ) (l : Level) (mask : ℕ) (g h : Grid) (d : List ℕ) → 1 ≤ v → v ≤ 40 → IsMessage v l mask h d →
     DifferInFewModules v l g h → (changed : List ℕ) × HoldsDamaged v l mask g d changed
 few-held v l mask g h d p q m w =

@@ -1,4 +1,4 @@
--- The words of the format information differ in seven bits at least, so that three misread bits leave one word.
+-- Any two words of the format information differ in at least seven bits, so at most one word is near to what was read.
 use Rattle.std.specs.Prelude.{Option, None, Some, MatchOption}
 use Rattle.std.proofs.Common.{◌≡◌, ℕ, zero, suc, ◌+◌, ◌<◌, ◌≤◌, Bool, true, false, ◌||◌, eqb, ltb, refl, sym, ◌∙◌, ap, inl, inr, arith}
 use Rattle.std.proofs.lemmas.Bool.{cases_eq, ne_eqb}
@@ -17,7 +17,7 @@ use Rattle.qr_symbol.proofs.Facts.{level-small, level-one}
 
 -- ---- three words
 
--- two bits and a third
+-- the difference of two bits is at most the sum of their differences from a third bit
 bit-between : (r p q : Bool) → bit_difference p q ≤ bit_difference r p + bit_difference r q
 bit-between true true true = omega arith
 bit-between true true false = omega arith
@@ -28,7 +28,7 @@ bit-between false true false = omega arith
 bit-between false false true = omega arith
 bit-between false false false = omega arith
 
--- two lists of bits and a third
+-- the differences of two lists of bits are at most the sum of their differences from a third list
 bits-between : (n : ℕ) (r p q : ℕ → Bool) → bit_differences n p q ≤ bit_differences n r p + bit_differences n r q
 bits-between zero r p q = omega arith
 bits-between (suc n) r p q =
@@ -38,21 +38,21 @@ bits-between (suc n) r p q =
 
 -- ---- the distance of the words
 
--- the words of five bits are the same or far apart
+-- the test that two words are equal or differ in at least seven bits
 is-far : ℕ → ℕ → Bool
 is-far i j = eqb i j || ltb 6 (bit_differences 15 (word_bit (format_with i)) (word_bit (format_with j)))
 
--- those of all pairs, computed
+-- all pairs of words pass the test, computed
 all-far : below 32 (λ i. below 32 (is-far i)) ≡ true
 unfolding is-far remainder_of
 all-far = refl
 
--- a test of two, of which the first fails
+-- if one of two tests passes and the first does not, the second passes
 second : (a b : Bool) → (a || b) ≡ true → a ≡ false → b ≡ true
 second true b h e = cc
 second false b h e = h
 
--- different words lie apart
+-- different words differ in at least seven bits
 pub far : (i j : ℕ) → i < 32 → j < 32 → (i ≡ j → ⊥) →
     6 < bit_differences 15 (word_bit (format_with i)) (word_bit (format_with j))
 unfolding is-far
@@ -81,25 +81,25 @@ near-one copy g l k m n h j =
 
 -- ---- the count
 
--- bits that differ
+-- bits that differ count as 1
 differs : (a b : Bool) → not (beq a b) ≡ true → bit_difference a b ≡ 1
 differs true true h = cc
 differs true false h = refl
 differs false true h = refl
 differs false false h = cc
 
--- bits that agree
+-- bits that agree count as 0
 agrees : (a b : Bool) → not (beq a b) ≡ false → bit_difference a b ≡ 0
 agrees true true h = refl
 agrees true false h = cc
 agrees false true h = cc
 agrees false false h = refl
 
--- one bit more
+-- the number of differences, with one bit more
 bits-more : (n : ℕ) (p q : ℕ → Bool) → bit_differences (n + 1) p q ≡ bit_difference (p n) (q n) + bit_differences n p q
 bits-more n p q = let e : n + 1 ≡ suc n = omega arith in ap (λ k. bit_differences k p q) e
 
--- one bit more that differs
+-- one bit more, which differs
 pub count-differs : (n count new : ℕ) (p q : ℕ → Bool) (a b : Bool) → a ≡ p n → b ≡ q n → not (beq a b) ≡ true →
     new ≡ count + 1 → count ≡ bit_differences n p q → new ≡ bit_differences (n + 1) p q
 count-differs n count new p q a b e f h m c =
@@ -107,7 +107,7 @@ count-differs n count new p q a b e f h m c =
     ap (λ z. bit_difference z (q n)) (sym e) ∙ (ap (bit_difference a) (sym f) ∙ differs a b h) in
     omega (arith, d, m, c, bits-more n p q)
 
--- one bit more that agrees
+-- one bit more, which agrees
 pub count-agrees : (n count new : ℕ) (p q : ℕ → Bool) (a b : Bool) → a ≡ p n → b ≡ q n → not (beq a b) ≡ false →
     new ≡ count → count ≡ bit_differences n p q → new ≡ bit_differences (n + 1) p q
 count-agrees n count new p q a b e f h m c =
@@ -115,7 +115,7 @@ count-agrees n count new p q a b e f h m c =
     ap (λ z. bit_difference z (q n)) (sym e) ∙ (ap (bit_difference a) (sym f) ∙ agrees a b h) in
     omega (arith, d, m, c, bits-more n p q)
 
--- one module more
+-- one module more in a sum
 pub sum-more : (n count b new : ℕ) (f : ℕ → ℕ) → count ≡ sum_below n f → b ≡ f n → new ≡ count + b → new ≡ sum_below (n + 1) f
 sum-more n count b new f c e h =
     let next : n + 1 ≡ suc n = omega arith in
@@ -124,13 +124,13 @@ sum-more n count b new f c e h =
 
 -- ---- both copies
 
--- what holds of a choice with other facts for it and for none
+-- the two facts of an optional value may be replaced by facts that follow from them
 pub option-more : {T : Type 0} (o : Option T) (A B : Type 0) (P Q : T → Type 0) → MatchOption o A P → (A → B) →
     ((x : T) → P x → Q x) → MatchOption o B Q
 option-more None A B P Q h f g = f h
 option-more (Some x) A B P Q h f g = g x h
 
--- what holds of both copies holds of each
+-- what holds of both copies holds of each copy
 pub each-copy : (P : FormatCopy → Type 0) → P First → P Second → (copy : FormatCopy) → P copy
 each-copy P h j First = h
 each-copy P h j Second = j

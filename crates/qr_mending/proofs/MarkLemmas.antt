@@ -1,4 +1,4 @@
--- The marks that are read along the walk, and which codewords are erased by them.
+-- The marks that are read along the walk, and the codewords that are erased because of them.
 use Rattle.std.proofs.Common.{◌≡◌, ℕ, ◌+◌, ◌-◌, ◌*◌, ◌<◌, ◌≤◌, ◌==◌, not, Bool, true, false, Option, None, Some, List, [], ◌∷◌, ◌++◌, map, take, drop, length, length-append, get_or, refl, sym, ◌∙◌, ap, subst, ltb, arith}
 use Rattle.std.specs.List.{All}
 use Rattle.std.proofs.lemmas.List.{append-nil, length-map, length-take, map-append, take-append-drop, take_more}
@@ -22,7 +22,7 @@ mark-read g ms m dark front d e =
     ap (λ (bs : List Bool). bs ++ dark ∷ []) e
     ∙ (ap (λ (z : Bool). map (colour_at g) ms ++ z ∷ []) d ∙ sym (map-append (colour_at g) ms (m ∷ [])))
 
--- the forty numbers of remainder bits are less than a codeword's, computed
+-- each of the forty versions has fewer than eight remainder bits, computed
 remainder-small : below 40 (λ i. ltb (remainder_bits_of (i + 1)) 8) ≡ true
 unfolding remainder_bits_of
 remainder-small = refl
@@ -32,7 +32,7 @@ few-left v l h =
     let e : v - 1 + 1 ≡ v = omega arith in
     ltb-true _ _ (subst (λ (k : ℕ). ltb (remainder_bits_of k) 8 ≡ true) e (below-at 40 (λ i. ltb (remainder_bits_of (i + 1)) 8) remainder-small (v - 1) (omega arith)))
 
--- the whole marks before fewer than eight bits are those of all codewords
+-- if fewer than eight bits are left at the end of the walk, there is a mark for each codeword
 pub marks-many : (v : ℕ) (g : Grid) (ms rest : List Module) (marks : List ℕ) (width begun : ℕ) → 1 ≤ v → v ≤ 40 → rest ≡ [] →
     IsOrder v (ms ++ rest) → width < 8 → bits_of marks ++ field width begun ≡ map (colour_at g) ms →
     length marks ≡ total_codewords_of v
@@ -47,7 +47,7 @@ marks-many v g ms rest marks width begun p q e o w bits =
     let d = length-field width begun in
     omega arith
 
--- they are the marks of the square
+-- these marks are those of the square
 pub marks-whole : (v : ℕ) (g : Grid) (ms rest : List Module) (marks : List ℕ) (width begun : ℕ) → 1 ≤ v → v ≤ 40 → rest ≡ [] →
     IsOrder v (ms ++ rest) → All (λ x. x < 256) marks → width < 8 → bits_of marks ++ field width begun ≡ map (colour_at g) ms →
     AreMarks v g marks
@@ -64,7 +64,7 @@ marks-whole v g ms rest marks width begun p q e o bytes w bits =
     let front = append-front (bits_of marks) (map f (take t ms)) (field width begun) (map f (drop t ms)) (omega arith) (bits ∙ cut) in
     record { bytes = bytes; places = ms; order = whole; bits = front.0 }
 
--- one codeword more is erased, or is not
+-- one codeword more, which is erased or not
 pub erased-more : (marks : List ℕ) (items new : List Bool) (i : ℕ) (b : Bool) → i < length marks →
     items ≡ map (λ mark. not (mark == 0)) (take i marks) → b ≡ not (get_or marks i 0 == 0) → new ≡ items ++ b ∷ [] →
     new ≡ map (λ mark. not (mark == 0)) (take (i + 1) marks)
@@ -75,14 +75,14 @@ erased-more marks items new i b l h e push =
     ∙ (sym (map-append (λ mark. not (mark == 0)) (take i marks) (get_or marks i 0 ∷ []))
     ∙ ap (map (λ mark. not (mark == 0))) (sym (take_more marks i 0 l)))))
 
--- ---- marks, or none
+-- ---- a square with marks, or without
 
--- in each of the forty versions there is a codeword, computed
+-- each of the forty versions has a codeword, computed
 codewords-some : below 40 (λ i. ltb 0 (total_codewords_of (i + 1))) ≡ true
 unfolding total_codewords_of
 codewords-some = refl
 
--- so there is a mark
+-- so there is at least one mark
 marks-some : (v : ℕ) (unknown : Grid) (marks : List ℕ) → 1 ≤ v → v ≤ 40 → AreMarks v unknown marks → 0 < length marks
 marks-some v unknown marks l h m =
     let t = 8 * total_codewords_of v in
@@ -103,13 +103,13 @@ is-none n h = grind (arith, nat_tests)
 pub is-some : (n : ℕ) → false ≡ (n == 0) → n ≡ 0 → ⊥
 is-some n h e = grind (arith, nat_tests)
 
--- without marks each module was read
+-- if there are no marks, all modules were read
 pub no-marks : (P : Option Grid → Type 0) (v : ℕ) (marks : List ℕ) → 1 ≤ v → v ≤ 40 → length marks ≡ 0 → P None →
     (unknown : Option Grid) → HasMarks unknown v marks → P unknown
 no-marks P v marks l h e p None m = p
 no-marks P v marks l h e p (Some unknown) m = absurd (omega (arith, marks-some v unknown marks l h m, e))
 
--- with marks some may not have been read
+-- if there are marks, some modules may not have been read
 pub with-marks : (P : Option Grid → Type 0) (v : ℕ) (marks : List ℕ) → (length marks ≡ 0 → ⊥) →
     ((unknown : Grid) → AreMarks v unknown marks → P (Some unknown)) → (unknown : Option Grid) → HasMarks unknown v marks → P unknown
 with-marks P v marks n p None m = absurd (n m)

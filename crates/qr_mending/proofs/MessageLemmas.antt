@@ -1,4 +1,4 @@
--- Blocks that have been mended one after another, and that a final sequence is a damaged form of one message at most.
+-- Blocks that are mended one after another; a final sequence is a damaged form of at most one message.
 use Rattle.std.proofs.Common.{◌≡◌, ℕ, ◌+◌, ◌*◌, ◌<◌, ◌≤◌, List, [], ◌∷◌, ◌++◌, map, take, drop, length, length-append, length-drop, get_or, sym, ◌∙◌, ap, subst, inl, inr, arith}
 use Rattle.std.specs.Prelude.{Result, Err}
 use Rattle.std.proofs.lemmas.Bool.{cases_lt}
@@ -14,7 +14,7 @@ use Rattle.qr_symbol.proofs.Facts.{parts-same, start-next, start-most, len-most,
 
 -- ---- one list of received codewords
 
--- what was gathered is one
+-- a sequence is gathered in at most one way
 pub gathered-same : (c : Cut) (sent xs ys : List ℕ) → IsGathered c sent xs → IsGathered c sent ys → xs ≡ ys
 gathered-same c sent xs ys g h =
     let one = tags-one c h.tags g.tags h.order g.order in
@@ -27,14 +27,14 @@ gathered-same c sent xs ys g h =
 
 -- ---- parts
 
--- the length of a block
+-- the number of codewords in block i
 pub part-len : (c : Cut) (d : List ℕ) (i : ℕ) → length d ≡ cut_len c → i < block_count c → length (part_of c d i) ≡ block_len c i
 part-len c d i h l =
     let n = start-next c i in
     let m = start-most c (i + 1) (block_count c) (omega arith) in
     omega (arith, length-take (block_len c i) (drop (start_of c i) d), length-drop (start_of c i) d, n, m, h)
 
--- a block stays where others come after it
+-- a block stays the same when other blocks are added after it
 pub part-grown : (c : Cut) (xs es : List ℕ) (i k : ℕ) → length xs ≡ start_of c k → i < k →
     part_of c (xs ++ es) i ≡ part_of c xs i
 part-grown c xs es i k h l =
@@ -45,7 +45,7 @@ part-grown c xs es i k h l =
     ap (take (block_len c i)) (drop-append-le (start_of c i) xs es room)
     ∙ take-append-le (block_len c i) (drop (start_of c i) xs) es rest
 
--- the block that comes last
+-- the block that was added last
 pub part-last : (c : Cut) (xs es : List ℕ) (k : ℕ) → length xs ≡ start_of c k → length es ≡ block_len c k →
     part_of c (xs ++ es) k ≡ es
 part-last c xs es k h l =
@@ -53,7 +53,7 @@ part-last c xs es k h l =
 
 -- ---- blocks, one after another
 
--- no block yet
+-- at first no block is mended
 pub mended-start : (b : Blocks) (t : ℕ) (d e message changed : List ℕ) → message ≡ [] → changed ≡ [] →
     AreMended b t d e 0 message changed
 mended-start b t d e message changed h k = record {
@@ -98,7 +98,7 @@ mended-push b t d e message changed es c n x l h len right count near =
       ];
     }
 
--- one block more, by the steps of the loop
+-- one block more, stated with the variables of the loop
 pub push-mended : (b : Blocks) (t : ℕ) (d e : List ℕ) (cut check : Cut) (n k x : ℕ) (r s message changed es more counts : List ℕ) →
     cut ≡ data_cut b → check ≡ correction_cut b → n ≡ b.ec_len → k < block_count cut → r ≡ part_of cut d k →
     s ≡ part_of check e k → length r ≡ block_len cut k → AreMended b t d e k message changed → length es ≡ length r →
@@ -117,7 +117,7 @@ push-mended b t d e cut check n k x r s message changed es more counts ec eh en 
     (subst (λ (z : List ℕ). AreMended b t d e (k + 1) (message ++ es) z) (sym eq)
     (mended-push b t d e message changed es c k x within h long right count near))
 
--- a block that cannot be mended is of no message
+-- if a block cannot be mended, the codewords are a damaged form of no message
 pub none-mended : (b : Blocks) (t : ℕ) (d e : List ℕ) (cut check : Cut) (n k : ℕ) (r s : List ℕ) → cut ≡ data_cut b →
     check ≡ correction_cut b → n ≡ b.ec_len → k < block_count cut → r ≡ part_of cut d k → s ≡ part_of check e k →
     length r ≡ block_len cut k →
@@ -135,19 +135,19 @@ none-mended b t d e cut check n k r s ec eh en l er es' lr none message changed 
     none x m.correction (part-len (data_cut b) message k h.long within ∙ sym (lr ∙ ap (λ (z : Cut). block_len z k) ec))
     (subst (λ (z : ℕ). IsCorrection x z m.correction) (sym en) m.corrects) (omega (arith, count, m.near, m.count))
 
--- the error correction codewords of a block are as many as the divisor gives
+-- the number of error correction codewords of a block is that of the divisor
 pub check-count : (b : Blocks) (cut check : Cut) (n k : ℕ) (s : List ℕ) → cut ≡ data_cut b → check ≡ correction_cut b →
     n ≡ b.ec_len → k < block_count cut → length s ≡ block_len check k → length s ≡ n
 check-count b cut check n k s ec eh en l ls =
     ls ∙ (ap (λ (z : Cut). block_len z k) eh
     ∙ (check-len b k (subst (λ (z : Cut). k < block_count z) ec l) ∙ sym en))
 
--- a block is short
+-- a block has at most one data codeword more than a short block
 pub block-short : (b : Blocks) (cut : Cut) (k : ℕ) (r : List ℕ) → cut ≡ data_cut b → length r ≡ block_len cut k →
     length r ≤ b.short_len + 1
 block-short b cut k r e l = let m = len-most (data_cut b) k in omega (arith, l, ap (λ (z : Cut). block_len z k) e, m)
 
--- what cannot be mended is a damaged form of no message
+-- codewords that cannot be mended are a damaged form of no message
 pub none-received : (b : Blocks) (t : ℕ) (cw xs ys : List ℕ) → IsGathered (data_cut b) cw xs →
     IsGathered (correction_cut b) (drop (cut_len (data_cut b)) cw) ys →
     ((message changed : List ℕ) → AreMended b t xs ys (block_count (data_cut b)) message changed → ⊥) →
@@ -159,13 +159,13 @@ none-received b t cw xs ys g h none message changed m =
     (subst (λ (z : List ℕ). AreMended b t z ys (block_count (data_cut b)) message changed) first
     (subst (λ (z : List ℕ). AreMended b t m.codewords z (block_count (data_cut b)) message changed) second m.mended))
 
--- the fault that is handed on
+-- a result with an equal fault
 pub same-fault : {T E : Type 0} (r : Result T E) (x y z : E) → r ≡ Err y → y ≡ x → r ≡ Err z → x ≡ z
 same-fault r x y z a d e = let f = sym a ∙ e in cc
 
--- ---- one message
+-- ---- at most one message
 
--- what is mended is one
+-- codewords are a damaged form of at most one message, with one list of numbers of changed codewords
 pub mended-message-one : (b : Blocks) (t : ℕ) (cw m n x y : List ℕ) → 2 * t ≤ b.ec_len →
     b.short_len + 1 + b.ec_len ≤ 255 → IsMendedMessage b t cw m x → IsMendedMessage b t cw n y → (m ≡ n) × (x ≡ y)
 mended-message-one b t cw m n x y half few g h =

@@ -1,4 +1,4 @@
--- A wrong module spoils one codeword at most.
+-- A wrong module damages at most one codeword.
 use Rattle.std.proofs.Common.{◌≡◌, ℕ, zero, suc, ◌+◌, ◌-◌, ◌*◌, ◌<◌, ◌≤◌, Bool, true, false, List, [], ◌∷◌, ◌++◌, map, take, drop, length, get_or, replicate, refl, sym, ◌∙◌, ap, subst, inl, inr, arith}
 use Rattle.std.proofs.lemmas.Bool.{cases_eq, cases_lt}
 use Rattle.std.proofs.lemmas.Bool.Decides.{nat_tests}
@@ -22,14 +22,14 @@ use Rattle.qr_mending.specs.Modules.{index_of, module_differences, modules_of, p
 
 -- ---- one codeword
 
--- bits that do not differ are the same
+-- bits with no difference are equal
 bit-one : (a b : Bool) → bit_difference a b ≡ 0 → a ≡ b
 bit-one true true e = refl
 bit-one true false e = absurd (omega (arith, e))
 bit-one false true e = absurd (omega (arith, e))
 bit-one false false e = refl
 
--- where no module differs, the same bits are read
+-- if no module differs, the same bits are read
 same-bits : (mask : ℕ) (g h : Grid) (ms : List Module) → module_differences g h ms ≡ 0 →
     map (unmasked mask g) ms ≡ map (unmasked mask h) ms
 same-bits mask g h [] e = refl
@@ -38,7 +38,7 @@ same-bits mask g h (m ∷ ms) e =
     let rest = same-bits mask g h ms (omega (arith, e)) in
     λ i. here i ∷ rest i
 
--- a byte has one field of eight bits
+-- bytes with the same eight bits are equal
 byte-one : (a b : ℕ) → a < 256 → b < 256 → field 8 a ≡ field 8 b → a ≡ b
 unfolding bits_of
 byte-one a b l m e =
@@ -49,7 +49,7 @@ byte-one a b l m e =
     single x l zero d k = l
     single x l (suc i) d k = absurd (omega (arith, k))
 
--- a codeword differs only where a module does
+-- a codeword differs only if one of its modules differs
 codeword-near : (mask : ℕ) (g h : Grid) (ms : List Module) (a b : ℕ) → a < 256 → b < 256 →
     field 8 a ≡ map (unmasked mask g) ms → field 8 b ≡ map (unmasked mask h) ms → difference a b ≤ module_differences g h ms
 codeword-near mask g h ms a b l m e f = elim (cases_eq a b) [
@@ -72,14 +72,14 @@ codeword-bits (c ∷ cs) (suc j) l =
     ∙ (ap (λ (z : List Bool). take 8 (drop (8 * j) z)) (drop_at (field 8 c) (bits_of cs) 8 (length-field 8 c))
     ∙ codeword-bits cs j (omega (arith, l))))
 
--- the first n of more than n
+-- the first n items of the first m items, if n is at most m
 take-less : {X : Type 0} (n m : ℕ) (xs : List X) → n ≤ m → take n (take m xs) ≡ take n xs
 take-less zero m xs l = refl
 take-less (suc n) zero xs l = absurd (omega (arith, l))
 take-less (suc n) (suc m) [] l = refl
 take-less (suc n) (suc m) (x ∷ xs) l = ap (λ zs. x ∷ zs) (take-less n m xs (omega (arith, l)))
 
--- the bits that a square holds
+-- the bits of the codewords of a square are read from the modules in order
 held-bits : (v mask : ℕ) (g : Grid) (ms : List Module) (cw : List ℕ) → 1 ≤ v → v ≤ 40 → IsOrder v ms → IsRead v mask g cw →
     bits_of cw ≡ map (unmasked mask g) (take (8 * total_codewords_of v) ms)
 held-bits v mask g ms cw p q o h =
@@ -91,7 +91,7 @@ held-bits v mask g ms cw p q o h =
     ∙ (ap (λ (z : ℕ). map (unmasked mask g) (take t ms) ++ replicate z false) none
     ∙ append-nil (map (unmasked mask g) (take t ms))))
 
--- and how many codewords
+-- the number of codewords of a square
 pub held-many : (v mask : ℕ) (g : Grid) (cw : List ℕ) → 1 ≤ v → v ≤ 40 → IsRead v mask g cw → length cw ≡ total_codewords_of v
 held-many v mask g cw p q h =
     let ms = h.places in
@@ -103,7 +103,7 @@ held-many v mask g cw p q h =
     let d = length-bits_of cw in
     omega (arith, a, b, c, d, many)
 
--- the bits of a codeword that a square holds
+-- the bits of codeword j of a square are read from its eight modules
 held-codeword : (v mask : ℕ) (g : Grid) (ms : List Module) (cw : List ℕ) (j : ℕ) → 1 ≤ v → v ≤ 40 → IsOrder v ms →
     IsRead v mask g cw → j < total_codewords_of v → field 8 (get_or cw j 0) ≡ map (unmasked mask g) (modules_of ms j)
 held-codeword v mask g ms cw j p q o h l =
@@ -117,7 +117,7 @@ held-codeword v mask g ms cw j p q o h l =
     ∙ (take-map (unmasked mask g) 8 (drop n (take t ms))
     ∙ ap (map (unmasked mask g)) (ap (λ (k : ℕ). take 8 (drop n (take k ms))) whole ∙ (ap (take 8) (drop-take n rest ms) ∙ take-less 8 rest (drop n ms) (omega (arith, l)))))))
 
--- codewords differ only where modules do
+-- codeword j of two squares differs only if one of its modules differs
 pub sent-near : (v mask : ℕ) (g h : Grid) (ms : List Module) (cs ds : List ℕ) (j : ℕ) → 1 ≤ v → v ≤ 40 → IsOrder v ms →
     IsRead v mask g cs → IsRead v mask h ds → j < total_codewords_of v →
     difference (get_or cs j 0) (get_or ds j 0) ≤ module_differences g h (modules_of ms j)
@@ -132,16 +132,16 @@ sent-near v mask g h ms cs ds j p q o a b l =
 tag-same : (t u : Tag) → t.place ≡ u.place → t.block ≡ u.block → t ≡ u
 tag-same t u p b = λ i. record { place = p i; block = b i }
 
--- a tag that is not the first of a list has its index in the rest
+-- the index of a tag that is not the first one in a list is that in the rest, plus one
 later : (t u : Tag) (ts : List Tag) → index_of t (u ∷ ts) ≡ suc (index_of t ts) → (index_of t ts < length ts) × (get_or ts (index_of t ts) t ≡ t) →
     (index_of t (u ∷ ts) < length (u ∷ ts)) × (get_or (u ∷ ts) (index_of t (u ∷ ts)) t ≡ t)
 later t u ts there w = (omega (arith, there, w.0), ap (λ (k : ℕ). get_or (u ∷ ts) k t) there ∙ w.1)
 
--- a member that is not the first is one of the rest
+-- a member of a list that is not the first item is a member of the rest
 member-later : (t u : Tag) (ts : List Tag) → Mem t (u ∷ ts) → (t ≡ u → ⊥) → Mem t ts
 member-later t u ts m n = elim m [ inl e ↦ absurd (n (sym e)) | inr r ↦ r ]
 
--- a tag of a list has its index
+-- a tag in a list is found at its index
 index-found : (t : Tag) (ts : List Tag) → Mem t ts → (index_of t ts < length ts) × (get_or ts (index_of t ts) t ≡ t)
 index-found t [] m = absurd m
 index-found t (u ∷ us) m = elim (cases_eq t.place u.place) [
@@ -158,7 +158,7 @@ index-found t (u ∷ us) m = elim (cases_eq t.place u.place) [
       later t u us there (index-found t us (member-later t u us m (λ e. p (ap (λ (x : Tag). x.place) e))))
 ]
 
--- the codeword of a tag where it was sent
+-- the codeword with a tag is sent at the index of this tag
 sent-at : (c : Cut) (ts : List Tag) (sent xs : List ℕ) (t : Tag) → IsTagOrder c ts → IsGathered c sent xs → IsTag c t →
     (index_of t ts < cut_len c) × (get_or sent (index_of t ts) 0 ≡ codeword_at c xs t)
 sent-at c ts sent xs t o h i =
@@ -173,14 +173,14 @@ sent-at c ts sent xs t o h i =
           ∙ (get_or-map (codeword_at c xs) ts k t 0 w.0 ∙ ap (codeword_at c xs) w.1)),
     )
 
--- the differences of lists of one length are those of their parts
+-- the differences of joined lists are the sum of those of their parts
 pub differences-join : (xs ys us vs : List ℕ) → length xs ≡ length ys → differences (xs ++ us) (ys ++ vs) ≡ differences xs ys + differences us vs
 differences-join [] [] us vs e = omega arith
 differences-join [] (y ∷ ys) us vs e = absurd (omega (arith, e))
 differences-join (x ∷ xs) [] us vs e = absurd (omega (arith, e))
 differences-join (x ∷ xs) (y ∷ ys) us vs e = let h = differences-join xs ys us vs (omega (arith, e)) in omega (arith, h)
 
--- one codeword more of two lists
+-- the differences of two lists, with one codeword more
 more-differences : (xs ys : List ℕ) (n : ℕ) → n < length xs → n < length ys →
     differences (take (suc n) xs) (take (suc n) ys) ≡ differences (take n xs) (take n ys) + difference (get_or xs n 0) (get_or ys n 0)
 more-differences xs ys n l m =
@@ -192,7 +192,7 @@ more-differences xs ys n l m =
     let j = differences-join (take n xs) (take n ys) (get_or xs n 0 ∷ []) (get_or ys n 0 ∷ []) (omega (arith, p, q, l, m)) in
     ap (λ (z : List ℕ). differences z (take (suc n) ys)) a ∙ (ap (differences (take n xs ++ get_or xs n 0 ∷ [])) b ∙ omega (arith, j))
 
--- in a block as many codewords differ as modules, or fewer
+-- in a block at most as many codewords differ as modules
 pub part-near : (g h : Grid) (ms : List Module) (c : Cut) (ts : List Tag) (first i : ℕ) (sent also xs ys : List ℕ) → IsTagOrder c ts →
     IsGathered c sent xs → IsGathered c also ys →
     ((k : ℕ) → k < cut_len c → difference (get_or sent k 0) (get_or also k 0) ≤ module_differences g h (modules_of ms (first + k))) →

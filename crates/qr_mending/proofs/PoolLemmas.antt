@@ -1,4 +1,4 @@
--- Elimination: what it adds, and that one polynomial at most is lost with each equation.
+-- The elimination: what adding a multiple of the pivot does, and that each equation costs at most one polynomial.
 use Rattle.std.proofs.Common.{◌≡◌, ℕ, zero, suc, ◌+◌, ◌<◌, ◌≤◌, List, [], ◌∷◌, ◌++◌, length, take, drop, get_or, set, refl, sym, ap, ◌∙◌, subst, inl, inr, arith, bit_xor}
 use Rattle.std.specs.List.{All, remove, refill}
 use Rattle.std.specs.Int.Bits.{xor_zero_l, xor_self}
@@ -27,7 +27,7 @@ plus-set f (x ∷ o) (y ∷ t) zero l h = refl
 plus-set f (x ∷ o) (y ∷ t) (suc j) l h =
     ap (λ z. bit_xor (product f x) y ∷ z) (plus-set f o t j (omega arith) (omega arith))
 
--- the same after a step of the loop
+-- one coefficient more, stated with the variables of the loop
 pub plus-more : (f : ℕ) (o t now : List ℕ) (j m : ℕ) → j < length o → j < length t →
     now ≡ plus (scaled f (take j o)) t → m ≡ product f (get_or o j 0) →
     set now j (bit_xor m (get_or t j 0)) ≡ plus (scaled f (take (j + 1) o)) t
@@ -36,7 +36,7 @@ plus-more f o t now j m l h e g =
     ∙ (ap (λ z. set (plus (scaled f (take j o)) t) j (bit_xor z (get_or t j 0))) g
     ∙ (plus-set f o t j l h ∙ ap (λ k. plus (scaled f (take k o)) t) (suc-eq-add-one j)))
 
--- what lies beyond the shorter list stays
+-- the items after the end of the shorter list stay the same
 plus-beyond : (xs ys : List ℕ) (k : ℕ) → length xs ≤ k → get_or (plus xs ys) k 0 ≡ get_or ys k 0
 plus-beyond [] ys k l = refl
 plus-beyond (x ∷ xs) [] zero l = absurd (omega arith)
@@ -49,21 +49,21 @@ plus-beyond (x ∷ xs) [] (suc k) l = past xs k (omega arith)
 plus-beyond (x ∷ xs) (y ∷ ys) zero l = absurd (omega arith)
 plus-beyond (x ∷ xs) (y ∷ ys) (suc k) l = plus-beyond xs ys k (omega arith)
 
--- a multiple of j coefficients is no longer than j
+-- a multiple of the first j coefficients has at most j coefficients
 length-multiple : (f j : ℕ) (o : List ℕ) → length (scaled f (take j o)) ≤ j
 length-multiple f j o =
     let m = length-map (take j o) (product f) in
     let l = length-take j o in
     omega (arith, m, l)
 
--- the leading coefficient stays
+-- the leading coefficient stays the same
 pub leading-stays : (f j d : ℕ) (o t now : List ℕ) → j ≤ d → now ≡ plus (scaled f (take j o)) t →
     get_or t d 0 ≡ 1 → get_or now d 0 ≡ 1
 leading-stays f j d o t now l e h =
     ap (λ s. get_or s d 0) e
     ∙ (plus-beyond (scaled f (take j o)) t d (omega (arith, l, length-multiple f j o)) ∙ h)
 
--- the sum of all coefficients
+-- the sum with all coefficients of the multiple
 pub sum-all : (f j k d : ℕ) (o t now : List ℕ) → j ≡ k + 1 → k < d → now ≡ plus (scaled f (take j o)) t →
     take (d + 1) now ≡ plus (scaled f (take (k + 1) o)) (take (d + 1) t)
 sum-all f j k d o t now s l e =
@@ -74,7 +74,7 @@ sum-all f j k d o t now s l e =
 
 -- ---- relief
 
--- what the sum with a multiple of the pivot does to the sums of products
+-- adding the chosen multiple of the pivot makes a polynomial solve the equation, and keeps the equations that both solve
 pub relieves : (pivot before after : Polynomial) (window : List ℕ) (f : ℕ) → f < 256 → All IsByte (all_of pivot) →
     All IsByte (all_of before) → All IsByte window → pivot.degree < before.degree → before.degree < length before.terms →
     after.degree ≡ before.degree → (IsMonic before → IsMonic after) →
@@ -100,12 +100,12 @@ relieves pivot before after window f lf bp bb bw lower fits degree monic sum sam
 
 -- ---- the pool
 
--- a list of bytes from a place on
+-- the list from index j on of a list of bytes is a list of bytes
 bytes-drop : (j : ℕ) (s : List ℕ) → ((k : ℕ) → get_or s k 0 < 256) → All IsByte (drop j s)
 bytes-drop j s b =
     All-from_get_or IsByte (drop j s) 0 (λ k l. subst (λ (t : ℕ). t < 256) (sym (get_or-drop j s k 0)) (b (j + k)))
 
--- where all polynomials solve one equation more
+-- if all polynomials solve the next equation, the pool stays as it is
 pub pool-kept : (t i : ℕ) (s : List ℕ) (pool : List Polynomial) → IsPool t i s pool →
     ((k : ℕ) → k < length pool → miss_of (at pool k) (drop i s) ≡ 0) → IsPool t (i + 1) s pool
 pool-kept t i s pool p h = record {
@@ -121,7 +121,7 @@ pool-kept t i s pool p h = record {
   ];
 }
 
--- the polynomials after the one that is taken away have higher degrees
+-- the polynomials after the pivot have higher degrees than the pivot
 pub pool-higher : (t i : ℕ) (s : List ℕ) (pool rest : List Polynomial) (first : ℕ) (pivot : Polynomial) →
     IsPool t i s pool → first < length pool → pivot ≡ get_or pool first pivot → rest ≡ remove pool first →
     length rest + 1 ≡ length pool → (k : ℕ) → first ≤ k → k < length rest → pivot.degree < (at rest k).degree
@@ -135,7 +135,7 @@ pool-higher t i s pool rest first pivot p l ep er lr k m n =
       p.rising first (k + 1) (omega arith) (omega (arith, n, lr)),
     )
 
--- where the first polynomial that does not is taken away, and its multiples are added to those after it
+-- if the pivot is removed and multiples of it are added to the polynomials after it, the pool solves one equation more
 pub pool-next : (t i : ℕ) (s : List ℕ) (pool rest new : List Polynomial) (first : ℕ) (pivot : Polynomial) →
     ((k : ℕ) → get_or s k 0 < 256) → IsPool t i s pool → first < length pool →
     ((k : ℕ) → k < first → miss_of (at pool k) (drop i s) ≡ 0) → pivot ≡ get_or pool first pivot → rest ≡ remove pool first →
@@ -201,7 +201,7 @@ pool-next t i s pool rest new first pivot bytes p l before own er lr ln same rel
       ];
     }
 
--- a list that is written over by one of its own length is that one
+-- overwriting a list with a list of the same length gives the second list
 pub refill-same : (xs ws : List Polynomial) (n : ℕ) → n ≡ length xs → length ws ≡ length xs → refill n xs ws ≡ ws
 refill-same xs ws n l e =
     ap (λ t. take n (ws ++ t)) (drop_all (length ws) xs (omega arith))

@@ -17,26 +17,26 @@ use Rattle.qr_mending.proofs.SumLemmas.{eval-lt}
 
 -- ---- one root
 
--- one coefficient more
+-- a product with x + root has one coefficient more
 length-times_root : (r c : ℕ) (p : List ℕ) → length (times_root r c p) ≡ length p + 1
 length-times_root r c [] = refl
 length-times_root r c (a ∷ p) = let rest = length-times_root r a p in omega (arith, rest)
 
--- and bytes
+-- a product with x + root has bytes as coefficients
 bytes-times_root : (r c : ℕ) (p : List ℕ) → r < 256 → c < 256 → All IsByte p → All IsByte (times_root r c p)
 bytes-times_root r c [] lr lc lp = All-cons IsByte c [] lc (All-nil IsByte)
 bytes-times_root r c (a ∷ p) lr lc lp =
     All-cons IsByte (bit_xor c (product r a)) (times_root r a p) (xor_of_8 c (product r a) lc (product-lt r a lr))
     (bytes-times_root r a p lr (All-head IsByte a p lp) (All-tail IsByte a p lp))
 
--- the leading 1 stays
+-- a product with x + root keeps the leading 1
 monic-times_root : (r c : ℕ) (w : List ℕ) → (v : List ℕ) × (times_root r c (w ++ 1 ∷ []) ≡ v ++ 1 ∷ [])
 monic-times_root r c [] = (bit_xor c (product r 1) ∷ [], refl)
 monic-times_root r c (a ∷ w) =
     let rest = monic-times_root r a w in
     (bit_xor c (product r a) ∷ rest.0, ap (λ t. bit_xor c (product r a) ∷ t) rest.1)
 
--- the value is multiplied by that of x + root
+-- the value of a product with x + root, with a carry
 eval-times_root : (y r c : ℕ) (p : List ℕ) → y < 256 → r < 256 → All IsByte p →
     eval y (times_root r c p) ≡ bit_xor c (product (bit_xor y r) (eval y p))
 eval-times_root y r c [] ly lr lp =
@@ -62,19 +62,19 @@ eval-times_root y r c (a ∷ p) ly lr lp =
     ∙ (ap (bit_xor c) (sym (xor_assoc ra ya z))
     ∙ (ap (λ t. bit_xor c (bit_xor t z)) (xor_comm ra ya) ∙ ap (bit_xor c) (sym right))))
 
--- where nothing is carried
+-- the value of a product with x + root, without a carry
 eval-root : (y r : ℕ) (p : List ℕ) → y < 256 → r < 256 → All IsByte p →
     eval y (times_root r 0 p) ≡ product (bit_xor y r) (eval y p)
 eval-root y r p ly lr lp =
     eval-times_root y r 0 p ly lr lp ∙ xor_zero_l (product (bit_xor y r) (eval y p))
 
--- ---- a root at each erased place
+-- ---- a root for each erased codeword
 
--- one erased place more
+-- one erased codeword more
 pub count-more : (b : Bool) (es : List Bool) → count_by (λ e. e) (b ∷ es) ≡ (if b then 1 else 0) + count_by (λ e. e) es
 count-more b es = sum_by-cons (λ e. if e then 1 else 0) b es
 
--- a coefficient more for each erased place
+-- the product has a coefficient more for each erased codeword
 pub length-rooted : (es : List Bool) (p : List ℕ) → length (rooted es p) ≡ length p + count_by (λ e. e) es
 length-rooted [] p = omega arith
 length-rooted (true ∷ es) p =
@@ -87,7 +87,7 @@ length-rooted (false ∷ es) p =
     let more = count-more false es in
     omega (arith, rest, more)
 
--- fewer of them after an erased place
+-- the product for the codewords after an erased one has fewer coefficients than the product for all codewords
 pub length-rooted_rest : (es : List Bool) (i : ℕ) (p : List ℕ) → 0 < i → i ≤ length es →
     get_or es (i - 1) false ≡ true → length (rooted (drop i es) p) < length p + count_by (λ e. e) es
 length-rooted_rest es i p some l h =
@@ -101,14 +101,14 @@ length-rooted_rest es i p some l h =
     let whole : count_by (λ e. e) es ≡ sum_by marked es = refl in
     omega (arith, all, rest, one, same, long, whole)
 
--- and bytes
+-- the product has bytes as coefficients
 pub bytes-rooted : (es : List Bool) (p : List ℕ) → All IsByte p → All IsByte (rooted es p)
 bytes-rooted [] p lp = lp
 bytes-rooted (true ∷ es) p lp =
     bytes-times_root (power (length es)) 0 (rooted es p) (power-lt (length es)) (lit< tt) (bytes-rooted es p lp)
 bytes-rooted (false ∷ es) p lp = bytes-rooted es p lp
 
--- the leading 1 stays
+-- the product keeps the leading 1
 pub monic-rooted : (es : List Bool) (w : List ℕ) → (v : List ℕ) × (rooted es (w ++ 1 ∷ []) ≡ v ++ 1 ∷ [])
 monic-rooted [] w = (w, refl)
 monic-rooted (true ∷ es) w =
@@ -117,7 +117,7 @@ monic-rooted (true ∷ es) w =
     (one.0, ap (times_root (power (length es)) 0) rest.1 ∙ one.1)
 monic-rooted (false ∷ es) w = monic-rooted es w
 
--- the value is multiplied by that of the factor
+-- the value of the product is the value of the polynomial times that of the factor
 pub eval-rooted : (y : ℕ) (es : List Bool) (p : List ℕ) → y < 256 → All IsByte p →
     eval y (rooted es p) ≡ product (eval y (rooted es (1 ∷ []))) (eval y p)
 eval-rooted y [] p ly lp =
@@ -138,13 +138,13 @@ eval-rooted y (true ∷ es) p ly lp =
     ∙ ap (λ t. product t (eval y p)) (sym (eval-root y r g ly lr lg))))
 eval-rooted y (false ∷ es) p ly lp = eval-rooted y es p ly lp
 
--- the polynomial has a root at each erased place
+-- the polynomial has a root for each erased codeword
 abbrev pub has-roots : List Bool → List ℕ → Type 0
 has-roots [] g = Unit {0}
 has-roots (true ∷ es) g = (eval (power (length es)) g ≡ 0) × has-roots es g
 has-roots (false ∷ es) g = has-roots es g
 
--- roots stay where one more is made
+-- a polynomial keeps its roots when it is multiplied by x + root
 roots-kept : (es : List Bool) (r : ℕ) (g : List ℕ) → r < 256 → All IsByte g → has-roots es g →
     has-roots es (times_root r 0 g)
 roots-kept [] r g lr lg h = tt
@@ -156,7 +156,7 @@ roots-kept (true ∷ es) r g lr lg h =
     )
 roots-kept (false ∷ es) r g lr lg h = roots-kept es r g lr lg h
 
--- the product has them all
+-- the product has a root for each erased codeword
 pub rooted-roots : (es : List Bool) (p : List ℕ) → All IsByte p → has-roots es (rooted es p)
 rooted-roots [] p lp = tt
 rooted-roots (true ∷ es) p lp =

@@ -1,4 +1,4 @@
--- Damaged squares are mended one by one, and joined as the squares they were.
+-- Damaged squares are mended one by one, and are joined to the bytes of the undamaged squares.
 use Rattle.std.proofs.Common.{◌≡◌, ℕ, List, [], ◌∷◌, sym, ◌∙◌, ap}
 use Rattle.std.specs.Prelude.{None, Result, Ok, Err, MatchResult}
 use Rattle.qr_bits.specs.Bits.{bits_of}
@@ -13,15 +13,15 @@ use Rattle.qr_mending.specs.Mending.{IsUnmended}
 use Rattle.qr_mending.specs.Series.{AreDamagedSquares, IsDamagedSquare, IsMendedContent, IsMendedSeries, IsUnmendedSeries}
 use Rattle.qr_mending.proofs.MendingLemmas.{mended-reading-one, mended-not-refused}
 
--- a square is mended as one content
+-- a square is mended to at most one content
 pub content-one : (g : Grid) (c d : Content) → IsMendedContent g c → IsMendedContent g d → c ≡ d
 content-one g c d h k = (mended-reading-one None g h.0 k.0 h.1 k.1 h.2 k.2 c d h.3 k.3 h.4 k.4).3
 
--- a square that is mended is refused for lack of memory alone
+-- a square that is mended is refused only for lack of memory
 pub content-refused : (g : Grid) (c : Content) (e : ReadFault) → IsMendedContent g c → IsUnmended g e → e ≡ fault.Memory
 content-refused g c e h u = mended-not-refused None g h.0 h.1 h.2 c h.3 e h.4 u
 
--- a damaged square is mended as what the whole one is read as
+-- a damaged square is mended to the content that the whole square is read as
 damaged-content : (d w : Grid) (c : Content) → IsDamagedSquare d w → IsReading w c → IsMendedContent d c
 damaged-content d w c s h =
     let m = moved w h.version s.version h.level s.level h.mask s.mask h.message h.sized s.sized h.format s.format h.holds in
@@ -38,7 +38,7 @@ damaged-content d w c s h =
       },
     )
 
--- damaged squares are mended as what the whole ones are read as
+-- damaged squares are mended to the contents that the whole squares are read as
 damaged-contents : (ds ws : List Grid) (cs : List Content) → AreDamagedSquares ds ws → AreReadings ws cs → AreReadBy IsMendedContent ds cs
 unfolding AreDamagedSquares AreReadBy
 damaged-contents [] [] [] s h = tt
@@ -48,7 +48,7 @@ damaged-contents (d ∷ ds) [] cs s h = absurd s
 damaged-contents (d ∷ ds) (w ∷ ws) [] s h = absurd h
 damaged-contents (d ∷ ds) (w ∷ ws) (c ∷ cs) s h = (damaged-content d w c s.0 h.0, damaged-contents ds ws cs s.1 h.1)
 
--- damaged squares are joined as the whole ones are
+-- damaged squares are joined to the bytes that the whole squares are joined to
 pub damaged-joined : (ds ws : List Grid) (x : List ℕ) → AreDamagedSquares ds ws → IsJoined ws x → IsMendedSeries ds x
 damaged-joined ds ws x s h = record {
   contents = h.contents;
@@ -57,7 +57,7 @@ damaged-joined ds ws x s h = record {
   joined = h.joined;
 }
 
--- what is joined to bytes is mended as them, but for lack of memory
+-- squares that can be joined to bytes with their damage mended are joined to them, unless memory is refused
 pub mended-to : {T : Type 0} (bytes : T → List ℕ) (ds : List Grid) (x : List ℕ) (r : Result T ReadFault) → IsMendedSeries ds x →
     MatchResult r (λ b. IsMendedSeries ds (bytes b)) (IsUnmendedSeries ds) → MatchResult r (λ b. bytes b ≡ x) (λ e. e ≡ fault.Memory)
 mended-to bytes ds x (Ok b) h k = joining-one IsMendedContent content-one ds (bytes b) x k h

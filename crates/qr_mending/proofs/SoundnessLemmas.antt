@@ -1,4 +1,4 @@
--- How many modules of a square are wrong, and that none is exactly if the square is the symbol.
+-- The number of wrong modules of a square, which is 0 exactly if the square is the symbol.
 use Rattle.std.proofs.Common.{◌≡◌, ℕ, List, sym, ◌∙◌, ap, subst, arith}
 use Rattle.std.specs.Prelude.{◌↔◌, Option}
 use Rattle.qr_layout.specs.declared.level.Level.{Level}
@@ -13,7 +13,7 @@ use Rattle.qr_symbol.proofs.Facts.{final-one}
 use Rattle.qr_mending.specs.Mending.{wrong_modules_without, DiffersFromSymbolWithout, HasWrongModules, HasWrongModulesWithout}
 use Rattle.qr_mending.proofs.MendingLemmas.{form-one}
 
--- a message has one symbol, from which a square differs in one number of modules
+-- a square differs from the symbol of its message in one number of modules
 pub differs-one : (unknown : Option Grid) (g : Grid) (v w : ℕ) (l k : Level) (m n : ℕ) (p q : List ℕ) (a b : ℕ) → v ≡ w → l ≡ k → m ≡ n → p ≡ q →
     DiffersFromSymbolWithout unknown g v l m p a → DiffersFromSymbolWithout unknown g w k n q b → a ≡ b
 differs-one unknown g v w l k m n p q a b ev el em ep h j =
@@ -28,14 +28,14 @@ differs-one unknown g v w l k m n p q a b ev el em ep h j =
     ∙ (ap (λ (z : ℕ). grid_of w k z h.codewords) em ∙ ap (grid_of w k n) same)) in
     h.count ∙ (ap (wrong_modules_without unknown g) grids ∙ sym j.count)
 
--- a square has one number of wrong modules
+-- a square has at most one number of wrong modules
 pub wrong-one : (unknown : Option Grid) (g : Grid) (v w : ℕ) (l k : Level) (m n : ℕ) (x y : List ℕ) (a b : ℕ) → HasWrongModulesWithout unknown g v l m x a →
     HasWrongModulesWithout unknown g w k n y b → a ≡ b
 wrong-one unknown g v w l k m n x y a b h j =
     let o = form-one unknown g v w l k m n h.message j.message x y h.form j.form in
     differs-one unknown g v w l k m n h.message j.message a b o.0 o.1 o.2 o.3 h.differs j.differs
 
--- a square of the side of a symbol is it exactly if no module differs
+-- a square with the side of a symbol is this symbol exactly if no module differs
 same-square : (g : Grid) (v : ℕ) (l : Level) (mask : ℕ) (cw : List ℕ) → IsSquare g.side g → g.side ≡ side_of v →
     (difference_count g (grid_of v l mask cw) ≡ 0) ↔ (g ≡ grid_of v l mask cw)
 same-square g v l mask cw whole side =

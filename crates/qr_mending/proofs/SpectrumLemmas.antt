@@ -1,5 +1,5 @@
--- The errors from their values at all powers of 2: the coefficient at a place is the value, at the inverse of the place's
--- power, of the polynomial whose coefficients are those values.
+-- The errors are computed from their values at all powers of 2. These values are taken as the coefficients of a
+-- polynomial; the error at an index is the value of this polynomial at the inverse of 2 to the power of this index.
 use Rattle.std.proofs.Common.{◌≡◌, ℕ, zero, suc, ◌+◌, ◌-◌, ◌*◌, ◌%◌, ◌<◌, ◌≤◌, List, [], ◌∷◌, length, drop, refl, sym, ap, ◌∙◌, inl, inr, arith, lit<, bit_xor}
 use Rattle.std.specs.List.{All}
 use Rattle.std.specs.Int.Bits.{xor_assoc, xor_zero_l, xor_zero_r, xor_self}
@@ -22,17 +22,17 @@ use Rattle.qr_mending.proofs.WeightLemmas.{coefficient-head, coefficient-tail}
 
 -- ---- sums of powers
 
--- 1 + z + z² + .. of k terms
+-- the sum 1 + z + z² + .. of k terms
 abbrev geometric : ℕ → ℕ → ℕ
 geometric zero z = 0
 geometric (suc k) z = bit_xor 1 (product z (geometric k z))
 
--- a byte
+-- this sum is a byte
 geometric-lt : (k z : ℕ) → z < 256 → geometric k z < 256
 geometric-lt zero z l = lit< tt
 geometric-lt (suc k) z l = xor_of_8 1 (product z (geometric k z)) (lit< tt) (product-lt z (geometric k z) l)
 
--- one term more at the end
+-- this sum with one term more at the end
 geometric-last : (k n : ℕ) → geometric (suc k) (power n) ≡ bit_xor (geometric k (power n)) (power (n * k))
 geometric-last zero n =
     let z = power n in
@@ -50,7 +50,7 @@ geometric-last (suc k) n =
     ∙ (sym (xor_assoc 1 (product z g) (product z (power (n * k))))
     ∙ ap (bit_xor (bit_xor 1 (product z g))) (sym (power-add n (n * k)) ∙ ap power exponent)))
 
--- a power returns to 1 after 255 factors
+-- 2 to the power 255 n is 1
 power-turns : (n : ℕ) → power (n * 255) ≡ 1
 power-turns zero = refl
 power-turns (suc n) =
@@ -60,12 +60,12 @@ power-turns (suc n) =
     ∙ (ap (λ t. product t (power (n * 255))) power-round
     ∙ (product-of_one (power (n * 255)) (power-lt (n * 255)) ∙ power-turns n)))
 
--- 255 ones, computed
+-- the sum of 255 ones is 1, computed
 geometric-ones : geometric 255 1 ≡ 1
 unfolding product remainder_of carryless
 geometric-ones = refl
 
--- 255 powers of an element that is not 1
+-- the sum of the first 255 powers of an element other than 1 is 0
 geometric-none : (n : ℕ) → (power n ≡ 1 → ⊥) → geometric 255 (power n) ≡ 0
 geometric-none n o =
     let z = power n in
@@ -84,18 +84,18 @@ geometric-none n o =
 
 -- ---- sums of values
 
--- the sum of n values from that at 2 to the power i on, times the powers of y
+-- the sum of n values of e, from that at 2 to the power i on, times the powers of y
 abbrev spectrum : ℕ → ℕ → ℕ → List ℕ → ℕ
 spectrum zero i y e = 0
 spectrum (suc n) i y e = bit_xor (value_at i e) (product y (spectrum n (i + 1) y e))
 
--- a byte
+-- this sum is a byte
 spectrum-lt : (n i y : ℕ) (e : List ℕ) → y < 256 → All IsByte e → spectrum n i y e < 256
 spectrum-lt zero i y e l a = lit< tt
 spectrum-lt (suc n) i y e l a =
     xor_of_8 (value_at i e) (product y (spectrum n (i + 1) y e)) (value-lt i e a) (product-lt y (spectrum n (i + 1) y e) l)
 
--- a list of values is such a sum
+-- the value at y of a polynomial whose coefficients are values of e is such a sum
 eval-spectrum : (n i y : ℕ) (s e : List ℕ) → HasValues s e → length s ≡ i + n →
     eval y (drop i s) ≡ spectrum n i y e
 eval-spectrum zero i y s e h l = ap (eval y) (drop_all i s (omega arith))
@@ -105,14 +105,14 @@ eval-spectrum (suc n) i y s e h l =
     ∙ (ap (λ t. bit_xor t (product y (eval y (drop (i + 1) s)))) (h.each i m)
     ∙ ap (λ t. bit_xor (value_at i e) (product y t)) (eval-spectrum n (i + 1) y s e h (omega arith)))
 
--- the sum of the values of no errors
+-- this sum for an empty list of errors
 spectrum-nil : (n i y : ℕ) → y < 256 → spectrum n i y [] ≡ 0
 spectrum-nil zero i y l = refl
 spectrum-nil (suc n) i y l =
     ap (λ t. bit_xor 0 (product y t)) (spectrum-nil n (i + 1) y l)
     ∙ (xor_zero_l (product y 0) ∙ product-by_zero y l)
 
--- the sum of the values of one error more
+-- this sum for a list with one error more
 spectrum-cons : (n i y c : ℕ) (e : List ℕ) → y < 256 → c < 256 → All IsByte e →
     spectrum n i y (c ∷ e) ≡ bit_xor (product c (product (power (i * length e)) (geometric n (product y (power (length e)))))) (spectrum n i y e)
 spectrum-cons zero i y c e ly lc le =
@@ -158,18 +158,18 @@ spectrum-cons (suc n) i y c e ly lc le =
     ∙ (xor-swap (product c place) v (product c (product place (product z g))) (product y rest)
     ∙ ap (λ t. bit_xor t (bit_xor v (product y rest))) (sym split))
 
--- a list has no coefficient above its places
+-- a list has no coefficient at or above its length
 coefficient-above : (m : ℕ) (e : List ℕ) → length e ≤ m → coefficient m e ≡ 0
 coefficient-above m [] l = refl
 coefficient-above m (c ∷ e) l =
     let o : m ≡ length e → ⊥ = λ h. omega (arith, h, l) in
     coefficient-tail m c e o ∙ coefficient-above m e (omega arith)
 
--- the exponent at which the sum of powers is taken
+-- the product of a power and an inverse of a power
 factor-of : (m k : ℕ) → m < 255 → k < 255 → product (power (255 - m)) (power k) ≡ power (255 - m + k)
 factor-of m k l h = sym (power-add (255 - m) k)
 
--- a power other than 1
+-- such a product is 1 only for equal powers
 power-other : (m k : ℕ) → m < 255 → k < 255 → (m ≡ k → ⊥) → power (255 - m + k) ≡ 1 → ⊥
 power-other m k l h o e =
     let j = 255 - m + k in
@@ -178,7 +178,7 @@ power-other m k l h o e =
     let none : j % 255 ≡ 0 = powers-apart (j % 255) 0 small (omega arith) one in
     o (omega (arith, none))
 
--- the coefficient is such a sum
+-- the coefficient at m is the sum of 255 values, taken at the inverse of 2 to the power m
 spectrum-coefficient : (m : ℕ) (e : List ℕ) → m < 255 → length e ≤ 255 → All IsByte e →
     spectrum 255 0 (power (255 - m)) e ≡ coefficient m e
 spectrum-coefficient m [] l h a = spectrum-nil 255 0 (power (255 - m)) (power-lt (255 - m))
@@ -216,7 +216,7 @@ spectrum-coefficient m (c ∷ e) l h a =
           ∙ (xor_zero_l rest ∙ (below ∙ sym (coefficient-tail m c e o)))))
     ]
 
--- a coefficient from 255 values
+-- the coefficient at m is computed from a list of 255 values
 pub eval-coefficient : (m : ℕ) (s e : List ℕ) → m < 255 → length e ≤ 255 → All IsByte e → length s ≡ 255 →
     HasValues s e → eval (power (255 - m)) s ≡ coefficient m e
 eval-coefficient m s e l h a n v =

@@ -1,4 +1,4 @@
--- Values of polynomials, and sums of their products with the values of a list.
+-- Values of polynomials, and sums of products of their coefficients with the items of a list.
 use Rattle.std.proofs.Common.{◌≡◌, ℕ, ◌+◌, ◌*◌, ◌<◌, ◌≤◌, List, [], ◌∷◌, ◌++◌, length, take, drop, get_or, refl, sym, ap, ◌∙◌, subst, inl, inr, arith, lit<, bit_xor}
 use Rattle.std.specs.List.{All}
 use Rattle.std.specs.Int.Bits.{xor_assoc, xor_zero_l, xor_zero_r}
@@ -19,7 +19,7 @@ use Rattle.qr_mending.specs.Steps.Sums.{dot_of, eval, blend, HasValues}
 
 -- ---- values
 
--- the value where one more coefficient comes last
+-- the value of a list with one coefficient more at its end
 value-push : (i : ℕ) (p : List ℕ) (c : ℕ) → All IsByte p → c < 256 →
     value_at i (p ++ c ∷ []) ≡ bit_xor (product (value_at i p) (power i)) c
 value-push i [] c a l =
@@ -46,7 +46,7 @@ value-push i (b ∷ p) c a l =
     ∙ (sym (xor_assoc (product (product b place) (power i)) (product (value_at i p) (power i)) c)
     ∙ ap (λ t. bit_xor t c) (product-xor (product b place) (value_at i p) (power i) (product-lt b place lb) (value-lt i p lp))))
 
--- the value of one codeword more
+-- the value of a block with one codeword more
 pub value-more : (i k v x w : ℕ) (block : List ℕ) → k < length block → ((j : ℕ) → get_or block j 0 < 256) →
     x ≡ power i → v ≡ value_at i (take k block) → w ≡ product v x →
     bit_xor w (get_or block k 0) ≡ value_at i (take (k + 1) block)
@@ -59,7 +59,7 @@ value-more i k v x w block l b ex ev ew =
     ap (λ t. bit_xor t c) (ew ∙ (ap (λ t. product t x) ev ∙ ap (product (value_at i (take k block))) ex))
     ∙ (sym (value-push i (take k block) c bytes (b k)) ∙ ap (value_at i) (sym (take_more block k 0 l)))
 
--- one value more
+-- a list of values with one value more
 pub values-more : (s : List ℕ) (k v : ℕ) (e : List ℕ) → length s ≡ k → HasValues s e → v ≡ value_at k e →
     HasValues (s ++ v ∷ []) e
 values-more s k v e n h f = record {
@@ -73,14 +73,14 @@ values-more s k v e n h f = record {
 
 -- ---- sums of products
 
--- bytes have a sum that is a byte
+-- the sum of products of bytes is a byte
 pub dot-lt : (p w : List ℕ) → All IsByte p → dot_of p w < 256
 dot-lt [] w a = lit< tt
 dot-lt (x ∷ p) [] a = lit< tt
 dot-lt (x ∷ p) (y ∷ w) a =
     xor_of_8 (product x y) (dot_of p w) (product-lt x y (All-head IsByte x p a)) (dot-lt p w (All-tail IsByte x p a))
 
--- the sum at a multiple of a shorter list added to another
+-- the sum of products for a sum of two lists, of which the first is multiplied by c
 pub dot-plus : (c : ℕ) (xs ys w : List ℕ) → c < 256 → All IsByte xs → All IsByte ys → All IsByte w →
     length xs ≤ length ys → dot_of (plus (scaled c xs) ys) w ≡ bit_xor (product c (dot_of xs w)) (dot_of ys w)
 dot-plus c [] ys w lc lx ly lw h =
@@ -104,7 +104,7 @@ dot-plus c (x ∷ xs) (y ∷ ys) (b ∷ w) lc lx ly lw h =
     ∙ ap (λ t. bit_xor t (bit_xor (product y b) (dot_of ys w)))
     (sym (product-by_sum c (product x b) d lc (product-lt x b ax) (dot-lt xs w lxs)))))
 
--- a sum of products with values
+-- the sum of products with a list of values
 pub dot-blend : (p : List ℕ) (i : ℕ) (s e : List ℕ) → HasValues s e → i + length p ≤ length s →
     dot_of p (drop i s) ≡ blend p i e
 dot-blend [] i s e h l = refl
@@ -114,13 +114,13 @@ dot-blend (a ∷ p) i s e h l =
     ∙ (ap (λ t. bit_xor (product a t) (dot_of p (drop (i + 1) s))) (h.each i m)
     ∙ ap (bit_xor (product a (value_at i e))) (dot-blend p (i + 1) s e h (omega arith)))
 
--- a value is a byte
+-- the value of a polynomial at a byte is a byte
 pub eval-lt : (x : ℕ) (p : List ℕ) → x < 256 → All IsByte p → eval x p < 256
 eval-lt x [] l a = lit< tt
 eval-lt x (c ∷ p) l a =
     xor_of_8 c (product x (eval x p)) (All-head IsByte c p a) (product-lt x (eval x p) l)
 
--- the sum of products where a leading 1 comes last
+-- the sum of products for a list that ends with a leading 1
 pub blend-push : (p : List ℕ) (i : ℕ) (e : List ℕ) → All IsByte e →
     blend (p ++ 1 ∷ []) i e ≡ bit_xor (blend p i e) (value_at (i + length p) e)
 blend-push [] i e a =
@@ -136,6 +136,6 @@ blend-push (b ∷ p) i e a =
     ∙ (sym (xor_assoc head (blend p (i + 1) e) (value_at (i + 1 + length p) e))
     ∙ ap (λ t. bit_xor (bit_xor head (blend p (i + 1) e)) (value_at t e)) same)
 
--- no value yet
+-- an empty list contains the first values of every list
 pub values-none : (s e : List ℕ) → s ≡ [] → HasValues s e
 values-none s e h = record { each = λ k l. absurd (omega (arith, l, ap length h)) }

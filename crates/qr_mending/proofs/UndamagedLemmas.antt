@@ -1,4 +1,4 @@
--- A square that is read without any mending is read the same with it, and nothing is changed.
+-- A square that is read without mending is read as the same content with mending, and no codeword is changed.
 use Rattle.std.proofs.Common.{◌≡◌, ℕ, zero, suc, ◌+◌, ◌<◌, ◌≤◌, Bool, true, false, List, [], ◌++◌, map, take, drop, length, get_or, refl, sym, ◌∙◌, ap, subst, inl, arith}
 use Rattle.std.proofs.lemmas.List.{length-map, take_all, take_at, drop_at, get_or-take, get_or-drop, ext_get_or, length-replicate, get_or-replicate}
 use lib.ListN.{replicate}
@@ -49,7 +49,7 @@ checks-some b d cs (suc k) l h =
           (checks-push b d before.0 more (get_or cs k []) k here before.1 (h k here) refl),
     )
 
--- a block of them
+-- one block of these error correction codewords
 check-part : (b : Blocks) (d es : List ℕ) (cs : List (List ℕ)) →
     (corrections : IsChecks b d (block_count (data_cut b)) es) → corrections.corrections ≡ cs → (i : ℕ) →
     i < block_count (data_cut b) → IsCorrection (block_of b d i) b.ec_len (get_or cs i []) →
@@ -66,7 +66,7 @@ check-part b d es cs h e i l c =
     ∙ (get_or-drop (start_of cut i) es k 0
     ∙ (h.same (tag k i) l (within, small) ∙ ap (λ (zs : List (List ℕ)). get_or (get_or zs i []) k 0) e)))
 
--- the two parts of a final sequence, gathered
+-- the data codewords and the error correction codewords of a final sequence, both gathered
 pub record FinalParts (b : Blocks) (d cw : List ℕ) (corrections : List (List ℕ)) : Type 0 where
   pub checks : List ℕ
   pub gathered : IsGathered (data_cut b) cw d
@@ -113,7 +113,7 @@ final-parts b d cw n h =
       same = λ i l. check-part b d es h.corrections ch same i l (h.each i l);
     }
 
--- a final sequence is a damaged form of its message, and nothing is changed
+-- a final sequence is a damaged form of its message in which no codeword is changed
 pub final-mended : (b : Blocks) (t : ℕ) (d cw : List ℕ) → length d ≡ cut_len (data_cut b) → IsFinalMessage b d cw →
     IsMendedMessage b t cw d (replicate (block_count (data_cut b)) 0)
 final-mended b t d cw n h =
@@ -145,12 +145,12 @@ final-mended b t d cw n h =
 
 -- ---- format information
 
--- a bit agrees with itself
+-- a bit does not differ from itself
 bit-same : (a : Bool) → bit_difference a a ≡ 0
 bit-same true = refl
 bit-same false = refl
 
--- bits that agree
+-- bits that agree have no difference
 bits-same : (n : ℕ) (p q : ℕ → Bool) → ((i : ℕ) → i < n → p i ≡ q i) → bit_differences n p q ≡ 0
 bits-same zero p q h = refl
 bits-same (suc n) p q h =
@@ -167,7 +167,7 @@ format-near g l mask h = record {
 
 -- ---- squares
 
--- a square that is read is read with nothing changed
+-- a square that is read is mended with no codeword changed
 pub reading-mended : (g : Grid) (p : Content) → (h : IsReading g p) →
     IsMendedReading g h.version h.level h.mask p (replicate (blocks_in h.version h.level) 0)
 reading-mended g p h =

@@ -1,4 +1,4 @@
--- A message of which some codewords could not be read, mended block by block: that there is one at most.
+-- A message of which some codewords were erased is mended block by block, to at most one message.
 use Rattle.std.proofs.Common.{◌≡◌, refl, ◌==◌, not, Bool, ℕ, ◌+◌, ◌-◌, ◌*◌, ◌/◌, ◌<◌, ◌≤◌, Option, List, [], ◌∷◌, ◌++◌, map, take, drop, length, length-append, get_or, sym, ◌∙◌, ap, subst, inl, inr, arith}
 use Rattle.std.proofs.lemmas.Bool.{cases_lt}
 use Rattle.std.proofs.lemmas.List.{length_push, get_or_append_left, get_or_push, ext_get_or}
@@ -23,7 +23,7 @@ use Rattle.qr_mending.proofs.MessageLemmas.{gathered-same, part-grown, part-last
 
 -- ---- marks
 
--- a square has one list of marks
+-- a square has at most one list of marks
 pub marks-one : (v : ℕ) (unknown : Grid) (xs ys : List ℕ) → AreMarks v unknown xs → AreMarks v unknown ys → xs ≡ ys
 marks-one v unknown xs ys g h =
     bits-one xs ys g.bytes h.bytes
@@ -33,12 +33,13 @@ marks-one v unknown xs ys g h =
 
 -- ---- blocks
 
--- what is put back into blocks is one
+-- a sequence is put back into blocks in at most one way
 in-blocks-one : (b : Blocks) (sent d e x y : List ℕ) → AreInBlocks b sent d e → AreInBlocks b sent x y → (d ≡ x) × (e ≡ y)
 in-blocks-one b sent d e x y g h =
     (gathered-same (data_cut b) sent d x g.gathered h.gathered, gathered-same (correction_cut b) (drop (cut_len (data_cut b)) sent) e y g.rest h.rest)
 
--- codewords of which no block is a damaged form beside the erased ones
+-- if what was read is a damaged form of no block, no data codewords with their error correction codewords are near
+-- enough to it
 pub none-erased : (n spare : ℕ) (codewords : List ℕ) (erased : List Bool) →
     ((mended : List ℕ) → IsMendedWithErasures n spare (read_of codewords erased) mended → ⊥) →
     (d e : List ℕ) → length d + n ≡ length codewords → IsCorrection d n e →
@@ -50,7 +51,7 @@ none-erased n spare codewords erased none d e long right near =
       near = near;
     })
 
--- no block yet
+-- at first no block is mended
 pub unread-start : (b : Blocks) (spare : ℕ) (d e u w message misread : List ℕ) → message ≡ [] → misread ≡ [] →
     AreMendedWithout b spare d e u w 0 message misread
 unread-start b spare d e u w message misread h k = record {
@@ -97,9 +98,9 @@ unread-push b spare d e u w message misread es c n x l h len right count near =
       ];
     }
 
--- ---- one message
+-- ---- at most one message
 
--- what is mended is one
+-- codewords with marks are a damaged form of at most one message
 unread-message-one : (b : Blocks) (spare : ℕ) (cw marks m n x y : List ℕ) → spare ≤ b.ec_len →
     b.short_len + 1 + b.ec_len ≤ 255 → IsMendedMessageWithout b spare cw marks m x → IsMendedMessageWithout b spare cw marks n y →
     (m ≡ n) × (x ≡ y)
@@ -141,7 +142,7 @@ unread-message-one b spare cw marks m n x y enough few g h =
       ext_get_or 0 x y (g.mended.many ∙ sym other.many) (λ i l. count i (omega (arith, l, g.mended.many))),
     )
 
--- codewords of which some are erased are a damaged form of one message
+-- codewords of which some are erased are a damaged form of at most one message
 pub beside-one : (unknown : Grid) (v : ℕ) (l : Level) (cw m n x y : List ℕ) →
     (blocks_of v l).short_len + 1 + (blocks_of v l).ec_len ≤ 255 → IsMendedBeside unknown v l cw m x →
     IsMendedBeside unknown v l cw n y → (m ≡ n) × (x ≡ y)
@@ -152,7 +153,7 @@ beside-one unknown v l cw m n x y few g h =
 
 -- ---- the steps of the code
 
--- one block more, by the steps of the loop
+-- one block more, stated with the variables of the loop
 pub push-unread : (b : Blocks) (spare : ℕ) (d e u w : List ℕ) (n k x : ℕ) (codewords marks : List ℕ) (erased : List Bool)
     (message misread es more counts : List ℕ) → n ≡ b.ec_len → k < block_count (data_cut b) → codewords ≡ received b d e k →
     marks ≡ received b u w k → erased ≡ map (λ mark. not (mark == 0)) marks → length codewords ≡ block_len (data_cut b) k + b.ec_len →
@@ -172,7 +173,7 @@ push-unread b spare d e u w n k x codewords marks erased message misread es more
     (unread-push b spare d e u w message misread es c.0 k x l h (omega (arith, le, long, en)) right
     (c.2 ∙ ap (λ (z : List (Option ℕ)). errors z (es ++ c.0)) same) all))
 
--- a block that cannot be mended is of no message
+-- if a block cannot be mended, the codewords are a damaged form of no message
 pub none-unread : (b : Blocks) (spare : ℕ) (d e u w : List ℕ) (n k : ℕ) (codewords marks : List ℕ) (erased : List Bool) →
     n ≡ b.ec_len → k < block_count (data_cut b) → codewords ≡ received b d e k → marks ≡ received b u w k →
     erased ≡ map (λ mark. not (mark == 0)) marks → length codewords ≡ block_len (data_cut b) k + b.ec_len →
@@ -205,7 +206,7 @@ none-in-blocks b spare cw marks d e u w g h none message misread m =
     (subst (λ (z : List ℕ). AreMendedWithout b spare m.codewords m.checks z w (block_count c) message misread) second.0
     (subst (λ (z : List ℕ). AreMendedWithout b spare m.codewords m.checks m.unread z (block_count c) message misread) second.1 m.mended))))
 
--- codewords that are mended beside those with a mark are mended beside those with a module that was not read
+-- mending by marks is mending with the modules that were not read
 pub beside-refused : (unknown : Grid) (v : ℕ) (l : Level) (cw marks : List ℕ) → AreMarks v unknown marks →
     ((message misread : List ℕ) → IsMendedMessageWithout (blocks_of v l) (spare_of v l) cw marks message misread → ⊥) →
     (message misread : List ℕ) → IsMendedBeside unknown v l cw message misread → ⊥

@@ -1,6 +1,6 @@
--- Errors times the values of a polynomial at their places: as few as the errors; where the first values of them are 0, none
--- of them is left, so that each error stands at a root. And where each error stands at a root, none of them is left, so that
--- all their values are 0.
+-- The errors, each multiplied by the value of a polynomial at its position. At most as many of these products differ
+-- from 0 as there are errors. If their first values are 0, all products are 0, so each error is at a root of the
+-- polynomial. If each error is at a root, all products are 0, so all their values are 0.
 use Rattle.std.proofs.Common.{◌≡◌, ℕ, suc, ◌+◌, ◌*◌, ◌<◌, ◌≤◌, List, [], ◌∷◌, length, refl, sym, ap, ◌∙◌, subst, inl, inr, arith, lit<, bit_xor}
 use Rattle.std.specs.List.{All}
 use Rattle.std.specs.Int.Bits.{xor_zero_l}
@@ -21,12 +21,12 @@ use Rattle.qr_mending.specs.Steps.Sums.{eval, blend}
 use Rattle.qr_mending.specs.Steps.Errors.{coefficient, weighted}
 use Rattle.qr_mending.proofs.SumLemmas.{eval-lt}
 
--- as many places
+-- there is a product for each error
 pub length-weighted : (p e : List ℕ) → length (weighted p e) ≡ length e
 length-weighted p [] = refl
 length-weighted p (c ∷ e) = ap suc (length-weighted p e)
 
--- and bytes
+-- the products are bytes
 pub bytes-weighted : (p e : List ℕ) → All IsByte e → All IsByte (weighted p e)
 bytes-weighted p [] a = All-nil IsByte
 bytes-weighted p (c ∷ e) a =
@@ -34,7 +34,7 @@ bytes-weighted p (c ∷ e) a =
     All-cons IsByte (product c z) (weighted p e) (product-lt c z (All-head IsByte c e a))
     (bytes-weighted p e (All-tail IsByte c e a))
 
--- a multiple of an error is 0 where the error is
+-- a multiple of an error differs from 0 only if the error does
 pub difference-product : (c z : ℕ) → z < 256 → difference (product c z) 0 ≤ difference c 0
 difference-product c z l = elim (cases_eq c 0) [
   | inl f ↦
@@ -46,7 +46,7 @@ difference-product c z l = elim (cases_eq c 0) [
       omega (arith, one, most)
 ]
 
--- no more of them are not 0
+-- at most as many products differ from 0 as errors do
 weight-weighted : (p e : List ℕ) → All IsByte p → All IsByte e → weight (weighted p e) ≤ weight e
 weight-weighted p [] b a = omega arith
 weight-weighted p (c ∷ e) b a =
@@ -56,7 +56,7 @@ weight-weighted p (c ∷ e) b a =
     let rest = weight-weighted p e b (All-tail IsByte c e a) in
     omega (arith, head, rest)
 
--- the polynomial with no coefficient leaves none
+-- with the empty polynomial, all products are 0
 weight-nothing : (e : List ℕ) → All IsByte e → weight (weighted [] e) ≡ 0
 weight-nothing [] a = refl
 weight-nothing (c ∷ e) a =
@@ -64,7 +64,7 @@ weight-nothing (c ∷ e) a =
     let rest = weight-nothing e (All-tail IsByte c e a) in
     omega (arith, none, rest)
 
--- one coefficient more
+-- a polynomial with one coefficient more
 weighted-step : (a : ℕ) (p : List ℕ) (i : ℕ) (e : List ℕ) → a < 256 → All IsByte p → All IsByte e →
     value_at i (weighted (a ∷ p) e) ≡ bit_xor (product a (value_at i e)) (value_at (i + 1) (weighted p e))
 weighted-step a p i [] la lp le = sym (ap (λ t. bit_xor t 0) (product-by_zero a la) ∙ xor_zero_l 0)
@@ -109,7 +109,7 @@ weighted-step a p i (c ∷ e) la lp le =
     ∙ (ap (λ t. bit_xor t (bit_xor (product cz next) w)) joined
     ∙ ap (bit_xor (product a (bit_xor (product c place) v))) back)))
 
--- the values of the weighted errors are sums of products of the coefficients and the values of the errors
+-- the values of the products are sums of the coefficients times the values of the errors
 pub weighted-value : (p : List ℕ) (i : ℕ) (e : List ℕ) → All IsByte p → All IsByte e →
     value_at i (weighted p e) ≡ blend p i e
 weighted-value [] i e lp le = value-none i (weighted [] e) (weight-nothing e le)
@@ -119,7 +119,7 @@ weighted-value (a ∷ p) i e lp le =
     weighted-step a p i e la lps le
     ∙ ap (bit_xor (product a (value_at i e))) (weighted-value p (i + 1) e lps le)
 
--- where at most t errors have t first sums that are 0, nothing is left of the weighted errors
+-- if there are at most t errors and their first t sums are 0, all products are 0
 weighted-none : (t : ℕ) (p e : List ℕ) → All IsByte p → All IsByte e → length e ≤ 255 → weight e ≤ t →
     ((i : ℕ) → i < t → blend p i e ≡ 0) → weight (weighted p e) ≡ 0
 weighted-none t p e lp le most few h =
@@ -127,22 +127,22 @@ weighted-none t p e lp le most few h =
     weight-none (length (weighted p e)) t (weighted p e) (omega arith) (omega (arith, length-weighted p e))
     (bytes-weighted p e le) (omega (arith, w, few)) (λ i l. weighted-value p i e lp le ∙ h i l)
 
--- what differs from 0 in no place is 0
+-- a byte that does not differ from 0 is 0
 difference-none : (x : ℕ) → difference x 0 ≡ 0 → x ≡ 0
 difference-none x h = elim (cases_eq x 0) [
   | inl e ↦ e
   | inr n ↦ let one = difference-other x 0 n in absurd (omega (arith, one, h))
 ]
 
--- the coefficient of the leading place
+-- the coefficient of the highest power
 pub coefficient-head : (m c : ℕ) (e : List ℕ) → m ≡ length e → coefficient m (c ∷ e) ≡ c
 coefficient-head m c e h = rw (eq-eqb m (length e) h)
 
--- the coefficient of another place
+-- a coefficient of a lower power
 pub coefficient-tail : (m c : ℕ) (e : List ℕ) → (m ≡ length e → ⊥) → coefficient m (c ∷ e) ≡ coefficient m e
 coefficient-tail m c e h = rw (ne_eqb m (length e) h)
 
--- where nothing is left, an error stands at a root
+-- if all products are 0, each error is at a root
 weighted-root : (p e : List ℕ) → All IsByte p → All IsByte e → weight (weighted p e) ≡ 0 → (m : ℕ) → m < length e →
     (eval (power m) p ≡ 0 → ⊥) → coefficient m e ≡ 0
 weighted-root p [] lp le w m l n = absurd (omega arith)
@@ -160,12 +160,12 @@ weighted-root p (c ∷ e) lp le w m l n = elim (cases_eq m (length e)) [
       ∙ weighted-root p e lp (All-tail IsByte c e le) (omega (arith, w)) m (omega (arith, o, l)) n
 ]
 
--- at most t errors with t first sums that are 0 stand at roots
+-- if there are at most t errors and their first t sums are 0, each error is at a root
 pub errors-root : (t : ℕ) (p e : List ℕ) → All IsByte p → All IsByte e → length e ≤ 255 → weight e ≤ t →
     ((i : ℕ) → i < t → blend p i e ≡ 0) → (m : ℕ) → m < length e → (eval (power m) p ≡ 0 → ⊥) → coefficient m e ≡ 0
 errors-root t p e lp le most few h = weighted-root p e lp le (weighted-none t p e lp le most few h)
 
--- where errors stand at roots only, nothing is left of the weighted errors
+-- if each error is at a root, all products are 0
 root-weighted : (p e : List ℕ) → All IsByte p → All IsByte e →
     ((m : ℕ) → m < length e → (eval (power m) p ≡ 0 → ⊥) → coefficient m e ≡ 0) → weight (weighted p e) ≡ 0
 root-weighted p [] lp le r = refl
@@ -184,7 +184,7 @@ root-weighted p (c ∷ e) lp le r =
     (λ m l n. sym (coefficient-tail m c e (λ h. omega (arith, h, l))) ∙ r m (omega (arith, l)) n) in
     omega (arith, one, rest)
 
--- then all sums are 0
+-- if each error is at a root, all sums are 0
 pub root-blends : (p e : List ℕ) → All IsByte p → All IsByte e →
     ((m : ℕ) → m < length e → (eval (power m) p ≡ 0 → ⊥) → coefficient m e ≡ 0) → (i : ℕ) → blend p i e ≡ 0
 root-blends p e lp le r i =
@@ -198,7 +198,7 @@ coefficient-lt m (c ∷ e) le = elim (cases_eq m (length e)) [
   | inr o ↦ subst (λ (t : ℕ). t < 256) (sym (coefficient-tail m c e o)) (coefficient-lt m e (All-tail IsByte c e le))
 ]
 
--- the weighted error at a place
+-- the product at index m
 pub coefficient-weighted : (m : ℕ) (p e : List ℕ) → All IsByte p →
     coefficient m (weighted p e) ≡ product (coefficient m e) (eval (power m) p)
 coefficient-weighted m p [] lp = sym (product-of_zero (eval (power m) p) (eval-lt (power m) p (power-lt m) lp))

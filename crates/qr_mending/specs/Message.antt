@@ -1,4 +1,4 @@
--- The message of a damaged symbol, mended block by block.
+-- The message of a damaged symbol, mended block by block. A message is the data codewords of a symbol.
 use Rattle.std.specs.Prelude.{◌≡◌, ℕ, ◌-◌, ◌/◌, ◌==◌, if◌then◌else◌, ◌<◌, ◌≤◌, List, ◌++◌, drop, length, slice_index}
 use Rattle.qr_field.specs.Polynomial.{IsCorrection}
 use Rattle.qr_field.specs.Distance.{differences}
@@ -8,26 +8,29 @@ use Rattle.qr_layout.specs.declared.level.Level.TheVariants.{L, M, Q, H}
 use Rattle.qr_layout.specs.Blocks.{blocks_of}
 use Rattle.qr_symbol.specs.Interleaving.{block_count, start_of, cut_len, data_cut, correction_cut, part_of, IsGathered}
 
--- block i as it was received: its data codewords, and then its error correction codewords (ISO/IEC 18004:2015, 7.5.1)
+-- Block i as it was received: its data codewords, taken from d, and then its error correction codewords, taken from e
+-- (ISO/IEC 18004:2015, 7.5.1).
 abbrev pub received : Blocks → List ℕ → List ℕ → ℕ → List ℕ
 received b d e i = part_of (data_cut b) d i ++ part_of (correction_cut b) e i
 
--- block i of the message, with its error correction codewords, differs from the block that was received in `changed` places
--- and these are t at most (ISO/IEC 18004:2015, 7.5.1)
+-- `IsMendedBlock b t d e message changed i` holds if block i of the message, followed by its error correction codewords,
+-- differs from the received block in exactly `changed` codewords, and these are at most t (ISO/IEC 18004:2015, 7.5.1).
 pub record IsMendedBlock (b : Blocks) (t : ℕ) (d e message : List ℕ) (changed i : ℕ) : Type 0 where
   pub correction : List ℕ
   pub corrects : IsCorrection (part_of (data_cut b) message i) b.ec_len correction
   pub near : changed ≤ t
   pub count : changed ≡ differences (received b d e i) (part_of (data_cut b) message i ++ correction)
 
--- the first n blocks of the message are mended ones [own]
+-- `AreMended b t d e n message changed` holds if the message consists of n mended blocks; item i of `changed` is the
+-- number of changed codewords in block i [own].
 pub record AreMended (b : Blocks) (t : ℕ) (d e : List ℕ) (n : ℕ) (message changed : List ℕ) : Type 0 where
   pub long : length message ≡ start_of (data_cut b) n
   pub many : length changed ≡ n
   pub each : (i : ℕ) → i < n → IsMendedBlock b t d e message (slice_index changed i) i
 
--- the codewords cw are the final sequence of the message but for `changed` codewords in each block, which are t at most
--- (ISO/IEC 18004:2015, 7.5.1, 7.6)
+-- `IsMendedMessage b t cw message changed` holds if the codewords cw are a damaged form of the final sequence of the
+-- message. Item i of `changed` is the number of codewords that differ in block i, which is at most t
+-- (ISO/IEC 18004:2015, 7.5.1, 7.6).
 pub record IsMendedMessage (b : Blocks) (t : ℕ) (cw message changed : List ℕ) : Type 0 where
   pub codewords : List ℕ
   pub checks : List ℕ
@@ -35,18 +38,21 @@ pub record IsMendedMessage (b : Blocks) (t : ℕ) (cw message changed : List ℕ
   pub rest : IsGathered (correction_cut b) (drop (cut_len (data_cut b)) cw) checks
   pub mended : AreMended b t codewords checks (block_count (data_cut b)) message changed
 
--- how many error correction codewords of a block guard against mending to another block (ISO/IEC 18004:2015, 7.5.1, Table 9)
+-- The number of error correction codewords of a block that are kept unused, so that a block is not mended to a wrong one
+-- (ISO/IEC 18004:2015, 7.5.1, Table 9).
 abbrev pub protection_of : ℕ → Level → ℕ
 protection_of v L = if v == 1 then 3 else (if v == 2 then 2 else (if v == 3 then 1 else 0))
 protection_of v M = if v == 1 then 2 else 0
 protection_of v Q = if v == 1 then 1 else 0
 protection_of v H = if v == 1 then 1 else 0
 
--- how many codewords of a block may be changed: half of the other error correction codewords
--- (ISO/IEC 18004:2015, 7.5.1, Table 9)
+-- The largest number of codewords of a block that may be changed: half of the error correction codewords that may be
+-- used (ISO/IEC 18004:2015, 7.5.1, Table 9).
 abbrev pub tolerance_of : ℕ → Level → ℕ
 tolerance_of v l = ((blocks_of v l).ec_len - protection_of v l) / 2
 
--- the codewords are a damaged form of the message, in the blocks of a version and a level (ISO/IEC 18004:2015, 7.5.1, 7.6)
+-- `IsMendedIn v l cw message changed` holds if the codewords cw are a damaged form of the final sequence of the message
+-- in a symbol of version v and level l, and `changed` lists the number of changed codewords for each block
+-- (ISO/IEC 18004:2015, 7.5.1, 7.6).
 abbrev pub IsMendedIn : ℕ → Level → List ℕ → List ℕ → List ℕ → Type 0
 IsMendedIn v l cw message changed = IsMendedMessage (blocks_of v l) (tolerance_of v l) cw message changed

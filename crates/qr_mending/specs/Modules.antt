@@ -1,4 +1,4 @@
--- The damage of a symbol in words of modules.
+-- The damage of a symbol, counted in modules instead of codewords.
 use Rattle.std.specs.Prelude.{ℕ, ◌+◌, ◌*◌, ◌<◌, ◌≤◌, ◌==◌, ◌&&◌, if◌then◌else◌, List, [], ◌∷◌, take, drop}
 use Prim.Native.Nat.{zero, suc}
 use Rattle.qr_layout.specs.declared.level.Level.{Level}
@@ -12,30 +12,33 @@ use Rattle.qr_mending.specs.declared.format.FormatCopy.TheVariants.{First}
 use Rattle.qr_mending.specs.Format.{bit_difference, bit_differences, copy_bit}
 use Rattle.qr_mending.specs.Message.{tolerance_of}
 
--- in how many of these modules two squares differ [own]
+-- The number of the modules in the list in which the squares g and h differ [own].
 abbrev pub module_differences : Grid → Grid → List Module → ℕ
 module_differences g h [] = 0
 module_differences g h (m ∷ ms) = bit_difference (colour g m.row m.col) (colour h m.row m.col) + module_differences g h ms
 
--- the place of a tag in a list, or the length of the list if it is not in it [own]
+-- The index of the tag t in a list, or the length of the list if t is not in it [own].
 abbrev pub index_of : Tag → List Tag → ℕ
 index_of t [] = 0
 index_of t (u ∷ us) = if (t.place == u.place) && (t.block == u.block) then 0 else index_of t us + 1
 
--- the eight modules that hold codeword k of the final sequence (ISO/IEC 18004:2015, 7.7.3)
+-- The eight modules that contain codeword k of the final sequence, where `places` is the order of all modules
+-- (ISO/IEC 18004:2015, 7.7.3).
 abbrev pub modules_of : List Module → ℕ → List Module
 modules_of places k = take 8 (drop (8 * k) places)
 
--- in how many modules of the first n codewords of block i two squares differ: the tags say in which order the codewords of a
--- cut are sent, and the first of these is codeword `first` of the final sequence (ISO/IEC 18004:2015, 7.6, 7.7.3)
+-- The number of modules, in the first n codewords of block i, in which the squares g and h differ. `tags` is the order
+-- in which the codewords of the cut are sent, and the first of them is codeword `first` of the final sequence
+-- (ISO/IEC 18004:2015, 7.6, 7.7.3).
 abbrev pub part_differences : Grid → Grid → List Module → List Tag → (first i n : ℕ) → ℕ
 part_differences g h places tags first i zero = 0
 part_differences g h places tags first i (suc n) =
     module_differences g h (modules_of places (first + index_of (record { place = n; block = i }) tags))
     + part_differences g h places tags first i n
 
--- two squares differ in few modules: in at most three of the first copy of the format information, and in each block in at
--- most as many as codewords can be mended (ISO/IEC 18004:2015, 7.5.1, 7.9.1)
+-- `DifferInFewModules v l g h` holds if the squares g and h differ in at most three modules of the first copy of the
+-- format information, and in each block in at most as many modules as codewords of the block can be mended
+-- (ISO/IEC 18004:2015, 7.5.1, 7.9.1).
 pub record DifferInFewModules (v : ℕ) (l : Level) (g h : Grid) : Type 0 where
   pub format : bit_differences 15 (copy_bit First g) (copy_bit First h) ≤ 3
   pub places : List Module

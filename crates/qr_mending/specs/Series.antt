@@ -1,4 +1,4 @@
--- The reading of damaged symbols together: those of a series are joined in their order.
+-- The reading of damaged symbols together: the bytes of a damaged series are joined in their order.
 use Rattle.std.specs.Prelude.{ℕ, List}
 use Rattle.std.specs.List.{AllZip}
 use Rattle.qr_layout.specs.declared.level.Level.{Level}
@@ -9,20 +9,23 @@ use Rattle.qr_symbol.specs.Reading.{IsFormat, IsMessage, IsOfVersion}
 use Rattle.qr_symbol.specs.Joining.{IsJoinedBy, IsUnjoinedBy}
 use Rattle.qr_mending.specs.Mending.{IsDamagedForm, IsMendedReading, IsUnmended}
 
--- the square, read with its damage mended, is this content, whatever its version, its level, its mask and its damage
--- (ISO/IEC 18004:2015, 12)
+-- `IsMendedContent g content` holds if the square g, once its damage is mended, is read as this content, whatever its
+-- version, level, mask and damage are (ISO/IEC 18004:2015, 12).
 abbrev pub IsMendedContent : Grid → Content → Type 0
 IsMendedContent g content = (v : ℕ) × (l : Level) × (mask : ℕ) × (changed : List ℕ) × IsMendedReading g v l mask content changed
 
--- the squares, read with their damage mended, are joined to these bytes (ISO/IEC 18004:2015, 8.1 to 8.3, 12)
+-- `IsMendedSeries squares bytes` holds if the squares, once their damage is mended, are joined to these bytes
+-- (ISO/IEC 18004:2015, 8.1 to 8.3, 12).
 abbrev pub IsMendedSeries : List Grid → List ℕ → Type 0
 IsMendedSeries squares bytes = IsJoinedBy IsMendedContent squares bytes
 
--- the squares are not joined, for this fault, where their damage is mended (ISO/IEC 18004:2015, 12)
+-- `IsUnmendedSeries squares e` holds if the squares are not joined because of the fault e, although damage is mended
+-- (ISO/IEC 18004:2015, 12).
 abbrev pub IsUnmendedSeries : List Grid → ReadFault → Type 0
 IsUnmendedSeries squares e = IsUnjoinedBy IsMendedContent IsUnmended squares e
 
--- a square is a damaged form of another one, which can be read without mending (ISO/IEC 18004:2015, 7.5.1, 7.9.1, 12)
+-- `IsDamagedSquare damaged whole` holds if the square `damaged` is a damaged form of the square `whole`, which can be
+-- read without mending (ISO/IEC 18004:2015, 7.5.1, 7.9.1, 12).
 pub record IsDamagedSquare (damaged whole : Grid) : Type 0 where
   pub version : ℕ
   pub level : Level
@@ -34,6 +37,7 @@ pub record IsDamagedSquare (damaged whole : Grid) : Type 0 where
   pub holds : IsMessage version level mask whole message
   pub form : IsDamagedForm damaged version level mask message changed
 
--- each square is a damaged form of the one at its place [own]
+-- `AreDamagedSquares damaged whole` holds if each square in `damaged` is a damaged form of the square with the same
+-- index in `whole` [own].
 unfoldable pub AreDamagedSquares : List Grid → List Grid → Type 0
 AreDamagedSquares damaged whole = AllZip IsDamagedSquare damaged whole

@@ -1,4 +1,4 @@
--- The message of a damaged symbol of which some modules could not be read. Public clauses cite this file.
+-- The message of a damaged symbol of which some modules could not be read.
 use Rattle.std.specs.Prelude.{◌≡◌, ℕ, ◌+◌, ◌-◌, ◌*◌, ◌<◌, ◌≤◌, ◌==◌, not, Bool, Option, None, Some, List, ◌++◌, map, take, drop, length, slice_index}
 use Rattle.std.specs.List.{All}
 use Rattle.qr_field.specs.Polynomial.{IsCorrection}
@@ -15,45 +15,52 @@ use Rattle.qr_symbol.specs.Interleaving.{block_count, start_of, cut_len, data_cu
 use Rattle.qr_mending.specs.Erasures.{read_of}
 use Rattle.qr_mending.specs.Message.{received, protection_of, IsMendedIn}
 
--- the colour of a module [own]
+-- The colour of the module m of the square g [own].
 abbrev pub colour_at : Grid → Module → Bool
 colour_at g m = colour g m.row m.col
 
--- the codewords of a square whose dark modules are those that were not read, without a mask: one is 0 exactly if each of its
--- eight modules was read (ISO/IEC 18004:2015, 7.7.3)
+-- `AreMarks v unknown marks` holds if the marks are what is read as codewords, without a mask, from the square
+-- `unknown`, whose dark modules are those that were not read. So the mark of a codeword is 0 exactly if all of its eight
+-- modules were read (ISO/IEC 18004:2015, 7.7.3).
 pub record AreMarks (v : ℕ) (unknown : Grid) (marks : List ℕ) : Type 0 where
   pub bytes : All (λ x. x < 256) marks
   pub places : List Module
   pub order : IsOrder v places
   pub bits : bits_of marks ≡ map (colour_at unknown) (take (8 * total_codewords_of v) places)
 
--- codewords in the order in which they are sent, put back into blocks: data codewords d and error correction codewords e,
--- block after block (ISO/IEC 18004:2015, 7.6)
+-- `AreInBlocks b sent d e` holds if the codewords `sent`, in the order in which they are sent, are these put back into
+-- blocks: the data codewords d and then the error correction codewords e, each block after block
+-- (ISO/IEC 18004:2015, 7.6).
 pub record AreInBlocks (b : Blocks) (sent d e : List ℕ) : Type 0 where
   pub gathered : IsGathered (data_cut b) sent d
   pub rest : IsGathered (correction_cut b) (drop (cut_len (data_cut b)) sent) e
 
--- what was read of a block: a codeword whose mark is not 0 is erased [own]
+-- What was read of a block: a codeword whose mark is not 0 is erased [own].
 abbrev pub read_by : List ℕ → List ℕ → List (Option ℕ)
 read_by codewords marks = read_of codewords (map (λ mark. not (mark == 0)) marks)
 
--- what was read is a damaged form of block i of the message with its error correction codewords: `misread` codewords are
--- misread, each erasure needs one error correction codeword, each misread codeword two, and these are at most `spare`
--- (ISO/IEC 18004:2015, 7.5.1)
+-- `IsMendedBlockWithout b spare read message misread i` holds if `read` is a damaged form of block i of the message with
+-- its error correction codewords. Exactly `misread` codewords are misread; each erased codeword needs one error
+-- correction codeword and each misread codeword needs two, and together they need at most `spare`
+-- (ISO/IEC 18004:2015, 7.5.1).
 pub record IsMendedBlockWithout (b : Blocks) (spare : ℕ) (read : List (Option ℕ)) (message : List ℕ) (misread i : ℕ) : Type 0 where
   pub correction : List ℕ
   pub corrects : IsCorrection (part_of (data_cut b) message i) b.ec_len correction
   pub near : erasures read + 2 * misread ≤ spare
   pub count : misread ≡ errors read (part_of (data_cut b) message i ++ correction)
 
--- the first n blocks of the message are mended ones: the codewords that were received are d and e, and their marks u and w [own]
+-- `AreMendedWithout b spare d e u w n message misread` holds if the message consists of n mended blocks. The received
+-- codewords are d and e, and u and w are their marks; item i of `misread` is the number of misread codewords in block i
+-- [own].
 pub record AreMendedWithout (b : Blocks) (spare : ℕ) (d e u w : List ℕ) (n : ℕ) (message misread : List ℕ) : Type 0 where
   pub long : length message ≡ start_of (data_cut b) n
   pub many : length misread ≡ n
   pub each : (i : ℕ) → i < n → IsMendedBlockWithout b spare (read_by (received b d e i) (received b u w i)) message (slice_index misread i) i
 
--- the codewords cw, of which those whose mark is not 0 are erased, are the final sequence of the message but for `misread`
--- codewords in each block, as far as these can be mended beside the erased ones (ISO/IEC 18004:2015, 7.5.1, 7.6)
+-- `IsMendedMessageWithout b spare cw marks message misread` holds if the codewords cw are a damaged form of the final
+-- sequence of the message. Codewords whose mark is not 0 are erased, and item i of `misread` is the number of misread
+-- codewords in block i; in each block these can be mended with `spare` error correction codewords
+-- (ISO/IEC 18004:2015, 7.5.1, 7.6).
 pub record IsMendedMessageWithout (b : Blocks) (spare : ℕ) (cw marks message misread : List ℕ) : Type 0 where
   pub codewords : List ℕ
   pub checks : List ℕ
@@ -63,20 +70,22 @@ pub record IsMendedMessageWithout (b : Blocks) (spare : ℕ) (cw marks message m
   pub marked : AreInBlocks b marks unread unread_checks
   pub mended : AreMendedWithout b spare codewords checks unread unread_checks (block_count (data_cut b)) message misread
 
--- how many error correction codewords of a block may be used: all that do not guard against mending to another block
--- (ISO/IEC 18004:2015, 7.5.1, Table 9)
+-- The number of error correction codewords of a block that may be used: all but those that are kept unused, so that a
+-- block is not mended to a wrong one (ISO/IEC 18004:2015, 7.5.1, Table 9).
 abbrev pub spare_of : ℕ → Level → ℕ
 spare_of v l = (blocks_of v l).ec_len - protection_of v l
 
--- the codewords are a damaged form of the message, in the blocks of a version and a level, where those with a module that was
--- not read are erased (ISO/IEC 18004:2015, 7.5.1, 7.6, 7.7.3)
+-- `IsMendedBeside unknown v l cw message misread` holds if the codewords cw are a damaged form of the final sequence of
+-- the message in a symbol of version v and level l. A codeword is erased if one of its modules is dark in `unknown`,
+-- which means that the module was not read (ISO/IEC 18004:2015, 7.5.1, 7.6, 7.7.3).
 pub record IsMendedBeside (unknown : Grid) (v : ℕ) (l : Level) (cw message misread : List ℕ) : Type 0 where
   pub marks : List ℕ
   pub erased : AreMarks v unknown marks
   pub mended : IsMendedMessageWithout (blocks_of v l) (spare_of v l) cw marks message misread
 
--- the codewords are a damaged form of the message, in the blocks of a version and a level, where some modules may not have been
--- read: then these are the dark ones of a square (ISO/IEC 18004:2015, 7.5.1, 7.6, 7.7.3)
+-- `IsMendedInWithout unknown v l cw message changed` holds if the codewords cw are a damaged form of the final sequence
+-- of the message in a symbol of version v and level l. The dark modules of `unknown`, if there is such a square, are
+-- those that were not read; otherwise all modules were read (ISO/IEC 18004:2015, 7.5.1, 7.6, 7.7.3).
 abbrev pub IsMendedInWithout : Option Grid → ℕ → Level → List ℕ → List ℕ → List ℕ → Type 0
 IsMendedInWithout None v l cw message changed = IsMendedIn v l cw message changed
 IsMendedInWithout (Some unknown) v l cw message changed = IsMendedBeside unknown v l cw message changed

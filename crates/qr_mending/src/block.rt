@@ -11,7 +11,8 @@ use crate::sums::syndromes;
 use arrayvec::ArrayVec;
 use qr_field::Divisor;
 
-// The block of which the codewords are a damaged form, if there is one. Otherwise some other list.
+// Returns the block of which `damaged` is a damaged form, if such a block exists, otherwise some other list. A block is
+// at most `t` codewords away from its damaged form.
 fn candidate(n: usize, t: usize, damaged: &[u8]) -> ArrayVec<u8, 255>
     requires most { n ≤ 30 }
     requires half { 2 * t ≤ n }
@@ -25,7 +26,7 @@ fn candidate(n: usize, t: usize, damaged: &[u8]) -> ArrayVec<u8, 255>
     without_errors(coefficients, first.as_slice(), damaged)
 }
 
-// The number of places in which two lists of one length differ.
+// Returns the number of positions at which two lists of the same length differ.
 fn count_differences(xs: &[u8], ys: &[u8]) -> usize
     requires { length xs.now ≡ length ys.now }
     ensures { result ≡ differences xs.now ys.now }
@@ -39,7 +40,7 @@ fn count_differences(xs: &[u8], ys: &[u8]) -> usize
     count
 }
 
-// Whether the codewords are a block.
+// Returns whether the codewords are a block: data codewords followed by their error correction codewords.
 pub(crate) fn is_block(divisor: &Divisor, codewords: &[u8]) -> bool
     requires { divisor.now ≤ length codewords.now }
     ensures { Decides result (IsBlock divisor.now codewords.now) }
@@ -49,9 +50,9 @@ pub(crate) fn is_block(divisor: &Divisor, codewords: &[u8]) -> bool
     correction.as_slice() == &codewords[start..]
 }
 
-/// Mends a block of which at most `t` codewords have been changed, where 2t is at most the number of its error correction
-/// codewords, and returns how many those were. `None` if there is no such block; the codewords then stay as they are
-/// (ISO/IEC 18004:2015, 7.5.1 and Annex B).
+/// Mends a block of which at most `t` codewords have been changed, where 2t is at most the number of its error
+/// correction codewords. Returns the number of codewords that had been changed. Returns `None` if there is no such
+/// block, and then leaves `codewords` unchanged (ISO/IEC 18004:2015, 7.5.1 and Annex B).
 pub fn mend(divisor: &Divisor, t: usize, codewords: &mut [u8]) -> Option<usize>
     requires half { 2 * t ≤ divisor.now }
     requires least { divisor.now ≤ length codewords.old }
@@ -81,7 +82,8 @@ mod tests {
     use crate::samples::EIGHT_DIGITS;
     use std::process::Abort;
 
-    // How many codewords are mended, where the block is then as it was.
+    // Damages the block of `01234567` and mends it. Returns the number of mended codewords if the block is as before, or
+    // `None` if it is not mended.
     fn is_mended(rt: &impl Abort, t: usize, damage: &[(usize, u8)]) -> Option<usize> {
         let mut damaged = EIGHT_DIGITS;
         for (place, codeword) in damage {
@@ -101,7 +103,7 @@ mod tests {
         None
     }
 
-    // What another decoder, by the algorithm of Berlekamp and Massey, makes of the same codewords.
+    // The expected results come from another decoder, which uses the algorithm of Berlekamp and Massey.
     #[test]
     fn eight_digits_damaged(rt: HostRuntime) {
         let five = [(0, 0x41u8), (3, 0), (7, 0x22), (20, 1), (25, 0)];

@@ -1,5 +1,5 @@
-//! Mends damaged blocks of which some codewords are known to be unreadable. These are erasures: each needs one error correction
-//! codeword, where a misread codeword needs two (ISO/IEC 18004:2015, 7.5.1 and Annex B).
+//! Mends damaged blocks of which some codewords are known to be unreadable. Such a codeword is an erasure: it needs one
+//! error correction codeword, whereas a misread codeword needs two (ISO/IEC 18004:2015, 7.5.1 and Annex B).
 
 ghost use Rattle.std.specs.Prelude.{◌≡◌, ℕ, ◌+◌, ◌≤◌, List, length, IfSome, IfNone};
 ghost use Rattle.std.specs.List.{All, count_by};
@@ -18,8 +18,8 @@ use crate::sums::{dot, syndromes};
 use arrayvec::ArrayVec;
 use qr_field::Divisor;
 
-// The first values of the errors, after each error has been multiplied by the value of a polynomial at its place. They are as
-// many as the syndromes less the degree of the polynomial.
+// Returns the first values of the errors after each error was multiplied by the value of `polynomial` at its position.
+// The number of these values is the number of syndromes less the degree of the polynomial.
 fn modified_syndromes(polynomial: &[u8], syndromes: &[u8]) -> ArrayVec<u8, 30>
     requires least { 1 ≤ length polynomial.now }
     requires long { length polynomial.now ≤ length syndromes.now + 1 }
@@ -35,7 +35,8 @@ fn modified_syndromes(polynomial: &[u8], syndromes: &[u8]) -> ArrayVec<u8, 30>
     modified
 }
 
-// The block of which the codewords are a damaged form, if there is one. Otherwise some other list.
+// Returns the block of which `damaged`, with its erased codewords, is a damaged form, if such a block exists, otherwise
+// some other list.
 fn candidate(n: usize, spare: usize, erased: &[bool], damaged: &[u8]) -> ArrayVec<u8, 255>
     requires most { n ≤ 30 }
     requires spare { spare ≤ n }
@@ -55,7 +56,7 @@ fn candidate(n: usize, spare: usize, erased: &[bool], damaged: &[u8]) -> ArrayVe
     without_errors(all.as_slice(), first.as_slice(), damaged)
 }
 
-// The number of misread codewords: those that differ from the mended ones and are not erased.
+// Returns the number of misread codewords: those that differ from the mended codewords and are not erased.
 fn count_misread(codewords: &[u8], erased: &[bool], mended: &[u8]) -> usize
     requires marks { length erased.now ≡ length codewords.now }
     requires long { length mended.now ≡ length codewords.now }
@@ -71,10 +72,11 @@ fn count_misread(codewords: &[u8], erased: &[bool], mended: &[u8]) -> usize
     count
 }
 
-/// Mends a block of which some codewords could not be read. `erased` is true at their places, and what `codewords` has there
-/// does not matter; other codewords may be misread. An erased codeword needs one error correction codeword and a misread one
-/// needs two, and at most `spare` of them may be used: in a symbol twice `changed_max`. Returns the number of misread codewords, to which the erased ones do not
-/// count. `None` if there is no such block; the codewords then stay as they are (ISO/IEC 18004:2015, 7.5.1 and Annex B).
+/// Mends a block of which some codewords could not be read. `erased` is true at their indices, and the values that
+/// `codewords` has there do not matter. Other codewords may be misread. An erased codeword needs one error correction
+/// codeword and a misread codeword needs two, and at most `spare` of them may be used; in a symbol that is twice
+/// `changed_max`. Returns the number of misread codewords; erased codewords do not count. Returns `None` if there is no
+/// such block, and then leaves `codewords` unchanged (ISO/IEC 18004:2015, 7.5.1 and Annex B).
 pub fn mend_with_erasures(
     divisor: &Divisor,
     spare: usize,
@@ -113,7 +115,8 @@ mod tests {
     use crate::samples::EIGHT_DIGITS;
     use std::process::Abort;
 
-    // How many codewords are mended beside the erased ones, where the block is then as it was.
+    // Damages the block of `01234567` and mends it with erasures. Returns the number of misread codewords if the block
+    // is as before, or `None` if it is not mended.
     fn is_mended(
         rt: &impl Abort,
         spare: usize,
@@ -144,7 +147,8 @@ mod tests {
         None
     }
 
-    // What is mended by trying all sets of places and solving the linear equations for the codewords there.
+    // The expected results were found by trying all sets of positions and solving the linear equations for the codewords
+    // there.
     #[test]
     fn eight_digits_with_erasures(rt: HostRuntime) {
         let unread = [

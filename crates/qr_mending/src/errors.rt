@@ -1,5 +1,6 @@
-//! The errors of a damaged block: from their locator all their values follow, from these the errors, and without them the
-//! block.
+//! Removes the errors of a damaged block. The errors are the coefficients of a polynomial, and the locator is a
+//! polynomial with a root for each position of an error. With the locator all values of the errors follow from the first
+//! ones, and from all values the errors themselves follow.
 
 ghost use Rattle.std.specs.Prelude.{◌≡◌, ℕ, ◌+◌, ◌<◌, ◌≤◌, List, length};
 ghost use Rattle.std.specs.List.{All};
@@ -13,7 +14,8 @@ use crate::sums::{dot, value};
 use arrayvec::ArrayVec;
 use qr_field::power_of;
 
-// The value of the errors at the next power of 2. Their locator is the list of its coefficients, the leading 1 last.
+// Returns the value of the errors at the next power of 2, after those in `series`. `locator` lists the coefficients of
+// the locator, the leading 1 last.
 fn next_value(locator: &[u8], syndromes: &[u8], series: &[u8]) -> u8
     requires least { 1 ≤ length locator.now }
     requires long { length locator.now ≤ length syndromes.now + 1 }
@@ -28,7 +30,7 @@ fn next_value(locator: &[u8], syndromes: &[u8], series: &[u8]) -> u8
     dot(&locator[..degree], &series[count - degree..])
 }
 
-// The values at all powers of 2 of errors whose first values are the syndromes.
+// Returns the values of the errors at all 255 powers of 2; the first values are the syndromes.
 fn values(locator: &[u8], syndromes: &[u8]) -> ArrayVec<u8, 255>
     requires least { 1 ≤ length locator.now }
     requires long { length locator.now ≤ length syndromes.now + 1 }
@@ -44,7 +46,7 @@ fn values(locator: &[u8], syndromes: &[u8]) -> ArrayVec<u8, 255>
     series
 }
 
-// The error at a place, counted from the last codeword.
+// Returns the error at index `place`, counted from the last codeword.
 fn error(locator: &[u8], series: &[u8], place: u8) -> u8
     requires count { length series.now ≡ 255 }
     requires place { place < 255 }
@@ -58,7 +60,7 @@ fn error(locator: &[u8], series: &[u8], place: u8) -> u8
     value(series, power_of(inverse))
 }
 
-// The damaged codewords without their errors.
+// Returns the damaged codewords without their errors.
 pub(crate) fn without_errors(locator: &[u8], syndromes: &[u8], damaged: &[u8]) -> ArrayVec<u8, 255>
     requires least { 1 ≤ length locator.now }
     requires long { length locator.now ≤ length syndromes.now + 1 }

@@ -1,5 +1,5 @@
-//! The format information of a damaged symbol: the level and the mask that a copy of it is near to (ISO/IEC 18004:2015, 7.9.1
-//! and Annex C).
+//! Finds the format information of a damaged symbol: the level and the mask whose format information differs from one of
+//! its two copies in few modules (ISO/IEC 18004:2015, 7.9.1 and Annex C).
 
 ghost use Rattle.std.specs.Prelude.{◌≡◌, ℕ, ◌+◌, ◌<◌, ◌≤◌, Some, MatchOption};
 ghost use Rattle.qr_layout.specs.declared.level.Level.{Level};
@@ -14,13 +14,14 @@ ghost use Rattle.qr_mending.specs.Mending.{wrong_format_modules, wrong_format_mo
 use qr_layout::{Level, Module, Version, format_place, format_word, second_format_place};
 use qr_matrix::Matrix;
 
-// How many bits the format information has.
+// The number of bits of the format information.
 const FORMAT_BITS: u8 = 15;
 
-// How many modules of a copy may be wrong: any two words of the format information differ in seven bits at least.
+// The largest number of wrong modules in a copy that is near to a level and a mask. Any two words of the format
+// information differ in at least seven bits, so a copy is near to one word at most.
 const FORMAT_ERRORS: u8 = 3;
 
-/// The format information is in a symbol twice.
+/// The two copies of the format information in a symbol.
 #[derive(Clone, Copy)]
 pub(crate) enum FormatCopy {
     /// Beside the top left finder pattern.
@@ -44,7 +45,7 @@ impl FormatCopy {
     }
 }
 
-// Tests bit `i` of a word, bit 0 being the lowest.
+// Returns whether bit `i` of a word is 1. Bit 0 is the lowest.
 fn is_bit_set(word: u32, i: u8) -> bool
     requires { i < 32 }
     ensures { result ≡ word_bit word i }
@@ -52,7 +53,7 @@ fn is_bit_set(word: u32, i: u8) -> bool
     word >> i & 1 == 1
 }
 
-// Counts the modules of a copy that are not those of a word.
+// Counts the modules in which the copy in `matrix` differs from `word`.
 fn wrong_bits(matrix: &Matrix, version: Version, copy: FormatCopy, word: u32) -> u8
     requires { matrix.now.side ≡ side_of version }
     ensures value { result ≡ bit_differences 15 (copy_bit copy matrix.now) (word_bit word) }
@@ -68,7 +69,7 @@ fn wrong_bits(matrix: &Matrix, version: Version, copy: FormatCopy, word: u32) ->
     wrong
 }
 
-// Counts the modules of both copies that are not those of the level and the mask.
+// Counts the modules in which both copies in `matrix` differ from the format information of the level and the mask.
 pub(crate) fn wrong_format_modules(matrix: &Matrix, version: Version, level: Level, mask: u8) -> u8
     requires side { matrix.now.side ≡ side_of version }
     requires mask_in { mask < 8 }
@@ -79,7 +80,7 @@ pub(crate) fn wrong_format_modules(matrix: &Matrix, version: Version, level: Lev
         + wrong_bits(matrix, version, FormatCopy::Second, word)
 }
 
-// Returns 1 if a module was not read or has another colour than it should have, and 0 otherwise.
+// Returns 1 if a module was not read or does not have the colour `wanted`, and 0 otherwise.
 pub(crate) fn wrong_bit(is_unknown: bool, dark: bool, wanted: bool) -> u8
     ensures value { result ≡ wrong_bit is_unknown dark wanted }
     ensures most { result ≤ 1 }
@@ -90,7 +91,7 @@ pub(crate) fn wrong_bit(is_unknown: bool, dark: bool, wanted: bool) -> u8
     u8::from(dark != wanted)
 }
 
-// Counts the modules of a copy that are not those of a word, or were not read.
+// Counts the modules of the copy that were not read, or in which `matrix` differs from `word`.
 fn wrong_bits_without(
     matrix: &Matrix,
     unknown: &Matrix,
@@ -114,7 +115,8 @@ fn wrong_bits_without(
     wrong
 }
 
-// Counts the modules of both copies that are not those of the level and the mask, or were not read.
+// Counts the modules of both copies that were not read, or in which `matrix` differs from the format information of the
+// level and the mask.
 pub(crate) fn wrong_format_modules_without(
     matrix: &Matrix,
     unknown: &Matrix,
@@ -132,7 +134,7 @@ pub(crate) fn wrong_format_modules_without(
     first + wrong_bits_without(matrix, unknown, version, FormatCopy::Second, word)
 }
 
-// Returns the mask that a copy is near to beside this level.
+// Returns the mask for which the copy is near to the level and this mask.
 fn near_mask_of(matrix: &Matrix, version: Version, copy: FormatCopy, level: Level) -> Option<u8>
     requires { matrix.now.side ≡ side_of version }
     ensures { MatchOption result
@@ -148,7 +150,7 @@ fn near_mask_of(matrix: &Matrix, version: Version, copy: FormatCopy, level: Leve
     None
 }
 
-// Returns the level and the mask that a copy is near to. There is one at most.
+// Returns the level and the mask that the copy is near to. It is near to one level and one mask at most.
 pub(crate) fn near_format_of(
     matrix: &Matrix,
     version: Version,
@@ -167,7 +169,8 @@ pub(crate) fn near_format_of(
     None
 }
 
-// Returns the level and the mask that the first copy is near to, or else those that the second is.
+// Returns the level and the mask that the first copy is near to; if there are none, those that the second copy is near
+// to.
 pub(crate) fn near_format_of_either(matrix: &Matrix, version: Version) -> Option<(Level, u8)>
     requires { matrix.now.side ≡ side_of version }
     ensures { MatchOption result

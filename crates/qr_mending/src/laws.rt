@@ -1,5 +1,6 @@
-//! The laws of mending: what is mended is one thing at most, and nothing that can be mended is refused. But for those
-//! that mend, each function does nothing: its contract is the law.
+//! The laws of mending: a damaged block or symbol can be mended to one result at most, and nothing that can be mended is
+//! refused. Most functions do nothing: their contract is the law. The others mend, and their contract is a law about the
+//! result.
 
 ghost use Rattle.std.specs.Prelude.{◌≡◌, ◌≢◌, ◌↔◌, ◌⊎◌, Err, ℕ, ◌*◌, ◌/◌, ◌≤◌, false, List, length, replicate, Option, None, Some, MatchResult};
 ghost use Rattle.std.specs.List.{All};
@@ -35,32 +36,32 @@ use qr_matrix::Matrix;
 use qr_symbol::ReadFault;
 use std::alloc::Global;
 
-/// Codewords are a damaged form of one block at most.
+/// Codewords are a damaged form of at most one block.
 pub fn mended_blocks_are_one()
     ensures { (n t : ℕ) (damaged b c : List ℕ) → length damaged ≤ 255 → 2 * t ≤ n
         → IsMended n t damaged b → IsMended n t damaged c → b ≡ c }
 {}
 
-/// What was read of a block, of which some codewords may be erased, is a damaged form of one block at most.
+/// What was read of a block, of which some codewords may be erased, is a damaged form of at most one block.
 pub fn blocks_mended_with_erasures_are_one()
     ensures { (n spare : ℕ) (read : List (Option ℕ)) (b c : List ℕ) → length read ≤ 255 → spare ≤ n
         → IsMendedWithErasures n spare read b → IsMendedWithErasures n spare read c → b ≡ c }
 {}
 
-/// Where no codeword is marked as erased, it means the same to mend a block with erasures and without them.
+/// If no codeword is marked as erased, mending a block with erasures and mending it without them mean the same.
 pub fn blocks_without_erasures_are_mended_alike()
     ensures { (n spare k : ℕ) (damaged mended : List ℕ)
         → IsMendedWithErasures n spare (read_of damaged (replicate k false)) mended ↔ IsMended n (spare / 2) damaged mended }
 {}
 
-/// A copy of the format information is near to one level and one mask at most.
+/// A copy of the format information is near to at most one level and mask.
 pub fn near_format_is_one()
     ensures { (copy : FormatCopy) (g : Grid) (l k : Level) (m n : ℕ) → IsNearFormat copy g l m → IsNearFormat copy g k n
         → (l ≡ k) × (m ≡ n) }
 {}
 
-/// The definition of how many codewords of a block may be changed computes the six numbers of Table 9 that are less than half
-/// of the error correction codewords, and one of the others.
+/// The definition of the number of codewords of a block that may be changed agrees with Table 9: in the six cases where
+/// it is less than half of the error correction codewords, and in one other case.
 pub fn tolerances_compute()
     ensures one { tolerance_of 1 Level.L ≡ 2 × tolerance_of 1 Level.M ≡ 4 }
     ensures one_more { tolerance_of 1 Level.Q ≡ 6 × tolerance_of 1 Level.H ≡ 8 }
@@ -72,21 +73,21 @@ pub fn tolerances_compute()
     ensures protection_more { protection_of 2 Level.L ≡ 2 × protection_of 3 Level.L ≡ 1 }
 {}
 
-/// Codewords are a damaged form of one message at most, and so is what was changed.
+/// Codewords are a damaged form of at most one message, with one list of numbers of changed codewords.
 pub fn mended_messages_are_one(version: Version, level: Level)
     ensures { (cw m n x y : List ℕ) → IsMendedIn version level cw m x → IsMendedIn version level cw n y
         → (m ≡ n) × (x ≡ y) }
 {}
 
-/// A square is read with its damage mended as one content at most, in one version, level and mask, with one list of changes,
-/// whether each of its modules was read or not.
+/// A square, once its damage is mended, is read as at most one content, in one version, level and mask, with one list of
+/// numbers of changed codewords. This is so whether or not all of its modules were read.
 pub fn mended_readings_are_one()
     ensures { (unknown : Option Grid) (g : Grid) (v w : ℕ) (l k : Level) (m n : ℕ) (p q : Content) (x y : List ℕ)
         → IsMendedReadingWithout unknown g v l m p x → IsMendedReadingWithout unknown g w k n q y
         → (v ≡ w) × (l ≡ k) × (m ≡ n) × (p ≡ q) × (x ≡ y) }
 {}
 
-/// A square has one number of wrong modules at most.
+/// A square has at most one number of wrong modules.
 pub fn wrong_modules_are_one()
     ensures { (unknown : Option Grid) (g : Grid) (v w : ℕ) (l k : Level) (m n : ℕ) (x y : List ℕ) (a b : ℕ)
         → HasWrongModulesWithout unknown g v l m x a → HasWrongModulesWithout unknown g w k n y b → a ≡ b }
@@ -99,14 +100,14 @@ pub fn sound_squares_are_symbols()
         → (wrong ≡ 0) ↔ (g ≡ grid_of v l mask w.differs.codewords) }
 {}
 
-/// A square that is read without mending is read as the same content with it, and no codeword is changed.
+/// A square that is read without mending is read as the same content with mending, and no codeword is changed.
 pub fn readings_are_mended_readings()
     ensures { (g : Grid) (p : Content) → (h : IsReading g p)
         → IsMendedReading g h.version h.level h.mask p (replicate (blocks_in h.version h.level) 0) }
 {}
 
-/// A mended square has a count for one block at least, and no count is more than the codewords of a block that may be changed,
-/// which are 2 to 15.
+/// The list of numbers of changed codewords of a mended square has at least one item. No item is more than the number of
+/// codewords of a block that may be changed, which is from 2 to 15.
 pub fn changes_are_bounded()
     ensures some { (unknown : Option Grid) (g : Grid) (v : ℕ) (l : Level) (m : ℕ) (p : Content) (x : List ℕ)
         → IsMendedReadingWithout unknown g v l m p x → 1 ≤ length x }
@@ -115,20 +116,21 @@ pub fn changes_are_bounded()
     ensures tolerance { (v : ℕ) (l : Level) → 1 ≤ v → v ≤ 40 → (2 ≤ tolerance_of v l) × (tolerance_of v l ≤ 15) }
 {}
 
-/// A square that is read with its damage mended can only be refused for lack of memory.
+/// A square that can be read with its damage mended can only be refused for lack of memory.
 pub fn mended_readings_are_not_refused()
     ensures { (unknown : Option Grid) (g : Grid) (v : ℕ) (l : Level) (m : ℕ) (p : Content) (x : List ℕ) (e : ReadFault)
         → IsMendedReadingWithout unknown g v l m p x → IsUnmendedWithout unknown g e → e ≡ ReadFault.Memory }
 {}
 
-/// A square is refused for one fault at most, beside lack of memory.
+/// Apart from lack of memory, a square is refused for at most one fault.
 pub fn mending_refusals_are_one()
     ensures { (unknown : Option Grid) (g : Grid) (e f : ReadFault) → IsUnmendedWithout unknown g e
         → IsUnmendedWithout unknown g f
         → (e ≡ ReadFault.Memory) ⊎ (f ≡ ReadFault.Memory) ⊎ (e ≡ f) }
 {}
 
-/// A square is refused for each fault but lack of memory exactly if the fault is its own, unless memory is refused.
+/// A square is refused for a fault, other than lack of memory, exactly if that is the fault of the square, unless memory
+/// is refused.
 pub fn mendings_are_refused_exactly(alloc: Global, damaged: &Matrix) -> Result<Mended, ReadFault>
     ensures { (e : ReadFault) → e ≢ ReadFault.Memory
         → (result ≡ Err e) ↔ ((result ≢ Err ReadFault.Memory) × IsUnmended damaged.now e) }
@@ -136,8 +138,8 @@ pub fn mendings_are_refused_exactly(alloc: Global, damaged: &Matrix) -> Result<M
     mend_symbol(alloc, damaged)
 }
 
-/// A square of which some modules could not be read is refused for each fault but lack of memory exactly if the fault is its
-/// own, unless memory is refused.
+/// A square of which some modules could not be read is refused for a fault, other than lack of memory, exactly if that
+/// is the fault of the square, unless memory is refused.
 pub fn mendings_without_are_refused_exactly(
     alloc: Global,
     damaged: &Matrix,
@@ -150,16 +152,18 @@ pub fn mendings_without_are_refused_exactly(
     mend_symbol_without(alloc, damaged, unknown)
 }
 
-/// Two symbols of a version that say different things, or have different levels, lie far apart: in each copy of the format
-/// information they differ in seven modules or more, or in some block in more than twice as many codewords as can be mended.
+/// Two symbols of a version that contain different messages, or have different levels, lie far apart. They differ in at
+/// least seven modules in each copy of the format information, or in some block in more than twice as many codewords as
+/// can be mended.
 pub fn symbols_lie_apart(version: Version)
     ensures { SymbolsLieApart version }
 {}
 
-/// A damaged symbol of an input is mended to exactly the input, unless memory is refused: any square of its side in each of
-/// whose blocks at most as many codewords are wrong as the level allows, if at most three modules of the first copy of the
-/// format information are wrong, or at most three of the second if the first is of no use. What happened to all other modules
-/// does not matter. The counts of what was changed are those of the damage.
+/// A damaged symbol of an input is mended to exactly this input, unless memory is refused. This holds for any square of
+/// the symbol's side under two conditions. In each block at most `changed_max` codewords are wrong. At most three
+/// modules of the first copy of the format information are wrong, or at most three of the second copy if the first is of
+/// no use. All other modules may have any colour. The numbers of changed codewords and wrong modules are those of the
+/// damage.
 pub fn damaged_symbols_are_mended(alloc: Global, damaged: &Matrix) -> Result<Mended, ReadFault>
     ensures { (smallest : ℕ) (l : Level) (rule : Rule) (x : List ℕ) (v mask : ℕ) (g : Grid) (changed : List ℕ)
         → 1 ≤ smallest → (s : IsSymbol smallest l rule x v mask g) → damaged.now.side ≡ g.side
@@ -173,10 +177,11 @@ pub fn damaged_symbols_are_mended(alloc: Global, damaged: &Matrix) -> Result<Men
     mend_symbol(alloc, damaged)
 }
 
-/// A damaged symbol of an input, of which some modules could not be read, is mended to exactly the input, unless memory is
-/// refused: any square of its side and any modules that were not read, if in each block the erased codewords and twice the
-/// misread ones are at most those that may be used, and at most three modules of the first copy of the format information are
-/// wrong, or at most three of the second if the first is of no use. The counts are those of the damage.
+/// A damaged symbol of an input, of which some modules could not be read, is mended to exactly this input, unless memory
+/// is refused. This holds for any square of the symbol's side and any unread modules under two conditions. In each block
+/// the number of erased codewords plus twice the number of misread ones is at most twice `changed_max`. At most three
+/// modules of the first copy of the format information are wrong, or at most three of the second copy if the first is of
+/// no use. The numbers of misread codewords and wrong modules are those of the damage.
 pub fn damaged_symbols_without_modules_are_mended(
     alloc: Global,
     damaged: &Matrix,
@@ -197,9 +202,9 @@ pub fn damaged_symbols_without_modules_are_mended(
     mend_symbol_without(alloc, damaged, unknown)
 }
 
-/// The symbol of an input is mended to exactly the input, unless memory is refused, if few of its modules are wrong: in each
-/// block at most as many as codewords can be mended, and at most three of the first copy of the format information. What
-/// happened to all other modules does not matter.
+/// A damaged symbol of an input is mended to exactly this input, unless memory is refused, if few of its modules are
+/// wrong: in each block at most `changed_max` modules, and in the first copy of the format information at most three.
+/// All other modules may have any colour.
 pub fn few_wrong_modules_are_mended(alloc: Global, damaged: &Matrix) -> Result<Mended, ReadFault>
     ensures { (smallest : ℕ) (l : Level) (rule : Rule) (x : List ℕ) (v mask : ℕ) (g : Grid) → 1 ≤ smallest
         → (s : IsSymbol smallest l rule x v mask g) → damaged.now.side ≡ g.side → DifferInFewModules v l damaged.now g
@@ -210,7 +215,8 @@ pub fn few_wrong_modules_are_mended(alloc: Global, damaged: &Matrix) -> Result<M
     mend_symbol(alloc, damaged)
 }
 
-/// Damaged symbols are refused for each fault but lack of memory exactly if the fault is theirs, unless memory is refused.
+/// Damaged symbols are refused for a fault, other than lack of memory, exactly if that is the fault of these symbols,
+/// unless memory is refused.
 pub fn series_mendings_are_refused_exactly(
     alloc: Global,
     damaged: &[Matrix],
@@ -221,8 +227,8 @@ pub fn series_mendings_are_refused_exactly(
     mend_series(alloc, damaged)
 }
 
-/// A damaged series of an input is mended to exactly the input, unless memory is refused; and so is what the undamaged
-/// squares are joined to, whoever drew them.
+/// A damaged series of an input is mended to exactly this input, unless memory is refused. Likewise, if undamaged
+/// squares are joined to some bytes, the damaged squares are mended to these bytes, whoever drew them.
 pub fn damaged_series_are_mended(alloc: Global, damaged: &[Matrix]) -> Result<Vec<u8>, ReadFault>
     ensures series { (v : ℕ) (l : Level) (rule : Rule) (x : List ℕ) (ss : List Symbol) → 1 ≤ v → v ≤ 40
         → IsSeries v l rule x ss → AreDamagedSquares damaged.now (squares_of ss)

@@ -1,5 +1,5 @@
-//! Mends damaged QR Code symbols: the nearest format information is taken, and in each block the codewords that were changed
-//! are found, as far as the standard lets them be (ISO/IEC 18004:2015, 7.5.1, 7.9.1 and 12, Annexes B and C).
+//! Mends damaged QR Code symbols: uses the nearest format information, and finds in each block the codewords that were
+//! changed, as far as the standard allows (ISO/IEC 18004:2015, 7.5.1, 7.9.1 and 12, Annexes B and C).
 #![tactic(auto)]
 
 mod block;

@@ -1,5 +1,5 @@
-//! A polynomial that has a root at each damaged place: by Gaussian elimination, one equation after the other, from the
-//! powers of x, of which there is one more than there are equations.
+//! Finds the locator, a polynomial that has a root for each damaged codeword, by Gaussian elimination. The elimination
+//! starts with powers of x, one more than there are equations, and solves one equation after the other.
 
 ghost use Rattle.std.specs.Prelude.{◌≡◌, ◌≢◌, ℕ, ◌+◌, ◌*◌, ◌<◌, ◌≤◌, List, length, drop};
 ghost use Rattle.qr_mending.specs.Steps.Polynomial.{at, all_of, miss_of, IsMonic, IsRelieved, HasDegrees, IsPool};
@@ -7,7 +7,7 @@ ghost use Rattle.qr_mending.specs.Steps.Polynomial.{at, all_of, miss_of, IsMonic
 use crate::polynomial::Polynomial;
 use arrayvec::ArrayVec;
 
-// The powers of x from 0 to `t`.
+// Returns the powers of x from 0 to `t`.
 fn monomials(t: usize) -> ArrayVec<Polynomial, 16>
     requires { t ≤ 15 }
     ensures { (syndromes : List ℕ) → IsPool t 0 syndromes result.items }
@@ -19,7 +19,8 @@ fn monomials(t: usize) -> ArrayVec<Polynomial, 16>
     pool
 }
 
-// The first polynomial whose sum with the window is not 0, or the number of polynomials.
+// Returns the index of the first polynomial that does not solve the equation of the window, or the number of polynomials
+// if all of them solve it. A polynomial solves it if the sum of the products of coefficients and values is 0.
 fn first_miss(pool: &[Polynomial], window: &[u8], t: usize) -> usize
     requires degrees { HasDegrees t pool.now }
     requires small { t ≤ 15 }
@@ -36,7 +37,7 @@ fn first_miss(pool: &[Polynomial], window: &[u8], t: usize) -> usize
     pool.len()
 }
 
-// Changes the polynomials from number `first` on so that their sums with the window are 0.
+// Changes the polynomials from index `first` on so that they solve the equation of the window.
 fn relieve(pool: &mut [Polynomial], first: usize, pivot: &Polynomial, window: &[u8], t: usize)
     requires degrees { HasDegrees t pool.old }
     requires small { t ≤ 15 }
@@ -52,7 +53,7 @@ fn relieve(pool: &mut [Polynomial], first: usize, pivot: &Polynomial, window: &[
     }
 }
 
-// Makes the pool solve equation `i` too.
+// Makes the polynomials of the pool solve equation `i` too.
 fn solve(pool: &mut ArrayVec<Polynomial, 16>, syndromes: &[u8], i: usize, t: usize)
     requires pool { IsPool t i syndromes.now pool.old.items }
     requires small { t ≤ 15 }
@@ -68,8 +69,8 @@ fn solve(pool: &mut ArrayVec<Polynomial, 16>, syndromes: &[u8], i: usize, t: usi
     }
 }
 
-// Returns a polynomial of degree `t` at most that solves the first `t` equations: its sum with the syndromes from the i-th on is 0
-// for each i below `t`.
+// Returns a polynomial of degree at most `t` that solves the first `t` equations: for each i below `t`, the sum of the
+// products of its coefficients and the syndromes from index i on is 0.
 pub(crate) fn locator(syndromes: &[u8], t: usize) -> Polynomial
     requires small { t ≤ 15 }
     requires long { 2 * t ≤ length syndromes.now }

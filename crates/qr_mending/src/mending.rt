@@ -1,4 +1,4 @@
-//! The reading of a damaged symbol (ISO/IEC 18004:2015, 7.5.1, 7.9.1 and 12).
+//! Reads damaged symbols (ISO/IEC 18004:2015, 7.5.1, 7.9.1 and 12).
 
 ghost use Rattle.std.specs.Prelude.{◌≡◌, ◌<◌, ◌⊎◌, length, IfErr, IfOk, Option, MatchOption, MatchResult};
 ghost use Rattle.qr_layout.specs.Blocks.{data_codewords_of};
@@ -19,7 +19,8 @@ use qr_matrix::{Matrix, differences};
 use qr_symbol::{ReadFault, draw_symbol, interleave, read_codewords};
 use std::alloc::{AllocError, Global};
 
-// The message of a damaged symbol, with the level and the mask that it was mended under.
+// The mended message of a damaged symbol, the level and the mask that it was mended under, and for each block the number
+// of changed codewords.
 #[derive(Drop)]
 pub(crate) struct MendedSquare {
     pub level: Level,
@@ -28,8 +29,9 @@ pub(crate) struct MendedSquare {
     pub changed: Vec<usize>,
 }
 
-// Mends the square under the level and the mask that a copy of its format information is near to. Without marks each codeword
-// was read; otherwise those whose mark is not 0 are erased. Returns nothing if the copy is of no use.
+// Mends the square under the level and the mask that a copy of its format information is near to. Codewords whose mark
+// is not 0 are erased; if `marks` is empty, all codewords were read. Returns `None` if the copy is of no use: if it is
+// near to no level and mask, or if a block has more damage than can be mended.
 fn mend_by(
     alloc: Global,
     version: Version,
@@ -62,7 +64,7 @@ fn mend_by(
     }
 }
 
-// Mends the square by the first copy of its format information, or by the second if the first is of no use.
+// Mends the square by the first copy of its format information, or by the second copy if the first is of no use.
 pub(crate) fn mend_by_either(
     alloc: Global,
     version: Version,
@@ -84,7 +86,7 @@ pub(crate) fn mend_by_either(
     }
 }
 
-// Mends the square, each of whose modules was read.
+// Mends a square of which all modules were read.
 fn mend_square(
     alloc: Global,
     version: Version,
@@ -100,7 +102,7 @@ fn mend_square(
     mend_by_either(alloc, version, matrix, &[])
 }
 
-// How many modules of the square are not those of the symbol that the message has. The symbol is drawn.
+// Draws the symbol that contains the message, and returns the number of modules in which the square differs from it.
 fn count_wrong_modules(
     alloc: Global,
     version: Version,
@@ -119,37 +121,37 @@ fn count_wrong_modules(
     Ok(differences(matrix, &symbol))
 }
 
-/// What a damaged symbol says, and how much of its error correction that took.
+/// The content of a damaged symbol, and how much damage was mended.
 #[derive(Drop)]
 pub struct Mended {
-    /// The version, by the side.
+    /// The version, which is determined by the side.
     pub version: Version,
     /// The level of error correction.
     pub level: Level,
     /// The mask, from 0 to 7.
     pub mask: u8,
-    /// What the symbol says.
+    /// The content of the symbol.
     pub parsed: Parsed,
-    /// How many of the 30 modules of format information were wrong, both copies taken together.
+    /// The number of wrong modules among the 30 modules of both copies of the format information.
     pub wrong_format_modules: u8,
-    /// How many modules of the whole square are not those of the symbol that the content's codewords have: function patterns,
-    /// version information and remainder bits too. 0 exactly if the square is that symbol.
+    /// The number of modules of the whole square that differ from the symbol of the mended message. Function patterns,
+    /// version information and remainder bits count too. It is 0 exactly if the square is that symbol.
     pub wrong_modules: u32,
-    /// How many codewords of each block were changed.
+    /// For each block, the number of its codewords that were changed.
     pub changed: Vec<usize>,
 }
 
-/// Reads a symbol and mends its damage (ISO/IEC 18004:2015, 7.5.1, 7.9.1 and 12). The version is told by the side. The level
-/// and the mask are those whose format information differs in three modules at most from the copy beside the top left finder
-/// pattern; if there are none, or if some block cannot be mended under them, they are those of the other copy. In each block
-/// as many codewords are mended as the level allows. For the reading, the function patterns, the version information and the
-/// remainder bits are ignored; that they are wrong is told by the number of wrong modules.
+/// Reads a symbol and mends its damage (ISO/IEC 18004:2015, 7.5.1, 7.9.1 and 12). The version is determined by the side.
+/// The level and the mask are those whose format information differs in at most three modules from the copy beside the
+/// top left finder pattern. If there are none, or if some block cannot be mended under them, the other copy is used. In
+/// each block up to `changed_max` codewords are mended. The function patterns, the version information and the remainder
+/// bits are ignored for reading; the number of wrong modules shows whether they are damaged.
 ///
 /// # Errors
 ///
-/// `Side` if no version has the side; `Format` if both copies of the format information have more than three wrong modules
-/// for every level and mask; `Check` if some block has more damage than can be mended; `Segments` if what was mended cannot
-/// be parsed; `Memory`.
+/// `Side` if no version has the side; `Format` if both copies of the format information have more than three wrong
+/// modules for every level and mask; `Check` if some block has more damage than can be mended; `Segments` if the mended
+/// data codewords cannot be parsed; `Memory`.
 pub fn mend_symbol(alloc: Global, matrix: &Matrix) -> Result<Mended, ReadFault>
     ensures mended { MatchResult result
         (λ m. IsMendedReading matrix.now m.version m.level m.mask m.parsed m.changed.items) (IsUnmended matrix.now) }
@@ -193,8 +195,9 @@ mod tests {
     use qr_symbol::build_masked;
     use std::test::Fail;
 
-    // Inverts some modules of the symbol of `01234567` at 1-M, and returns how many codewords were changed, how many modules
-    // of format information were wrong, and how many modules in all, or why it is not mended.
+    // Inverts these modules of the symbol of `01234567` at 1-M and mends it. Returns the number of changed codewords,
+    // the number of wrong modules of format information, and the number of all wrong modules, or the fault if the symbol
+    // is not mended.
     fn mend_inverted(
         rt: &HostRuntime,
         modules: &[(u8, u8)],
@@ -223,7 +226,8 @@ mod tests {
         }
     }
 
-    // In version 1-M four of the 26 codewords may be changed, of the ten for error correction two being kept.
+    // In version 1-M four of the 26 codewords may be changed, since two of the ten error correction codewords are kept
+    // unused.
     #[test]
     fn eight_digits_damaged(rt: HostRuntime) -> Result<(), Fail> {
         let first = [(0u8, 8u8), (1, 8), (2, 8), (3, 8)];

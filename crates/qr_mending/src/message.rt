@@ -1,4 +1,4 @@
-//! The message of a damaged symbol, each of whose blocks is mended (ISO/IEC 18004:2015, 7.5.1 and 7.6).
+//! Mends the message of a damaged symbol, block by block (ISO/IEC 18004:2015, 7.5.1 and 7.6).
 
 ghost use Rattle.std.specs.Prelude.{◌≡◌, ℕ, ◌+◌, ◌*◌, ◌≤◌, ◌⊎◌, ◌++◌, List, length, Err, IfOk, IfErr};
 ghost use Rattle.qr_field.specs.Polynomial.{IsCorrection};
@@ -16,7 +16,7 @@ use qr_layout::{Blocks, Level, Version};
 use qr_symbol::{Cut, ReadFault};
 use std::alloc::Global;
 
-// The data codewords of a mended block, and how many codewords of the block were changed.
+// The data codewords of a mended block, and the number of codewords of the block that were changed.
 #[derive(Drop)]
 pub(crate) struct MendedBlock {
     pub message: Vec<u8>,
@@ -55,14 +55,15 @@ fn mend_block(
     })
 }
 
-// Data codewords whose blocks have been mended, and how many codewords of each block were changed.
+// The data codewords of all mended blocks, and for each block the number of its codewords that were changed.
 #[derive(Drop)]
 pub(crate) struct MendedMessage {
     pub message: Vec<u8>,
     pub changed: Vec<usize>,
 }
 
-// Mends blocks that stand one after another.
+// Mends all blocks: `codewords` are their data codewords and `checks` their error correction codewords, block after
+// block.
 fn mend_parts(
     alloc: Global,
     blocks: Blocks,
@@ -96,7 +97,7 @@ fn mend_parts(
     Ok(MendedMessage { message, changed })
 }
 
-// The message of which the codewords are the final sequence, but for at most `t` codewords in each block.
+// Returns the message whose final sequence differs from `codewords` in at most `t` codewords of each block.
 fn mend_blocks(
     alloc: Global,
     blocks: Blocks,
@@ -120,7 +121,8 @@ fn mend_blocks(
     mend_parts(alloc, blocks, t, &received, &checks)
 }
 
-// How many error correction codewords of a block guard against mending to another block.
+// Returns the number of error correction codewords of a block that are kept unused, so that a block is not mended to a
+// wrong one.
 fn protection(version: Version, level: Level) -> u8
     ensures { result ≡ protection_of version level }
 {
@@ -132,7 +134,7 @@ fn protection(version: Version, level: Level) -> u8
     }
 }
 
-// How many error correction codewords of a block may be used.
+// Returns the number of error correction codewords of a block that may be used.
 pub(crate) fn spare(version: Version, level: Level) -> u8
     ensures { result ≡ spare_of version level }
 {
@@ -140,15 +142,16 @@ pub(crate) fn spare(version: Version, level: Level) -> u8
     count.saturating_sub(protection(version, level))
 }
 
-/// Returns how many codewords of each block may be changed in a symbol of a version and a level, from 2 to 15: half of the
-/// block's error correction codewords, or for some levels of versions 1 to 3 less (ISO/IEC 18004:2015, 7.5.1, Table 9).
+/// Returns the largest number of codewords of each block that may be changed in a symbol of this version and level, from
+/// 2 to 15: half of the block's error correction codewords, or less for some levels of versions 1 to 3
+/// (ISO/IEC 18004:2015, 7.5.1, Table 9).
 pub fn changed_max(version: Version, level: Level) -> u8
     ensures { result ≡ tolerance_of version level }
 {
     spare(version, level) / 2
 }
 
-// The message of which the codewords are a damaged form, in the blocks of a version and a level.
+// Returns the message of which the codewords are a damaged form, in the blocks of this version and level.
 pub(crate) fn mend_message(
     alloc: Global,
     version: Version,

@@ -8,7 +8,8 @@ ghost use Rattle.qr_mending.specs.Steps.Polynomial.{all_of, IsMonic, miss_of, Is
 use crate::sums::dot;
 use qr_field::{div, mul};
 
-// The coefficients from the lowest power of x on, up to the degree, where there is a 1. What follows is not read.
+// A polynomial: its coefficients from the lowest power of x on. The coefficient at index `degree` is 1; the items of
+// `terms` after it are not used.
 #[derive(Clone, Copy)]
 pub(crate) struct Polynomial {
     pub(crate) degree: usize,
@@ -25,7 +26,7 @@ impl Default for Polynomial {
 }
 
 impl Polynomial {
-    // x to the power `degree`.
+    // Returns x to the power `degree`.
     pub(crate) fn monomial(degree: usize) -> Polynomial
         requires { degree < 16 }
         ensures degree { result.degree ≡ degree }
@@ -36,7 +37,7 @@ impl Polynomial {
         Polynomial { degree, terms }
     }
 
-    // All coefficients.
+    // Returns all coefficients, from the lowest power of x on.
     pub(crate) fn coefficients(&self) -> &[u8]
         requires { self.now.degree < 16 }
         ensures value { result.now ≡ all_of self.now }
@@ -46,7 +47,7 @@ impl Polynomial {
         &self.terms[..self.degree + 1]
     }
 
-    // The sum of the products of the coefficients and some values.
+    // Returns the sum of the products of the coefficients and the values in `window`.
     pub(crate) fn miss(&self, window: &[u8]) -> u8
         requires fits { self.now.degree < 16 }
         requires long { self.now.degree < length window.now }
@@ -57,7 +58,7 @@ impl Polynomial {
         dot(self.coefficients(), window)
     }
 
-    // The sum of the polynomial and a multiple of one of a lower degree.
+    // Returns the sum of this polynomial and `factor` times `other`, which has a lower degree.
     fn plus(&self, factor: u8, other: &Polynomial) -> Polynomial
         requires lower { other.now.degree < self.now.degree }
         requires fits { self.now.degree < 16 }
@@ -75,8 +76,8 @@ impl Polynomial {
         }
     }
 
-    // The sum of the polynomial and that multiple of the pivot, which has a lower degree, by which the sum of the products
-    // with the window becomes 0.
+    // Returns the sum of this polynomial and a multiple of `pivot`, which has a lower degree. The multiple is chosen so
+    // that the result solves the equation of the window: its `miss` is 0.
     pub(crate) fn relieved(&self, pivot: &Polynomial, window: &[u8]) -> Polynomial
         requires lower { pivot.now.degree < self.now.degree }
         requires fits { self.now.degree < 16 }

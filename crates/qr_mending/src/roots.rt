@@ -1,4 +1,4 @@
-//! Polynomials with a root at each erased place.
+//! Polynomials with a root for each erased codeword.
 
 ghost use Rattle.std.specs.Prelude.{◌≡◌, ◌+◌, ◌<◌, ◌≤◌, length};
 ghost use Rattle.std.specs.List.{All, count_by};
@@ -9,14 +9,14 @@ ghost use Rattle.qr_mending.specs.Steps.Roots.{rooted, times_root};
 use arrayvec::ArrayVec;
 use qr_field::{mul, power_of};
 
-// The number of erased places.
+// Returns the number of erased codewords.
 pub(crate) fn count_erased(erased: &[bool]) -> usize
     ensures { result ≡ count_by (λ e. e) erased.now }
 {
     erased.iter().filter(|place| **place).count()
 }
 
-// The product of a polynomial and x + root. The coefficients are listed from the lowest power of x on.
+// Returns the product of a polynomial and x + root. Coefficients are listed from the lowest power of x on.
 fn with_root(polynomial: &[u8], root: u8) -> ArrayVec<u8, 31>
     requires { length polynomial.now < 31 }
     ensures { result.items ≡ times_root root 0 polynomial.now }
@@ -31,7 +31,8 @@ fn with_root(polynomial: &[u8], root: u8) -> ArrayVec<u8, 31>
     product
 }
 
-// The product of a polynomial and a factor with a root at each erased place, counted from the last codeword.
+// Returns the product of a polynomial and a factor with a root for each erased codeword. The root is 2 to the power m,
+// where m is the number of codewords after the erased one.
 pub(crate) fn with_roots(erased: &[bool], polynomial: &[u8]) -> ArrayVec<u8, 31>
     requires small { length erased.now ≤ 255 }
     requires fits { length polynomial.now + count_by (λ e. e) erased.now ≤ 31 }

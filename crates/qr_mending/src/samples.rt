@@ -1,7 +1,7 @@
-//! What tests share: the standard's worked example.
+//! The standard's worked example, which the tests share.
 
-/// The codewords of the symbol of `01234567` in version 1 and level M, which are one block: 16 data codewords and 10 error
-/// correction codewords (ISO/IEC 18004:2015, Annex I).
+/// The codewords of the symbol of `01234567` in version 1 and level M. They are one block of 16 data codewords and 10
+/// error correction codewords (ISO/IEC 18004:2015, Annex I).
 pub(crate) const EIGHT_DIGITS: [u8; 26] = [
     0x10, 0x20, 0x0C, 0x56, 0x61, 0x80, 0xEC, 0x11, 0xEC, 0x11, 0xEC, 0x11, 0xEC, 0x11, 0xEC, 0x11,
     0xA5, 0x24, 0xD4, 0xC1, 0xED, 0x36, 0xC7, 0x87, 0x2C, 0x55,

@@ -1,4 +1,4 @@
-//! The reading of damaged symbols together: those of a series are joined in their order (ISO/IEC 18004:2015, 8).
+//! Reads damaged symbols together: joins the bytes of a damaged series in their order (ISO/IEC 18004:2015, 8).
 
 ghost use Rattle.std.specs.Prelude.{MatchResult};
 ghost use Rattle.qr_symbol.specs.Joining.{AreReadBy};
@@ -10,7 +10,7 @@ use qr_matrix::Matrix;
 use qr_symbol::{ReadFault, join};
 use std::alloc::Global;
 
-// Reads the symbols one by one, each with its damage mended.
+// Returns the content of each symbol, with its damage mended.
 fn mend_all(alloc: Global, damaged: &[Matrix]) -> Result<Vec<Parsed>, ReadFault>
     ensures { MatchResult result (λ contents. AreReadBy IsMendedContent damaged.now contents.items)
         (IsUnmendedSeries damaged.now) }
@@ -22,14 +22,14 @@ fn mend_all(alloc: Global, damaged: &[Matrix]) -> Result<Vec<Parsed>, ReadFault>
     Ok(contents)
 }
 
-/// Reads symbols, mends their damage and joins what they say, in their order (ISO/IEC 18004:2015, 8 and 12): the bytes of
-/// one symbol without a header, or those of a series, whose headers must tell their positions from 0, how many they are, and
-/// the parity of all bytes. How much damage each symbol has is what `mend_symbol` returns.
+/// Reads symbols, mends their damage and joins their bytes, in their order (ISO/IEC 18004:2015, 8 and 12). The symbols
+/// are one symbol without a header, or a whole series: each header must contain the position of its symbol, counted from
+/// 0, the number of symbols less 1, and the parity of all bytes. For the damage of a single symbol, call `mend_symbol`.
 ///
 /// # Errors
 ///
-/// The first fault of a symbol that is not mended, in their order, whatever the headers are; then `Series` if the
-/// symbols do not belong together. No symbol at all is no series.
+/// The fault of the first symbol that cannot be mended, whatever the headers contain; `Series` if all symbols are mended
+/// but do not belong together, or if there is no symbol.
 pub fn mend_series(alloc: Global, damaged: &[Matrix]) -> Result<Vec<u8>, ReadFault>
     ensures { MatchResult result (λ bytes. IsMendedSeries damaged.now bytes.items) (IsUnmendedSeries damaged.now) }
 {
@@ -45,8 +45,8 @@ mod tests {
     use qr_symbol::encode_series;
     use std::test::Fail;
 
-    // The two symbols of `ABCDEFGH` at 1-H, which hold `ABCDE` and `FGH`, with one module of each inverted: in version 1
-    // and level H eight codewords may be changed.
+    // Returns the two symbols of `ABCDEFGH` at 1-H, which contain `ABCDE` and `FGH`, with one module of each inverted.
+    // In version 1 and level H eight codewords may be changed.
     fn damaged_parts(rt: &HostRuntime) -> Result<Vec<Matrix>, Fail> {
         let symbols = encode_series(
             rt.alloc(),

@@ -1,4 +1,4 @@
-//! Values of polynomials over the field of 256 elements.
+//! Values of polynomials over the field of 256 elements, and sums of products.
 
 ghost use Rattle.std.specs.Prelude.{◌≡◌, ◌<◌, ◌≤◌, ℕ, length, slice_index};
 ghost use Rattle.arrayvec.specs.ArrayVec.{array_vec_len};
@@ -10,7 +10,7 @@ ghost use Rattle.qr_mending.specs.Steps.Sums.{dot_of, eval, HasValues};
 use arrayvec::ArrayVec;
 use qr_field::{mul, power_of};
 
-// The sum of the products of the elements that stand at one place of two lists.
+// Returns the sum of the products of the items with the same index in two lists, up to the end of `terms`.
 pub(crate) fn dot(terms: &[u8], window: &[u8]) -> u8
     requires { length terms.now ≤ length window.now }
     ensures value { result ≡ dot_of terms.now window.now }
@@ -23,7 +23,7 @@ pub(crate) fn dot(terms: &[u8], window: &[u8]) -> u8
     sum
 }
 
-// The value at x of a polynomial whose coefficients are listed from the lowest power on.
+// Returns the value at x of a polynomial whose coefficients are listed from the lowest power on.
 pub(crate) fn value(terms: &[u8], x: u8) -> u8
     ensures { result ≡ eval x terms.now }
 {
@@ -34,7 +34,8 @@ pub(crate) fn value(terms: &[u8], x: u8) -> u8
     value
 }
 
-// The value at 2 to a power of a polynomial whose coefficients are listed from the highest power on.
+// Returns the value at 2 to the power `exponent` of a polynomial whose coefficients are listed from the highest power
+// on.
 fn syndrome(block: &[u8], exponent: u8) -> u8
     requires { exponent < 255 }
     ensures { result ≡ value_at exponent block.now }
@@ -47,7 +48,8 @@ fn syndrome(block: &[u8], exponent: u8) -> u8
     value
 }
 
-// The values of a block at the first `n` powers of 2.
+// Returns the values of a block at the first `n` powers of 2, from 2 to the power 0 on. They are all 0 if it has no
+// errors.
 pub(crate) fn syndromes(block: &[u8], n: usize) -> ArrayVec<u8, 30>
     requires { n ≤ 30 }
     ensures count { array_vec_len result ≡ n }

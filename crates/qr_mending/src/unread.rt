@@ -1,5 +1,5 @@
-//! The message of a damaged symbol of which some modules could not be read: a codeword with such a module is erased
-//! (ISO/IEC 18004:2015, 7.5.1, 7.6 and 7.7.3).
+//! Mends the message of a damaged symbol of which some modules could not be read: a codeword with such a module is
+//! erased (ISO/IEC 18004:2015, 7.5.1, 7.6 and 7.7.3).
 
 ghost use Rattle.std.specs.Prelude.{◌≡◌, ℕ, ◌+◌, ◌*◌, ◌<◌, ◌≤◌, ◌==◌, ◌⊎◌, ◌++◌, not, map, List, length, Err, IfOk, IfErr, IfSome, IfNone, Option};
 ghost use Rattle.qr_field.specs.Polynomial.{IsCorrection};
@@ -22,8 +22,8 @@ use qr_matrix::Matrix;
 use qr_symbol::{Cut, ReadFault};
 use std::alloc::{AllocError, Global};
 
-// Reads a square whose dark modules are those that were not read, as codewords are read but without a mask: so a codeword was
-// read as a whole exactly if its mark is 0.
+// Returns the mark of each codeword. The marks are read from `unknown`, whose dark modules are those that were not read,
+// as codewords are read but without a mask. So a mark is 0 exactly if all modules of the codeword were read.
 pub(crate) fn read_marks(
     alloc: Global,
     version: Version,
@@ -48,14 +48,15 @@ pub(crate) fn read_marks(
     Ok(marks)
 }
 
-// The codewords of a symbol, or their marks, block after block.
+// The codewords of a symbol, or their marks, block after block: those of the data codewords, and those of the error
+// correction codewords.
 #[derive(Drop)]
 struct InBlocks {
     data: Vec<u8>,
     checks: Vec<u8>,
 }
 
-// Puts what was sent interleaved back into blocks.
+// Puts codewords that were sent interleaved back into blocks.
 fn in_blocks(alloc: Global, blocks: Blocks, sent: &[u8]) -> Result<InBlocks, AllocError>
     requires { length sent.now ≡ cut_len (data_cut blocks) + cut_len (correction_cut blocks) }
     ensures { IfOk result (λ b. AreInBlocks blocks sent.now b.data.items b.checks.items) }
@@ -65,7 +66,7 @@ fn in_blocks(alloc: Global, blocks: Blocks, sent: &[u8]) -> Result<InBlocks, All
     Ok(InBlocks { data, checks })
 }
 
-// A block: its data codewords, and after them its error correction codewords.
+// Returns a block: its data codewords, followed by its error correction codewords.
 fn block_of(
     alloc: Global,
     blocks: Blocks,
@@ -87,7 +88,7 @@ fn block_of(
     Ok(codewords)
 }
 
-// Which codewords are erased: those whose mark is not 0.
+// Returns for each codeword whether it is erased, that is, whether its mark is not 0.
 fn erased_of(alloc: Global, marks: &[u8]) -> Result<Vec<bool>, AllocError>
     ensures { IfOk result (λ erased. erased.items ≡ map (λ mark. not (mark == 0)) marks.now) }
 {
@@ -129,7 +130,7 @@ fn mend_block(
     })
 }
 
-// Mends blocks of which some codewords are erased.
+// Mends all blocks, of which some codewords are erased.
 fn mend_parts(
     alloc: Global,
     blocks: Blocks,
@@ -168,7 +169,7 @@ fn mend_parts(
     Ok(MendedMessage { message, changed })
 }
 
-// The message of which the codewords are the final sequence, but for those that are erased or misread.
+// Returns the message whose final sequence is `codewords`, except for erased and misread codewords.
 fn mend_blocks(
     alloc: Global,
     blocks: Blocks,
@@ -192,8 +193,8 @@ fn mend_blocks(
     mend_parts(alloc, blocks, spare, &received, &unread)
 }
 
-// The message of which the codewords are a damaged form, in the blocks of a version and a level, where those whose mark is not
-// 0 are erased.
+// Returns the message of which the codewords are a damaged form, in the blocks of this version and level. Codewords
+// whose mark is not 0 are erased.
 pub(crate) fn mend_message_without(
     alloc: Global,
     version: Version,
@@ -216,8 +217,8 @@ pub(crate) fn mend_message_without(
     mend_blocks(alloc, blocks, most, codewords, marks)
 }
 
-// The message of which the codewords are a damaged form. Without marks each codeword was read; otherwise those whose mark is
-// not 0 are erased.
+// Returns the message of which the codewords are a damaged form. Codewords whose mark is not 0 are erased; if `marks` is
+// empty, all codewords were read.
 pub(crate) fn mend_codewords(
     alloc: Global,
     version: Version,

@@ -1,4 +1,4 @@
-//! The reading of a damaged symbol of which some modules could not be read (ISO/IEC 18004:2015, 7.5.1, 7.9.1 and 12).
+//! Reads damaged symbols of which some modules could not be read (ISO/IEC 18004:2015, 7.5.1, 7.9.1 and 12).
 
 ghost use Rattle.std.specs.Prelude.{◌≡◌, ◌<◌, ◌≤◌, length, IfErr, IfOk, Some, MatchOption, MatchResult};
 ghost use Rattle.qr_layout.specs.Blocks.{data_codewords_of};
@@ -19,7 +19,7 @@ use qr_matrix::Matrix;
 use qr_symbol::{ReadFault, draw_symbol, interleave};
 use std::alloc::{AllocError, Global};
 
-// Mends the square, where a codeword with a module that was not read is erased.
+// Mends the square. A codeword with a module that was not read is erased.
 fn mend_square_without(
     alloc: Global,
     version: Version,
@@ -39,7 +39,7 @@ fn mend_square_without(
     mend_by_either(alloc, version, matrix, &marks)
 }
 
-// Counts the modules of a row that were not read, or have another colour in the symbol.
+// Counts the modules of a row that were not read or differ from those of `symbol`.
 fn wrong_in_row(unknown: &Matrix, matrix: &Matrix, symbol: &Matrix, row: u8) -> u32
     requires unknown_side { unknown.now.side ≡ matrix.now.side }
     requires side { symbol.now.side ≡ matrix.now.side }
@@ -57,7 +57,7 @@ fn wrong_in_row(unknown: &Matrix, matrix: &Matrix, symbol: &Matrix, row: u8) -> 
     wrong
 }
 
-// Counts the modules that were not read, or have another colour in the symbol.
+// Counts the modules that were not read or differ from those of `symbol`.
 fn count_wrong(unknown: &Matrix, matrix: &Matrix, symbol: &Matrix) -> u32
     requires unknown_side { unknown.now.side ≡ matrix.now.side }
     requires side { symbol.now.side ≡ matrix.now.side }
@@ -70,7 +70,8 @@ fn count_wrong(unknown: &Matrix, matrix: &Matrix, symbol: &Matrix) -> u32
     wrong
 }
 
-// How many modules of the square are not those of the symbol that the message has, or were not read. The symbol is drawn.
+// Draws the symbol that contains the message, and returns the number of modules that were not read or in which the
+// square differs from it.
 fn count_wrong_modules_without(
     alloc: Global,
     version: Version,
@@ -91,18 +92,19 @@ fn count_wrong_modules_without(
     Ok(count_wrong(unknown, matrix, &symbol))
 }
 
-/// Reads a symbol of which some modules could not be read, and mends its damage (ISO/IEC 18004:2015, 7.5.1, 7.9.1 and 12).
-/// `unknown` is a square of the same side, whose dark modules are those that could not be read: a codeword with such a module
-/// is erased. An erased codeword takes half as much of the error correction as one that was misread: in each block those that
-/// are erased, and twice those that were misread, may be at most twice `changed_max`. In a copy of the format information a
-/// module that could not be read counts as `matrix` has it.
+/// Reads a symbol of which some modules could not be read, and mends its damage
+/// (ISO/IEC 18004:2015, 7.5.1, 7.9.1 and 12). `unknown` is a square of the same side, whose dark modules are those that
+/// could not be read. A codeword with such a module is erased. An erased codeword takes half as much of the error
+/// correction as a misread codeword: in each block the number of erased codewords, plus twice the number of misread
+/// codewords, may be at most twice `changed_max`. In a copy of the format information, a module that could not be read
+/// has the colour that it has in `matrix`.
 ///
-/// The counts of changed codewords are those of misread ones. A module that could not be read is a wrong one, whatever colour
-/// `matrix` has there. Otherwise all is as in `mend_symbol`.
+/// `Mended::changed` counts the misread codewords only. A module that could not be read counts as a wrong module,
+/// whatever colour it has in `matrix`. Everything else is as in `mend_symbol`.
 ///
 /// # Errors
 ///
-/// As in `mend_symbol`: `Check` if in some block more codewords are erased and misread than can be mended.
+/// As in `mend_symbol`. `Check` is returned if in some block more codewords are erased and misread than can be mended.
 pub fn mend_symbol_without(
     alloc: Global,
     matrix: &Matrix,
@@ -155,7 +157,7 @@ mod tests {
     use qr_symbol::build_masked;
     use std::test::Fail;
 
-    // Modules of nine codewords at 1-M.
+    // A module of each of nine codewords at 1-M.
     static CODEWORDS: [(u8, u8); 9] = [
         (20, 20),
         (16, 20),
@@ -168,9 +170,9 @@ mod tests {
         (12, 16),
     ];
 
-    // Inverts some modules of the symbol of `01234567` at 1-M, of which the first are told as not known. Returns how many
-    // codewords were misread, how many modules of format information were wrong, and how many modules in all, or why it is not
-    // mended.
+    // Inverts these modules of the symbol of `01234567` at 1-M and mends it; the first `unread` of them are passed as
+    // not read. Returns the number of misread codewords, the number of wrong modules of format information, and the
+    // number of all wrong modules, or the fault if the symbol is not mended.
     fn mend_inverted(
         rt: &HostRuntime,
         modules: &[(u8, u8)],

@@ -1,4 +1,4 @@
--- The error correction codewords, block after block, and all codewords together.
+-- The error correction codewords of all blocks, block after block, and the whole final sequence.
 use Rattle.std.proofs.Common.{◌≡◌, ℕ, suc, ◌+◌, ◌-◌, ◌<◌, ◌≤◌, List, [], ◌∷◌, ◌++◌, map, take, drop, length, length-append, get_or, refl, sym, ◌∙◌, ap, subst, inl, inr, arith}
 use Rattle.std.proofs.lemmas.Bool.Decides.{nat_tests}
 use Rattle.std.proofs.lemmas.Bool.{cases_lt}
@@ -11,11 +11,11 @@ use Rattle.qr_symbol.specs.Interleaving.{block_count, block_len, start_of, IsTag
 use Rattle.qr_symbol.specs.Steps.Interleaving.{IsSent, IsChecks}
 use Rattle.qr_symbol.proofs.TagLemmas.{start-next, start-most}
 
--- a block's error correction codewords are as many as those of any other
+-- each block has the same number of error correction codewords
 pub check-len : (b : Blocks) (k : ℕ) → k < block_count (data_cut b) → block_len (correction_cut b) k ≡ b.ec_len
 check-len b k l = grind (arith, nat_tests)
 
--- one block more
+-- with the error correction codewords of one more block, the list is that of one block more
 pub checks-push : (b : Blocks) (d xs ys es : List ℕ) (k : ℕ) → k < block_count (data_cut b) → IsChecks b d k xs → IsCorrection (block_of b d k) b.ec_len es → ys ≡ xs ++ es → IsChecks b d (k + 1) ys
 checks-push b d xs ys es k l h c e =
     let next = start-next (correction_cut b) k in
@@ -55,7 +55,7 @@ checks-push b d xs ys es k l h c e =
     none : (k : ℕ) → k - k ≡ 0
     none k = omega arith
 
--- functions that agree where a fact holds give one list
+-- two functions that agree on all items of a list map it to the same list
 pub map-each : {X Y : Type 0} (P : X → Type 0) (f g : X → Y) (xs : List X) → All P xs → ((x : X) → P x → f x ≡ g x) → map f xs ≡ map g xs
 map-each P f g [] a e = refl
 map-each P f g (x ∷ xs) a e = let h = e x (a 0 x (omega arith)) in let t = map-each P f g xs (λ k d l. a (suc k) d (omega arith)) e in λ i. h i ∷ t i
@@ -80,7 +80,7 @@ sent-both b d es bytes before first second c1 c2 h e k l m s t =
     (subst (λ (c : Cut). IsSent c d [] first) k (subst (λ (xs : List ℕ). IsSent c1 d xs first) e s))
     (subst (λ (c : Cut). IsSent c es first second) l (subst (λ (xs : List ℕ). IsSent c2 xs first second) m t))
 
--- a block lies in the message
+-- a block is inside the data codewords
 pub slice-in : (c e : Cut) (n s l k : ℕ) → c ≡ e → n ≡ start_of e (block_count e) → k < block_count c → s ≡ start_of c k → l ≡ block_len c k → s + l ≤ n
 slice-in c e n s l k a o m f g =
     let p = start-next c k in
@@ -88,7 +88,7 @@ slice-in c e n s l k a o m f g =
     let z = ap (λ (x : Cut). start_of x (block_count x)) a in
     omega arith
 
--- one block more, by the steps of the loop
+-- one more block, stated with the variables of the loop
 pub push-checks : (b : Blocks) (d xs ys es : List ℕ) (c : Cut) (k s l n : ℕ) → c ≡ data_cut b → k < block_count c → s ≡ start_of c k → l ≡ block_len c k → n ≡ b.ec_len → IsCorrection (take l (drop s d)) n es → IsChecks b d k xs → ys ≡ xs ++ es → IsChecks b d (k + 1) ys
 push-checks b d xs ys es c k s l n a m f g o e h q =
     let mm : k < block_count (data_cut b) = subst (λ (x : Cut). k < block_count x) a m in

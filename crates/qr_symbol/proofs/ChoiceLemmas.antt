@@ -1,4 +1,4 @@
--- The least of measures, and the mask of the least penalty.
+-- The mask of the least penalty, found by comparing one mask after another.
 use Rattle.std.proofs.Common.{◌≡◌, ℕ, ◌+◌, ◌<◌, ◌≤◌, ◌∙◌, inl, inr, List, ap, subst, arith}
 use Rattle.std.proofs.lemmas.Bool.{cases_lt}
 use Rattle.qr_layout.specs.declared.level.Level.{Level}
@@ -11,11 +11,11 @@ use Rattle.qr_symbol.specs.Symbol.{grid_of}
 use Rattle.qr_symbol.specs.Steps.Drawing.{masked_grid, masked_penalty, region_grid, plain_grid}
 use Rattle.qr_symbol.proofs.DrawingLemmas.{masked-all}
 
--- of one number
+-- of the numbers below 1, the one with the least value is 0
 pub least-start : (f : ℕ → ℕ) → IsFirstLeast 1 f 0
 least-start f = record { in_range = omega arith; least = λ k l. let e : 0 ≡ k = omega arith in inr (ap f e, omega arith) }
 
--- a smaller one comes
+-- if n has a smaller value than all numbers below n, it is the one with the least value of those up to n
 pub least-better : (n : ℕ) (f : ℕ → ℕ) (m : ℕ) → IsFirstLeast n f m → f n < f m → IsFirstLeast (n + 1) f n
 least-better n f m h b = record {
   in_range = omega arith;
@@ -25,7 +25,7 @@ least-better n f m h b = record {
   ];
 }
 
--- no smaller one comes
+-- if n has no smaller value, the number with the least value stays
 pub least-kept : (n : ℕ) (f : ℕ → ℕ) (m : ℕ) → IsFirstLeast n f m → f m ≤ f n → IsFirstLeast (n + 1) f m
 least-kept n f m h b = let r = h.in_range in record {
   in_range = omega arith;
@@ -38,7 +38,7 @@ least-kept n f m h b = let r = h.in_range in record {
   ];
 }
 
--- measures that are equal have one least
+-- functions with equal values have the same number of the least value
 least-same : (n : ℕ) (f g : ℕ → ℕ) (m : ℕ) → ((k : ℕ) → f k ≡ g k) → IsFirstLeast n f m → IsFirstLeast n g m
 least-same n f g m e h = record {
   in_range = h.in_range;
@@ -50,7 +50,7 @@ pub mask-is : (v : ℕ) (l : Level) (cw : List ℕ) (region plain : Grid) (mask 
 mask-is v l cw region plain mask k e f h =
     least-same 8 (masked_penalty v l region plain) (mask_penalty v l cw) mask (λ m. ap (λ (g : Grid). penalty_of (side_of v) (colour g)) (masked-all v l m cw region plain k e f)) h
 
--- the mask that a canvas finds best is that of its codewords
+-- the mask that is best for a canvas is the mask of its codewords
 pub canvas-mask : (v : ℕ) (l : Level) (cw : List ℕ) (k : Canvas) (mask : ℕ) → 1 ≤ v → k.version ≡ v → k.level ≡ l
     → k.region ≡ region_grid v → k.plain ≡ plain_grid v cw
     → IsFirstLeast 8 (masked_penalty k.version k.level k.region k.plain) mask → IsMask v l cw mask

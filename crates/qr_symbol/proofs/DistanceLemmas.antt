@@ -1,4 +1,4 @@
--- Messages that are near in each block are one.
+-- Messages whose blocks differ in few codewords are the same message.
 use Rattle.std.proofs.Common.{◌≡◌, ℕ, zero, suc, ◌+◌, ◌<◌, ◌≤◌, List, [], ◌++◌, length, take, drop, length-drop, get_or, sym, ap, ◌∙◌, subst, inl, inr, ◌⊎◌, arith}
 use Rattle.std.proofs.lemmas.Bool.{cases_lt}
 use Rattle.std.proofs.lemmas.List.{length-take}
@@ -16,11 +16,11 @@ use Rattle.qr_symbol.specs.Distance.{blocks_in, held_block, MessagesLieApart, Da
 use Rattle.qr_symbol.proofs.MessageLemmas.{data-cut-whole}
 use Rattle.qr_symbol.proofs.TagLemmas.{start-none, start-next, len-most}
 
--- a block of codewords that stand block after block
+-- block i, where the list contains the codewords block after block
 abbrev pub part : Cut → List ℕ → ℕ → List ℕ
 part c d i = take (block_len c i) (drop (start_of c i) d)
 
--- codewords with the same first blocks have the same codewords there
+-- lists of codewords whose first blocks are equal are equal as far as these blocks reach
 fronts-same : (c : Cut) (d e : List ℕ) (i : ℕ) → ((j : ℕ) → j < i → part c d j ≡ part c e j) →
     take (start_of c i) d ≡ take (start_of c i) e
 fronts-same c d e zero h = ap (λ k. take k d) (start-none c) ∙ ap (λ k. take k e) (sym (start-none c))
@@ -34,13 +34,13 @@ fronts-same c d e (suc i) h =
     ap (λ k. take k e) n ∙ take-add (start_of c i) (block_len c i) e in
     a ∙ (ap (λ xs. xs ++ part c d i) f ∙ (ap (λ xs. take (start_of c i) e ++ xs) (h i (omega arith)) ∙ sym b))
 
--- codewords with the same blocks are the same
+-- lists of codewords with equal blocks are equal
 pub parts-same : (c : Cut) (d e : List ℕ) → length d ≡ cut_len c → length e ≡ cut_len c →
     ((j : ℕ) → j < block_count c → part c d j ≡ part c e j) → d ≡ e
 parts-same c d e n m h =
     sym (take-length d) ∙ (ap (λ k. take k d) n ∙ (fronts-same c d e (block_count c) h ∙ (ap (λ k. take k e) (sym m) ∙ take-length e)))
 
--- blocks of one cut are of one length
+-- block i has the same length in two lists of the same length
 part-length : (c : Cut) (d e : List ℕ) (i : ℕ) → length d ≡ length e → length (part c d i) ≡ length (part c e i)
 part-length c d e i h =
     let a = length-take (block_len c i) (drop (start_of c i) d) in
@@ -62,7 +62,7 @@ part-short v l d i h k =
     let m = len-most c i in
     omega (arith, a, m, few, ec)
 
--- a number below n with a property, or another property of them all
+-- some number below n has the property P, or all of them have the property Q
 search-below : (P Q : ℕ → Type 0) (n : ℕ) → ((i : ℕ) → i < n → P i ⊎ Q i) →
     ((i : ℕ) × (i < n) × P i) ⊎ ((i : ℕ) → i < n → Q i)
 search-below P Q zero f = inr (λ i l. absurd (omega arith))
@@ -77,7 +77,7 @@ search-below P Q (suc n) f = elim (search-below P Q n (λ i l. f i (omega arith)
   ]
 ]
 
--- messages of a version and a level whose blocks are the same
+-- messages of a version and a level whose blocks are equal are equal
 blocks-same : (v : ℕ) (l : Level) (mask mask' : ℕ) (g g' : Grid) (d d' : List ℕ) → 1 ≤ v → v ≤ 40 →
     IsMessage v l mask g d → IsMessage v l mask' g' d' →
     ((i : ℕ) → i < blocks_in v l → block_of (blocks_of v l) d i ≡ block_of (blocks_of v l) d' i) → d ≡ d'

@@ -1,4 +1,4 @@
--- Drawing along a walk: whatever place is no more to come has its colour.
+-- Drawing along the walk: every place that the walk has passed, or never reaches, has its final colour.
 use Rattle.std.proofs.Common.{◌≡◌, ℕ, ◌+◌, ◌-◌, ◌<◌, ◌≤◌, Bool, true, false, cond, nat_eq, ◌&&◌, List, [], ◌∷◌, ◌++◌, length, length-append, refl, sym, ◌∙◌, ap, inl, inr, subst, append_assoc, append-nil, arith}
 use Rattle.std.specs.Prelude.{Option, None, Some, SomeIff, unwrap_or}
 use Rattle.qr_layout.specs.declared.level.Level.{Level}
@@ -23,16 +23,16 @@ use Rattle.qr_symbol.proofs.KeptPlaceLemmas.{kept-in, kept-out, kept-push-in, ke
 abbrev pub at : ℕ → ℕ → Module
 at r c = record { row = r; col = c }
 
--- each place of a square that is not in the list has the colour that it is to have
+-- each place of the square that is not in the list has its final colour
 abbrev pub Done : ℕ → (ℕ → ℕ → Bool) → List Module → Grid → Type 0
 Done s want rest g = (r c : ℕ) → r < s → c < s → (Mem (at r c) rest → ⊥) → colour g r c ≡ want r c
 
--- outside the encoding region the other colour stays
+-- outside the encoding region the colour stays
 outside : (v : ℕ) (cw : List ℕ) (f : ℕ → ℕ → Bool) (r c : ℕ) → is_in_region v r c ≡ false → f r c ≡ placed_colour v cw f r c
 unfolding placed_colour
 outside v cw f r c e = rw e refl
 
--- inside it the bit of the place's number is placed
+-- inside the encoding region the bit with the place's number is placed
 pub inside : (v : ℕ) (cw : List ℕ) (f : ℕ → ℕ → Bool) (r c : ℕ) → is_in_region v r c ≡ true → placed_colour v cw f r c ≡ codeword_bit cw (number_of v (at r c))
 unfolding placed_colour
 inside v cw f r c e = rw e refl
@@ -42,17 +42,17 @@ pub by_test : (b : Bool) (A : Type 0) → (b ≡ true → A) → (b ≡ false �
 by_test true A f g = f refl
 by_test false A f g = g refl
 
--- before the walk, what is not to come is outside the region
+-- before the walk, each place that is not in the list is outside the region
 pub done-start : (v : ℕ) (want : ℕ → ℕ → Bool) (g : Grid) (ms : List Module) → IsOrder v ms → ((r c : ℕ) → is_in_region v r c ≡ false → colour g r c ≡ want r c) → Done (side_of v) want ms g
 done-start v want g ms o f r c l m n =
     f r c (by_test (is_in_region v r c) (is_in_region v r c ≡ false) (λ t. absurd (n (order-has v ms o (at r c) t))) (λ e. e))
 
--- what stands in the middle is a member
+-- an item between two lists is a member of the whole list
 pub Mem-mid : {X : Type 0} (x : X) (front back : List X) → Mem x (front ++ x ∷ back)
 Mem-mid x [] back = inl refl
 Mem-mid x (y ∷ ys) back = inr (Mem-mid x ys back)
 
--- the next module of the walk is in the region, and its number is how many came before it
+-- the next module of the walk is in the region, and its number is the number of modules before it
 pub next-number : (v : ℕ) (front later : List Module) (x : Module) (number : ℕ) → IsOrder v (front ++ x ∷ later) → number ≡ length front → (is_in_region v x.row x.col ≡ true) × (number_of v x ≡ number)
 next-number v front later x number o k = (order-mem v (front ++ x ∷ later) o x (Mem-mid x front later), number-at v front later x o ∙ sym k)
 
@@ -70,15 +70,15 @@ done-step s want g later x d k e h r c l m n =
           colour-painted-there g x.row x.col r c d (omega arith) (omega arith) w.0 ∙ h r c l m (λ q. elim q [ inl e ↦ w.0 (ap (λ (z : Module). z.row) (sym e), ap (λ (z : Module). z.col) (sym e)) | inr q ↦ n q ])
     ]
 
--- after the walk, every place has its colour
+-- after the walk, every place has its final colour
 pub done-end : (s : ℕ) (want : ℕ → ℕ → Bool) (g : Grid) → IsSquare s g → Done s want [] g → g ≡ square s want
 done-end s want g e h = e ∙ square-same s (colour g) want (λ r c l m. h r c l m (λ q. q))
 
--- a square is made of its own colours
+-- a square is equal to the square of its own colours
 square-again : (k : ℕ) (f : ℕ → ℕ → Bool) → square k f ≡ square k (colour (square k f))
 square-again k f = square-same k f (colour (square k f)) (λ r c l m. sym (colour-square k f r c l m))
 
--- what is said to be a square is one of its own colours
+-- a grid that equals a square of colours is a square
 pub square-is : (s : ℕ) (f : ℕ → ℕ → Bool) (g : Grid) → g ≡ square s f → IsSquare s g
 square-is s f g e = rw e (square-again s f)
 
@@ -86,7 +86,7 @@ square-is s f g e = rw e (square-again s f)
 pub painted-square : (s : ℕ) (g : Grid) (row col : ℕ) (d : Bool) → g.side ≡ s → IsSquare s (painted g row col d)
 painted-square s g row col d e = square-again g.side (λ r c. cond (nat_eq r row && nat_eq c col) d (colour g r c)) ∙ ap (λ (k : ℕ). square k (colour (painted g row col d))) e
 
--- a symbol below version 7 holds no bit of the version word, so any word does
+-- the version word does not matter below version 7, since no module holds a bit of it
 pub word-of-version : (v format version r c : ℕ) → (7 ≤ v → version ≡ version_word_of v) → fixed_colour format version (role_of v r c) ≡ fixed_colour format (version_word_of v) (role_of v r c)
 unfolding fixed_colour
 word-of-version v format version r c h = by_role (role_of v r c) refl
@@ -97,16 +97,16 @@ word-of-version v format version r c h = by_role (role_of v r c) refl
     by_role (VersionBit i) e = ap (λ (z : ℕ). word_bit z i) (h (version-only v (at r c) i e).0)
     by_role Region e = refl
 
--- a version word that is 0 where there is none
+-- a version word, or 0 if the version has none
 pub word-or-none : (v word : ℕ) (o : Option ℕ) → SomeIff o (7 ≤ v) (version_word_of v) → word ≡ unwrap_or o 0 → 7 ≤ v → word ≡ version_word_of v
 word-or-none v word None h e l = absurd (h l)
 word-or-none v word (Some x) h e l = e ∙ h.1
 
--- the order, seen at the next module
+-- the list of all modules, seen at the next module
 pub whole-next : (v : ℕ) (front now later : List Module) (x : Module) → IsOrder v (front ++ now) → now ≡ x ∷ later → IsOrder v (front ++ x ∷ later)
 whole-next v front now later x o e = subst (λ (ms : List Module). IsOrder v (front ++ ms)) e o
 
--- the order, past the next module
+-- the list of all modules, after the next module
 pub whole-push : (v : ℕ) (front later : List Module) (x : Module) → IsOrder v (front ++ x ∷ later) → IsOrder v ((front ++ x ∷ []) ++ later)
 whole-push v front later x o = subst (IsOrder v) (sym (append_assoc front (x ∷ []) later)) o
 
@@ -114,9 +114,9 @@ whole-push v front later x o = subst (IsOrder v) (sym (append_assoc front (x ∷
 pub in-square : (v : ℕ) (front later : List Module) (x : Module) → IsOrder v (front ++ x ∷ later) → (x.row < side_of v) × (x.col < side_of v)
 in-square v front later x o = let w = order-mem v (front ++ x ∷ later) o x (Mem-mid x front later) in (row-in v x w, col-in v x w)
 
--- ---- a symbol drawn anew with a mask
+-- ---- a symbol that is drawn again with a mask
 
--- a role that is not the region has its colour with the format information
+-- a module that is not in the region has its colour by role once the format information is drawn
 role-masked : (v : ℕ) (l : Level) (mask : ℕ) (cw : List ℕ) (r c : ℕ) (q : Role) → (q ≡ Region → ⊥) → format_or (format_word_of l mask) q (fixed_colour 0 (version_word_of v) q) ≡ colour_by v l mask cw r c q
 unfolding format_or fixed_colour
 role-masked v l mask cw r c (Fixed dark) n = refl
@@ -124,11 +124,11 @@ role-masked v l mask cw r c (FormatBit i) n = refl
 role-masked v l mask cw r c (VersionBit i) n = refl
 role-masked v l mask cw r c Region n = absurd (n refl)
 
--- the colours without mask and format information
+-- the colours of a symbol without mask and format information
 abbrev plain_colours : ℕ → List ℕ → ℕ → ℕ → Bool
 plain_colours v cw = placed_colour v cw (λ r c. fixed_colour 0 (version_word_of v) (role_of v r c))
 
--- the colour of a module of the region
+-- the masked colour of a module in the region
 masked-inside : (v : ℕ) (l : Level) (mask : ℕ) (cw : List ℕ) (r c : ℕ) → is_in_region v r c ≡ true → role_of v r c ≡ Region
     → format_or (format_word_of l mask) (role_of v r c) (inverted (is_in_region v r c && inverts mask r c) (plain_colours v cw r c)) ≡ colour_of v l mask cw r c
 unfolding colour_of format_or
@@ -137,7 +137,7 @@ masked-inside v l mask cw r c t e =
     ∙ (ap (λ (b : Bool). inverted (b && inverts mask r c) (plain_colours v cw r c)) t
     ∙ (ap (inverted (inverts mask r c)) (inside v cw (λ r c. fixed_colour 0 (version_word_of v) (role_of v r c)) r c t) ∙ ap (colour_by v l mask cw r c) (sym e)))
 
--- the colour of another module
+-- the masked colour of a module outside the region
 masked-outside : (v : ℕ) (l : Level) (mask : ℕ) (cw : List ℕ) (r c : ℕ) → is_in_region v r c ≡ false → (role_of v r c ≡ Region → ⊥)
     → format_or (format_word_of l mask) (role_of v r c) (inverted (is_in_region v r c && inverts mask r c) (plain_colours v cw r c)) ≡ colour_of v l mask cw r c
 unfolding colour_of
@@ -145,7 +145,7 @@ masked-outside v l mask cw r c t n =
     ap (λ (b : Bool). format_or (format_word_of l mask) (role_of v r c) (inverted (b && inverts mask r c) (plain_colours v cw r c))) t
     ∙ (ap (format_or (format_word_of l mask) (role_of v r c)) (sym (outside v cw (λ r c. fixed_colour 0 (version_word_of v) (role_of v r c)) r c t)) ∙ role-masked v l mask cw r c (role_of v r c) n)
 
--- the fixed patterns drawn round the codewords
+-- the fixed patterns, drawn after the codewords, make the symbol without mask and format information
 pub plain-round : (v : ℕ) (cw : List ℕ) (f : ℕ → ℕ → Bool) (g h : Grid) → g ≡ square (side_of v) (placed_colour v cw f) → h ≡ square (side_of v) (λ r c. cond (is_in_region v r c) (colour g r c) (fixed_colour 0 (version_word_of v) (role_of v r c))) → h ≡ plain_grid v cw
 plain-round v cw f g h e k =
     let fixed = λ (r c : ℕ). fixed_colour 0 (version_word_of v) (role_of v r c) in
@@ -154,7 +154,7 @@ plain-round v cw f g h e k =
     (λ t. ap (λ (z : Bool). cond z (colour g r c) (fixed r c)) t ∙ (ap (λ (z : Grid). colour z r c) e ∙ (colour-square (side_of v) (placed_colour v cw f) r c i j ∙ (inside v cw f r c t ∙ sym (inside v cw fixed r c t)))))
     (λ t. ap (λ (z : Bool). cond z (colour g r c) (fixed r c)) t ∙ outside v cw fixed r c t))
 
--- it is the symbol of its codewords under that mask
+-- with mask and format information, the result is the symbol of its codewords under this mask
 pub masked-all : (v : ℕ) (l : Level) (mask : ℕ) (cw : List ℕ) (region plain : Grid) → 1 ≤ v → region ≡ region_grid v → plain ≡ plain_grid v cw → masked_grid v l mask region plain ≡ grid_of v l mask cw
 unfolding masked_colour
 masked-all v l mask cw region plain k e f = square-same (side_of v) (masked_colour v (format_word_of l mask) mask region plain) (colour_of v l mask cw) (λ r c i j.
@@ -166,20 +166,20 @@ masked-all v l mask cw region plain k e f = square-same (side_of v) (masked_colo
     (λ t. masked-inside v l mask cw r c t (region-role v r c k i j t))
     (λ t. masked-outside v l mask cw r c t (λ u. let h = role-region v r c k i j u in cc))))
 
--- ---- a walk over places, of which those of the region get bits
+-- ---- a walk over places, of which each place in the region takes a bit
 
--- what was placed along the places before, with those still to come: the number of the next bit, and the square
+-- after the places in `before`, with those in `later` still to come: the number of the next bit, and the square
 pub record IsPlaced (v : ℕ) (cw : List ℕ) (g0 : Grid) (before later : List Module) (number : ℕ) (g : Grid) : Type 0 where
   pub whole : IsOrder v (in_region_of v before ++ in_region_of v later)
   pub next : number ≡ length (in_region_of v before)
   pub square : IsSquare (side_of v) g
   pub done : Done (side_of v) (placed_colour v cw (colour g0)) (in_region_of v later) g
 
--- at first
+-- before any place, the number is 0 and the square is unchanged
 pub placed-start : (v : ℕ) (cw : List ℕ) (g : Grid) (ms : List Module) → IsSquare (side_of v) g → IsOrder v (in_region_of v ms) → IsPlaced v cw g [] ms 0 g
 placed-start v cw g ms s o = record { whole = o; next = refl; square = s; done = done-start v (placed_colour v cw (colour g)) g (in_region_of v ms) o (outside v cw (colour g)) }
 
--- one place
+-- one more place is drawn
 pub placed-step : (v : ℕ) (cw : List ℕ) (g0 g : Grid) (before later : List Module) (x : Module) (number : ℕ) (t : Bool) → t ≡ is_in_region v x.row x.col → IsPlaced v cw g0 before (x ∷ later) number g
     → IsPlaced v cw g0 (before ++ x ∷ []) later (number_after t number) (placed_if t cw number g x.row x.col)
 placed-step v cw g0 g before later x number true e p =
@@ -204,7 +204,7 @@ placed-step v cw g0 g before later x number false e p =
       done = subst (λ (ms : List Module). Done (side_of v) (placed_colour v cw (colour g0)) ms g) now p.done;
     }
 
--- many places
+-- a list of places is drawn
 pub placed-many : (v : ℕ) (cw : List ℕ) (g0 g : Grid) (before ms later : List Module) (number : ℕ) → IsPlaced v cw g0 before (ms ++ later) number g → IsPlaced v cw g0 (before ++ ms) later (number_along v ms number) (placed_along v cw ms number g)
 placed-many v cw g0 g before [] later number p = rw append-nil p
 placed-many v cw g0 g before (m ∷ ms) later number p =
@@ -213,7 +213,7 @@ placed-many v cw g0 g before (m ∷ ms) later number p =
     let rest = placed-many v cw g0 (placed_if t cw number g m.row m.col) (before ++ m ∷ []) ms later (number_after t number) one in
     subst (λ (z : List Module). IsPlaced v cw g0 z later (number_along v ms (number_after t number)) (placed_along v cw ms (number_after t number) (placed_if t cw number g m.row m.col))) (append_assoc before (m ∷ []) ms) rest
 
--- a number is at most that of all modules of the region
+-- the number of the next bit is at most the number of all modules of the region
 pub placed-small : (v : ℕ) (cw : List ℕ) (g0 g : Grid) (before later : List Module) (number : ℕ) → 1 ≤ v → v ≤ 40 → IsPlaced v cw g0 before later number g → number ≤ 29648
 placed-small v cw g0 g before later number k l p =
     let m = order-small v (in_region_of v before ++ in_region_of v later) k l p.whole in
@@ -221,6 +221,6 @@ placed-small v cw g0 g before later number k l p =
     let q = p.next in
     omega arith
 
--- at the end
+-- after all places, the square has the placed colours
 pub placed-end : (v : ℕ) (cw : List ℕ) (g0 g : Grid) (before : List Module) (number : ℕ) → IsPlaced v cw g0 before [] number g → g ≡ square (side_of v) (placed_colour v cw (colour g0))
 placed-end v cw g0 g before number p = done-end (side_of v) (placed_colour v cw (colour g0)) g p.square p.done

@@ -1,4 +1,4 @@
--- Refusals that come exactly where they should, unless memory is refused.
+-- A call is refused for a fault exactly if the fault is there, unless memory is refused.
 use Rattle.std.proofs.Common.{◌≡◌, ◌≢◌, ◌≤◌, ◌↔◌, ◌⊎◌, inl, inr, ℕ, List, [], Result, Ok, Err, Vec, Global, sym, ap, subst, arith}
 use Rattle.std.specs.Prelude.{IfOk, IfErr}
 use Rattle.std.proofs.lemmas.Result.{IfErr-at_err}
@@ -15,20 +15,20 @@ use Rattle.qr_symbol.specs.VersionChoice.{FitsVersion, HasNoVersion}
 use Rattle.qr_symbol.specs.Series.{IsSeries, HasNoSeries}
 use Rattle.qr_bits.proofs.Facts.{empty_fits}
 
--- an answer is refused for this fault exactly where memory is not and the fact holds
+-- the result is the fault e exactly if it is not lack of memory and the fact holds
 abbrev pub Refused : {X E : Type 0} → Result X E → (e memory : E) → Type 0 → Type 0
 Refused r e memory P = (r ≡ Err e) ↔ ((r ≢ Err memory) × P)
 
--- an answer has one fault
+-- a result has one fault
 err-same : {X E : Type 0} (r : Result X E) (e f : E) → r ≡ Err e → r ≡ Err f → e ≡ f
 err-same r e f h k = cc
 
--- from both directions
+-- the two directions of `Refused` make it
 exactly : {X E : Type 0} (r : Result X E) (e memory : E) (P : Type 0) → (e ≡ memory → ⊥) → (r ≡ Err e → P) →
     (P → (r ≡ Err e) ⊎ (r ≡ Err memory)) → Refused r e memory P
 exactly r e memory P other f g = (λ h. (λ m. other (err-same r e memory h m), f h), λ w. elim (g w.1) [ inl h ↦ h | inr h ↦ absurd (w.0 h) ])
 
--- more than any version holds: exactly where no version has room, unless memory was refused
+-- `TooLong` is returned exactly if the input fits no version, unless memory was refused
 pub too-long-exactly : (x : List ℕ) (l : Level) (smallest : ℕ) (b : Rule) (r : Result Symbol EncodeFault) → smallest ≤ 40
     → (r ≡ Err fault.TooLong → HasNoVersion smallest l b x) → IfOk r (λ s. IsSymbol smallest l b x s.version s.mask s.matrix)
     → (r ≡ Err fault.Empty → x ≡ []) → IfErr r (λ e. (e ≡ fault.Empty) ⊎ (e ≡ fault.TooLong) ⊎ (e ≡ fault.Memory))
@@ -44,7 +44,7 @@ too-long-exactly x l smallest b r most long made empty told = exactly r fault.To
     back (Err e) made empty (inr (inl h)) none = inl (ap (λ f. Err f) h)
     back (Err e) made empty (inr (inr h)) none = inr (ap (λ f. Err f) h)
 
--- more symbols than a series may have: exactly where there is no series, unless memory was refused
+-- `TooMany` is returned exactly if the input has no series, unless memory was refused
 pub too-many-exactly : (x : List ℕ) (l : Level) (b : Rule) (v : ℕ) (r : Result (Vec Symbol Global) EncodeFault)
     → (r ≡ Err fault.TooMany → HasNoSeries v l b x) → IfOk r (λ ss. IsSeries v l b x ss.items)
     → (r ≡ Err fault.Empty → x ≡ []) → IfErr r (λ e. (e ≡ fault.Empty) ⊎ (e ≡ fault.TooMany) ⊎ (e ≡ fault.Memory))
@@ -64,7 +64,7 @@ too-many-exactly x l b v r many made empty told = exactly r fault.TooMany fault.
     back (Err e) made empty (inr (inl h)) none = inl (ap (λ f. Err f) h)
     back (Err e) made empty (inr (inr h)) none = inr (ap (λ f. Err f) h)
 
--- no final sequence: exactly where no data codewords have this one, unless memory was refused
+-- `Check` is returned exactly if the codewords are the final sequence of no data codewords, unless memory was refused
 pub check-exactly : (Holds : List ℕ → Type 0) (r : Result (Vec ℕ Global) ReadFault)
     → (r ≡ Err unread.Check → (d : List ℕ) → Holds d → ⊥) → IfOk r (λ d. Holds d.items)
     → IfErr r (λ e. (e ≡ unread.Memory) ⊎ (e ≡ unread.Check))
@@ -77,12 +77,12 @@ check-exactly Holds r none made told = exactly r unread.Check unread.Memory ((d 
     back (Err e) made (inl h) none = inr (ap (λ f. Err f) h)
     back (Err e) made (inr h) none = inl (ap (λ f. Err f) h)
 
--- two facts of a value, if there is one
+-- a result for which two facts hold has both of them at once
 pub ok-both : {X E : Type 0} (P Q : X → Type 0) (r : Result X E) → IfOk r P → IfOk r Q → IfOk r (λ x. P x × Q x)
 ok-both P Q (Ok x) p q = (p, q)
 ok-both P Q (Err e) p q = tt
 
--- an answer whose only fault is memory has no other
+-- a result whose only fault is lack of memory has no other fault
 pub memory-alone : {X : Type 0} (r : Result X EncodeFault) (e : EncodeFault) → (e ≡ fault.Memory → ⊥) → IfErr r (λ f. f ≡ fault.Memory)
     → r ≡ Err e → ⊥
 memory-alone r e other told h = other (IfErr-at_err (λ f. f ≡ fault.Memory) h told)

@@ -1,4 +1,4 @@
--- Finder patterns as squares in one another.
+-- Finder patterns as three squares, each inside the one before.
 use Rattle.std.proofs.Common.{◌≡◌, ℕ, ◌+◌, ◌-◌, ◌<◌, ◌≤◌, Bool, true, false, not, cond, eqb, ltb, leb, ◌&&◌, ◌||◌, Option, None, Some, refl, sym, ◌∙◌, ap, inl, inr, arith}
 use Rattle.std.proofs.lemmas.Bool.{cases_lt}
 use Rattle.std.proofs.lemmas.Bool.Decides.{nat_tests}
@@ -12,11 +12,11 @@ use Rattle.qr_layout.specs.Steps.Rectangles.{corner_rectangles, is_in_rectangle}
 use Rattle.qr_symbol.specs.Steps.Drawing.{paint_of}
 use Rattle.qr_symbol.proofs.TimingLemmas.{paint-fixed}
 
--- the square of the rings up to k round a centre
+-- the places in the rings up to k round a centre are a square
 pub rings-square : (a b r c k : ℕ) → k ≤ a → k ≤ b → (leb (a - k) r && ltb r (a + (k + 1)) && leb (b - k) c && ltb c (b + (k + 1))) ≡ ltb (ring_of a b r c) (k + 1)
 rings-square a b r c k l m = grind (arith, nat_tests)
 
--- three squares in one another
+-- three squares, painted one inside the other, leave only ring 2 light
 pub three-squares : (n : ℕ) (w : Bool) → cond (ltb n 2) true (cond (ltb n 3) false (cond (ltb n 4) true w)) ≡ cond (ltb n 4) (not (eqb n 2)) w
 three-squares n w = elim (cases_lt n 2) [
   | inl l ↦ rw (below n 2 l, below n 4 (omega arith), other n 2 (omega arith)) refl
@@ -35,14 +35,14 @@ three-squares n w = elim (cases_lt n 2) [
     other : (n k : ℕ) → (n ≡ k → ⊥) → eqb n k ≡ false
     other n k h = grind (arith, nat_tests)
 
--- a finder pattern in its block
+-- a finder pattern, painted in its block, hides what was there before
 block-tests : (b f q w : Bool) → (f ≡ true → b ≡ true) → cond f q (cond b false w) ≡ cond b (f && q) w
 block-tests true true q w h = refl
 block-tests true false q w h = refl
 block-tests false true q w h = let e = h refl in absurd (cc)
 block-tests false false q w h = refl
 
--- a place within ring 4 of a finder pattern
+-- the colour of a place within ring 4 of a finder pattern
 finder-role : (v r c n : ℕ) → finder_ring (side_of v) r c ≡ n → n ≤ 4 → role_of v r c ≡ Fixed (ltb n 4 && not (eqb n 2))
 unfolding role_of pattern_colour
 finder-role v r c n e l = elim (cases_lt n 4) [
@@ -53,20 +53,20 @@ finder-role v r c n e l = elim (cases_lt n 4) [
     below : (n : ℕ) → n < 4 → ltb n 4 ≡ true
     below n l = grind (arith, nat_tests)
 
--- what is not painted is light
+-- without format information every module is painted light
 pub paint-none : (v r c : ℕ) (format : Option ℕ) → is_some format ≡ false → paint_of v format r c ≡ false
 unfolding paint_of
 paint-none v r c None e = refl
 paint-none v r c (Some w) e = absurd (cc)
 
--- a place of a block is within ring 4, and one within ring 3 is in the block
+-- the places of a block are within ring 4, and the places within ring 3 are in the block
 in-block : (a b r c top left : ℕ) → top + 3 ≤ a → a ≤ top + 4 → left + 3 ≤ b → b ≤ left + 4 → (leb top r && ltb r (top + 8) && leb left c && ltb c (left + 8)) ≡ true → ring_of a b r c ≤ 4
 in-block a b r c top left h i j k e = grind (arith, nat_tests)
 
 block-of : (a b r c top left : ℕ) → top + 3 ≤ a → a ≤ top + 4 → left + 3 ≤ b → b ≤ left + 4 → ltb (ring_of a b r c) 4 ≡ true → (leb top r && ltb r (top + 8) && leb left c && ltb c (left + 8)) ≡ true
 block-of a b r c top left h i j k e = grind (arith, nat_tests)
 
--- a place of a block, painted: a finder pattern and its separator, and what was there beside them
+-- the colours after a block is painted: a finder pattern and its separator inside it, the old colours outside
 pub block-paint : (v r c a b top left : ℕ) (format : Option ℕ) (w : Bool) → top + 3 ≤ a → a ≤ top + 4 → left + 3 ≤ b → b ≤ left + 4
     → (ring_of a b r c ≤ 4 → finder_ring (side_of v) r c ≡ ring_of a b r c) → is_some format ≡ true
     → cond (ltb (ring_of a b r c) 4) (not (eqb (ring_of a b r c) 2)) (cond (leb top r && ltb r (top + 8) && leb left c && ltb c (left + 8)) false w)
@@ -81,7 +81,7 @@ block-paint v r c a b top left format w h i j k near some =
     in-its-block true x y w e = e refl
     in-its-block false x y w e = refl
 
--- the parts of the corners
+-- the rectangles of the corners, as one test
 pub corner-parts : (s r c : ℕ) → 21 ≤ s → r < s → c < s
     → ((((((leb 0 r && ltb r 8 && leb 0 c && ltb c 8) || (leb 0 r && ltb r 8 && leb (s - 8) c && ltb c (s - 8 + 8))) || (leb (s - 8) r && ltb r (s - 8 + 8) && leb 0 c && ltb c 8))
     || (leb 8 r && ltb r 9 && leb 0 c && ltb c 9)) || (leb 8 r && ltb r 9 && leb (s - 8) c && ltb c s)) || (leb 0 r && ltb r 8 && leb 8 c && ltb c 9))

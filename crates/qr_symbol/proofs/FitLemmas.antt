@@ -1,4 +1,4 @@
--- The least version that an input fits: it is looked for with the segments of the first version of each width.
+-- The least version that an input fits, found with the segments of the first version of each range of equal widths.
 use Rattle.std.proofs.Common.{◌≡◌, ℕ, ◌<◌, ◌≤◌, inl, inr, List, [], ◌∷◌, refl, sym, arith}
 use Rattle.std.proofs.lemmas.Bool.{cases_lt}
 use Rattle.qr_layout.specs.declared.level.Level.{Level}
@@ -11,7 +11,7 @@ use Rattle.qr_bits.specs.Padding.{capacity_of}
 use Rattle.qr_bits.proofs.Facts.{least_fits}
 use Rattle.qr_symbol.specs.VersionChoice.{FitsVersion, IsVersion}
 
--- Segments have as many bits in versions of the same widths.
+-- Segments have the same number of bits in versions of the same widths.
 bits-same : (u v : ℕ) → ((m : Mode) → count_width u m ≡ count_width v m) → (segs : List Segment) → bits u segs ≡ bits v segs
 bits-same u v same [] = refl
 bits-same u v same (s ∷ ss) = omega (arith, same s.mode, bits-same u v same ss)
@@ -30,7 +30,7 @@ segmentation-same u v rule xs segs same h =
     } in
     (ms, letters, h.2)
 
--- The bytes fit a version exactly where the bits of their segments in a version of the same widths do.
+-- The bytes fit a version exactly if the bits of their segments in a version of the same widths do.
 pub fits-bits : (u v : ℕ) (l : Level) (rule : Rule) (xs : List ℕ) (segs : List Segment) → ((m : Mode) → count_width v m ≡ count_width u m)
     → IsLeastSegmentation u rule xs segs → (FitsVersion v l rule xs → bits u segs ≤ capacity_of v l) × (bits u segs ≤ capacity_of v l → FitsVersion v l rule xs)
 fits-bits u v l rule xs segs same h =
@@ -39,8 +39,8 @@ fits-bits u v l rule xs segs same h =
     let equal = bits-same v u same segs in
     (λ fits. let few = fit.0 fits in omega arith, λ few. fit.1 (omega arith))
 
--- Where the bytes fit no version below u, and the bits of their segments none from u to the one before `last`, the bytes
--- fit none of these versions.
+-- If the bytes fit no version below u, and their segments fit no version from u to the one before `last`, the bytes fit
+-- none of these versions.
 pub none-fits : (xs : List ℕ) (l : Level) (least : ℕ) (rule : Rule) (u last : ℕ) (segs : List Segment)
     → ((v : ℕ) → least ≤ v → v < u → FitsVersion v l rule xs → ⊥)
     → ((v : ℕ) → u ≤ v → v < last → (m : Mode) → count_width v m ≡ count_width u m) → IsLeastSegmentation u rule xs segs
@@ -52,7 +52,7 @@ none-fits xs l least rule u last segs below same h full v a b fits =
       | inr i ↦ (let few = (fits-bits u v l rule xs segs (same v i b) h).0 fits in let more = full v i b in absurd (omega arith))
     ]
 
--- Where moreover v has room for the bits, it is the least version that the bytes fit.
+-- If version v also has room for the bits, it is the least version that the bytes fit.
 pub version-found : (xs : List ℕ) (l : Level) (least : ℕ) (rule : Rule) (u v : ℕ) (segs : List Segment)
     → least ≤ u → u ≤ v → v ≤ 40 → ((w : ℕ) → least ≤ w → w < u → FitsVersion w l rule xs → ⊥)
     → ((w : ℕ) → u ≤ w → w ≤ v → (m : Mode) → count_width w m ≡ count_width u m) → IsLeastSegmentation u rule xs segs

@@ -14,18 +14,18 @@ use Rattle.qr_symbol.specs.Symbol.{word_bit}
 use Rattle.qr_symbol.specs.Steps.Drawing.{format_or}
 use Rattle.qr_symbol.proofs.DrawingLemmas.{at}
 
--- the colour of a module where the bits below n are drawn
+-- the colour of a module once the bits below n are drawn
 pub format_below : ℕ → ℕ → Role → Bool → Bool
 format_below n format (Fixed dark) other = other
 format_below n format (FormatBit i) other = cond (ltb i n) (word_bit format i) other
 format_below n format (VersionBit i) other = other
 format_below n format Region other = other
 
--- the bits below n are drawn, and nothing else is changed
+-- the bits below n are drawn, and no other module is changed
 abbrev pub FormatDone : ℕ → ℕ → ℕ → Grid → Grid → Type 0
 FormatDone v format n g0 g = (r c : ℕ) → r < side_of v → c < side_of v → colour g r c ≡ format_below n format (role_of v r c) (colour g0 r c)
 
--- at first no bit is drawn
+-- at first no bit is drawn, and the square is unchanged
 pub format-start : (v format : ℕ) (g : Grid) → FormatDone v format 0 g g
 unfolding format_below
 format-start v format g r c l m = none (role_of v r c)
@@ -36,14 +36,14 @@ format-start v format g r c l m = none (role_of v r c)
     none (VersionBit i) = refl
     none Region = refl
 
--- a module that holds the bit has its colour once it is drawn
+-- once bit n is drawn, a module that holds it has its colour
 bit-drawn : (n format : ℕ) (q : Role) (other d : Bool) → q ≡ FormatBit n → d ≡ word_bit format n → d ≡ format_below (n + 1) format q other
 unfolding format_below
 bit-drawn n format q other d e f =
     let t : ltb n (n + 1) ≡ true = grind (arith, nat_tests) in
     f ∙ (ap (λ z. cond z (word_bit format n) other) (sym t) ∙ ap (λ (z : Role). format_below (n + 1) format z other) (sym e))
 
--- a module that does not hold it is as before
+-- drawing bit n does not change a module that does not hold it
 bit-kept : (n format : ℕ) (q : Role) (other : Bool) → (q ≡ FormatBit n → ⊥) → format_below n format q other ≡ format_below (n + 1) format q other
 unfolding format_below
 bit-kept n format (Fixed dark) other o = refl
@@ -79,7 +79,7 @@ format-step v format i g0 g a b d k1 k2 l s ea ar ac eb br bc ed h r c m n = eli
   ]
 ]
 
--- where all fifteen bits are drawn the format information is
+-- once all fifteen bits are drawn, the format information is complete
 pub format-end : (v format : ℕ) (g0 g : Grid) → IsSquare (side_of v) g → FormatDone v format 15 g0 g → g ≡ square (side_of v) (λ r c. format_or format (role_of v r c) (colour g0 r c))
 unfolding format_below format_or
 format-end v format g0 g e h = e ∙ square-same (side_of v) (colour g) (λ r c. format_or format (role_of v r c) (colour g0 r c)) (λ r c l m. h r c l m ∙ all (role_of v r c) (colour g0 r c) (λ i q. (format-only v (at r c) i q).0))

@@ -1,4 +1,4 @@
--- The format information of a square is that of one level and one mask.
+-- The format information of a square is that of at most one level and mask.
 use Rattle.std.proofs.Common.{◌≡◌, ℕ, ◌/◌, ◌^◌, ◌<◌, ◌≤◌, Bool, true, eqb, ltb, nat_eq, List, refl, sym, ◌∙◌, ap, inl, inr, arith}
 use Rattle.std.specs.Prelude.{bit_xor}
 use Rattle.std.specs.Int.{bit_at}
@@ -17,32 +17,32 @@ use Rattle.qr_symbol.specs.Symbol.{colour_by, colour_of, grid_of}
 use Rattle.qr_symbol.specs.Reading.{IsFormat}
 use Rattle.qr_matrix.proofs.Facts.{colour-square}
 
--- a word gives back its five bits, and has fifteen
+-- the test that the word of format information contains its five data bits
 gives-back : ℕ → Bool
 gives-back i = eqb (bit_xor (format_with i) 0x5412 / 1024) i
 
--- the word has 15 bits
+-- the test that the word of format information has at most 15 bits
 is-short : ℕ → Bool
 is-short i = ltb (format_with i) (2 ^ 15)
 
--- each of the 32 words gives back its five bits, computed
+-- each of the 32 words contains its five data bits, computed
 all-give-back : below 32 gives-back ≡ true
 unfolding gives-back remainder_of
 all-give-back = refl
 
--- each of them has 15 bits, computed
+-- each of the 32 words has at most 15 bits, computed
 all-short : below 32 is-short ≡ true
 unfolding is-short remainder_of
 all-short = refl
 
--- a level has two bits
+-- the bits of a level are a number of at most 3
 pub level-small : (l : Level) → level_bits l ≤ 3
 level-small L = omega arith
 level-small M = omega arith
 level-small Q = omega arith
 level-small H = omega arith
 
--- and levels have different ones
+-- different levels have different bits
 pub level-one : (l k : Level) → level_bits l ≡ level_bits k → l ≡ k
 level-one L L e = refl
 level-one L M e = absurd (omega arith)
@@ -61,21 +61,21 @@ level-one H M e = absurd (omega arith)
 level-one H Q e = absurd (omega arith)
 level-one H H e = refl
 
--- the word of a level and a mask has 15 bits
+-- the word of a level and a mask has at most 15 bits
 short : (l : Level) (mask : ℕ) → mask < 8 → format_word_of l mask < 2 ^ 15
 unfolding format_word_of is-short
 short l mask h = let s = level-small l in ltb-true _ _ (below-at 32 is-short all-short (five_bits l mask) (omega arith))
 
--- and gives back their five bits
+-- the highest five bits of the word are those of the level and the mask, once it is unmasked
 back : (l : Level) (mask : ℕ) → mask < 8 → bit_xor (format_word_of l mask) 0x5412 / 1024 ≡ five_bits l mask
 unfolding format_word_of gives-back
 back l mask h = let s = level-small l in eqb-same (bit_xor (format_with (five_bits l mask)) 0x5412 / 1024) (five_bits l mask) (below-at 32 gives-back all-give-back (five_bits l mask) (omega arith))
 
--- bits that test alike are equal
+-- two bits are equal if their tests agree
 same-bit : (a b : ℕ) → a < 2 → b < 2 → nat_eq a 1 ≡ nat_eq b 1 → a ≡ b
 same-bit a b l m e = grind (arith, nat_tests)
 
--- a square has the format information of one level and one mask
+-- a square has the format information of at most one level and mask
 pub format-one : (g : Grid) (l k : Level) (m n : ℕ) → IsFormat g l m → IsFormat g k n → (l ≡ k) × (m ≡ n)
 format-one g l k m n h j =
     let a = format_word_of l m in
@@ -88,15 +88,15 @@ format-one g l k m n h j =
     let t = level-small k in
     (level-one l k (omega arith), omega arith)
 
--- the first places are in the first rows
+-- the places of the first copy are in the first 15 rows
 first-row : (i : ℕ) → i < 15 → (first_place i).row < 15
 first-row i l = elim (cases_lt i 6) [ inl k ↦ grind (arith, nat_tests) | inr k ↦ grind (arith, nat_tests) ]
 
--- and in the first columns
+-- the places of the first copy are in the first 15 columns
 first-col : (i : ℕ) → i < 15 → (first_place i).col < 15
 first-col i l = elim (cases_lt i 8) [ inl k ↦ grind (arith, nat_tests) | inr k ↦ grind (arith, nat_tests) ]
 
--- a symbol has that of its level and mask
+-- a drawn symbol has the format information of its level and mask
 pub format-read : (v : ℕ) (l : Level) (mask : ℕ) (cw : List ℕ) → 1 ≤ v → v ≤ 40 → mask < 8 → IsFormat (grid_of v l mask cw) l mask
 unfolding colour_of
 format-read v l mask cw p q h = record {

@@ -12,7 +12,7 @@ use Rattle.qr_symbol.proofs.MessageLemmas.{final-one}
 
 -- ---- what was put back so far
 
--- the codewords of the tags before one were put back
+-- the codewords with the tags before the tag (p, b) have been put back into their blocks
 pub record GatheredBefore (c : Cut) (sent : List ℕ) (p b : ℕ) (xs : List ℕ) (next : ℕ) : Type 0 where
   pub long : length xs ≡ cut_len c
   pub tags : List Tag
@@ -20,7 +20,7 @@ pub record GatheredBefore (c : Cut) (sent : List ℕ) (p b : ℕ) (xs : List ℕ
   pub rank : next ≡ rank_of c p b
   pub same : map (codeword_at c xs) tags ≡ take next sent
 
--- functions that agree on the members give one list
+-- two functions that agree on all members of a list map it to the same list
 map-mem : {X Y : Type 0} (f g : X → Y) (xs : List X) → ((x : X) → Mem x xs → f x ≡ g x) → map f xs ≡ map g xs
 map-mem f g [] e = refl
 map-mem f g (x ∷ xs) e = let h = e x (inl refl) in let t = map-mem f g xs (λ y m. e y (inr m)) in λ i. h i ∷ t i
@@ -30,7 +30,7 @@ irrefl : (t : Tag) (p b : ℕ) → IsSentBefore t (tag p b) → t.place ≡ p �
 irrefl t p b (inl l) e f = absurd (omega arith)
 irrefl t p b (inr w) e f = absurd (let l = w.1 in omega arith)
 
--- one codeword more
+-- one codeword more is put back
 pub gather-push : (c : Cut) (sent xs ys : List ℕ) (p b next i : ℕ) → cut_len c ≤ length sent → GatheredBefore c sent p b xs next → IsTag c (tag p b) → i ≡ start_of c b + p → ys ≡ set xs i (get_or sent next 0) → GatheredBefore c sent p (b + 1) ys (next + 1)
 gather-push c sent xs ys p b next i l h t e k =
     let x = get_or sent next 0 in
@@ -53,15 +53,15 @@ gather-push c sent xs ys p b next i l h t e k =
           ∙ (ap (λ (z : ℕ). take next sent ++ z ∷ []) new ∙ sym (take_more sent next 0 (omega arith)))));
     }
 
--- a block that has no such place
+-- block b has no codeword with index p, so the step changes nothing
 pub gather-pass : (c : Cut) (sent xs : List ℕ) (p b next : ℕ) → p ≤ c.short_len → b < block_count c → GatheredBefore c sent p b xs next → (IsTag c (tag p b) → ⊥) → GatheredBefore c sent p (b + 1) xs next
 gather-pass c sent xs p b next l m h n = record { long = h.long; tags = h.tags; order = tags-pass c p b h.tags n h.order; rank = h.rank ∙ sym (rank-pass c p b l m n); same = h.same }
 
--- on to the next place
+-- after the last block, the step goes on to the next index
 pub gather-row : (c : Cut) (sent xs : List ℕ) (p b next : ℕ) → p ≤ c.short_len → b ≡ block_count c → GatheredBefore c sent p b xs next → GatheredBefore c sent (p + 1) 0 xs next
 gather-row c sent xs p b next l e h = record { long = h.long; tags = h.tags; order = tags-row c p h.tags (subst (λ (k : ℕ). TagsBefore c p k h.tags) e h.order); rank = h.rank ∙ (ap (rank_of c p) e ∙ rank-row c p l); same = h.same }
 
--- all codewords were put back
+-- after the last index, all codewords have been put back
 pub gather-end : (c : Cut) (sent xs : List ℕ) (p next : ℕ) → cut_len c ≤ length sent → p ≡ c.short_len + 1 → GatheredBefore c sent p 0 xs next → IsGathered c sent xs
 gather-end c sent xs p next l e h =
     let n : next ≡ cut_len c = h.rank ∙ (ap (λ (k : ℕ). rank_of c k 0) e ∙ rank-end c) in
@@ -76,7 +76,7 @@ gather-end c sent xs p next l e h =
 
 -- ---- every sequence can be gathered
 
--- what was put back, whatever it is
+-- some codewords have been put back, whatever their values are
 record IsBegun (c : Cut) (sent : List ℕ) (p b : ℕ) : Type 0 where
   codewords : List ℕ
   next : ℕ
@@ -93,12 +93,12 @@ begun-next c sent p b n l m h = elim (cases_lt p (block_len c b)) [
   | inr k ↦ record { codewords = h.codewords; next = h.next; gathered = gather-pass c sent h.codewords p b h.next l m h.gathered (λ t. let q = t.1 in absurd (omega arith)) }
 ]
 
--- all blocks of a place
+-- all blocks at one index
 begun-across : (c : Cut) (sent : List ℕ) (p b : ℕ) → cut_len c ≤ length sent → p ≤ c.short_len → b ≤ block_count c → IsBegun c sent p 0 → IsBegun c sent p b
 begun-across c sent p zero n l m h = h
 begun-across c sent p (suc b) n l m h = let e : b + 1 ≡ suc b = omega arith in subst (IsBegun c sent p) e (begun-next c sent p b n l (omega arith) (begun-across c sent p b n l (omega arith) h))
 
--- all places
+-- all indices
 begun-down : (c : Cut) (sent : List ℕ) (p : ℕ) → cut_len c ≤ length sent → p ≤ c.short_len + 1 → IsBegun c sent p 0
 begun-down c sent zero n l = record {
   codewords = replicate (cut_len c) 0;
@@ -110,7 +110,7 @@ begun-down c sent (suc p) n l =
     let e : p + 1 ≡ suc p = omega arith in
     subst (λ (k : ℕ). IsBegun c sent k 0) e (record { codewords = h.codewords; next = h.next; gathered = gather-row c sent h.codewords p (block_count c) h.next (omega arith) refl h.gathered })
 
--- codewords that are as many as a cut has can be gathered
+-- a sequence with at least as many codewords as the cut can be gathered
 pub gather-some : (c : Cut) (sent : List ℕ) → cut_len c ≤ length sent → (xs : List ℕ) × IsGathered c sent xs
 gather-some c sent n =
     let h = begun-down c sent (c.short_len + 1) n (omega arith) in
@@ -118,14 +118,14 @@ gather-some c sent n =
 
 -- ---- one message at most
 
--- the prefix of a joined list
+-- the prefix of two joined lists that has the length of the first list is the first list
 take-front : {X : Type 0} (n : ℕ) (xs ys : List X) → length xs ≡ n → take n (xs ++ ys) ≡ xs
 take-front zero [] ys e = refl
 take-front zero (x ∷ xs) ys e = absurd (omega arith)
 take-front (suc n) [] ys e = absurd (omega arith)
 take-front (suc n) (x ∷ xs) ys e = ap (λ zs. x ∷ zs) (take-front n xs ys (omega arith))
 
--- what was put back is the message, if there is one
+-- the gathered codewords are the message, if the sequence is the final sequence of a message
 pub gathered-one : (b : Blocks) (sent xs d : List ℕ) → IsGathered (data_cut b) sent xs → length d ≡ cut_len (data_cut b) → IsFinalMessage b d sent → xs ≡ d
 gathered-one b sent xs d g n h =
     let c = data_cut b in
@@ -138,7 +138,7 @@ gathered-one b sent xs d g n h =
     let q = map-at (codeword_at c xs) (codeword_at c d) g.tags w.0 (g.same ∙ first) (Mem-of-Contains g.tags w.0 (g.order.complete w.0 w.1)) in
     ap (λ (k : ℕ). get_or xs k 0) (sym w.2) ∙ (q ∙ ap (λ (k : ℕ). get_or d k 0) w.2))
 
--- codewords that are not those of the gathered message are those of none
+-- a sequence that differs from the final sequence of its gathered codewords is the final sequence of no message
 pub none-fits : (b : Blocks) (sent xs again d : List ℕ) → IsGathered (data_cut b) sent xs → IsFinalMessage b xs again → (again ≡ sent → ⊥) → length d ≡ cut_len (data_cut b) → IsFinalMessage b d sent → ⊥
 none-fits b sent xs again d g h n l k =
     let e = gathered-one b sent xs d g l k in

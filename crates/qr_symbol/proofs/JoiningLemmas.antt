@@ -1,4 +1,4 @@
--- Squares are read one by one and joined, or not joined for one reason.
+-- Squares are read one by one, and are joined to one list of bytes or refused for one reason.
 use Rattle.std.proofs.Common.{◌≡◌, ℕ, ◌+◌, ◌<◌, ◌≤◌, List, [], ◌∷◌, ◌++◌, take, drop, length, get_or, refl, sym, ◌∙◌, ap, subst, inl, inr, ◌⊎◌, arith}
 use Rattle.std.specs.Prelude.{Some}
 use Rattle.std.proofs.lemmas.List.{take_more, take-append-drop, take-map, drop_more, drop_all, get_or-map, length-map}
@@ -13,7 +13,7 @@ use Rattle.qr_symbol.specs.Joining.{AreReadBy, AreReadings, bytes_of_all, HaveHe
 
 -- ---- squares and contents, in turn
 
--- of no squares, none is left unread
+-- no squares are read as no contents
 pub readings-none : (reads : Grid → Content → Type 0) → AreReadBy reads [] []
 unfolding AreReadBy
 readings-none reads = tt
@@ -26,7 +26,7 @@ readings-push reads [] (d ∷ cs) g c a h = absurd a
 readings-push reads (f ∷ gs) [] g c a h = absurd a
 readings-push reads (f ∷ gs) (d ∷ cs) g c a h = (a.0, readings-push reads gs cs g c a.1 h)
 
--- after squares that are read, a square that is not is the first
+-- if all squares before one are read and this one is refused, it is the first that is refused
 first-unread : (reads : Grid → Content → Type 0) (refuses : Grid → ReadFault → Type 0) (gs rest : List Grid) (cs : List Content) (g : Grid) (e : ReadFault) → AreReadBy reads gs cs → refuses g e → IsFirstRefused reads refuses (gs ++ g ∷ rest) e
 unfolding AreReadBy IsFirstRefused
 first-unread reads refuses [] rest [] g e a u = inl u
@@ -34,12 +34,12 @@ first-unread reads refuses [] rest (c ∷ cs) g e a u = absurd a
 first-unread reads refuses (f ∷ gs) rest [] g e a u = absurd a
 first-unread reads refuses (f ∷ gs) rest (c ∷ cs) g e a u = inr (c, a.0, first-unread reads refuses gs rest cs g e a.1 u)
 
--- one more square of a list is read
+-- one more square of a list is read, stated by its index
 pub readings-next : (reads : Grid → Content → Type 0) (gs : List Grid) (i : ℕ) (g : Grid) (cs : List Content) (c : Content) → i < length gs → g ≡ get_or gs i g → AreReadBy reads (take i gs) cs → reads g c → AreReadBy reads (take (i + 1) gs) (cs ++ c ∷ [])
 readings-next reads gs i g cs c l e a h =
     subst (λ (fs : List Grid). AreReadBy reads fs (cs ++ c ∷ [])) (sym (take_more gs i g l ∙ ap (λ (f : Grid). take i gs ++ f ∷ []) (sym e))) (readings-push reads (take i gs) cs g c a h)
 
--- the square of a symbol
+-- the square of the symbol with index i
 square-at : (ss : List Symbol) (i : ℕ) (s : Symbol) → i < length ss → s ≡ get_or ss i s → (i < length (squares_of ss)) × (s.matrix ≡ get_or (squares_of ss) i s.matrix)
 square-at ss i s l e =
     let n = length-map ss (λ (x : Symbol). x.matrix) in
@@ -58,7 +58,7 @@ readings-more ss i s cs c l e a h =
 
 -- ---- the first fault
 
--- no square is refused as no series
+-- no square is refused because of `Series`
 never-series : (reads : Grid → Content → Type 0) (refuses : Grid → ReadFault → Type 0) → ((g : Grid) → refuses g fault.Series → ⊥) → (gs : List Grid) → IsFirstRefused reads refuses gs fault.Series → ⊥
 unfolding IsFirstRefused
 never-series reads refuses n [] u = u
@@ -74,13 +74,14 @@ unread-unjoined reads refuses n gs fault.Check u = u
 unread-unjoined reads refuses n gs (fault.Segments x) u = u
 unread-unjoined reads refuses n gs fault.Series u = absurd (never-series reads refuses n gs u)
 
--- for the fault of a square after those that are read, the squares are not joined
+-- if all squares before one are read and this one is refused for a fault, the squares are not joined because of this
+-- fault
 pub unjoined-next : (reads : Grid → Content → Type 0) (refuses : Grid → ReadFault → Type 0) → ((g : Grid) → refuses g fault.Series → ⊥) → (gs : List Grid) (i : ℕ) (g : Grid) (cs : List Content) (e : ReadFault) → i < length gs → g ≡ get_or gs i g → AreReadBy reads (take i gs) cs → refuses g e → IsUnjoinedBy reads refuses gs e
 unjoined-next reads refuses n gs i g cs e l p a u =
     let around : gs ≡ take i gs ++ g ∷ drop (i + 1) gs = sym (take-append-drop i gs) ∙ (ap (λ (fs : List Grid). take i gs ++ fs) (drop_more gs i g l) ∙ ap (λ (f : Grid). take i gs ++ f ∷ drop (i + 1) gs) (sym p)) in
     unread-unjoined reads refuses n gs e (subst (λ (fs : List Grid). IsFirstRefused reads refuses fs e) (sym around) (first-unread reads refuses (take i gs) (drop (i + 1) gs) cs g e a u))
 
--- for the fault of a symbol after those that are read, the symbols are not joined
+-- if all symbols before one are read and this one is refused for a fault, they are not joined because of this fault
 pub unjoined-at : (ss : List Symbol) (i : ℕ) (s : Symbol) (cs : List Content) (e : ReadFault) → i < length ss → s ≡ get_or ss i s → AreReadings (squares_of (take i ss)) cs → IsUnread s.matrix e → IsUnjoined (squares_of ss) e
 unjoined-at ss i s cs e l p a u =
     let at = square-at ss i s l p in
@@ -88,19 +89,19 @@ unjoined-at ss i s cs e l p a u =
 
 -- ---- the headers of a series
 
--- where headers stand from a position on, they do from the next on, and its content has its own
+-- if the contents from position k on have their headers, so have those from k + 1 on, and content k has its header
 pub headers-next : (last parity k : ℕ) (cs : List Content) (c : Content) → k < length cs → c ≡ get_or cs k c → HaveHeaders last parity k (drop k cs) → (c.header ≡ Some (record { position = k; last = last; parity = parity })) × HaveHeaders last parity (k + 1) (drop (k + 1) cs)
 unfolding HaveHeaders
 headers-next last parity k cs c l e h =
     subst (λ (ds : List Content). HaveHeaders last parity k ds) (drop_more cs k c l ∙ ap (λ (x : Content). x ∷ drop (k + 1) cs) (sym e)) h
 
--- and the other way round
+-- if content k and the contents from position k + 1 on have their headers, so have those from k on
 pub headers-before : (last parity k : ℕ) (cs : List Content) (c : Content) → k < length cs → c ≡ get_or cs k c → c.header ≡ Some (record { position = k; last = last; parity = parity }) → HaveHeaders last parity (k + 1) (drop (k + 1) cs) → HaveHeaders last parity k (drop k cs)
 unfolding HaveHeaders
 headers-before last parity k cs c l e h r =
     subst (λ (ds : List Content). HaveHeaders last parity k ds) (sym (drop_more cs k c l ∙ ap (λ (x : Content). x ∷ drop (k + 1) cs) (sym e))) (h, r)
 
--- at the end there is none
+-- after the last position there is no header to check
 pub headers-end : (last parity k : ℕ) (cs : List Content) → length cs ≤ k → HaveHeaders last parity k (drop k cs)
 unfolding HaveHeaders
 headers-end last parity k cs l = subst (λ (ds : List Content). HaveHeaders last parity k ds) (sym (drop_all k cs l)) tt
@@ -122,9 +123,9 @@ readings-one reads same (g ∷ gs) (c ∷ cs) (d ∷ ds) a b =
 pub joining-one : (reads : Grid → Content → Type 0) → ((g : Grid) (c d : Content) → reads g c → reads g d → c ≡ d) → (gs : List Grid) (x y : List ℕ) → IsJoinedBy reads gs x → IsJoinedBy reads gs y → x ≡ y
 joining-one reads same gs x y h k = h.joined ∙ (ap bytes_of_all (readings-one reads same gs h.contents k.contents h.read k.read) ∙ sym k.joined)
 
--- ---- and not joined for one reason
+-- ---- and are refused for one reason
 
--- where all squares are read, one is refused for lack of memory alone
+-- if all squares are read, none of them is refused, except for lack of memory
 read-unread : (reads : Grid → Content → Type 0) (refuses : Grid → ReadFault → Type 0) → ((g : Grid) (c : Content) (e : ReadFault) → reads g c → refuses g e → e ≡ fault.Memory) → (gs : List Grid) (cs : List Content) (e : ReadFault) → AreReadBy reads gs cs → IsFirstRefused reads refuses gs e → e ≡ fault.Memory
 unfolding AreReadBy IsFirstRefused
 read-unread reads refuses never [] cs e a u = absurd u
@@ -132,7 +133,7 @@ read-unread reads refuses never (g ∷ gs) [] e a u = absurd a
 read-unread reads refuses never (g ∷ gs) (c ∷ cs) e a (inl u) = never g c e a.0 u
 read-unread reads refuses never (g ∷ gs) (c ∷ cs) e a (inr w) = read-unread reads refuses never gs cs e a.1 w.2
 
--- the first fault is one, or lack of memory
+-- two first faults of the same squares are equal, or one of them is lack of memory
 first-one : (reads : Grid → Content → Type 0) (refuses : Grid → ReadFault → Type 0) → ((g : Grid) (c : Content) (e : ReadFault) → reads g c → refuses g e → e ≡ fault.Memory) → ((g : Grid) (e f : ReadFault) → refuses g e → refuses g f → (e ≡ fault.Memory) ⊎ ((f ≡ fault.Memory) ⊎ (e ≡ f))) → (gs : List Grid) (e f : ReadFault) → IsFirstRefused reads refuses gs e → IsFirstRefused reads refuses gs f → (e ≡ fault.Memory) ⊎ ((f ≡ fault.Memory) ⊎ (e ≡ f))
 unfolding IsFirstRefused
 first-one reads refuses never same [] e f u v = absurd u
@@ -141,7 +142,7 @@ first-one reads refuses never same (g ∷ gs) e f (inl u) (inr z) = inl (never g
 first-one reads refuses never same (g ∷ gs) e f (inr w) (inl v) = inr (inl (never g w.0 f w.1 v))
 first-one reads refuses never same (g ∷ gs) e f (inr w) (inr z) = first-one reads refuses never same gs e f w.2 z.2
 
--- squares are not joined for lack of memory, for the first fault, or since they are no series
+-- a fault for which squares are not joined is lack of memory, the first fault of a square, or `Series`
 told : (reads : Grid → Content → Type 0) (refuses : Grid → ReadFault → Type 0) (gs : List Grid) (e : ReadFault) → IsUnjoinedBy reads refuses gs e → (e ≡ fault.Memory) ⊎ (IsFirstRefused reads refuses gs e ⊎ ((e ≡ fault.Series) × IsNoSeries reads gs))
 told reads refuses gs fault.Memory u = inl refl
 told reads refuses gs fault.Side u = inr (inl u)
@@ -150,7 +151,7 @@ told reads refuses gs fault.Check u = inr (inl u)
 told reads refuses gs (fault.Segments x) u = inr (inl u)
 told reads refuses gs fault.Series u = inr (inr (refl, u))
 
--- squares that are joined are refused for lack of memory alone
+-- squares that are joined to bytes are refused only for lack of memory
 pub joined-refused : (reads : Grid → Content → Type 0) (refuses : Grid → ReadFault → Type 0) → ((g : Grid) (c d : Content) → reads g c → reads g d → c ≡ d) → ((g : Grid) (c : Content) (e : ReadFault) → reads g c → refuses g e → e ≡ fault.Memory) → (gs : List Grid) (x : List ℕ) (e : ReadFault) → IsJoinedBy reads gs x → IsUnjoinedBy reads refuses gs e → e ≡ fault.Memory
 joined-refused reads refuses same never gs x e h u = elim (told reads refuses gs e u) [
   | inl m ↦ m
@@ -160,7 +161,7 @@ joined-refused reads refuses same never gs x e h u = elim (told reads refuses gs
   ]
 ]
 
--- squares are refused for one reason, or for lack of memory
+-- two faults of the same squares are equal, or one of them is lack of memory
 pub unjoined-one : (reads : Grid → Content → Type 0) (refuses : Grid → ReadFault → Type 0) → ((g : Grid) (c : Content) (e : ReadFault) → reads g c → refuses g e → e ≡ fault.Memory) → ((g : Grid) (e f : ReadFault) → refuses g e → refuses g f → (e ≡ fault.Memory) ⊎ ((f ≡ fault.Memory) ⊎ (e ≡ f))) → (gs : List Grid) (e f : ReadFault) → IsUnjoinedBy reads refuses gs e → IsUnjoinedBy reads refuses gs f → (e ≡ fault.Memory) ⊎ ((f ≡ fault.Memory) ⊎ (e ≡ f))
 unjoined-one reads refuses never same gs e f u v = by_told (told reads refuses gs e u) (told reads refuses gs f v)
   where

@@ -1,4 +1,4 @@
--- Of a walk over all places those of the encoding region.
+-- The places of the encoding region among all places of a walk.
 use Rattle.std.proofs.Common.{◌≡◌, ℕ, ◌<◌, Bool, true, false, cond, List, [], ◌∷◌, ◌++◌, append-nil, append_assoc, refl, sym, ◌∙◌, ap}
 use Rattle.qr_layout.specs.declared.region.Module.{Module}
 use Rattle.qr_layout.specs.Version.{side_of}
@@ -10,19 +10,19 @@ use Rattle.qr_matrix.specs.Grid.{Grid, colour}
 use Rattle.qr_matrix.proofs.Facts.{colour-square}
 use Rattle.qr_symbol.specs.Steps.Drawing.{region_grid}
 
--- what the square of the region tells of a place
+-- the square of the encoding region is dark at a place exactly if the place is in the region
 pub region-told : (v : ℕ) (g : Grid) (m : Module) (t : Bool) → g ≡ region_grid v → m.row < side_of v → m.col < side_of v → t ≡ colour g m.row m.col → t ≡ is_in_region v m.row m.col
 region-told v g m t e l k f = f ∙ (ap (λ (z : Grid). colour z m.row m.col) e ∙ colour-square (side_of v) (is_in_region v) m.row m.col l k)
 
--- a place of the region is kept
+-- a place in the region is kept
 pub kept-in : (v : ℕ) (m : Module) (ms : List Module) → is_in_region v m.row m.col ≡ true → in_region_of v (m ∷ ms) ≡ m ∷ in_region_of v ms
 kept-in v m ms e = ap (λ z. cond z (m ∷ in_region_of v ms) (in_region_of v ms)) e
 
--- any other is not
+-- a place outside the region is not kept
 pub kept-out : (v : ℕ) (m : Module) (ms : List Module) → is_in_region v m.row m.col ≡ false → in_region_of v (m ∷ ms) ≡ in_region_of v ms
 kept-out v m ms e = ap (λ z. cond z (m ∷ in_region_of v ms) (in_region_of v ms)) e
 
--- of two lists those of both are kept
+-- the kept places of two joined lists are those of the first list, followed by those of the second
 kept-append : (v : ℕ) (xs ys : List Module) → in_region_of v (xs ++ ys) ≡ in_region_of v xs ++ in_region_of v ys
 kept-append v [] ys = refl
 kept-append v (m ∷ xs) ys = ap (λ (z : List Module). cond (is_in_region v m.row m.col) (m ∷ z) z) (kept-append v xs ys) ∙ front (is_in_region v m.row m.col) m (in_region_of v xs) (in_region_of v ys)
@@ -31,15 +31,15 @@ kept-append v (m ∷ xs) ys = ap (λ (z : List Module). cond (is_in_region v m.r
     front true m xs ys = refl
     front false m xs ys = refl
 
--- a place of the region at the end is kept
+-- a place in the region at the end of a list is kept
 pub kept-push-in : (v : ℕ) (xs : List Module) (m : Module) → is_in_region v m.row m.col ≡ true → in_region_of v (xs ++ m ∷ []) ≡ in_region_of v xs ++ m ∷ []
 kept-push-in v xs m e = kept-append v xs (m ∷ []) ∙ ap (λ (z : List Module). in_region_of v xs ++ z) (kept-in v m [] e)
 
--- any other is not
+-- a place outside the region at the end of a list is not kept
 pub kept-push-out : (v : ℕ) (xs : List Module) (m : Module) → is_in_region v m.row m.col ≡ false → in_region_of v (xs ++ m ∷ []) ≡ in_region_of v xs
 kept-push-out v xs m e = kept-append v xs (m ∷ []) ∙ (ap (λ (z : List Module). in_region_of v xs ++ z) (kept-out v m [] e) ∙ append-nil (in_region_of v xs))
 
--- the places of one strip more
+-- the places of a list of strips with one strip more
 pub places-push : (s : ℕ) (xs : List Strip) (x : Strip) → places_of s (xs ++ x ∷ []) ≡ places_of s xs ++ both_of (rows_from s x 0 s)
 places-push s [] x = append-nil (both_of (rows_from s x 0 s))
 places-push s (y ∷ ys) x = ap (λ (z : List Module). both_of (rows_from s y 0 s) ++ z) (places-push s ys x) ∙ sym (append_assoc (both_of (rows_from s y 0 s)) (places_of s ys) (both_of (rows_from s x 0 s)))

@@ -1,4 +1,4 @@
--- Inputs that are longer than 16 symbols hold have no series.
+-- Inputs that are too long for 16 symbols have no series.
 use Rattle.std.proofs.Common.{ℕ, ◌*◌, ◌<◌, ◌≤◌, All, List, [], ◌∷◌, length, ap, arith}
 use Rattle.std.specs.List.{concat}
 use Rattle.std.proofs.lemmas.List.{length-append}
@@ -11,7 +11,7 @@ use Rattle.qr_bits.proofs.Facts.{fitting_short}
 use Rattle.qr_symbol.specs.Series.{HasNoSeries}
 use Rattle.qr_symbol.proofs.PartLemmas.{parts-long}
 
--- parts that fit after headers hold at most 7,089 bytes each
+-- the bytes of parts that fit after headers are at most 7,089 for each part
 fits-long : (v : ℕ) (l : Level) (b : Rule) (ps : List (List ℕ)) → 1 ≤ v → v ≤ 40 → All (λ p. HasFit v b p (room_of v l)) ps → length (concat ps) ≤ 7089 * length ps
 fits-long v l b [] i j h = omega arith
 fits-long v l b (p ∷ ps) i j h =
@@ -21,7 +21,7 @@ fits-long v l b (p ∷ ps) i j h =
     let rest = fits-long v l b ps i j (All-tail fits p ps h) in
     omega (arith, length-append p (concat ps))
 
--- more than 16 times 7,089 bytes have no series
+-- an input of more than 16 times 7,089 bytes has no series
 pub long-refused : (x : List ℕ) (l : Level) (b : Rule) (v : ℕ) → 1 ≤ v → v ≤ 40 → 7089 * 16 < length x → HasNoSeries v l b x
 long-refused x l b v i j long = record {
   too_long = λ fits. let short = fitting_short v l b x i j fits in omega arith;

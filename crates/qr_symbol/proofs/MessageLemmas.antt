@@ -1,4 +1,4 @@
--- The final message of a version and a level: how long it is, and that it is one.
+-- The final sequence of a version and a level: how long it is, and that each message has only one.
 use Rattle.std.proofs.Common.{◌≡◌, ℕ, ◌+◌, ◌-◌, ◌*◌, ◌<◌, ◌≤◌, List, [], ◌∷◌, ◌++◌, map, length, length-append, get_or, refl, sym, ◌∙◌, ap, subst, arith}
 use Rattle.std.specs.Prelude.{Result, Ok, Err, IfOk}
 use Rattle.std.proofs.lemmas.List.{length-map, ext_get_or}
@@ -12,9 +12,9 @@ use Rattle.qr_layout.proofs.Facts.{blocks-sound}
 use Rattle.qr_symbol.specs.Interleaving.{Tag, block_count, start_of, cut_len, codeword_at, data_cut, correction_cut, block_of, check_at, IsFinalMessage}
 use Rattle.qr_symbol.proofs.RankLemmas.{tags-one, tags-many, tag-of, map-at, Mem-of-Contains}
 
--- ---- one final message
+-- ---- one final sequence
 
--- blocks have one list of error correction codewords each
+-- two lists of error correction codewords for the same blocks are equal
 pub checks-one : (b : Blocks) (d : List ℕ) (n : ℕ) (xs ys : List (List ℕ)) → length xs ≡ n → length ys ≡ n
     → ((i : ℕ) → i < n → IsCorrection (block_of b d i) b.ec_len (get_or xs i []))
     → ((i : ℕ) → i < n → IsCorrection (block_of b d i) b.ec_len (get_or ys i []))
@@ -22,7 +22,7 @@ pub checks-one : (b : Blocks) (d : List ℕ) (n : ℕ) (xs ys : List (List ℕ))
 checks-one b d n xs ys e f h k =
     ext_get_or [] xs ys (e ∙ sym f) (λ i l. correction-one (block_of b d i) b.ec_len (get_or xs i []) (get_or ys i []) (h i (omega arith)) (k i (omega arith)))
 
--- data codewords have one final message
+-- data codewords have at most one final sequence
 pub final-one : (b : Blocks) (d xs ys : List ℕ) → IsFinalMessage b d xs → IsFinalMessage b d ys → xs ≡ ys
 final-one b d xs ys h k =
     let t = tags-one (data_cut b) h.data_tags k.data_tags h.data_order k.data_order in
@@ -33,7 +33,7 @@ final-one b d xs ys h k =
     ∙ (ap (λ (ts : List Tag). map (codeword_at (data_cut b) d) k.data_tags ++ map (check_at h.corrections) ts) u
     ∙ (ap (λ (cs : List (List ℕ)). map (codeword_at (data_cut b) d) k.data_tags ++ map (check_at cs) k.check_tags) e ∙ sym k.whole)))
 
--- joined lists with prefixes of one length are equal part by part
+-- two equal joined lists with first parts of the same length are equal part by part
 pub append-front : {X : Type 0} (xs ys us vs : List X) → length xs ≡ length ys → xs ++ us ≡ ys ++ vs → (xs ≡ ys) × (us ≡ vs)
 append-front [] [] us vs n e = (refl, e)
 append-front [] (y ∷ ys) us vs n e = absurd (omega arith)
@@ -44,7 +44,7 @@ append-front (x ∷ xs) (y ∷ ys) us vs n e =
     let w = append-front xs ys us vs (omega arith) t in
     (λ i. h i ∷ w.0 i, w.1)
 
--- a final message is that of one list of data codewords
+-- a sequence is the final sequence of at most one list of data codewords
 pub data-one : (b : Blocks) (d e cw : List ℕ) → length d ≡ cut_len (data_cut b) → length e ≡ cut_len (data_cut b) → IsFinalMessage b d cw → IsFinalMessage b e cw → d ≡ e
 data-one b d e cw n m h k =
     let c = data_cut b in
@@ -60,9 +60,9 @@ data-one b d e cw n m h k =
     same-place : (d e : List ℕ) (i j : ℕ) → i ≡ j → get_or d i 0 ≡ get_or e i 0 → get_or d j 0 ≡ get_or e j 0
     same-place d e i j f q = subst (λ (z : ℕ). get_or d z 0 ≡ get_or e z 0) f q
 
--- ---- how long it is
+-- ---- the length of a final sequence
 
--- a final message has a codeword for each tag
+-- a final sequence has a codeword for each tag
 final-many : (b : Blocks) (d cw : List ℕ) → IsFinalMessage b d cw → length cw ≡ cut_len (data_cut b) + cut_len (correction_cut b)
 final-many b d cw h =
     let e = ap (length {A = ℕ}) h.whole in
@@ -73,19 +73,19 @@ final-many b d cw h =
     let q = tags-many (correction_cut b) h.check_tags h.check_order in
     omega arith
 
--- blocks of two lengths, summed
+-- the number of codewords in blocks of two lengths
 cut-sum : (k n r : ℕ) → n * (k + r) + (k + r - k) ≡ k * n + r * (n + 1)
 cut-sum k n r = omega arith
 
--- blocks of one length, summed
+-- the number of codewords in blocks of one length
 cut-even : (k n : ℕ) → n * (k + 0) + (k + 0 - k) ≡ k * n
 cut-even k n = omega arith
 
--- the blocks of the data codewords hold them all
+-- the blocks of the data codewords contain all data codewords
 pub data-cut-whole : (v : ℕ) (l : Level) → 1 ≤ v → v ≤ 40 → cut_len (data_cut (blocks_of v l)) ≡ data_codewords_of v l
 data-cut-whole v l h k = let b = blocks_of v l in cut-sum b.short b.short_len b.long ∙ (blocks-sound l v h k).data_whole
 
--- and the two sorts of blocks the codewords of the symbol
+-- the blocks of data and error correction codewords together contain all codewords of the symbol
 pub cuts-whole : (v : ℕ) (l : Level) → 1 ≤ v → v ≤ 40 → cut_len (data_cut (blocks_of v l)) + cut_len (correction_cut (blocks_of v l)) ≡ total_codewords_of v
 cuts-whole v l h k =
     let b = blocks_of v l in
@@ -94,11 +94,11 @@ cuts-whole v l h k =
     let e = cut-even (b.short + b.long) b.ec_len in
     omega arith
 
--- a final message fills the symbol
+-- a final sequence has as many codewords as the symbol
 pub final-whole : (v : ℕ) (l : Level) (d cw : List ℕ) → 1 ≤ v → v ≤ 40 → IsFinalMessage (blocks_of v l) d cw → length cw ≡ total_codewords_of v
 final-whole v l d cw h k i = final-many (blocks_of v l) d cw i ∙ cuts-whole v l h k
 
--- what an answer says of its value, with what follows from it
+-- a fact that holds for the value of a result, with another fact that follows from it
 pub ok-also : {X E : Type 0} (P Q : X → Type 0) (r : Result X E) → IfOk r P → ((x : X) → P x → Q x) → IfOk r Q
 ok-also P Q (Ok x) h f = f x h
 ok-also P Q (Err e) h f = tt

@@ -1,4 +1,4 @@
--- Every input has parts: whether a prefix fits is decided, so one is the longest.
+-- Every input has parts: it is decidable whether a prefix fits, so there is a longest one.
 use Rattle.std.proofs.Common.{◌≡◌, ℕ, zero, suc, ◌+◌, ◌<◌, ◌≤◌, ◌⊎◌, Bool, true, false, ◌&&◌, nat_eq, cond, List, [], ◌∷◌, length, take, drop, refl, sym, subst, inl, inr, length-drop, arith}
 use Rattle.std.specs.Prelude.{IsTrue}
 use Rattle.std.specs.List.{list_all, sum_by}
@@ -15,30 +15,30 @@ use Rattle.qr_bits.specs.Padding.{room_of}
 use Rattle.qr_bits.proofs.Facts.{CoversInTurn, byte_used, capacity_least, count_width_bound, covers_all, empty_fits, from_turn, in_turn}
 use Rattle.qr_symbol.specs.Series.{AreParts}
 
--- a fact holds or not
+-- a fact is decided if it holds or does not hold
 abbrev Decided : Type 0 → Type 0
 Decided A = A ⊎ (A → ⊥)
 
--- of two facts
+-- if two facts are decided, so are both together
 both : (A B : Type 0) → Decided A → Decided B → Decided (A × B)
 both A B (inl a) (inl b) = inl (a, b)
 both A B (inl a) (inr b) = inr (λ w. b w.1)
 both A B (inr a) d = inr (λ w. a w.0)
 
--- a test is true or not
+-- a test is decided
 true-or-not : (b : Bool) → Decided (IsTrue b)
 true-or-not true = inl refl
 true-or-not false = inr (λ h. cc)
 
--- one number is below another or not
+-- it is decided whether one number is less than another
 below-or-not : (m n : ℕ) → Decided (m < n)
 below-or-not m n = elim (cases_lt m n) [ inl l ↦ inl l | inr l ↦ inr (λ h. omega arith) ]
 
--- and at most another or not
+-- it is decided whether one number is at most another
 most-or-not : (m n : ℕ) → Decided (m ≤ n)
 most-or-not m n = elim (cases_lt n m) [ inl l ↦ inr (λ h. omega arith) | inr l ↦ inl l ]
 
--- segments take all of the bytes, one after the other, or not
+-- it is decided whether segments take all of the bytes, one segment after another
 in-turn-or-not : (xs : List ℕ) (segs : List Segment) → Decided (CoversInTurn xs segs)
 unfolding CoversInTurn
 in-turn-or-not [] [] = inl refl
@@ -52,12 +52,12 @@ in-turn-or-not xs (s ∷ ss) =
       | inr n ↦ inr (λ w. n (w.0, w.1))
     ]
 
--- segments cover the bytes or not
+-- it is decided whether segments cover the bytes
 covers-or-not : (xs : List ℕ) (segs : List Segment) → Decided (Covers xs segs)
 covers-or-not xs segs =
     elim (in-turn-or-not xs segs) [ inl h ↦ inl (from_turn xs segs h) | inr n ↦ inr (λ w. n (in_turn xs segs w)) ]
 
--- some list of n modes passes a test, or none does
+-- some list of n modes has a decided property, or no such list has it
 some-modes : (n : ℕ) (P : List Mode → Type 0) → ((ms : List Mode) → Decided (P ms)) → ((ms : List Mode) × P ms) ⊎ ((ms : List Mode) → length ms ≡ n → P ms → ⊥)
 some-modes zero P d = elim (d []) [ inl p ↦ inl ([], p) | inr q ↦ inr (empty q) ]
   where
@@ -88,7 +88,7 @@ some-modes (suc n) P d =
     none a b e f (Byte ∷ ks) l p = e ks (omega arith) p
     none a b e f (Kanji ∷ ks) l p = f ks (omega arith) p
 
--- runs are as long as the modes that they are made of
+-- the runs of a list of modes are together as long as the list
 runs-long : (ms : List Mode) → sum_by (λ s. s.len) (runs_of ms) ≡ length ms
 unfolding runs_of
 runs-long [] = refl
@@ -102,7 +102,7 @@ runs-long (m ∷ ms) = front (runs_of ms) (runs-long ms)
         by_rank true = omega (arith, e, sum_by-cons (λ (t : Segment). t.len) (record { mode = m; len = 1 + s.len }) ss, sum_by-cons (λ (t : Segment). t.len) s ss)
         by_rank false = omega (arith, e, sum_by-cons (λ (t : Segment). t.len) (record { mode = m; len = 1 }) (s ∷ ss))
 
--- bytes fit or not
+-- it is decided whether bytes fit
 fits-or-not : (v : ℕ) (r : Rule) (xs : List ℕ) (n : ℕ) → Decided (HasFit v r xs n)
 fits-or-not v r xs n =
     elim (some-modes (length xs) (λ ms. IsLettering r xs ms × (bits v (runs_of ms) ≤ n)) (λ ms. both (IsLettering r xs ms) (bits v (runs_of ms) ≤ n)
@@ -112,7 +112,7 @@ fits-or-not v r xs n =
       | inr q ↦ inr (λ h. q h.0 (let a = runs-long h.0 in let b = (covers_all xs (runs_of h.0) h.1.1).1 in omega arith) (h.1, h.2))
     ]
 
--- of the prefixes up to one, where no longer one fits, the longest that fits
+-- if no prefix longer than k fits, there is a longest prefix of at most k bytes that fits
 longest-to : (v : ℕ) (r : Rule) (xs : List ℕ) (room k : ℕ) → k ≤ length xs → ((j : ℕ) → k < j → j ≤ length xs → HasFit v r (take j xs) room → ⊥) → (n : ℕ) × IsLongestFit v r xs room n
 longest-to v r xs room zero l none = (
   0,
@@ -146,7 +146,7 @@ byte-fits v r b room l =
     from_turn (b ∷ []) (runs_of (Byte ∷ [])) (omega arith, omega arith, refl, refl) in
     (Byte ∷ [], (subst (λ (t : Bool). IsTrue (t && true)) (sym (byte_used r)) refl, covered), omega arith)
 
--- bytes have parts
+-- bytes have parts, if a bound for their number is known
 parts-to : (most v : ℕ) (l : Level) (r : Rule) (x : List ℕ) → 1 ≤ v → v ≤ 40 → length x ≤ most → (parts : List (List ℕ)) × AreParts v l r x parts
 unfolding AreParts
 parts-to most v l r [] p q h = ([], refl)

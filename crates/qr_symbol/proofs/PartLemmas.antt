@@ -1,4 +1,4 @@
--- The parts of bytes: how long a prefix fits, and the lengths that are found one after the other.
+-- The parts of an input: how long a prefix fits, and the lengths of the parts, which are found one after another.
 use Rattle.std.proofs.Common.{◌≡◌, ℕ, zero, suc, ◌+◌, ◌-◌, ◌*◌, ◌<◌, ◌≤◌, min, true, false, leb, ◌⊎◌, All, List, [], ◌∷◌, ◌++◌, take, drop, length, get_or, Some, refl, sym, ◌∙◌, ap, subst, append_assoc, inl, inr, arith}
 use Rattle.std.specs.List.{concat, list_all}
 use Rattle.std.specs.Prelude.{IsTrue}
@@ -24,7 +24,7 @@ use Rattle.qr_symbol.specs.Steps.Series.{AreLengths, parts_of}
 
 -- ---- how long a prefix fits
 
--- one byte has no more than 28 bits
+-- one byte fits if there is room for 28 bits
 one-fits : (v : ℕ) (b : Rule) (x n : ℕ) → 28 ≤ n → HasFit v b (x ∷ []) n
 unfolding runs_of CoversInTurn
 one-fits v b x n h = (Byte ∷ [], (and_from (may_use b Byte) true (byte_used b) refl, from_turn (x ∷ []) (runs_of (Byte ∷ [])) (omega arith, omega arith, refl, refl)), omega (arith, count_width_bound v Byte))
@@ -36,7 +36,7 @@ longest-some v l b (x ∷ xs) n p q some h =
     let least = capacity_least v l p q in
     let one = h.longest 1 (omega arith) (one-fits v b x (room_of v l) (omega arith)) in omega arith
 
--- letters of byte mode may stand by any rule
+-- any rule allows byte mode for all bytes
 bytes-used : (b : Rule) (n : ℕ) → IsTrue (list_all (may_use b) (replicate n Byte))
 bytes-used b zero = refl
 bytes-used b (suc n) = and_from (may_use b Byte) _ (byte_used b) (bytes-used b n)
@@ -46,7 +46,7 @@ five-all : every (λ l v. leb (4 + count_width v Byte + 40) (room_of v l)) ≡ t
 unfolding block_count_of correction_len_of data_codewords_of total_codewords_of
 five-all = refl
 
--- so from one to five bytes fit after a header
+-- so up to five bytes fit after a header
 few-fit : (v : ℕ) (l : Level) (b : Rule) (xs : List ℕ) → 1 ≤ v → v ≤ 40 → 0 < length xs → length xs ≤ 5 → HasFit v b xs (room_of v l)
 unfolding runs_of CoversInTurn
 few-fit v l b [] p q some few = absurd (omega arith)
@@ -67,7 +67,7 @@ few-fit v l b (x ∷ y ∷ z ∷ w ∷ u ∷ []) p q some few =
     (Byte ∷ Byte ∷ Byte ∷ Byte ∷ Byte ∷ [], (bytes-used b 5, from_turn (x ∷ y ∷ z ∷ w ∷ u ∷ []) (runs_of (Byte ∷ Byte ∷ Byte ∷ Byte ∷ Byte ∷ [])) (omega arith, omega arith, refl, refl)), omega (arith, five))
 few-fit v l b (x ∷ y ∷ z ∷ w ∷ u ∷ t ∷ xs) p q some few = absurd (omega arith)
 
--- so a part has at least five bytes, or all that is left
+-- so a part has at least five bytes, or it is the whole rest
 pub part-least : (v : ℕ) (l : Level) (b : Rule) (x p : List ℕ) (ps : List (List ℕ)) → 1 ≤ v → v ≤ 40 → AreParts v l b x (p ∷ ps) → (5 ≤ length p) ⊎ (p ≡ x)
 unfolding AreParts
 part-least v l b x p ps i j h =
@@ -88,18 +88,18 @@ part-least v l b x p ps i j h =
           inl (omega (arith, many, same, five))
     ]
 
--- what fits after a header has at most 7,089 bytes
+-- bytes that fit after a header are at most 7,089
 pub part-short : (v : ℕ) (l : Level) (b : Rule) (xs : List ℕ) → 1 ≤ v → v ≤ 40 → HasFit v b xs (room_of v l) → length xs ≤ 7089
 part-short v l b xs p q fit = fitting_short v l b xs p q (fit.0, fit.1, (let few = fit.2 in omega arith))
 
--- the prefix of a prefix
+-- a prefix of a prefix is a prefix of the whole list
 take-less : {X : Type 0} (k m : ℕ) (xs : List X) → k ≤ m → take k (take m xs) ≡ take k xs
 take-less zero m xs h = refl
 take-less (suc k) zero xs h = absurd (omega arith)
 take-less (suc k) (suc m) [] h = refl
 take-less (suc k) (suc m) (x ∷ xs) h = ap (λ zs. x ∷ zs) (take-less k m xs (omega arith))
 
--- the longest prefix that fits is that of any prefix of so many bytes
+-- to find the longest prefix that fits, the first 7,089 bytes are enough
 pub longest-cut : (v : ℕ) (l : Level) (b : Rule) (xs : List ℕ) (m n : ℕ) → 1 ≤ v → v ≤ 40 → min (length xs) 7089 ≤ m → IsLongestFit v b (take m xs) (room_of v l) n → IsLongestFit v b xs (room_of v l) n
 longest-cut v l b xs m n p q long h =
     let room = room_of v l in
@@ -117,43 +117,43 @@ longest-cut v l b xs m n p q long h =
 
 -- ---- lengths of parts
 
--- lengths of parts cut the bytes into parts
+-- the parts that belong to lengths of parts are the parts of the bytes
 pub parts-are : (v : ℕ) (l : Level) (b : Rule) (x ns : List ℕ) → AreLengths v l b x ns → AreParts v l b x (parts_of x ns)
 unfolding AreLengths AreParts parts_of
 parts-are v l b x [] h = h
 parts-are v l b x (n ∷ ns) h = (n, h.0, h.1, refl, parts-are v l b (drop n x) ns h.2)
 
--- they are as many
+-- there are as many parts as lengths
 pub length-parts : (x ns : List ℕ) → length (parts_of x ns) ≡ length ns
 unfolding parts_of
 length-parts x [] = refl
 length-parts x (n ∷ ns) = ap suc (length-parts (drop n x) ns)
 
--- no byte has no part
+-- an empty input has no parts
 pub lengths-none : (v : ℕ) (l : Level) (b : Rule) → AreLengths v l b [] []
 unfolding AreLengths
 lengths-none v l b = refl
 
--- bytes have lengths of parts
+-- an input with a byte has at least one length
 pub lengths-some : (v : ℕ) (l : Level) (b : Rule) (x ns : List ℕ) → AreLengths v l b x ns → 0 < length x → 0 < length ns
 unfolding AreLengths
 lengths-some v l b x [] h some = absurd (omega (arith, ap length h))
 lengths-some v l b x (n ∷ ns) h some = omega arith
 
--- the next length: where the lengths so far and those of the rest are those of the whole, so they are with it
+-- if the lengths found and those of the rest are those of the whole input, so they are with the next length
 pub lengths-more : (v : ℕ) (l : Level) (b : Rule) (whole found rest : List ℕ) (n : ℕ) → 0 < n → IsLongestFit v b rest (room_of v l) n
     → ((ns : List ℕ) → AreLengths v l b rest ns → AreLengths v l b whole (found ++ ns))
     → (ns : List ℕ) → AreLengths v l b (drop n rest) ns → AreLengths v l b whole ((found ++ n ∷ []) ++ ns)
 unfolding AreLengths
 lengths-more v l b whole found rest n some fit all ns h = rw append_assoc (all (n ∷ ns) (some, fit, h))
 
--- the longest prefix is one
+-- there is only one length of the longest prefix
 longest-one : (v : ℕ) (b : Rule) (xs : List ℕ) (room m n : ℕ) → IsLongestFit v b xs room m → IsLongestFit v b xs room n → m ≡ n
 longest-one v b xs room m n h k =
     let below = k.longest m h.inside h.fits in
     let above = h.longest n k.inside k.fits in omega arith
 
--- bytes have one list of parts
+-- bytes have only one list of parts
 pub parts-one : (v : ℕ) (l : Level) (b : Rule) (x : List ℕ) (ps qs : List (List ℕ)) → AreParts v l b x ps → AreParts v l b x qs → ps ≡ qs
 unfolding AreParts
 parts-one v l b x [] [] h k = refl
@@ -165,13 +165,13 @@ parts-one v l b x (p ∷ ps) (q ∷ qs) h k =
     let rest = parts-one v l b (drop k.0 x) ps qs (subst (λ (n : ℕ). AreParts v l b (drop n x) ps) same h.4) k.4 in
     λ i. here i ∷ rest i
 
--- bytes have a part
+-- an input with a byte has at least one part
 pub parts-some : (v : ℕ) (l : Level) (b : Rule) (x : List ℕ) (ps : List (List ℕ)) → AreParts v l b x ps → 0 < length x → 0 < length ps
 unfolding AreParts
 parts-some v l b x [] h some = absurd (omega (arith, ap length h))
 parts-some v l b x (p ∷ ps) h some = omega arith
 
--- parts hold at most 7,089 bytes each
+-- the bytes of parts are at most 7,089 for each part
 pub parts-long : (v : ℕ) (l : Level) (b : Rule) (x : List ℕ) (ps : List (List ℕ)) → 1 ≤ v → v ≤ 40 → AreParts v l b x ps → length x ≤ 7089 * length ps
 unfolding AreParts
 parts-long v l b x [] i j h = omega (arith, ap length h)
@@ -183,20 +183,20 @@ parts-long v l b x (p ∷ ps) i j h =
 
 -- ---- no fewer parts
 
--- what is left after the first of two lists
+-- the rest of two joined lists, if the first list is dropped as a whole
 behind-all : {X : Type 0} (k : ℕ) (xs ys : List X) → length xs ≤ k → drop k (xs ++ ys) ≡ drop (k - length xs) ys
 behind-all k xs ys i =
     let sum : k ≡ length xs + (k - length xs) = omega arith in
     ap (λ (n : ℕ). drop n (xs ++ ys)) sum ∙ drop-append-add xs ys (k - length xs)
 
--- bytes without a prefix of them need no more bits
+-- a rest of the bytes fits wherever all of the bytes fit
 rest-fits : (v : ℕ) (b : Rule) (k : ℕ) (xs : List ℕ) (n : ℕ) → may_use b Kanji ≡ false → HasFit v b xs n → HasFit v b (drop k xs) n
 rest-fits v b k xs n plain fit =
     let whole : xs ≡ take k xs ++ (drop k xs ++ []) = rw (append-nil (drop k xs)) (sym (take-append-drop k xs)) in
     let all : HasFit v b (take k xs ++ (drop k xs ++ [])) n = subst (λ (ys : List ℕ). HasFit v b ys n) whole fit in
     piece_fits v b (take k xs) (drop k xs) [] n plain all
 
--- bytes without a prefix of them are cut into no more parts that fit
+-- a rest of the bytes can be cut into at most as many parts that fit as all of the bytes
 rest-parts : (v : ℕ) (l : Level) (b : Rule) (k : ℕ) (ps : List (List ℕ)) → may_use b Kanji ≡ false → All (λ p. HasFit v b p (room_of v l)) ps
     → (qs : List (List ℕ)) × FitParts v l b (drop k (concat ps)) qs × (length qs ≤ length ps)
 rest-parts v l b k [] plain h = ([], (drop-nil k, h), omega arith)
@@ -211,7 +211,7 @@ rest-parts v l b k (p ∷ ps) plain h =
           (r.0, (behind-all k p (concat ps) i ∙ r.1.0, r.1.1), omega (arith, r.2)))
     ]
 
--- where the rest after the longest prefix needs k parts, the bytes need one more
+-- if the rest after the longest prefix needs k parts, the bytes need k + 1
 pub needs-more : (v : ℕ) (l : Level) (b : Rule) (x : List ℕ) (n k : ℕ) → may_use b Kanji ≡ false → 0 < length x → IsLongestFit v b x (room_of v l) n → NeedsParts v l b (drop n x) k → NeedsParts v l b x (k + 1)
 needs-more v l b x n k plain some fit needs [] cut = absurd (omega (arith, ap length cut.0))
 needs-more v l b x n k plain some fit needs (p ∷ ps) cut =
@@ -224,7 +224,7 @@ needs-more v l b x n k plain some fit needs (p ∷ ps) cut =
     let few = needs r.0 (left, r.1.1) in
     omega (arith, r.2)
 
--- where the longest prefixes of the rest are k or more, those of the bytes are one more
+-- if the parts of the rest after the longest prefix are at least k, those of the bytes are at least k + 1
 pub prefixes-more : (v : ℕ) (l : Level) (b : Rule) (x : List ℕ) (n k : ℕ) → 0 < length x → IsLongestFit v b x (room_of v l) n
     → ((qs : List (List ℕ)) → AreParts v l b (drop n x) qs → k ≤ length qs) → (ps : List (List ℕ)) → AreParts v l b x ps → k + 1 ≤ length ps
 unfolding AreParts
@@ -234,12 +234,12 @@ prefixes-more v l b x n k some fit many (p ∷ ps) h =
     let more = many ps (subst (λ (m : ℕ). AreParts v l b (drop m x) ps) same h.4) in
     omega arith
 
--- bytes need a part
+-- an input with a byte needs at least one part
 pub needs-some : (v : ℕ) (l : Level) (b : Rule) (x : List ℕ) → 0 < length x → NeedsParts v l b x 1
 needs-some v l b x some [] cut = absurd (omega (arith, ap length cut.0))
 needs-some v l b x some (p ∷ ps) cut = omega arith
 
--- bytes need as many parts as they have
+-- without kanji mode, bytes need as many parts as their longest prefixes make
 pub needs-parts : (v : ℕ) (l : Level) (b : Rule) (x : List ℕ) (ps : List (List ℕ)) → may_use b Kanji ≡ false → AreParts v l b x ps → NeedsParts v l b x (length ps)
 unfolding AreParts
 needs-parts v l b x [] plain h qs cut = omega arith
@@ -257,9 +257,9 @@ parts-fit v l b x (p ∷ ps) h =
     let whole : p ++ concat ps ≡ x = rw (h.3, ← rest.0) (take-append-drop h.0 x) in
     (sym whole, All-cons fits p ps (subst fits (sym h.3) h.2.fits) rest.1)
 
--- ---- the symbols of parts, one after the other
+-- ---- the symbols of parts, one after another
 
--- what a length says of the rest that it cuts
+-- the length with index i is that of the longest prefix of the rest that it cuts
 pub lengths-at : (v : ℕ) (l : Level) (b : Rule) (rest ns : List ℕ) (i : ℕ) → i < length ns → AreLengths v l b rest (drop i ns)
     → IsLongestFit v b rest (room_of v l) (get_or ns i 0) × AreLengths v l b (drop (get_or ns i 0) rest) (drop (i + 1) ns)
 unfolding AreLengths
@@ -268,7 +268,7 @@ lengths-at v l b rest ns i some h =
     let next : suc i ≡ i + 1 = omega arith in
     (here.1, subst (λ (k : ℕ). AreLengths v l b (drop (get_or ns i 0) rest) (drop k ns)) next here.2)
 
--- where the symbols so far and those of the rest are those of the whole, so they are with the next symbol
+-- if the symbols made and those of the rest are those of all parts, so they are with the next symbol
 pub symbols-more : (v : ℕ) (l : Level) (b : Rule) (last parity k : ℕ) (rest ns : List ℕ) (whole : List (List ℕ)) (found : List Symbol) (s : Symbol) → k < length ns
     → IsSymbolOf v l b (take (get_or ns k 0) rest) (Some (record { position = k; last = last; parity = parity })) s
     → ((ss : List Symbol) → AreSymbolsFrom v l b last parity k (parts_of rest (drop k ns)) ss → AreSymbolsFrom v l b last parity 0 whole (found ++ ss))
@@ -279,7 +279,7 @@ symbols-more v l b last parity k rest ns whole found s some is all ss h =
     let rest_of = subst (λ (j : ℕ). AreSymbolsFrom v l b last parity (k + 1) (parts_of (drop (get_or ns k 0) rest) (drop j ns)) ss) next h in
     rw append_assoc (all (s ∷ ss) (rw (drop-cons ns k 0) (is, rest_of)))
 
--- no part has no symbol
+-- if there is no part left, there is no symbol left
 pub symbols-none : (v : ℕ) (l : Level) (b : Rule) (last parity k : ℕ) (rest : List ℕ) → AreSymbolsFrom v l b last parity k (parts_of rest []) []
 unfolding AreSymbolsFrom parts_of
 symbols-none v l b last parity k rest = tt

@@ -1,4 +1,4 @@
--- How many tags come before one, and that there is one order of tags.
+-- The number of tags before a tag, and that a cut has only one order of tags.
 use Rattle.std.proofs.Common.{◌≡◌, ℕ, zero, suc, ◌+◌, ◌-◌, ◌*◌, ◌<◌, ◌≤◌, cond, eqb, ltb, List, [], ◌∷◌, ◌++◌, map, length, length-append, sym, ◌∙◌, ap, subst, inl, inr, ◌⊎◌, arith}
 use Rattle.std.proofs.lemmas.Bool.Decides.{nat_tests}
 use Rattle.std.proofs.lemmas.Bool.{cases_lt}
@@ -9,7 +9,7 @@ use Rattle.qr_symbol.specs.declared.interleaving.Cut.{Cut}
 use Rattle.qr_symbol.specs.Interleaving.{Tag, IsSentBefore, block_count, block_len, start_of, cut_len, IsTag, IsTagOrder}
 use Rattle.qr_symbol.proofs.TagLemmas.{tag, TagsBefore, tags-start, tags-push, tags-pass, tags-row, tags-end, start-next, start-most}
 
--- two tags never have one place
+-- two tags of codewords at the same position of the message are equal
 pub tag-one : (c : Cut) (t u : Tag) → IsTag c t → IsTag c u → start_of c t.block + t.place ≡ start_of c u.block + u.place → (t.place ≡ u.place) × (t.block ≡ u.block)
 tag-one c t u i j e =
     let a = start-next c t.block in
@@ -30,15 +30,15 @@ tag-one c t u i j e =
 abbrev pub rank_of : Cut → ℕ → ℕ → ℕ
 rank_of c p b = cond (ltb p c.short_len) (block_count c * p + b) (cond (eqb p c.short_len) (c.short_len * block_count c + (b - c.short)) (cut_len c))
 
--- a tag is in the part that all blocks have, or at the end of a long one
+-- a codeword is at an index that all blocks have, or it is the last one of a long block
 tag-cases : (c : Cut) (p b : ℕ) → (IsTag c (tag p b)) → (p < c.short_len) ⊎ ((p ≡ c.short_len) × (c.short ≤ b))
 tag-cases c p b i = let l = i.1 in grind (arith, nat_tests)
 
--- one tag more
+-- after a tag, the number of tags is one more
 pub rank-push : (c : Cut) (p b : ℕ) → IsTag c (tag p b) → rank_of c p (b + 1) ≡ rank_of c p b + 1
 rank-push c p b i = let w = tag-cases c p b i in grind (arith, nat_tests)
 
--- a tag comes before the end
+-- the number of tags before a tag is less than the number of all codewords
 pub rank-in : (c : Cut) (p b : ℕ) → IsTag c (tag p b) → rank_of c p b < cut_len c
 rank-in c p b i = elim (tag-cases c p b i) [
   | inl l ↦
@@ -59,14 +59,14 @@ rank-in c p b i = elim (tag-cases c p b i) [
     more : (n p : ℕ) → n * (p + 1) ≡ n * p + n
     more n p = let o : p + 1 ≡ suc p = omega arith in rw o (mul-suc n p)
 
--- a block that has no such place
+-- block b has no codeword with index p, so the number stays the same
 pub rank-pass : (c : Cut) (p b : ℕ) → p ≤ c.short_len → b < block_count c → (IsTag c (tag p b) → ⊥) → rank_of c p (b + 1) ≡ rank_of c p b
 rank-pass c p b l m n = elim (cases_lt p (block_len c b)) [
   | inl k ↦ absurd (n (m, k))
   | inr k ↦ grind (arith, nat_tests)
 ]
 
--- on to the next place
+-- after the last block, the number is that of the first tag with the next index
 pub rank-row : (c : Cut) (p : ℕ) → p ≤ c.short_len → rank_of c p (block_count c) ≡ rank_of c (p + 1) 0
 rank-row c p l = elim (cases_lt p c.short_len) [
   | inl k ↦
@@ -87,11 +87,11 @@ rank-row c p l = elim (cases_lt p c.short_len) [
 pub rank-start : (c : Cut) → 0 ≡ rank_of c 0 0
 rank-start c = grind (arith, nat_tests)
 
--- past the last place all have come
+-- after the last index, the number is that of all codewords
 pub rank-end : (c : Cut) → rank_of c (c.short_len + 1) 0 ≡ cut_len c
 rank-end c = grind (arith, nat_tests)
 
--- ---- one order
+-- ---- only one order
 
 -- what is contained is a member
 pub Mem-of-Contains : {X : Type 0} (xs : List X) (x : X) → Contains xs x → Mem x xs
@@ -99,25 +99,25 @@ Mem-of-Contains [] x (k, l, e) = absurd (omega arith)
 Mem-of-Contains (y ∷ ys) x (zero, l, e) = inl e
 Mem-of-Contains (y ∷ ys) x (suc k, l, e) = inr (Mem-of-Contains ys x (k, omega arith, e))
 
--- what holds of all, by recursion
+-- a fact that holds for all items, in recursive form
 All-rec : {X : Type 0} (P : X → Type 0) (xs : List X) → All P xs → AllByRecursion P xs
 All-rec P [] h = tt
 All-rec P (x ∷ xs) h = (h 0 x (omega arith), All-rec P xs (λ k d l. h (suc k) d (omega arith)))
 
--- two tags do not come before each other
+-- of two tags, at most one is sent before the other
 asym : (t u : Tag) → IsSentBefore t u → IsSentBefore u t → ⊥
 asym t u (inl h) (inl k) = absurd (omega arith)
 asym t u (inl h) (inr k) = absurd (let e = k.0 in omega arith)
 asym t u (inr h) (inl k) = absurd (let e = h.0 in omega arith)
 asym t u (inr h) (inr k) = absurd (let a = h.1 in let b = k.1 in omega arith)
 
--- there is one order of tags
+-- a cut has only one order of tags
 pub tags-one : (c : Cut) (ts us : List Tag) → IsTagOrder c ts → IsTagOrder c us → ts ≡ us
 tags-one c ts us h k = one_rising IsSentBefore asym ts us (Rises-of-pairs IsSentBefore ts h.rising) (Rises-of-pairs IsSentBefore us k.rising)
     (λ t m. Mem-of-Contains us t (k.complete t (Mem-at (IsTag c) ts t (All-rec (IsTag c) ts h.in_blocks) m)))
     (λ t m. Mem-of-Contains ts t (h.complete t (Mem-at (IsTag c) us t (All-rec (IsTag c) us k.in_blocks) m)))
 
--- each place of a message has its tag
+-- each position of the message is that of a tag
 pub tag-of : (c : Cut) (k j : ℕ) → k ≤ block_count c → j < start_of c k → (t : Tag) × IsTag c t × (start_of c t.block + t.place ≡ j)
 tag-of c zero j l m = absurd (no_start c.short_len)
   where
@@ -132,15 +132,15 @@ tag-of c (suc k) j l m =
       | inr s ↦ (tag (j - start_of c k) k, (omega arith, omega arith), omega arith)
     ]
 
--- equal lists of values have equal values
+-- two functions that map a list to the same list agree on its members
 pub map-at : {X Y : Type 0} (f g : X → Y) (xs : List X) (x : X) → map f xs ≡ map g xs → Mem x xs → f x ≡ g x
 map-at f g [] x e m = absurd m
 map-at f g (y ∷ ys) x e (inl k) = let h : f y ≡ g y = cc in ap f (sym k) ∙ (h ∙ ap g k)
 map-at f g (y ∷ ys) x e (inr m) = let t : map f ys ≡ map g ys = cc in map-at f g ys x t m
 
--- ---- how many tags there are
+-- ---- the number of all tags
 
--- the tags before one, and their number
+-- the tags before the tag (p, b), with their number
 record Listed (c : Cut) (p b : ℕ) : Type 0 where
   pub tags : List Tag
   pub order : TagsBefore c p b tags
@@ -155,12 +155,12 @@ listed-next c p b l m h = elim (cases_lt p (block_len c b)) [
       record { tags = h.tags; order = tags-pass c p b h.tags n h.order; many = h.many ∙ sym (rank-pass c p b l m n) }
 ]
 
--- all blocks of a place
+-- all blocks at one index
 listed-across : (c : Cut) (p b : ℕ) → p ≤ c.short_len → b ≤ block_count c → Listed c p 0 → Listed c p b
 listed-across c p zero l m h = h
 listed-across c p (suc b) l m h = let e : b + 1 ≡ suc b = omega arith in subst (Listed c p) e (listed-next c p b l (omega arith) (listed-across c p b l (omega arith) h))
 
--- all places
+-- all indices
 listed-down : (c : Cut) (p : ℕ) → p ≤ c.short_len + 1 → Listed c p 0
 listed-down c zero l = record { tags = []; order = tags-start c; many = rank-start c }
 listed-down c (suc p) l =
@@ -168,7 +168,7 @@ listed-down c (suc p) l =
     let e : p + 1 ≡ suc p = omega arith in
     subst (λ (k : ℕ). Listed c k 0) e (record { tags = h.tags; order = tags-row c p h.tags h.order; many = h.many ∙ rank-row c p (omega arith) })
 
--- an order of tags has a tag for each codeword
+-- an order of tags has one tag for each codeword
 pub tags-many : (c : Cut) (ts : List Tag) → IsTagOrder c ts → length ts ≡ cut_len c
 tags-many c ts h =
     let w = listed-down c (c.short_len + 1) (omega arith) in

@@ -1,4 +1,4 @@
--- What is read from a square of codewords: their bits, the codewords and the message.
+-- What is read from the square of a symbol: the codeword bits, the codewords and the message.
 use Rattle.std.proofs.Common.{◌≡◌, ℕ, zero, suc, ◌+◌, ◌-◌, ◌*◌, ◌<◌, ◌≤◌, Bool, true, false, nat_eq, List, [], ◌∷◌, ◌++◌, map, take, drop, length, get_or, replicate, refl, sym, ◌∙◌, ap, subst, length-append, inl, inr, arith}
 use Rattle.std.proofs.lemmas.Bool.{cases_lt}
 use Rattle.std.proofs.lemmas.Bool.Decides.{nat_tests}
@@ -26,13 +26,13 @@ use Rattle.qr_matrix.proofs.Facts.{colour-square}
 use Rattle.qr_symbol.proofs.DrawingLemmas.{in-square, whole-push, Mem-mid}
 use Rattle.qr_symbol.proofs.MessageLemmas.{append-front, data-one, data-cut-whole}
 
--- what is inverted twice is as it was
+-- a bit that is inverted twice is unchanged
 inverted-twice : (b x : Bool) → inverted b (inverted b x) ≡ x
 inverted-twice true true = refl
 inverted-twice true false = refl
 inverted-twice false x = refl
 
--- the bit of one place
+-- the bit that is read at one module
 read-place : (v : ℕ) (l : Level) (mask : ℕ) (cw : List ℕ) (front back : List Module) (m : Module) → 1 ≤ v → IsOrder v (front ++ m ∷ back) → unmasked mask (grid_of v l mask cw) m ≡ codeword_bit cw (length front)
 unfolding colour_of
 read-place v l mask cw front back m k o =
@@ -42,7 +42,7 @@ read-place v l mask cw front back m k o =
     ap (inverted (inverts mask m.row m.col)) (colour-square (side_of v) (colour_of v l mask cw) m.row m.col w.0 w.1 ∙ ap (colour_by v l mask cw m.row m.col) e)
     ∙ (inverted-twice (inverts mask m.row m.col) (codeword_bit cw (number_of v m)) ∙ ap (codeword_bit cw) (number-at v front back m o))
 
--- the bits from one place of the order on
+-- the bits that are read from one module of the order on
 read-from : (v : ℕ) (l : Level) (mask : ℕ) (cw : List ℕ) (n : ℕ) (front rest : List Module) → 1 ≤ v → IsOrder v (front ++ rest) → length front + n ≤ 8 * length cw → n ≤ length rest → map (unmasked mask (grid_of v l mask cw)) (take n rest) ≡ take n (drop (length front) (bits_of cw))
 read-from v l mask cw zero front rest p o i h = refl
 read-from v l mask cw (suc n) front [] p o i h = absurd (omega arith)
@@ -57,7 +57,7 @@ read-from v l mask cw (suc n) front (m ∷ rest) p o i h =
     let both : map (unmasked mask (grid_of v l mask cw)) (take (suc n) (m ∷ rest)) ≡ get_or bits k false ∷ take n (drop (suc k) bits) = (let head = here ∙ sym bit in λ i. head i ∷ later i) in
     both ∙ ap (λ (xs : List Bool). take (suc n) xs) (sym c)
 
--- the prefix of the full length is the whole
+-- the prefix with the length of the list is the whole list
 take-whole : {X : Type 0} (xs : List X) (n : ℕ) → length xs ≡ n → take n xs ≡ xs
 take-whole [] zero e = refl
 take-whole [] (suc n) e = refl
@@ -74,9 +74,9 @@ read-grid v l mask cw ms p h o e =
     ∙ (append-nil (map (unmasked mask (grid_of v l mask cw)) (take t ms))
     ∙ (read-from v l mask cw t [] ms p o (omega arith) (omega arith) ∙ take-whole (bits_of cw) t (omega (arith, length-bits_of cw))))
 
--- ---- bits give back their bytes
+-- ---- bits determine their bytes
 
--- equal fields have equal bits
+-- numbers with the same bits as fields have equal bits
 field-one : (w x y : ℕ) → field w x ≡ field w y → (i : ℕ) → i < w → bit_at x i ≡ bit_at y i
 unfolding field
 field-one zero x y e i l = absurd (omega arith)
@@ -96,7 +96,7 @@ field-one (suc w) x y e i l = elim (cases_lt i w) [
     same_bit : (a b : ℕ) → a < 2 → b < 2 → nat_eq a 1 ≡ nat_eq b 1 → a ≡ b
     same_bit a b l m e = grind (arith, nat_tests)
 
--- equal bits are those of equal bytes
+-- bytes with the same bits are equal
 pub bits-one : (cw ds : List ℕ) → All (λ x. x < 256) cw → All (λ x. x < 256) ds → bits_of cw ≡ bits_of ds → cw ≡ ds
 unfolding bits_of
 bits-one [] [] a b e = refl
@@ -108,11 +108,11 @@ bits-one (c ∷ cs) (d ∷ ds) a b e =
     let t = bits-one cs ds (λ k x l. a (suc k) x (omega arith)) (λ k x l. b (suc k) x (omega arith)) w.1 in
     λ i. h i ∷ t i
 
--- a square is read as one list of codewords
+-- a square is read as at most one list of codewords
 pub read-one : (v mask : ℕ) (g : Grid) (cw ds : List ℕ) → IsRead v mask g cw → IsRead v mask g ds → cw ≡ ds
 read-one v mask g cw ds h k = bits-one cw ds h.bytes k.bytes (h.bits ∙ (ap (read_bits v mask g) (only_order v h.places k.places h.order k.order) ∙ sym k.bits))
 
--- every square holds codewords
+-- every square contains codewords
 pub read-some : (v mask : ℕ) (g : Grid) → 1 ≤ v → v ≤ 40 → (cw : List ℕ) × IsRead v mask g cw
 read-some v mask g p h =
     let t = total_codewords_of v in
@@ -126,13 +126,13 @@ read-some v mask g p h =
     let same = append-front bits (bits_of (bytes_of t bits)) [] (drop (8 * t) bits) (let l = length-bits_of (bytes_of t bits) in omega arith) (append-nil bits ∙ w.2) in
     (bytes_of t bits, record { bytes = w.1; places = ms; order = o; bits = sym same.0 })
 
--- codewords of a message make a square that holds it
+-- the square that is drawn for the codewords of a message contains this message
 pub message-read : (v : ℕ) (l : Level) (mask : ℕ) (d cw : List ℕ) → 1 ≤ v → v ≤ 40 → length cw ≡ total_codewords_of v → All (λ x. x < 256) cw → length d ≡ data_codewords_of v l → IsInterleaved v l d cw → IsMessage v l mask (grid_of v l mask cw) d
 message-read v l mask d cw p h n a m i =
     let o = to_come-start v in
     record { codewords = cw; read = record { bytes = a; places = to_come v _; order = o; bits = sym (read-grid v l mask cw _ p h o n) }; many = m; sent = i }
 
--- a square holds one message at most
+-- a square contains at most one message
 pub message-one : (v : ℕ) (l : Level) (mask : ℕ) (g : Grid) (d e : List ℕ) → 1 ≤ v → v ≤ 40 → IsMessage v l mask g d → IsMessage v l mask g e → d ≡ e
 message-one v l mask g d e p q h k =
     let same = read-one v mask g k.codewords h.codewords k.read h.read in

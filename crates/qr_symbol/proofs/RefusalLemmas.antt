@@ -1,4 +1,4 @@
--- A square is read, or not read for one reason.
+-- A square is read as one content, or is refused for one reason.
 use Rattle.std.proofs.Common.{◌≡◌, ℕ, List, refl, sym, ◌∙◌, ap, subst, inl, inr, ◌⊎◌, arith}
 use Rattle.std.specs.Prelude.{◌↔◌, MatchResult, Result, Ok, Err}
 use Rattle.qr_layout.specs.declared.level.Level.{Level}
@@ -12,7 +12,7 @@ use Rattle.qr_symbol.specs.Reading.{IsFormat, IsMessage, IsReading, IsOfVersion,
 use Rattle.qr_symbol.proofs.ReadLemmas.{message-one}
 use Rattle.qr_symbol.proofs.FormatLemmas.{format-one}
 
--- what it holds, it holds under any version, level and mask that it shows
+-- a square has one version, level and mask, so its message does not depend on how they were found
 pub moved : (g : Grid) (v w : ℕ) (l k : Level) (m n : ℕ) (d : List ℕ) → IsOfVersion g v → IsOfVersion g w → IsFormat g l m → IsFormat g k n → IsMessage v l m g d → (v ≡ w) × IsMessage w k n g d
 moved g v w l k m n d s t f h i =
     let a = s.side in
@@ -21,14 +21,14 @@ moved g v w l k m n d s t f h i =
     let e = format-one g l k m n f h in
     (vs, subst (λ (z : ℕ). IsMessage w k z g d) e.1 (subst (λ (z : Level). IsMessage w z m g d) e.0 (subst (λ (z : ℕ). IsMessage z l m g d) vs i)))
 
--- a parse gives one result
+-- a square has at most one outcome of parsing
 gives-one : (g : Grid) (r q : Result Content ParseFault) → IsParsedAs g r → IsParsedAs g q → r ≡ q
 gives-one g r q h k =
     let w = moved g k.version h.version k.level h.level k.mask h.mask k.message k.sized h.sized k.format h.format k.holds in
     let same = message-one h.version h.level h.mask g h.message k.message h.sized.least h.sized.most h.holds w.1 in
     sym h.parsed ∙ (ap (λ (d : List ℕ). parse h.version (bits_of d)) same ∙ (ap (λ (v : ℕ). parse v (bits_of k.message)) (sym w.0) ∙ k.parsed))
 
--- a square that holds a message is refused for its parse alone
+-- a square that contains a message is refused only if the message cannot be parsed, or for lack of memory
 refused : (g : Grid) (r : Result Content ParseFault) → IsParsedAs g r → (e : ReadFault) → IsUnread g e → (e ≡ fault.Memory) ⊎ ((x : ParseFault) × (e ≡ fault.Segments x) × (r ≡ Err x))
 refused g r h fault.Memory u = inl refl
 refused g r h fault.Side u = absurd (u h.version h.sized)
@@ -37,15 +37,15 @@ refused g r h fault.Check u = absurd (u.5 h.message (moved g h.version u.0 h.lev
 refused g r h (fault.Segments x) u = inr (x, refl, gives-one g r (Err x) h u.1)
 refused g r h fault.Series u = absurd u
 
--- a square that is read is refused for lack of memory alone
+-- a square that is read is refused only for lack of memory
 pub read-refused : (g : Grid) (p : Content) (e : ReadFault) → IsReading g p → IsUnread g e → e ≡ fault.Memory
 read-refused g p e h u = elim (refused g (Ok p) h e u) [ inl m ↦ m | inr w ↦ (let x = w.2 in absurd (cc)) ]
 
--- a square whose message is not parsed is refused for that, or for lack of memory
+-- a square whose message cannot be parsed is refused for that reason, or for lack of memory
 parse-refused : (g : Grid) (x : ParseFault) (e : ReadFault) → IsParsedAs g (Err x) → IsUnread g e → (e ≡ fault.Memory) ⊎ (fault.Segments x ≡ e)
 parse-refused g x e h u = elim (refused g (Err x) h e u) [ inl m ↦ inl m | inr w ↦ (let s = w.1 in let t = w.2 in inr (cc)) ]
 
--- a square is refused for one reason, or for lack of memory
+-- two faults of the same square are equal, or one of them is lack of memory
 pub refused-one : (g : Grid) (e f : ReadFault) → IsUnread g e → IsUnread g f → (e ≡ fault.Memory) ⊎ ((f ≡ fault.Memory) ⊎ (e ≡ f))
 refused-one g fault.Memory f a b = inl refl
 refused-one g fault.Side f a b = inr (by_fault f b)
@@ -81,7 +81,8 @@ refused-one g fault.Check f a b = inr (by_fault f b)
 refused-one g (fault.Segments x) f a b = inr (parse-refused g x f a.1 b)
 refused-one g fault.Series f a b = absurd a
 
--- refusals of which only one can come, and none beside a value, come exactly where they hold, but for lack of memory
+-- if at most one fault besides lack of memory can hold, and none of these beside a value, a call returns such a fault
+-- exactly if it holds, unless memory is refused
 pub exactly : {T : Type 0} (P : T → Type 0) (U : ReadFault → Type 0) (r : Result T ReadFault) → MatchResult r P U →
     ((x : T) (e : ReadFault) → P x → U e → e ≡ fault.Memory) →
     ((e f : ReadFault) → U e → U f → (e ≡ fault.Memory) ⊎ ((f ≡ fault.Memory) ⊎ (e ≡ f))) → (e : ReadFault) →

@@ -21,11 +21,11 @@ use Rattle.qr_symbol.proofs.MessageLemmas.{final-whole}
 use Rattle.qr_symbol.proofs.ReadLemmas.{message-read, message-one}
 use Rattle.qr_symbol.proofs.FormatLemmas.{format-one, format-read}
 
--- an item of bytes, or the default 0, is a byte
+-- an item of a list of bytes, or 0 after its end, is a byte
 byte-at : (xs : List ℕ) (k : ℕ) → All (λ x. x < 256) xs → get_or xs k 0 < 256
 byte-at xs k a = elim (cases_lt k (length xs)) [ inl l ↦ a k 0 l | inr l ↦ (let e = get_or-eq_default xs 0 {n = k} l in omega arith) ]
 
--- a final message of bytes is made of bytes
+-- the final sequence of a message of bytes consists of bytes
 final-bytes : (b : Blocks) (d cw : List ℕ) → All (λ x. x < 256) d → IsFinalMessage b d cw → All (λ x. x < 256) cw
 final-bytes b d cw a h =
     subst (All (λ x. x < 256)) (sym h.whole)
@@ -36,18 +36,18 @@ final-bytes b d cw a h =
     let i = (h.check_order.in_blocks k t l).0 in
     byte-at (get_or h.corrections u.block []) u.place (h.each u.block (omega arith)).bytes)))
 
--- a symbol holds its message
+-- the symbol of an input contains its message
 pub symbol-holds : (v : ℕ) (l : Level) (b : Rule) (x : List ℕ) (h : Option Header) (mask : ℕ) (g : Grid) → 1 ≤ v → v ≤ 40 → (s : IsSymbolAt v l b x h mask g) → IsMessage v l mask g s.message
 symbol-holds v l b x h mask g p q s =
     let bytes = final-bytes (blocks_of v l) s.message s.codewords s.written.bytes s.sent in
     let many = final-whole v l s.message s.codewords p q s.sent in
     subst (λ (z : Grid). IsMessage v l mask z s.message) (sym s.drawn) (message-read v l mask s.message s.codewords p q many bytes (length-data v l x s.segments h s.message s.written) s.sent)
 
--- a symbol shows its level and its mask
+-- a symbol has the format information of its level and mask
 pub symbol-format : (v : ℕ) (l : Level) (b : Rule) (x : List ℕ) (h : Option Header) (mask : ℕ) (g : Grid) → 1 ≤ v → v ≤ 40 → IsSymbolAt v l b x h mask g → IsFormat g l mask
 symbol-format v l b x h mask g p q s = subst (λ (z : Grid). IsFormat z l mask) (sym s.drawn) (format-read v l mask s.codewords p q s.best.in_range)
 
--- a symbol is read as the bytes of which it is the symbol, in their segments and after their header
+-- the symbol of an input is read as its bytes, in its segments and after its header
 pub symbol-read : (v : ℕ) (l : Level) (b : Rule) (x : List ℕ) (h : Option Header) (mask : ℕ) (g : Grid) → 1 ≤ v → v ≤ 40 → (s : IsSymbolAt v l b x h mask g) → IsReading g (record { header = h; segments = s.segments; bytes = x })
 symbol-read v l b x h mask g p q s = record {
   version = v;
@@ -60,7 +60,7 @@ symbol-read v l b x h mask g p q s = record {
   parsed = data_again v l x s.segments h s.message s.written;
 }
 
--- a square is read as one content at most
+-- a square is read as at most one content
 pub reading-one : (g : Grid) (p q : Content) → IsReading g p → IsReading g q → p ≡ q
 reading-one g p q h k =
     let a = h.sized.side in

@@ -1,4 +1,4 @@
--- An input has one series, which is read as the input; long inputs have none.
+-- An input has only one series, which is read as the input; long inputs have no series.
 use Rattle.std.proofs.Common.{◌≡◌, ℕ, suc, ◌+◌, ◌-◌, ◌*◌, ◌<◌, ◌≤◌, List, [], ◌∷◌, ◌++◌, drop, length, None, Some, Option, refl, sym, ◌∙◌, ap, subst, arith, inl, inr}
 use Rattle.std.proofs.lemmas.List.{append-nil, take-append-drop}
 use Rattle.qr_layout.specs.declared.level.Level.{Level}
@@ -37,9 +37,9 @@ split-series x l b v ns ss long cut few made =
       made = subst (λ (n : ℕ). AreSymbolsFrom v l b (n - 1) (parity_of x) 0 (parts_of x ns) ss) (sym many) made;
     })
 
--- ---- one series
+-- ---- only one series
 
--- bytes have one symbol of a version and level after a header or none
+-- bytes have at most one symbol of a version and a level after an optional header
 pub symbol-of-one : (v : ℕ) (l : Level) (b : Rule) (x : List ℕ) (h : Option Header) (s t : Symbol) → IsSymbolOf v l b x h s → IsSymbolOf v l b x h t → s ≡ t
 symbol-of-one v l b x h s t a c =
     let same = symbol-at-one v l b x h s.mask t.mask s.matrix t.matrix a.made c.made in
@@ -49,7 +49,7 @@ symbol-of-one v l b x h s t a c =
     let matrix = same.1 in
     λ i. record { version = version i; level = level i; mask = mask i; matrix = matrix i }
 
--- parts have one list of symbols
+-- parts have at most one list of symbols
 symbols-one : (v : ℕ) (l : Level) (b : Rule) (last parity k : ℕ) (ps : List (List ℕ)) (ss ts : List Symbol) → AreSymbolsFrom v l b last parity k ps ss → AreSymbolsFrom v l b last parity k ps ts → ss ≡ ts
 unfolding AreSymbolsFrom
 symbols-one v l b last parity k [] [] [] h g = refl
@@ -62,7 +62,7 @@ symbols-one v l b last parity k (p ∷ ps) (s ∷ ss) (t ∷ ts) h g =
     let rest = symbols-one v l b last parity (k + 1) ps ss ts h.1 g.1 in
     λ i. here i ∷ rest i
 
--- bytes have one series
+-- bytes have at most one series
 pub series-one : (x : List ℕ) (l : Level) (b : Rule) (v : ℕ) (ss ts : List Symbol) → IsSeries v l b x ss → IsSeries v l b x ts → ss ≡ ts
 series-one x l b v ss ts (inl h) (inl k) =
     h.alone ∙ (ap (λ (s : Symbol). s ∷ []) (symbol-of-one v l b x None h.symbol k.symbol h.made k.made) ∙ sym k.alone)
@@ -75,7 +75,7 @@ series-one x l b v ss ts (inr h) (inr k) =
 
 -- ---- what a series is read as
 
--- what the symbols of parts are read as
+-- the contents of the symbols of parts: their headers, their number and their bytes
 record AreRead (x : List ℕ) (last parity k count : ℕ) (squares : List Grid) : Type 0 where
   contents : List Content
   read : AreReadings squares contents
@@ -102,7 +102,7 @@ symbols-read v l b last parity k x (p ∷ ps) (s ∷ ss) i j cut h =
       bytes = ap (λ (ys : List ℕ). p ++ ys) rest.bytes ∙ (ap (λ (ys : List ℕ). ys ++ drop cut.0 x) cut.3 ∙ take-append-drop cut.0 x);
     }
 
--- a plain symbol is joined to its bytes
+-- the bytes of a symbol without a header are joined to the input
 lone-joined : (x : List ℕ) (l : Level) (b : Rule) (v : ℕ) (ss : List Symbol) → 1 ≤ v → v ≤ 40 → IsPlainSymbol v l b x ss → IsJoined (squares_of ss) x
 unfolding AreReadBy
 lone-joined x l b v ss i j h =
@@ -146,7 +146,7 @@ series-joined x l b v ss i j (inr h) = split-joined x l b v ss i j h
 pub long-fits-none : (x : List ℕ) (l : Level) (smallest : ℕ) (b : Rule) → 1 ≤ smallest → 7089 < length x → HasNoVersion smallest l b x
 long-fits-none x l smallest b i long v p q fits = let short = fitting_short v l b x (omega arith) q fits in omega arith
 
--- more than 16 times as many have no series
+-- inputs of more than 16 times 7,089 bytes have no series
 pub long-has-no-series : (x : List ℕ) (l : Level) (b : Rule) (v : ℕ) (ss : List Symbol) → 1 ≤ v → v ≤ 40 → 7089 * 16 < length x → IsSeries v l b x ss → ⊥
 long-has-no-series x l b v ss i j long (inl h) = let short = fitting_short v l b x i j h.fits in omega arith
 long-has-no-series x l b v ss i j long (inr h) = let all = parts-long v l b x h.parts i j h.split in let many = h.many in omega arith

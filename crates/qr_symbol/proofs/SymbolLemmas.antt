@@ -1,4 +1,4 @@
--- Why an input has only one symbol: each of its layers is one.
+-- An input has only one symbol, since each step of making it has only one result.
 use Rattle.std.proofs.Common.{◌≡◌, ℕ, inl, inr, List, Option, None, sym, ◌∙◌, ap, subst, arith}
 use Rattle.std.proofs.lemmas.Bool.{cases_lt}
 use Rattle.qr_layout.specs.declared.level.Level.{Level}
@@ -16,7 +16,7 @@ use Rattle.qr_symbol.specs.Encoding.{IsSymbolAt, SymbolsAreOne}
 use Rattle.qr_symbol.specs.VersionChoice.{IsVersion}
 use Rattle.qr_symbol.proofs.MessageLemmas.{final-one}
 
--- The first number of the least measure is one.
+-- Two first numbers of the least value are equal.
 least-one : (n : ℕ) (f : ℕ → ℕ) (m k : ℕ) → IsFirstLeast n f m → IsFirstLeast n f k → m ≡ k
 least-one n f m k a b =
     elim (a.least k b.in_range) [
@@ -24,7 +24,7 @@ least-one n f m k a b =
       | inr i ↦ elim (b.least m a.in_range) [ inl j ↦ (let e = i.0 in absurd (omega arith)) | inr w ↦ (let d = i.1 in let e = w.1 in omega arith) ]
     ]
 
--- The least version is one.
+-- Two least versions are equal.
 version-one : (xs : List ℕ) (l : Level) (least : ℕ) (rule : Rule) (v w : ℕ) → IsVersion least l rule xs v → IsVersion least l rule xs w → v ≡ w
 version-one xs l least rule v w a b =
     elim (cases_lt v w) [
@@ -32,7 +32,7 @@ version-one xs l least rule v w a b =
       | inr i ↦ elim (cases_lt w v) [ inl j ↦ absurd (a.first w b.least j b.fits) | inr j ↦ omega arith ]
     ]
 
--- Bytes have only one symbol of a version and level after a header or none.
+-- Bytes have at most one symbol of a version and a level after an optional header.
 pub symbol-at-one : (v : ℕ) (l : Level) (rule : Rule) (xs : List ℕ) (head : Option Header) (m n : ℕ) (g h : Grid) → IsSymbolAt v l rule xs head m g → IsSymbolAt v l rule xs head n h → (m ≡ n) × (g ≡ h)
 symbol-at-one v l rule xs head m n g h a b =
     let segments : a.segments ≡ b.segments = segmentation-one v rule xs a.segments b.segments a.chosen b.chosen in
@@ -49,7 +49,7 @@ symbol-at-one v l rule xs head m n g h a b =
     a.drawn ∙ ap (λ (k : ℕ). grid_of v l k a.codewords) mask ∙ ap (grid_of v l n) codewords ∙ sym b.drawn in
     (mask, square)
 
--- An input has only one symbol.
+-- An input has at most one symbol.
 pub symbol-one : SymbolsAreOne
 symbol-one xs l least rule v w m n g h a b =
     let version : v ≡ w = version-one xs l least rule v w a.version b.version in

@@ -1,4 +1,4 @@
--- The bits that are read along the walk, and the codewords that they make.
+-- The bits that are read along the walk, and the codewords that they form.
 use mathlib.Core.Bool.{beq}
 use Rattle.std.proofs.Common.{◌≡◌, ℕ, ◌+◌, ◌-◌, ◌*◌, ◌<◌, ◌≤◌, Bool, true, false, not, ltb, List, [], ◌∷◌, ◌++◌, map, take, drop, length, replicate, sym, ◌∙◌, ap, refl, subst, length-append, inl, inr, ◌⊎◌, arith}
 use Rattle.std.specs.List.{All}
@@ -33,7 +33,7 @@ bit-read mask g ms m dark turned front d t e =
     let b : not (beq dark turned) ≡ unmasked mask g m = differs-inverted dark turned ∙ (ap (inverted turned) d ∙ ap (λ (z : Bool). inverted z (colour g m.row m.col)) t) in
     ap (λ (bs : List Bool). bs ++ not (beq dark turned) ∷ []) e ∙ (ap (λ (z : Bool). map (unmasked mask g) ms ++ z ∷ []) b ∙ sym (map-append (unmasked mask g) ms (m ∷ [])))
 
--- the forty numbers of remainder bits are less than a codeword's, computed
+-- each of the forty versions has fewer than eight remainder bits, computed
 remainder-small : below 40 (λ i. ltb (remainder_bits_of (i + 1)) 8) ≡ true
 unfolding remainder_bits_of
 remainder-small = refl
@@ -43,7 +43,7 @@ few-left v l h =
     let e : v - 1 + 1 ≡ v = omega arith in
     ltb-true _ _ (subst (λ (k : ℕ). ltb (remainder_bits_of k) 8 ≡ true) e (below-at 40 (λ i. ltb (remainder_bits_of (i + 1)) 8) remainder-small (v - 1) (omega arith)))
 
--- the whole codewords before fewer than eight bits are all codewords
+-- if fewer than eight bits are left at the end of the walk, all codewords have been read
 pub all-read : (v mask : ℕ) (g : Grid) (ms rest : List Module) (cw : List ℕ) (width begun : ℕ) → 1 ≤ v → v ≤ 40 → rest ≡ [] → IsOrder v (ms ++ rest) → width < 8 → bits_of cw ++ field width begun ≡ map (unmasked mask g) ms → length cw ≡ total_codewords_of v
 all-read v mask g ms rest cw width begun p q e o w bits =
     let whole : IsOrder v ms = subst (IsOrder v) (ap (λ (xs : List Module). ms ++ xs) e ∙ append-nil ms) o in
@@ -56,7 +56,7 @@ all-read v mask g ms rest cw width begun p q e o w bits =
     let d = length-field width begun in
     omega arith
 
--- they are the codewords that the square holds
+-- the codewords that have been read are those that the square contains
 pub read-whole : (v mask : ℕ) (g : Grid) (ms rest : List Module) (cw : List ℕ) (width begun : ℕ) → 1 ≤ v → v ≤ 40 → rest ≡ [] → IsOrder v (ms ++ rest) → All (λ x. x < 256) cw → width < 8 → bits_of cw ++ field width begun ≡ map (unmasked mask g) ms → IsRead v mask g cw
 read-whole v mask g ms rest cw width begun p q e o bytes w bits =
     let whole : IsOrder v ms = subst (IsOrder v) (ap (λ (xs : List Module). ms ++ xs) e ∙ append-nil ms) o in
@@ -77,13 +77,13 @@ read-whole v mask g ms rest cw width begun p q e o bytes w bits =
       bits = front.0 ∙ (sym (append-nil (map f (take t ms))) ∙ ap (λ (z : ℕ). map f (take t ms) ++ replicate z false) (sym none));
     }
 
--- codewords that are not put back into a message leave the square unread
+-- if the codewords are the final sequence of no message, the square is not read
 pub not-checked : (g : Grid) (v : ℕ) (l : Level) (mask : ℕ) (cw : List ℕ) (e : ReadFault) → IsOfVersion g v → IsFormat g l mask → IsRead v mask g cw → (e ≡ fault.Memory) ⊎ (e ≡ fault.Check) → (e ≡ fault.Check → (d : List ℕ) → length d ≡ data_codewords_of v l → IsInterleaved v l d cw → ⊥) → IsUnread g e
 not-checked g v l mask cw e s f r (inl m) none = subst (IsUnread g) (sym m) tt
 not-checked g v l mask cw e s f r (inr k) none =
     subst (IsUnread g) (sym k) (v, s, l, mask, f, λ d h. none k d h.many (subst (IsInterleaved v l d) (read-one v mask g h.codewords cw h.read r) h.sent))
 
--- a message that is not parsed leaves the square unread
+-- if the message cannot be parsed, the square is not read
 pub not-parsed : (g : Grid) (v : ℕ) (l : Level) (mask : ℕ) (d : List ℕ) (e : ParseFault) → IsOfVersion g v → IsFormat g l mask
     → IsMessage v l mask g d → IsResultOf (Err e) (parse v (bits_of d)) → IsUnread g (unread_for e)
 not-parsed g v l mask d unparsed.Memory s f h k = tt

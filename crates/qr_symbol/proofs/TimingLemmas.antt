@@ -21,7 +21,7 @@ ring-four : (v r c : ℕ) → finder_ring (side_of v) r c ≡ 4 → role_of v r 
 unfolding role_of pattern_colour
 ring-four v r c e = rw e refl
 
--- the parts of row 6 or column 6, with the ring of the place and what it holds between the finder patterns
+-- row 6, or column 6: its ends are in ring 3 and ring 4 of finder patterns, and between them is a timing pattern
 six : (v r c at : ℕ) → 21 ≤ side_of v → at < side_of v → (at < 7 → finder_ring (side_of v) r c ≡ 3) → (side_of v - 7 ≤ at → finder_ring (side_of v) r c ≡ 3)
     → (at ≡ 7 → finder_ring (side_of v) r c ≡ 4) → (at ≡ side_of v - 8 → finder_ring (side_of v) r c ≡ 4)
     → (7 < at → at < side_of v - 8 → role_of v r c ≡ Fixed (eqb (at % 2) 0)) → role_of v r c ≡ Fixed (is_dark_in_six (side_of v) at)
@@ -62,7 +62,7 @@ row-off v at h = rw (below-four (finder_ring (side_of v) 6 at) h, not-four (find
     not-four : (n : ℕ) → 5 ≤ n → eqb n 4 ≡ false
     not-four n h = grind (arith, nat_tests)
 
--- so is column 6
+-- between the finder patterns column 6 is a timing pattern
 column-off : (v at : ℕ) → 5 ≤ finder_ring (side_of v) at 6 → 7 < at → role_of v at 6 ≡ Fixed (eqb (at % 2) 0)
 unfolding role_of pattern_colour
 column-off v at h k = rw (below-four (finder_ring (side_of v) at 6) h, not-four (finder_ring (side_of v) at 6) h, other at k) refl
@@ -76,39 +76,39 @@ column-off v at h k = rw (below-four (finder_ring (side_of v) at 6) h, not-four 
     other : (n : ℕ) → 7 < n → eqb n 6 ≡ false
     other n h = grind (arith, nat_tests)
 
--- what row 6 holds
+-- the roles of the modules of row 6
 row-six : (v at : ℕ) → 1 ≤ v → at < side_of v → role_of v 6 at ≡ Fixed (is_dark_in_six (side_of v) at)
 row-six v at l h =
     six v 6 at at (omega arith) h (λ k. omega arith) (λ k. omega arith) (λ k. omega arith) (λ k. omega arith) (λ k m. row-off v at (omega arith))
 
--- what column 6 holds
+-- the roles of the modules of column 6
 column-six : (v at : ℕ) → 1 ≤ v → at < side_of v → role_of v at 6 ≡ Fixed (is_dark_in_six (side_of v) at)
 column-six v at l h =
     six v at 6 at (omega arith) h (λ k. omega arith) (λ k. omega arith) (λ k. omega arith) (λ k. omega arith) (λ k m. column-off v at (omega arith) k)
 
--- what a fixed module is painted
+-- the colour that a module with a fixed colour is painted with
 pub paint-fixed : (v r c : ℕ) (format : Option ℕ) (dark : Bool) → role_of v r c ≡ Fixed dark → paint_of v format r c ≡ (is_some format && dark)
 unfolding paint_of fixed_colour
 paint-fixed v r c None dark e = refl
 paint-fixed v r c (Some w) dark e = ap (fixed_colour w (version_word_of v)) e
 
--- what row 6 is painted
+-- the colour that a module of row 6 is painted with
 pub paint_row_six : (v at : ℕ) (format : Option ℕ) → 1 ≤ v → at < side_of v → paint_of v format 6 at ≡ (is_some format && is_dark_in_six (side_of v) at)
 paint_row_six v at format l h = paint-fixed v 6 at format (is_dark_in_six (side_of v) at) (row-six v at l h)
 
--- what column 6 is painted
+-- the colour that a module of column 6 is painted with
 pub paint_column_six : (v at : ℕ) (format : Option ℕ) → 1 ≤ v → at < side_of v → paint_of v format at 6 ≡ (is_some format && is_dark_in_six (side_of v) at)
 paint_column_six v at format l h = paint-fixed v at 6 format (is_dark_in_six (side_of v) at) (column-six v at l h)
 
--- a place more of row 6 and of column 6
+-- the painted modules of row 6 and column 6, with one module more of each
 pub six-more : (at r c : ℕ) → ((eqb r 6 && ltb c (at + 1)) || (eqb c 6 && ltb r (at + 1)))
     ≡ ((((eqb r 6 && ltb c at) || (eqb c 6 && ltb r at)) || (eqb r 6 && eqb c at)) || (eqb r at && eqb c 6))
 six-more at r c = grind (arith, nat_tests)
 
--- at first there is none
+-- at first no module is painted
 pub six-none : (r c : ℕ) → ((eqb r 6 && ltb c 0) || (eqb c 6 && ltb r 0)) ≡ false
 six-none r c = grind (arith, nat_tests)
 
--- at last there are all
+-- at the end all modules of row 6 and column 6 are painted
 pub six-all : (s r c : ℕ) → r < s → c < s → ((eqb r 6 && ltb c s) || (eqb c 6 && ltb r s)) ≡ list_any (is_in_rectangle r c) (timing_lines s)
 six-all s r c l m = grind (arith, nat_tests)

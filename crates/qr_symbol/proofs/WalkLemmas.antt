@@ -1,4 +1,4 @@
--- Drawing along the walk, the mask applied as each bit is placed.
+-- Drawing along the walk, where each bit is masked as it is placed.
 use mathlib.Core.Bool.{beq}
 use Rattle.std.proofs.Common.{◌≡◌, ℕ, ◌+◌, ◌<◌, ◌≤◌, Bool, true, false, cond, not, List, [], ◌∷◌, ◌++◌, length, length-append, refl, sym, ◌∙◌, ap, subst, arith}
 use Rattle.qr_layout.specs.declared.level.Level.{Level}
@@ -20,24 +20,24 @@ use Rattle.qr_symbol.specs.Steps.Drawing.{fixed_colour, walked_colour}
 use Rattle.qr_symbol.proofs.BitLemmas.{differs-inverted}
 use Rattle.qr_symbol.proofs.DrawingLemmas.{at, by_test, Done, done-start, done-step, done-end, next-number, painted-square, whole-next, whole-push, in-square}
 
--- outside the encoding region the other colour stays
+-- outside the encoding region the colour stays
 walked-outside : (v : ℕ) (cw : List ℕ) (mask : ℕ) (f : ℕ → ℕ → Bool) (r c : ℕ) → is_in_region v r c ≡ false → f r c ≡ walked_colour v cw mask f r c
 unfolding walked_colour
 walked-outside v cw mask f r c e = rw e refl
 
--- inside it the bit of the place's number is placed, inverted where the mask inverts
+-- inside the encoding region the bit with the place's number is placed, inverted if the mask inverts there
 walked-inside : (v : ℕ) (cw : List ℕ) (mask : ℕ) (f : ℕ → ℕ → Bool) (r c : ℕ) → is_in_region v r c ≡ true → walked_colour v cw mask f r c ≡ inverted (inverts mask r c) (codeword_bit cw (number_of v (at r c)))
 unfolding walked_colour
 walked-inside v cw mask f r c e = rw e refl
 
--- what was drawn along the walk so far
+-- the modules of the walk in `front` have been drawn, and those in `later` are still to come
 pub record IsWalked (v : ℕ) (cw : List ℕ) (mask : ℕ) (g0 : Grid) (front later : List Module) (number : ℕ) (g : Grid) : Type 0 where
   pub whole : IsOrder v (front ++ later)
   pub next : number ≡ length front
   pub square : IsSquare (side_of v) g
   pub done : Done (side_of v) (walked_colour v cw mask (colour g0)) later g
 
--- at first
+-- at first no module has been drawn
 pub walked-start : (v : ℕ) (cw : List ℕ) (mask : ℕ) (g : Grid) (ms : List Module) → IsSquare (side_of v) g → IsOrder v ms → IsWalked v cw mask g [] ms 0 g
 walked-start v cw mask g ms s o = record { whole = o; next = refl; square = s; done = done-start v (walked_colour v cw mask (colour g)) g ms o (walked-outside v cw mask (colour g)) }
 
@@ -49,7 +49,7 @@ walked-in v cw mask g0 g front now later x number w e =
     let s = ap (λ (h : Grid). h.side) w.square in
     let row = l.0 in let col = l.1 in (omega arith, omega arith)
 
--- one module
+-- one module is drawn
 pub walked-step : (v : ℕ) (cw : List ℕ) (mask : ℕ) (g0 g : Grid) (front now later : List Module) (x : Module) (number : ℕ) (bit turned : Bool)
     → bit ≡ codeword_bit cw number → turned ≡ inverts mask x.row x.col → now ≡ x ∷ later → IsWalked v cw mask g0 front now number g
     → IsWalked v cw mask g0 (front ++ x ∷ []) later (number + 1) (painted g x.row x.col (not (beq bit turned)))
@@ -68,7 +68,7 @@ walked-step v cw mask g0 g front now later x number bit turned b t e w =
       done = done-step (side_of v) (walked_colour v cw mask (colour g0)) g later x (not (beq bit turned)) s (d ∙ want) (subst (λ (ms : List Module). Done (side_of v) (walked_colour v cw mask (colour g0)) ms g) e w.done);
     }
 
--- a number is at most that of all modules of the region
+-- the number of the next bit is at most the number of all modules of the region
 pub walked-small : (v : ℕ) (cw : List ℕ) (mask : ℕ) (g0 g : Grid) (front later : List Module) (number : ℕ) → 1 ≤ v → v ≤ 40 → IsWalked v cw mask g0 front later number g → number ≤ 29648
 walked-small v cw mask g0 g front later number k l w =
     let m = order-small v (front ++ later) k l w.whole in
@@ -76,11 +76,11 @@ walked-small v cw mask g0 g front later number k l w =
     let q = w.next in
     omega arith
 
--- at the end
+-- after the last module, the square has the walked colours
 pub walked-end : (v : ℕ) (cw : List ℕ) (mask : ℕ) (g0 g : Grid) (front later : List Module) (number : ℕ) → later ≡ [] → IsWalked v cw mask g0 front later number g → g ≡ square (side_of v) (walked_colour v cw mask (colour g0))
 walked-end v cw mask g0 g front later number e w = done-end (side_of v) (walked_colour v cw mask (colour g0)) g w.square (subst (λ (ms : List Module). Done (side_of v) (walked_colour v cw mask (colour g0)) ms g) e w.done)
 
--- a role that is not the region has its fixed colour
+-- a module that is not in the region has the fixed colour of its role
 role-fixed : (v : ℕ) (l : Level) (mask : ℕ) (cw : List ℕ) (r c : ℕ) (q : Role) → (q ≡ Region → ⊥) → fixed_colour (format_word_of l mask) (version_word_of v) q ≡ colour_by v l mask cw r c q
 unfolding fixed_colour
 role-fixed v l mask cw r c (Fixed dark) n = refl

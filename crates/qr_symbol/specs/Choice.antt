@@ -1,4 +1,4 @@
--- The choice of the mask. Public clauses cite IsMask.
+-- The choice of the mask.
 use Rattle.std.specs.Prelude.{◌≡◌, ℕ, ◌<◌, ◌≤◌, ◌⊎◌, List}
 use Rattle.qr_layout.specs.declared.level.Level.{Level}
 use Rattle.qr_layout.specs.Version.{side_of}
@@ -6,16 +6,18 @@ use Rattle.qr_matrix.specs.Grid.{colour}
 use Rattle.qr_symbol.specs.Symbol.{grid_of}
 use Rattle.qr_matrix.specs.Penalty.{penalty_of}
 
--- of the numbers below n, m has the least measure f, and it is the smallest among equals [own]
+-- `IsFirstLeast n f m` holds if m is the number below n with the least value f m. If several numbers have the least
+-- value, m is the smallest of them [own].
 pub record IsFirstLeast (n : ℕ) (f : ℕ → ℕ) (m : ℕ) : Type 0 where
   pub in_range : m < n
   pub least : (k : ℕ) → k < n → (f m < f k) ⊎ ((f m ≡ f k) × (m ≤ k))
 
--- the penalty of the whole symbol under a mask (ISO/IEC 18004:2015, 7.8.3)
+-- The penalty of the whole symbol of version v and level l that contains the codewords cw under the mask
+-- (ISO/IEC 18004:2015, 7.8.3).
 abbrev pub mask_penalty : ℕ → Level → List ℕ → ℕ → ℕ
 mask_penalty v l cw mask = penalty_of (side_of v) (colour (grid_of v l mask cw))
 
--- the mask is the one of the least penalty, and among equals the one of the smallest number
--- (ISO/IEC 18004:2015, 7.8.3; among equals [own])
+-- `IsMask v l cw mask` holds if the symbol has the least penalty under this mask. If several masks have the least
+-- penalty, it is the one with the smallest number (ISO/IEC 18004:2015, 7.8.3; among equals [own]).
 abbrev pub IsMask : ℕ → Level → List ℕ → ℕ → Type 0
 IsMask v l cw mask = IsFirstLeast 8 (mask_penalty v l cw) mask

@@ -1,4 +1,4 @@
--- How far two symbols lie apart, block by block. Public clauses cite this file.
+-- How many codewords of a block differ between two symbols.
 use Rattle.std.specs.Prelude.{◌≡◌, ℕ, ◌+◌, ◌*◌, ◌<◌, ◌≤◌, Option, List, [], ◌++◌, slice_index_or}
 use Rattle.qr_field.specs.Distance.{differences, erasures, errors}
 use Rattle.qr_layout.specs.declared.level.Level.{Level}
@@ -7,25 +7,26 @@ use Rattle.qr_matrix.specs.Grid.{Grid}
 use Rattle.qr_symbol.specs.Interleaving.{block_count, data_cut, block_of}
 use Rattle.qr_symbol.specs.Reading.{IsMessage}
 
--- how many blocks a symbol has (ISO/IEC 18004:2015, 7.5.1, Table 9)
+-- The number of blocks of a symbol of version v and level l (ISO/IEC 18004:2015, 7.5.1, Table 9).
 abbrev pub blocks_in : ℕ → Level → ℕ
 blocks_in v l = block_count (data_cut (blocks_of v l))
 
--- block i of the message that a square holds: its data codewords, and then its error correction codewords
--- (ISO/IEC 18004:2015, 7.5.1)
+-- Block i of the message d that the square g contains: its data codewords, and then its error correction codewords
+-- (ISO/IEC 18004:2015, 7.5.1).
 abbrev pub held_block : (v : ℕ) (l : Level) (mask : ℕ) (g : Grid) (d : List ℕ) → IsMessage v l mask g d → ℕ → List ℕ
 held_block v l mask g d m i = block_of (blocks_of v l) d i ++ slice_index_or m.sent.corrections i []
 
--- Two squares of a version and a level that hold different messages differ in some block by more codewords than it has
--- error correction codewords [own].
+-- `MessagesLieApart v l` holds if every two squares of version v and level l that contain different messages differ in
+-- at least one block by more codewords than this block has error correction codewords [own].
 abbrev pub MessagesLieApart : ℕ → Level → Type 0
 MessagesLieApart v l =
     (mask mask' : ℕ) (g g' : Grid) (d d' : List ℕ) → (m : IsMessage v l mask g d) → (m' : IsMessage v l mask' g' d')
     → (d ≡ d' → ⊥) → (i : ℕ) × (i < blocks_in v l)
     × ((blocks_of v l).ec_len + 1 ≤ differences (held_block v l mask g d m i) (held_block v l mask' g' d' m' i))
 
--- What was read of a square, block by block, is a damaged form of one message only, where in each block the places not
--- read and twice the places misread are no more than its error correction codewords (ISO/IEC 18004:2015, 7.5.1).
+-- `DamagedMessagesAreOne v l` holds if the codewords that were read from a damaged square of version v and level l
+-- belong to one message at most, as long as in each block the number of erased codewords, plus twice the number of
+-- misread codewords, is at most the number of its error correction codewords (ISO/IEC 18004:2015, 7.5.1).
 abbrev pub DamagedMessagesAreOne : ℕ → Level → Type 0
 DamagedMessagesAreOne v l =
     (mask mask' : ℕ) (g g' : Grid) (d d' : List ℕ) → (m : IsMessage v l mask g d) → (m' : IsMessage v l mask' g' d')

@@ -1,4 +1,4 @@
--- The symbol that an input is encoded as. Public clauses cite this file.
+-- The symbol that an input is encoded as.
 use Rattle.std.specs.Prelude.{◌≡◌, ℕ, List, Option, None}
 use Rattle.qr_layout.specs.declared.level.Level.{Level}
 use Rattle.qr_bits.specs.declared.modes.Rule.{Rule}
@@ -12,9 +12,9 @@ use Rattle.qr_symbol.specs.Interleaving.{IsInterleaved}
 use Rattle.qr_symbol.specs.Choice.{IsMask}
 use Rattle.qr_symbol.specs.VersionChoice.{IsVersion}
 
--- g is the symbol, of version v and level l and with this mask, of the bytes after a header or none: the bytes are cut
--- into the segments of least bits, written as data codewords, interleaved with their error correction codewords, placed,
--- and masked (ISO/IEC 18004:2015, 7.1, 8.1)
+-- `IsSymbolAt v l rule x h mask g` holds if g is the symbol of version v and level l, under this mask, for the bytes x
+-- after the optional header h. The bytes are cut into the segments with the fewest bits, written as data codewords,
+-- interleaved with their error correction codewords, placed, and masked (ISO/IEC 18004:2015, 7.1, 8.1).
 pub record IsSymbolAt (v : ℕ) (l : Level) (rule : Rule) (x : List ℕ) (h : Option Header) (mask : ℕ) (g : Grid) : Type 0 where
   pub segments : List Segment
   pub chosen : IsLeastSegmentation v rule x segments
@@ -25,13 +25,14 @@ pub record IsSymbolAt (v : ℕ) (l : Level) (rule : Rule) (x : List ℕ) (h : Op
   pub best : IsMask v l codewords mask
   pub drawn : g ≡ grid_of v l mask codewords
 
--- g is the symbol of the bytes at level l, with this mask, in the version v that is chosen from `smallest` on
--- (ISO/IEC 18004:2015, 7.1)
+-- `IsSymbol smallest l rule x v mask g` holds if g is the symbol of the bytes x at level l: it has no header, v is the
+-- least version from `smallest` on that the bytes fit, and the symbol is under this mask (ISO/IEC 18004:2015, 7.1).
 pub record IsSymbol (smallest : ℕ) (l : Level) (rule : Rule) (x : List ℕ) (v mask : ℕ) (g : Grid) : Type 0 where
   pub version : IsVersion smallest l rule x v
   pub made : IsSymbolAt v l rule x None mask g
 
--- An input has only one symbol: the version, the mask and the modules are those of any other [own].
+-- `SymbolsAreOne` holds if an input has only one symbol for a level, a rule and a smallest version: any two of them have
+-- the same version, mask and modules [own].
 abbrev pub SymbolsAreOne : Type 0
 SymbolsAreOne = (x : List ℕ) (l : Level) (smallest : ℕ) (rule : Rule) (v w m n : ℕ) (g h : Grid)
     → IsSymbol smallest l rule x v m g → IsSymbol smallest l rule x w n h

@@ -1,5 +1,4 @@
--- Why no symbol is made, where the data codewords were not, why none is read, where they are not parsed, and the numbers of
--- faults. Public clauses cite this file.
+-- The faults of this crate for faults of `qr_bits`, and the numbers of the faults of reading.
 use Rattle.std.specs.Prelude.{ℕ}
 use Rattle.qr_bits.specs.declared.fault.BitFault.{BitFault}
 use Rattle.qr_bits.specs.declared.fault.BitFault.TheVariants as bit
@@ -10,12 +9,12 @@ use Rattle.qr_symbol.specs.declared.fault.EncodeFault.TheVariants as fault
 use Rattle.qr_symbol.specs.declared.fault.ReadFault.{ReadFault}
 use Rattle.qr_symbol.specs.declared.fault.ReadFault.TheVariants as unread
 
--- the same cause [own]
+-- The fault of encoding with the same cause as a fault of writing bits [own].
 abbrev pub fault_of : BitFault → EncodeFault
 fault_of bit.Memory = fault.Memory
 fault_of bit.TooLong = fault.TooLong
 
--- the number of a fault of reading [own]
+-- The number of a fault of reading, from 1 to 6 [own].
 abbrev pub read_fault_number : ReadFault → ℕ
 read_fault_number unread.Memory = 1
 read_fault_number unread.Side = 2
@@ -24,7 +23,8 @@ read_fault_number unread.Check = 4
 read_fault_number (unread.Segments why) = 5
 read_fault_number unread.Series = 6
 
--- the same cause; lack of memory is one of its own [own]
+-- The fault of reading for a fault of parsing: `Memory` for lack of memory, otherwise `Segments` with the fault of
+-- parsing [own].
 abbrev pub unread_for : ParseFault → ReadFault
 unread_for unparsed.Memory = unread.Memory
 unread_for e = unread.Segments e

@@ -1,4 +1,4 @@
--- The series of symbols that an input is encoded as, by structured append. Public clauses cite this file.
+-- The series of symbols that an input is encoded as, by structured append.
 use Rattle.std.specs.Prelude.{◌≡◌, ◌⊎◌, ℕ, ◌+◌, ◌-◌, ◌<◌, ◌≤◌, false, List, [], ◌∷◌, length, take, drop, map, Option, None, Some}
 use Rattle.std.specs.List.{All, concat}
 use Rattle.qr_layout.specs.declared.level.Level.{Level}
@@ -14,33 +14,36 @@ use Rattle.qr_matrix.specs.Grid.{Grid}
 use Rattle.qr_symbol.specs.Encoding.{IsSymbolAt}
 use Rattle.qr_symbol.specs.VersionChoice.{FitsVersion}
 
--- the squares of symbols [own]
+-- The squares of modules of the symbols, in their order [own].
 abbrev pub squares_of : List Symbol → List Grid
 squares_of symbols = map (λ s. s.matrix) symbols
 
--- the parts of the bytes: each is the longest prefix of what is left that fits a symbol after a header, and none is
--- empty [own]
+-- `AreParts v l rule x parts` holds if these are the parts that the bytes x are cut into: each part is the longest
+-- prefix of the remaining bytes that fits a symbol after a header, and no part is empty [own].
 unfoldable pub AreParts : ℕ → Level → Rule → List ℕ → List (List ℕ) → Type 0
 AreParts v l rule x [] = x ≡ []
 AreParts v l rule x (p ∷ ps) = (n : ℕ) × (0 < n) × IsLongestFit v rule x (room_of v l) n × (p ≡ take n x)
     × AreParts v l rule (drop n x) ps
 
--- the bytes are cut into these parts, of which each fits a symbol after a header; a part may be empty [own]
+-- `FitParts v l rule x parts` holds if the bytes x are these parts one after another, and each part fits a symbol after
+-- a header. A part may be empty [own].
 abbrev pub FitParts : ℕ → Level → Rule → List ℕ → List (List ℕ) → Type 0
 FitParts v l rule x parts = (x ≡ concat parts) × All (λ p. HasFit v rule p (room_of v l)) parts
 
--- the bytes need n parts: every cut of them into parts that fit has n or more [own]
+-- `NeedsParts v l rule x n` holds if every cut of the bytes x into parts that fit has at least n parts [own].
 abbrev pub NeedsParts : ℕ → Level → Rule → List ℕ → ℕ → Type 0
 NeedsParts v l rule x n = (parts : List (List ℕ)) → FitParts v l rule x parts → n ≤ length parts
 
--- the symbol is that of the bytes after a header or none, of version v and level l (ISO/IEC 18004:2015, 7.1, 8.1)
+-- `IsSymbolOf v l rule x h s` holds if s is the symbol of version v and level l for the bytes x, after the optional
+-- header h (ISO/IEC 18004:2015, 7.1, 8.1).
 pub record IsSymbolOf (v : ℕ) (l : Level) (rule : Rule) (x : List ℕ) (h : Option Header) (s : Symbol) : Type 0 where
   pub version : s.version ≡ v
   pub level : s.level ≡ l
   pub made : IsSymbolAt v l rule x h s.mask s.matrix
 
--- the symbols are those of the parts, one after the other, from position k on: each after its position, the number of
--- symbols less 1, and the parity (ISO/IEC 18004:2015, 8.1 to 8.3)
+-- `AreSymbolsFrom v l rule last parity k parts symbols` holds if the symbols are those of the parts, in their order. The
+-- header of each symbol contains its position, counted from k, the number of symbols less 1 (`last`) and the parity
+-- (ISO/IEC 18004:2015, 8.1 to 8.3).
 unfoldable pub AreSymbolsFrom : ℕ → Level → Rule → (last parity k : ℕ) → List (List ℕ) → List Symbol → Type 0
 AreSymbolsFrom v l rule last parity k [] [] = Unit {0}
 AreSymbolsFrom v l rule last parity k [] (s ∷ ss) = ⊥
@@ -49,8 +52,8 @@ AreSymbolsFrom v l rule last parity k (p ∷ ps) (s ∷ ss) =
     IsSymbolOf v l rule p (Some (record { position = k; last = last; parity = parity })) s
     × AreSymbolsFrom v l rule last parity (k + 1) ps ss
 
--- the symbols are the series of the bytes' parts, of which there are at most 16; the bytes do not fit one symbol without
--- a header [own]
+-- `IsSplit v l rule x symbols` holds if the bytes x do not fit one symbol without a header, they have at most 16 parts,
+-- and the symbols are those of these parts [own].
 pub record IsSplit (v : ℕ) (l : Level) (rule : Rule) (x : List ℕ) (symbols : List Symbol) : Type 0 where
   pub too_long : FitsVersion v l rule x → ⊥
   pub parts : List (List ℕ)
@@ -58,20 +61,22 @@ pub record IsSplit (v : ℕ) (l : Level) (rule : Rule) (x : List ℕ) (symbols :
   pub many : length parts ≤ 16
   pub made : AreSymbolsFrom v l rule (length parts - 1) (parity_of x) 0 parts symbols
 
--- the symbol is the plain one of the bytes, which fit it without a header [own]
+-- `IsPlainSymbol v l rule x symbols` holds if the bytes x fit one symbol without a header, and `symbols` contains just
+-- this symbol [own].
 pub record IsPlainSymbol (v : ℕ) (l : Level) (rule : Rule) (x : List ℕ) (symbols : List Symbol) : Type 0 where
   pub fits : FitsVersion v l rule x
   pub symbol : Symbol
   pub made : IsSymbolOf v l rule x None symbol
   pub alone : symbols ≡ symbol ∷ []
 
--- the symbols are the series of the bytes at level l, all of version v: a plain symbol where the bytes fit one, else the
--- symbols of their parts [own]
+-- `IsSeries v l rule x symbols` holds if the symbols are the series of the bytes x at version v and level l: one symbol
+-- without a header if the bytes fit it, otherwise the symbols of their parts [own].
 abbrev pub IsSeries : ℕ → Level → Rule → List ℕ → List Symbol → Type 0
 IsSeries v l rule x symbols = IsPlainSymbol v l rule x symbols ⊎ IsSplit v l rule x symbols
 
--- the bytes have no series: they do not fit one symbol, and their parts are more than 16; without kanji mode every other
--- cut of them into parts that fit has more too [own]
+-- `HasNoSeries v l rule x` holds if the bytes x have no series: they do not fit one symbol without a header, and they
+-- have more than 16 parts. Without kanji mode, every other cut of them into parts that fit has more than 16 parts too
+-- [own].
 pub record HasNoSeries (v : ℕ) (l : Level) (rule : Rule) (x : List ℕ) : Type 0 where
   pub too_long : FitsVersion v l rule x → ⊥
   pub too_many : (parts : List (List ℕ)) → AreParts v l rule x parts → 16 < length parts

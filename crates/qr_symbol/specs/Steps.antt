@@ -1,4 +1,4 @@
--- Definitions of single steps. Only private clauses cite them, so that a reader need not believe them.
+-- Definitions of single steps. Only contracts of private functions use them, so a reader need not believe them.
 pub mod Drawing
 pub mod Series
 pub mod Interleaving

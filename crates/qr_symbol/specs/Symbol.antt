@@ -1,4 +1,4 @@
--- The colour of each module of a symbol. Public clauses cite colour_of and grid_of.
+-- The colour of each module of a symbol.
 use Rattle.std.specs.Prelude.{ℕ, ◌/◌, ◌%◌, ◌^◌, ◌==◌, Bool, List}
 use Rattle.qr_layout.specs.declared.level.Level.{Level}
 use Rattle.qr_layout.specs.declared.role.Role.{Role}
@@ -11,24 +11,26 @@ use Rattle.qr_bits.specs.Bits.{codeword_bit}
 use Rattle.qr_matrix.specs.Grid.{Grid, square}
 use Rattle.qr_symbol.specs.Mask.{inverts, inverted}
 
--- bit i of a word is 1, bit 0 being the lowest (ISO/IEC 18004:2015, 7.9.1, 7.10)
+-- `word_bit word i` is true if bit i of the number `word` is 1. Bit 0 is the lowest (ISO/IEC 18004:2015, 7.9.1, 7.10).
 abbrev pub word_bit : ℕ → ℕ → Bool
 word_bit word i = word / 2 ^ i % 2 == 1
 
--- the colour of the module in row r and column c by what it holds: its fixed colour, its bit of the format or version
--- information, or the bit of the codewords that has the place's number, inverted where the mask inverts, also past
--- the last codeword (ISO/IEC 18004:2015, 7.7.2, 7.7.3, 7.8.1, 7.9.1, 7.10)
+-- The colour of the module in row r and column c by its role: a fixed colour, a bit of the format or version
+-- information, or, in the encoding region, the codeword bit with the module's number, inverted if the mask inverts
+-- there. The bits after the last codeword, the remainder bits, are 0, and the mask inverts them too. True is dark
+-- (ISO/IEC 18004:2015, 7.7.2, 7.7.3, 7.8.1, 7.9.1, 7.10).
 abbrev pub colour_by : ℕ → Level → ℕ → List ℕ → ℕ → ℕ → Role → Bool
 colour_by v l mask cw r c (Fixed dark) = dark
 colour_by v l mask cw r c (FormatBit i) = word_bit (format_word_of l mask) i
 colour_by v l mask cw r c (VersionBit i) = word_bit (version_word_of v) i
 colour_by v l mask cw r c Region = inverted (inverts mask r c) (codeword_bit cw (number_of v (record { row = r; col = c })))
 
--- the colour of the module in row r and column c of a symbol of version v and level l that holds the codewords cw under
--- a mask (ISO/IEC 18004:2015, 7.7.2, 7.7.3, 7.8.1, 7.9.1, 7.10)
+-- The colour of the module in row r and column c of the symbol of version v and level l that contains the codewords cw
+-- under the mask. True is dark (ISO/IEC 18004:2015, 7.7.2, 7.7.3, 7.8.1, 7.9.1, 7.10).
 unfoldable pub colour_of : ℕ → Level → ℕ → List ℕ → ℕ → ℕ → Bool
 colour_of v l mask cw r c = colour_by v l mask cw r c (role_of v r c)
 
--- the whole symbol, without its quiet zone (ISO/IEC 18004:2015, 7.7, 7.8)
+-- All modules of the symbol of version v and level l that contains the codewords cw under the mask, without its quiet
+-- zone (ISO/IEC 18004:2015, 7.7, 7.8).
 abbrev pub grid_of : ℕ → Level → ℕ → List ℕ → Grid
 grid_of v l mask cw = square (side_of v) (colour_of v l mask cw)

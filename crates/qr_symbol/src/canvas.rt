@@ -1,5 +1,5 @@
-//! What all masks of a symbol have in common, drawn once, and the symbol under each of them (ISO/IEC 18004:2015, 7.7 and
-//! 7.8).
+//! Draws what all masks of a symbol have in common once, and then the symbol under each mask
+//! (ISO/IEC 18004:2015, 7.7 and 7.8).
 
 ghost use Rattle.std.specs.Prelude.{◌≡◌, ◌<◌, IfOk};
 ghost use Rattle.qr_layout.specs.Version.{side_of};
@@ -12,7 +12,7 @@ use qr_layout::{Level, Version, format_word};
 use qr_matrix::Matrix;
 use std::alloc::{AllocError, Global};
 
-/// A symbol without mask and format information, and its encoding region, dark.
+/// A symbol without mask and format information (`plain`), and a square in which its encoding region is dark (`region`).
 #[derive(Drop)]
 pub(crate) struct Canvas {
     pub version: Version,
@@ -24,8 +24,8 @@ pub(crate) struct Canvas {
 }
 
 impl Canvas {
-    // Draws the codewords: across another square, whose modules do not matter, and from there transposed into one of its
-    // own. Memory is taken twice.
+    // Draws the codewords into `across`, in transposed form, and transposes it into `plain`. The old colours of `across`
+    // do not matter. Allocates twice.
     #[inline(never)]
     pub(crate) fn new(
         alloc: Global,
@@ -55,7 +55,7 @@ impl Canvas {
         })
     }
 
-    // Draws the symbol anew with a mask and its format information.
+    // Draws the symbol into `matrix`, with the mask and its format information.
     pub(crate) fn draw_masked(&self, matrix: &mut Matrix, mask: u8)
         requires mask_in { mask < 8 }
         requires square { IsSquare (side_of self.now.version) matrix.old }

@@ -1,5 +1,6 @@
-//! How the modules of a symbol get their colours: the function patterns with the format and version information, and
-//! the codewords' bits, strip by strip in the order of the walk or plainly along it (ISO/IEC 18004:2015, 7.7.2 and 7.7.3).
+//! Draws the modules of a symbol: the function patterns with the format and version information, and the bits of the
+//! codewords. These are drawn either strip by strip or module by module, in the order of `qr_layout::walk`
+//! (ISO/IEC 18004:2015, 7.7.2 and 7.7.3).
 
 ghost use Rattle.std.specs.Prelude.{◌≡◌, ℕ, List, ◌*◌, ◌%◌, ◌+◌, ◌-◌, ◌<◌, ◌≤◌, ◌==◌, ◌&&◌, not, if◌then◌else◌, nat_le, nat_lt, false, slice_index};
 ghost use Rattle.std.specs.List.{list_any};
@@ -23,21 +24,22 @@ use qr_layout::{
 };
 use qr_matrix::Matrix;
 
-// A codeword, and 0 past their end.
+// Returns the codeword with this index, or 0 after the last codeword.
 fn codeword_at(codewords: &[u8], place: usize) -> u8
     ensures { result ≡ slice_index codewords.now place }
 {
     codewords.get(place).copied().unwrap_or(0)
 }
 
-// Eight codewords as one word, and the number of their first bit, which is the word's highest.
+// Eight codewords as one word, the first of them its highest byte. `first` is the number of its highest bit among the
+// bits of all codewords.
 #[derive(Clone, Copy)]
 struct Window {
     bits: u64,
     first: usize,
 }
 
-// The eight codewords from that of a bit on.
+// Returns the window that begins with the codeword of bit `number`.
 fn window_at(codewords: &[u8], number: usize) -> Window
     requires { number ≤ 40000 }
     ensures bits { IsWindow codewords.now result }
@@ -55,7 +57,7 @@ fn window_at(codewords: &[u8], number: usize) -> Window
     }
 }
 
-// Eight bits of a window from `number` on, the first the highest.
+// Returns the eight bits of the window from bit `number` on, the first of them as the highest.
 fn eight_bits(window: Window, number: usize) -> u8
     requires least { window.first ≤ number }
     requires most { number ≤ window.first + 56 }
@@ -64,9 +66,11 @@ fn eight_bits(window: Window, number: usize) -> u8
     (window.bits >> (56 - (number - window.first)) & 255) as u8
 }
 
-// Eight bits of the codewords, split into those of four modules of the right column and those of the left one: the odd and
-// the even bits, the right ones as the higher four. First for strips that go downward, where the first bit is in the first
-// row and so the lowest of four, and then for those that go upward.
+// Splits eight bits of the codewords, as they fill four rows of a strip: the bits alternate between the right and the
+// left column. The higher four bits of an entry are those of the right column (the first, third, fifth and seventh), the
+// lower four those of the left column. In each four the lowest bit is that of the topmost row. The first table is for
+// strips that go downward, where the first two of the eight bits are in the topmost row; the second table is for strips
+// that go upward.
 static SPLITS: [[u8; 256]; 2] = [
     [
         0x00, 0x08, 0x80, 0x88, 0x04, 0x0C, 0x84, 0x8C, 0x40, 0x48, 0xC0, 0xC8, 0x44, 0x4C, 0xC4,
@@ -110,14 +114,14 @@ static SPLITS: [[u8; 256]; 2] = [
     ],
 ];
 
-// Bit `i` of a word of format or version information, bit 0 being the lowest.
+// Returns bit `i` of a word of format or version information. Bit 0 is the lowest.
 pub(crate) fn is_bit_set(word: u32, i: u8) -> bool
     ensures { result ≡ word_bit word i }
 {
     i < 32 && word >> i & 1 == 1
 }
 
-// The colour of a module outside the encoding region.
+// Returns the colour of a module outside the encoding region by its role.
 #[tactic(auto, unfolding(crate::specs::Steps::Drawing::fixed_colour))]
 fn fixed_colour(format: u32, version: u32, role: Role) -> bool
     ensures { result ≡ fixed_colour format version role }
@@ -130,7 +134,7 @@ fn fixed_colour(format: u32, version: u32, role: Role) -> bool
     }
 }
 
-// What a module is painted.
+// Returns the colour that a module outside the encoding region is painted with: light if `format` is `None`.
 #[tactic(auto, unfolding(crate::specs::Steps::Drawing::paint_of))]
 fn paint(v: Version, format: Option<u32>, row: u8, col: u8) -> bool
     requires row_in { row < side_of v }
@@ -146,7 +150,7 @@ fn paint(v: Version, format: Option<u32>, row: u8, col: u8) -> bool
     }
 }
 
-// Paints the modules of a row from `left` to before `right`.
+// Paints the modules of row `row` in the columns from `left` to before `right`.
 fn paint_row(matrix: &mut Matrix, v: Version, format: Option<u32>, row: u8, left: u8, right: u8)
     requires square { IsSquare (side_of v) matrix.old }
     requires row_in { row < side_of v }
@@ -160,7 +164,7 @@ fn paint_row(matrix: &mut Matrix, v: Version, format: Option<u32>, row: u8, left
     }
 }
 
-// Paints the modules of the rows from `top` to before `bottom` and the columns from `left` to before `right`.
+// Paints the modules in the rows from `top` to before `bottom` and the columns from `left` to before `right`.
 fn paint_rectangle(
     matrix: &mut Matrix,
     v: Version,
@@ -187,7 +191,7 @@ fn paint_rectangle(
     }
 }
 
-// Draws a finder pattern round its centre: of the rings round it 0, 1 and 3 are dark, and ring 2 is light.
+// Draws a finder pattern round its centre. The centre and the rings 1 and 3 round it are dark, and ring 2 is light.
 fn draw_finder(matrix: &mut Matrix, row: u8, col: u8)
     requires row_least { 3 ≤ row }
     requires row_most { row + 4 ≤ matrix.old.side }
@@ -202,7 +206,8 @@ fn draw_finder(matrix: &mut Matrix, row: u8, col: u8)
     matrix.fill(row - 1, row + 2, col - 1, col + 2, true);
 }
 
-// Paints the eight by eight modules of a finder pattern with this centre and of its separator.
+// Paints a finder pattern with this centre and its separator: the eight by eight modules whose top left module is
+// `block`.
 fn paint_finder(matrix: &mut Matrix, v: Version, format: Option<u32>, block: Module, centre: Module)
     requires square { IsSquare (side_of v) matrix.old }
     requires bottom_in { block.row + 8 ≤ side_of v }
@@ -221,7 +226,7 @@ fn paint_finder(matrix: &mut Matrix, v: Version, format: Option<u32>, block: Mod
     }
 }
 
-// Paints the corners: finder patterns, and row 8 and column 8 beside them.
+// Paints the corners: the finder patterns and separators, and the modules of row 8 and column 8 beside them.
 fn paint_corners(matrix: &mut Matrix, v: Version, format: Option<u32>)
     requires { IsSquare (side_of v) matrix.old }
     ensures { matrix.new ≡ square (side_of v) (λ r c. if list_any (is_in_rectangle r c) (corner_rectangles (side_of v))
@@ -264,15 +269,16 @@ fn paint_corners(matrix: &mut Matrix, v: Version, format: Option<u32>)
     paint_rectangle(matrix, v, format, side - 8, side, 8, 9);
 }
 
-// Whether the module at `at` of row 6, or of column 6, is dark: finder patterns take its ends, and a timing pattern what
-// is between them (ISO/IEC 18004:2015, 6.3.5).
+// Returns whether the module with index `at` of row 6, or of column 6, is dark. The first and the last seven modules
+// belong to finder patterns, and a timing pattern is between their separators (ISO/IEC 18004:2015, 6.3.5).
 fn is_dark_in_six(side: u8, at: u8) -> bool
     ensures { result ≡ is_dark_in_six side at }
 {
     at < 7 || at >= side.saturating_sub(7) || at % 2 == 0
 }
 
-// What it is painted.
+// Returns the colour that the module with index `at` of row 6, or of column 6, is painted with: light if `format` is
+// `None`.
 #[tactic(auto, using(crate::proofs::TimingLemmas::paint_row_six, crate::proofs::TimingLemmas::paint_column_six))]
 fn paint_in_six(v: Version, format: Option<u32>, at: u8) -> bool
     requires { at < side_of v }
@@ -296,7 +302,7 @@ fn paint_timing(matrix: &mut Matrix, v: Version, format: Option<u32>)
     }
 }
 
-// Paints the version information.
+// Paints the version information, which versions from 7 on have.
 fn paint_version(matrix: &mut Matrix, v: Version, format: Option<u32>)
     requires { IsSquare (side_of v) matrix.old }
     ensures { matrix.new ≡ square (side_of v) (λ r c. if list_any (is_in_rectangle r c)
@@ -309,7 +315,7 @@ fn paint_version(matrix: &mut Matrix, v: Version, format: Option<u32>)
     }
 }
 
-// Gives the modules of the alignment patterns one colour.
+// Makes all modules of the alignment patterns dark or light, as `dark` says.
 fn fill_alignment(matrix: &mut Matrix, v: Version, centres: &[Module], dark: bool)
     requires square { IsSquare (side_of v) matrix.old }
     requires centres { centres.now ≡ alignment_places (side_of v) (centres_of v) }
@@ -321,7 +327,7 @@ fn fill_alignment(matrix: &mut Matrix, v: Version, centres: &[Module], dark: boo
     }
 }
 
-// Makes the ring round a centre light.
+// Makes the ring of eight modules round a centre light.
 fn clear_ring(matrix: &mut Matrix, row: u8, col: u8)
     requires row_least { 1 ≤ row }
     requires row_most { row + 2 ≤ matrix.old.side }
@@ -349,7 +355,7 @@ fn clear_rings(matrix: &mut Matrix, v: Version, centres: &[Module])
     }
 }
 
-// Gives each module outside the encoding region its colour.
+// Draws each module outside the encoding region in its colour.
 pub(crate) fn draw_fixed(matrix: &mut Matrix, v: Version, format: u32)
     requires { IsSquare (side_of v) matrix.old }
     ensures { matrix.new ≡ square (side_of v) (λ r c. if is_in_region v r c then colour matrix.old r c
@@ -363,7 +369,7 @@ pub(crate) fn draw_fixed(matrix: &mut Matrix, v: Version, format: u32)
     paint_version(matrix, v, Some(format));
 }
 
-// Makes each module of the encoding region dark.
+// Makes each module of the encoding region dark and all other modules light. `matrix` must be light before.
 pub(crate) fn draw_region(matrix: &mut Matrix, v: Version)
     requires { matrix.old ≡ light (side_of v) }
     ensures { matrix.new ≡ region_grid v }
@@ -376,7 +382,9 @@ pub(crate) fn draw_region(matrix: &mut Matrix, v: Version)
     paint_version(matrix, v, None);
 }
 
-// Gives a module the next of eight bits if it is in the encoding region, and returns how many of them are taken then.
+// If the module `place` is in the encoding region, draws the next of the eight bits `bits` there, of which `taken` are
+// drawn already. Returns the number of bits that are drawn then. `across` is transposed, so row and column are exchanged
+// in it.
 fn draw_module(across: &mut Matrix, region: &Matrix, bits: u8, taken: u8, place: Module) -> u8
     requires row_in { place.row < across.old.side }
     requires col_in { place.col < across.old.side }
@@ -395,8 +403,8 @@ fn draw_module(across: &mut Matrix, region: &Matrix, bits: u8, taken: u8, place:
     taken + 1
 }
 
-// Gives the modules of up to four rows of a strip that are in the encoding region the next of eight bits, and returns how
-// many of them are taken then. There are few such rows.
+// Draws the next of eight bits at each module of the encoding region in `count` rows of a strip, at most four. Returns
+// the number of bits that are drawn. Few rows are drawn by this function; `draw_four` draws most of them.
 #[inline(never)]
 fn draw_rows(
     across: &mut Matrix,
@@ -438,8 +446,8 @@ fn draw_rows(
     taken
 }
 
-// Gives the modules of four rows of a strip that are in the encoding region the next of eight bits, and returns how many of
-// them are taken then. In the transposed square these rows are four places of the rows of both columns.
+// Draws the next of eight bits at each module of the encoding region in four rows of a strip. Returns the number of bits
+// that are drawn. In the transposed square each column of the strip is a row, so four modules of it are set at once.
 #[inline(always)]
 fn draw_four(
     across: &mut Matrix,
@@ -473,8 +481,9 @@ fn draw_four(
     draw_rows(across, v, region, bits, strip, passed, 4)
 }
 
-// Gives the modules of a strip that are in the encoding region the bits of the codewords from `first` on, and returns the
-// number of the bit after them. The side is one more than a multiple of four, so the last row is drawn by itself.
+// Draws the bits of the codewords, from bit `first` on, at the modules of a strip that are in the encoding region.
+// Returns the number of the next bit. The side is one more than a multiple of four: the topmost rows form groups of
+// four, and the bottom row is drawn by itself.
 #[inline(always)]
 fn draw_columns(
     across: &mut Matrix,
@@ -508,7 +517,7 @@ fn draw_columns(
     number + usize::from(draw_rows(across, v, region, bits, strip, before + last, 1 - before))
 }
 
-// The same, by a copy of it for each direction.
+// Does the same as `draw_columns`, which is compiled twice here, once for each direction.
 fn draw_strip(
     across: &mut Matrix,
     v: Version,
@@ -541,7 +550,7 @@ fn draw_strip(
     }
 }
 
-// Gives each module of the encoding region the colour of its bit, strip by strip. The square is transposed: the encoding
+// Draws the codeword bits at the modules of the encoding region, strip by strip. `across` is transposed: the encoding
 // region is the same when rows and columns are exchanged, so the columns of a strip are two rows of both squares.
 pub(crate) fn draw_codewords(across: &mut Matrix, v: Version, region: &Matrix, codewords: &[u8])
     requires square { IsSquare (side_of v) across.old }
@@ -556,7 +565,7 @@ pub(crate) fn draw_codewords(across: &mut Matrix, v: Version, region: &Matrix, c
     }
 }
 
-// Bit `number` of the codewords, the highest bit of a codeword first; 0 past their end.
+// Returns bit `number` of the codewords, counted from the highest bit of the first codeword; 0 after the last codeword.
 fn bit_at(codewords: &[u8], number: usize) -> bool
     ensures { result ≡ codeword_bit codewords.now number }
 {
@@ -564,8 +573,8 @@ fn bit_at(codewords: &[u8], number: usize) -> bool
     is_bit_set(u32::from(codeword), 7 - (number % 8) as u8)
 }
 
-// Gives each module of the encoding region the colour of its bit under a mask, in one pass along the walk. The remainder bits
-// are 0 before they are masked, so the mask inverts them too.
+// Draws the codeword bits under a mask at the modules of the encoding region, module by module in the order of `walk`.
+// The remainder bits are 0 before they are masked, and the mask inverts them too.
 pub(crate) fn draw_along_walk(matrix: &mut Matrix, v: Version, codewords: &[u8], mask: u8)
     requires { IsSquare (side_of v) matrix.old }
     ensures { matrix.new ≡ square (side_of v) (walked_colour v codewords.now mask (colour matrix.old)) }
@@ -579,10 +588,10 @@ pub(crate) fn draw_along_walk(matrix: &mut Matrix, v: Version, codewords: &[u8],
     }
 }
 
-// How many bits the format information has.
+// The number of bits of the format information.
 pub(crate) const FORMAT_BITS: u8 = 15;
 
-// Draws the format information over a symbol.
+// Draws the format information over a symbol, both times.
 pub(crate) fn draw_format(matrix: &mut Matrix, v: Version, format: u32)
     requires { IsSquare (side_of v) matrix.old }
     ensures { matrix.new ≡ square (side_of v) (λ r c. format_or format (role_of v r c) (colour matrix.old r c)) }

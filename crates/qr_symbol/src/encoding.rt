@@ -1,4 +1,4 @@
-//! The encoding of an input as one symbol (ISO/IEC 18004:2015, 7.1).
+//! Encodes an input as one symbol (ISO/IEC 18004:2015, 7.1).
 
 ghost use Rattle.std.specs.Prelude.{◌≡◌, ◌≢◌, ◌+◌, ◌<◌, ◌≤◌, ◌↔◌, ◌⊎◌, [], length, Err, IfOk, IfErr};
 ghost use Rattle.std.specs.Option.{ForSome};
@@ -21,14 +21,14 @@ use qr_bits::{Header, INPUT_MAX, Rule, Segment, codewords};
 use qr_layout::{Level, Version};
 use std::alloc::Global;
 
-// The most bytes that a symbol holds: digits, in version 40 and level L (7.4.10, Table 7).
+// The most bytes that a symbol holds: 7,089 digits in version 40 and level L (7.4.10, Table 7).
 pub(crate) const SYMBOL_BYTES_MAX: usize = 7089;
 
-/// The symbol of an input (ISO/IEC 18004:2015, 7.1), of the least version from `smallest` on that it fits. The rule tells
-/// which modes its segments may have.
+/// Encodes the input as one symbol (ISO/IEC 18004:2015, 7.1), in the least version from `smallest` on that it fits.
+/// `rule` says which modes the segments may have.
 ///
-/// `Empty` where the input has no byte, and `TooLong` where it fits no version from `smallest` on. An input of more than
-/// 7,089 bytes fits none, and is refused before any memory is taken.
+/// Returns `Empty` if the input has no byte, and `TooLong` if it fits no version from `smallest` on. An input of more
+/// than 7,089 bytes fits no version, and is refused before any allocation.
 pub fn encode(
     alloc: Global,
     input: &[u8],
@@ -58,7 +58,7 @@ pub fn encode(
     symbol_at(alloc, input, &fit.segments, None, fit.version, level)
 }
 
-// The symbol of bytes in these segments, after a header or none (7.1, 8.1).
+// Returns the symbol of the bytes in these segments, after the optional header (7.1, 8.1).
 pub(crate) fn symbol_at(
     alloc: Global,
     input: &[u8],

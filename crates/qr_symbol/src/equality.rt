@@ -1,18 +1,18 @@
-//! That the public types compare and clone as their values do: one law for each.
+//! The laws of the derived `==` and `clone` of the public types: they compare and clone the values.
 
 ghost use Rattle.std.specs.Prelude.{◌≡◌, ◌↔◌, IsTrue, IfOk};
 
 use crate::fault::{EncodeFault, ReadFault};
 use std::alloc::AllocError;
 
-/// Two faults of encoding compare as equal exactly where they are the same.
+/// Two faults of encoding compare as equal exactly if they are the same fault.
 pub fn encode_faults_are_equal(a: EncodeFault, b: EncodeFault) -> bool
     ensures { IsTrue result ↔ (a ≡ b) }
 {
     a == b
 }
 
-/// Two faults of reading compare as equal exactly where they are the same.
+/// Two faults of reading compare as equal exactly if they are the same fault.
 pub fn read_faults_are_equal(a: ReadFault, b: ReadFault) -> bool
     ensures { IsTrue result ↔ (a ≡ b) }
 {

@@ -1,4 +1,4 @@
-//! Why no symbol is made, and why a symbol is not read.
+//! The faults of encoding an input and of reading symbols.
 
 ghost use Rattle.std.specs.Prelude.{◌≡◌};
 
@@ -6,19 +6,20 @@ use qr_bits::{BitFault, ParseFault};
 use std::alloc::{AllocError, AllocFailed};
 use thiserror::Error;
 
-/// Why an input is not encoded, in the order in which the causes are looked for.
+/// The fault of encoding an input. The causes before `Memory` are checked in this order; memory may be refused at any
+/// step after the first.
 #[derive(Clone, Copy, Debug, PartialEq, Eq, Error)]
 pub enum EncodeFault {
     /// The input has no byte.
     #[error("the input is empty")]
     Empty = 1,
-    /// No version that may be taken holds the input.
+    /// The input fits no version that the caller allows.
     #[error("the input does not fit")]
     TooLong = 2,
-    /// The input takes more than 16 symbols.
+    /// The input needs more than 16 symbols.
     #[error("the input takes more than 16 symbols")]
     TooMany = 3,
-    /// Memory was refused.
+    /// An allocation was refused.
     #[error("out of memory")]
     Memory = 4,
 }
@@ -59,25 +60,25 @@ impl From<BitFault> for EncodeFault {
     }
 }
 
-/// Why symbols are not read, in the order in which the causes are looked for.
+/// The fault of reading symbols. The causes from `Side` on are checked in this order; memory may be refused at any step.
 #[derive(Clone, Copy, Debug, PartialEq, Eq, Error)]
 pub enum ReadFault {
-    /// Memory was refused.
+    /// An allocation was refused.
     #[error("out of memory")]
     Memory,
     /// No version has this side.
     #[error("the side is that of no version")]
     Side,
-    /// The format information beside the top left finder pattern is that of no level and mask.
+    /// The format information beside the top left finder pattern belongs to no level and mask.
     #[error("the format information is damaged")]
     Format,
     /// A block's error correction codewords are not those of its data codewords.
     #[error("a codeword is damaged")]
     Check,
-    /// The data codewords cannot be parsed. The fault is never `Memory`.
+    /// The data codewords cannot be parsed. The fault inside is never `ParseFault::Memory`.
     #[error("the data codewords cannot be parsed: {0}")]
     Segments(ParseFault),
-    /// The symbols are no series.
+    /// The symbols do not form a series.
     #[error("the symbols are no series")]
     Series,
 }
@@ -85,7 +86,7 @@ pub enum ReadFault {
 impl ReadFault {
     ghost use Rattle.qr_symbol.specs.Fault.{read_fault_number};
 
-    /// Its number, which stays what it is.
+    /// Returns the number of the fault, from 1 to 6. It stays the same in later versions of this crate.
     pub fn number(&self) -> u8
         ensures { result ≡ read_fault_number self.now }
     {

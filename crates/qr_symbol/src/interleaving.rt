@@ -1,5 +1,5 @@
-//! The final sequence of codewords: data and error correction codewords, interleaved (ISO/IEC 18004:2015, 7.5.2 and 7.6),
-//! and back.
+//! Computes the final sequence of codewords, data and error correction codewords interleaved, and takes it apart again
+//! (ISO/IEC 18004:2015, 7.5.2 and 7.6).
 
 ghost use Rattle.std.specs.Prelude.{◌≡◌, ◌≢◌, ◌↔◌, ℕ, ◌+◌, ◌<◌, ◌≤◌, ◌⊎◌, List, length, Err, IfOk, IfErr};
 ghost use Rattle.qr_layout.specs.Blocks.{data_codewords_of};
@@ -13,20 +13,20 @@ use qr_field::Divisor;
 use qr_layout::{Blocks, Level, Version};
 use std::alloc::{AllocError, Global};
 
-/// How codewords are cut into blocks, one after another: `short` blocks of `short_len` codewords, and then `long` blocks of
-/// one more (ISO/IEC 18004:2015, 7.5.1).
+/// How codewords that are listed block after block are divided into blocks: `short` blocks of `short_len` codewords, and
+/// then `long` blocks with one codeword more (ISO/IEC 18004:2015, 7.5.1).
 #[derive(Clone, Copy)]
 pub struct Cut {
-    /// How many short blocks there are.
+    /// The number of short blocks.
     pub short: u16,
-    /// How many codewords a short block has.
+    /// The number of codewords in a short block.
     pub short_len: u8,
-    /// How many long blocks there are.
+    /// The number of long blocks.
     pub long: u8,
 }
 
 impl Cut {
-    /// The cut of the data codewords.
+    /// Returns the cut of the data codewords.
     pub fn of_data(blocks: Blocks) -> Cut
         ensures { result ≡ data_cut blocks }
     {
@@ -37,7 +37,7 @@ impl Cut {
         }
     }
 
-    /// The cut of the error correction codewords, whose blocks all have one length.
+    /// Returns the cut of the error correction codewords, whose blocks all have the same length.
     pub fn of_corrections(blocks: Blocks) -> Cut
         ensures { result ≡ correction_cut blocks }
     {
@@ -48,7 +48,7 @@ impl Cut {
         }
     }
 
-    /// How many blocks there are.
+    /// Returns the number of blocks.
     pub fn count(self) -> usize
         ensures { result ≡ block_count self }
     {
@@ -73,7 +73,7 @@ impl Cut {
         usize::from(self.short_len) * block + block.saturating_sub(usize::from(self.short))
     }
 
-    /// A block of codewords that stand block after block.
+    /// Returns block `block` of the codewords, which are listed block after block.
     pub fn part(self, codewords: &[u8], block: usize) -> &[u8]
         requires within { block < block_count self }
         requires whole { length codewords.now ≡ cut_len self }
@@ -84,8 +84,8 @@ impl Cut {
         &codewords[start..start + self.len(block)]
     }
 
-    /// The codewords of the blocks, block after block, from codewords that were sent interleaved: the first of each block,
-    /// then the second of each, and so on (ISO/IEC 18004:2015, 7.6). What comes after them is ignored.
+    /// Returns the codewords block after block, from codewords that were sent interleaved: the first of each block, then
+    /// the second of each, and so on (ISO/IEC 18004:2015, 7.6). Codewords after those of the blocks are ignored.
     pub fn gather(self, alloc: Global, codewords: &[u8]) -> Result<Vec<u8>, AllocError>
         requires { cut_len self ≤ length codewords.now }
         ensures { IfOk result (λ d. IsGathered self codewords.now d.items) }
@@ -96,7 +96,8 @@ impl Cut {
     }
 }
 
-// Sends the codewords of blocks by rising tags: the first of each block, then the second of each, and so on.
+// Appends the codewords of the blocks to `sent`, interleaved: the first of each block, then the second of each, and so
+// on.
 fn interleave_into(sent: &mut Vec<u8>, cut: Cut, codewords: &[u8]) -> Result<(), AllocError>
     requires { length codewords.now ≡ cut_len cut }
     ensures { IfOk result (λ _. IsSent cut codewords.now sent.old.items sent.new.items) }
@@ -115,7 +116,7 @@ fn interleave_into(sent: &mut Vec<u8>, cut: Cut, codewords: &[u8]) -> Result<(),
     Ok(())
 }
 
-// The error correction codewords of all blocks, block after block.
+// Returns the error correction codewords of all blocks, block after block.
 fn corrections(alloc: Global, blocks: Blocks, message: &[u8]) -> Result<Vec<u8>, AllocError>
     requires whole { length message.now ≡ cut_len (data_cut blocks) }
     requires least { 1 ≤ blocks.ec_len }
@@ -147,7 +148,7 @@ fn interleave_blocks(alloc: Global, blocks: Blocks, message: &[u8]) -> Result<Ve
     Ok(sent)
 }
 
-/// The final sequence of codewords for the data codewords of a message (ISO/IEC 18004:2015, 7.5.2 and 7.6).
+/// Returns the final sequence of codewords for the data codewords `message` (ISO/IEC 18004:2015, 7.5.2 and 7.6).
 pub fn interleave(
     alloc: Global,
     version: Version,
@@ -161,7 +162,7 @@ pub fn interleave(
     interleave_blocks(alloc, version.blocks(level), message)
 }
 
-// Puts codewords that were sent by rising tags back into their blocks.
+// Undoes the interleaving: writes the codewords to `message` block after block.
 fn deinterleave_into(message: &mut Vec<u8>, cut: Cut, codewords: &[u8])
     requires room { length message.old.items ≡ cut_len cut }
     requires sent { cut_len cut ≤ length codewords.now }
@@ -179,7 +180,7 @@ fn deinterleave_into(message: &mut Vec<u8>, cut: Cut, codewords: &[u8])
     }
 }
 
-// The data codewords of a final sequence, if it is one.
+// Returns the data codewords if `codewords` is their final sequence, otherwise `Check`.
 fn deinterleave_blocks(
     alloc: Global,
     blocks: Blocks,
@@ -206,7 +207,7 @@ fn deinterleave_blocks(
     }
 }
 
-/// The data codewords of a final sequence of codewords (ISO/IEC 18004:2015, 7.6 and 12). `Check` if the error
+/// Returns the data codewords of a final sequence of codewords (ISO/IEC 18004:2015, 7.6 and 12), or `Check` if the error
 /// correction codewords of some block do not belong to its data codewords.
 pub fn deinterleave(
     alloc: Global,

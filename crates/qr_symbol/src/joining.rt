@@ -1,4 +1,4 @@
-//! The reading of symbols together: those of a series are joined in their order (ISO/IEC 18004:2015, 8).
+//! Reads symbols together: joins the bytes of a series of symbols in their order (ISO/IEC 18004:2015, 8).
 
 ghost use Rattle.std.specs.Prelude.{◌≡◌, ◌⊎◌, ◌-◌, ◌<◌, length, Some, IfOk, MatchResult};
 ghost use Rattle.std.specs.Bool.{Decides};
@@ -11,7 +11,7 @@ use crate::symbol::Symbol;
 use qr_bits::{Parsed, parity};
 use std::alloc::{AllocError, Global};
 
-// What the symbols say, one by one.
+// Returns the content of each symbol.
 fn read_all(alloc: Global, symbols: &[Symbol]) -> Result<Vec<Parsed>, ReadFault>
     ensures { MatchResult result
         (λ contents. AreReadings (squares_of symbols.now) contents.items)
@@ -24,7 +24,7 @@ fn read_all(alloc: Global, symbols: &[Symbol]) -> Result<Vec<Parsed>, ReadFault>
     Ok(contents)
 }
 
-// The bytes of the contents, one after the other.
+// Returns the bytes of the contents, one after another.
 fn joined_bytes(alloc: Global, contents: &[Parsed]) -> Result<Vec<u8>, AllocError>
     ensures { IfOk result (λ bytes. bytes.items ≡ bytes_of_all contents.now) }
 {
@@ -35,7 +35,7 @@ fn joined_bytes(alloc: Global, contents: &[Parsed]) -> Result<Vec<u8>, AllocErro
     Ok(bytes)
 }
 
-// Whether it is one content, without a header.
+// Returns whether there is exactly one content, and it has no header.
 fn is_plain(contents: &[Parsed]) -> bool
     ensures { Decides result (IsPlain contents.now) }
 {
@@ -45,7 +45,7 @@ fn is_plain(contents: &[Parsed]) -> bool
     }
 }
 
-// Whether the content has a header that tells this position, this number of symbols less 1 and this parity.
+// Returns whether the content has a header with this position, number of symbols less 1 (`last`), and parity.
 fn has_header(content: &Parsed, position: usize, last: usize, parity: u8) -> bool
     ensures { Decides result (content.now.header
         ≡ Some (record { position = position; last = last; parity = parity })) }
@@ -60,7 +60,8 @@ fn has_header(content: &Parsed, position: usize, last: usize, parity: u8) -> boo
     }
 }
 
-// Whether there is a content, and the headers tell their positions, how many they are, and this parity (8.1 to 8.3).
+// Returns whether there is at least one content, and the header of each contains its position, the number of contents
+// less 1, and this parity (8.1 to 8.3).
 fn are_in_series(contents: &[Parsed], parity: u8) -> bool
     ensures { Decides result ((0 < length contents.now)
         × HaveHeaders (length contents.now - 1) parity 0 contents.now) }
@@ -77,12 +78,13 @@ fn are_in_series(contents: &[Parsed], parity: u8) -> bool
     true
 }
 
-/// Joins what symbols say, in their order (ISO/IEC 18004:2015, 8): the bytes of one content without a header, or those of a
-/// series, whose headers must tell their positions from 0, how many they are, and the parity of all bytes.
+/// Joins the contents of symbols, in their order (ISO/IEC 18004:2015, 8): one content without a header, or those of a
+/// whole series. The header of each content of a series must contain its position, counted from 0, the number of symbols
+/// less 1, and the parity of all bytes.
 ///
 /// # Errors
 ///
-/// `Series` if the contents do not belong together, `Memory`. No content at all is no series.
+/// `Series` if the contents do not belong together, or if there is no content; `Memory`.
 pub fn join(alloc: Global, contents: &[Parsed]) -> Result<Vec<u8>, ReadFault>
     ensures { MatchResult result
         (λ bytes. BelongTogether contents.now × (bytes.items ≡ bytes_of_all contents.now))
@@ -97,12 +99,12 @@ pub fn join(alloc: Global, contents: &[Parsed]) -> Result<Vec<u8>, ReadFault>
     }
 }
 
-/// The bytes of symbols, joined in their order (ISO/IEC 18004:2015, 8): those of one symbol without a header, or those of
-/// a series, whose headers must tell their positions from 0, how many they are, and the parity of all bytes. Of each
-/// symbol only its matrix is looked at.
+/// Reads the symbols and joins their bytes, in their order (ISO/IEC 18004:2015, 8): the symbols are one symbol without a
+/// header, or a whole series. The header of each symbol of a series must contain its position, counted from 0, the
+/// number of symbols less 1, and the parity of all bytes. Of each symbol only its matrix is read.
 ///
-/// Refused for the first fault of a symbol that is not read, in their order, before any header is looked at; then
-/// `Series` where the symbols do not belong together. No symbol at all is no series.
+/// Returns the fault of the first symbol that cannot be read, before any header is checked. Returns `Series` if all
+/// symbols can be read but do not belong together, or if there is no symbol.
 pub fn read_series(alloc: Global, symbols: &[Symbol]) -> Result<Vec<u8>, ReadFault>
     ensures { MatchResult result
         (λ bytes. IsJoined (squares_of symbols.now) bytes.items)
@@ -121,7 +123,7 @@ mod tests {
     use qr_matrix::Matrix;
     use std::test::Fail;
 
-    // A part of the series of `ABCDEFGH` at 1-H: `ABCDE` or `FGH`.
+    // Returns a part of the series of `ABCDEFGH` at 1-H: `ABCDE` at position 0, `FGH` at position 1.
     fn part(rt: &HostRuntime, position: u8) -> Result<Symbol, Fail>
         requires { position < 2 }
     {
@@ -138,7 +140,7 @@ mod tests {
         byte_symbol(rt, bytes, Some(header), Level::H)
     }
 
-    // A symbol whose modules are all light.
+    // Returns a symbol of this side whose modules are all light.
     fn light(rt: &HostRuntime, side: u8) -> Result<Symbol, Fail>
         requires least { 0 < side }
         requires most { side < 178 }

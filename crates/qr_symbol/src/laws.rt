@@ -1,5 +1,5 @@
-//! The laws of masks, of interleaving, of reading and of series. But for those that build, read, compare and clone, each
-//! function does nothing: its contract is the law.
+//! The laws of masks, of interleaving, of reading and of series. Most functions do nothing: their contract is the law.
+//! The others build, read, compare or clone, and their contract is a law about the result.
 
 ghost use Rattle.std.specs.Prelude.{◌≡◌, ◌<◌, ◌≤◌, ◌+◌, ◌%◌, ◌⊎◌, ℕ, false, List, length, map, None, ◌∷◌, IfOk, IfErr, ◌≢◌, ◌↔◌, Err};
 ghost use Rattle.std.specs.List.{All};
@@ -45,15 +45,15 @@ use qr_layout::{Level, Version};
 use qr_matrix::Matrix;
 use std::alloc::Global;
 
-/// Each mask repeats after twelve rows and six columns, and its first twelve rows of six columns are those that were worked
-/// out from Table 10.
+/// Each mask repeats after twelve rows and six columns, and its first twelve rows of six columns are those that were
+/// worked out from Table 10.
 pub fn masks_compute()
     ensures repeated { (mask r c : ℕ) → mask < 8 → inverts mask r c ≡ inverts mask (r % 12) (c % 6) }
     ensures rows { map first_rows all_masks ≡ computed_rows }
 {}
 
-/// The plain form and the fast one give one symbol: what `build_masked` gives with the mask that `build` chose is in all its
-/// fields what `build` gives.
+/// The plain way and the fast way make the same symbol: `build_masked`, called with the mask that `build` chose, returns
+/// a symbol that equals the symbol of `build` in all fields.
 pub fn plain_and_fast_symbols_are_one(
     alloc: Global,
     version: Version,
@@ -73,7 +73,7 @@ pub fn plain_and_fast_symbols_are_one(
     Ok((plain, fast))
 }
 
-/// The blocks of the data codewords stand one after another, from the first codeword to the last.
+/// The blocks of the data codewords follow one another without a gap, from the first codeword to the last.
 pub fn blocks_are_cut_exactly(version: Version, level: Level)
     ensures first { start_of (data_cut (blocks_of version level)) 0 ≡ 0 }
     ensures next { (i : ℕ) → i < block_count (data_cut (blocks_of version level))
@@ -83,8 +83,8 @@ pub fn blocks_are_cut_exactly(version: Version, level: Level)
     ensures whole { cut_len (data_cut (blocks_of version level)) ≡ data_codewords_of version level }
 {}
 
-/// Data codewords have one final sequence of codewords, which is as long as the symbol holds, and it is that of no
-/// other data codewords.
+/// Data codewords have at most one final sequence of codewords. It has as many codewords as the symbol, and no other
+/// data codewords have the same final sequence.
 pub fn interleaving_is_one(version: Version, level: Level)
     ensures sent { (d xs ys : List ℕ) → IsInterleaved version level d xs
         → IsInterleaved version level d ys → xs ≡ ys }
@@ -95,26 +95,26 @@ pub fn interleaving_is_one(version: Version, level: Level)
         → IsInterleaved version level d xs → IsInterleaved version level e xs → d ≡ e }
 {}
 
-/// Two squares of a version and a level that hold different messages differ in some block by more codewords than it has
-/// error correction codewords.
+/// Two squares of a version and a level that contain different messages differ in at least one block by more codewords
+/// than the block has error correction codewords.
 pub fn messages_lie_apart(version: Version, level: Level)
     ensures { MessagesLieApart version level }
 {}
 
-/// What was read of a square stands for one message only, as long as in each block the codewords that were not read and
-/// twice those that were misread are no more than its error correction codewords.
+/// The codewords read from a damaged square belong to one message at most, as long as in each block the number of erased
+/// codewords, plus twice the number of misread codewords, is at most the number of its error correction codewords.
 pub fn damaged_messages_are_one(version: Version, level: Level)
     ensures { DamagedMessagesAreOne version level }
 {}
 
-/// The square of codewords is read as their bits.
+/// The square that is drawn for codewords is read as the bits of these codewords.
 pub fn squares_give_their_bits(version: Version)
     ensures { (l : Level) (mask : ℕ) (cw : List ℕ) (ms : List Module) → IsOrder version ms
         → length cw ≡ total_codewords_of version
         → read_bits version mask (grid_of version l mask cw) ms ≡ bits_of cw }
 {}
 
-/// Every square of a version's side holds one list of codewords under a mask, and at most one message.
+/// Every square with the side of a version contains exactly one list of codewords under a mask, and at most one message.
 pub fn reading_is_one(version: Version, level: Level)
     ensures some { (mask : ℕ) (g : Grid) → (cw : List ℕ) × IsRead version mask g cw }
     ensures codewords { (mask : ℕ) (g : Grid) (cw ds : List ℕ) → IsRead version mask g cw
@@ -123,19 +123,19 @@ pub fn reading_is_one(version: Version, level: Level)
         → IsMessage version level mask g e → d ≡ e }
 {}
 
-/// The format information of a square is that of one level and one mask at most.
+/// The format information of a square belongs to at most one level and mask.
 pub fn format_is_one()
     ensures { (g : Grid) (l k : Level) (m n : ℕ) → IsFormat g l m → IsFormat g k n
         → (l ≡ k) × (m ≡ n) }
 {}
 
-/// A square is read as one content at most.
+/// A square is read as at most one content.
 pub fn contents_are_one()
     ensures { (g : Grid) (p q : Content) → IsReading g p → IsReading g q → p ≡ q }
 {}
 
-/// A square that is read as a content can only be refused for lack of memory. That aside, a square is refused for one
-/// reason at most.
+/// A square that is read as a content can only be refused for lack of memory. Apart from lack of memory, a square is
+/// refused for at most one reason.
 pub fn refusals_are_one()
     ensures read { (g : Grid) (p : Content) (e : ReadFault) → IsReading g p → IsUnread g e
         → e ≡ ReadFault.Memory }
@@ -143,7 +143,8 @@ pub fn refusals_are_one()
         → (e ≡ ReadFault.Memory) ⊎ (f ≡ ReadFault.Memory) ⊎ (e ≡ f) }
 {}
 
-/// A square is refused for each fault but lack of memory exactly if the fault is its own, unless memory is refused.
+/// A square is refused for a fault, other than lack of memory, exactly if that is the fault of the square, unless memory
+/// is refused.
 pub fn readings_are_refused_exactly(alloc: Global, matrix: &Matrix) -> Result<Parsed, ReadFault>
     ensures { (e : ReadFault) → e ≢ ReadFault.Memory
         → (result ≡ Err e) ↔ ((result ≢ Err ReadFault.Memory) × IsUnread matrix.now e) }
@@ -151,13 +152,13 @@ pub fn readings_are_refused_exactly(alloc: Global, matrix: &Matrix) -> Result<Pa
     read_symbol(alloc, matrix)
 }
 
-/// Squares are joined to one list of bytes at most.
+/// Squares are joined to at most one list of bytes.
 pub fn joinings_are_one()
     ensures { (gs : List Grid) (x y : List ℕ) → IsJoined gs x → IsJoined gs y → x ≡ y }
 {}
 
-/// Squares that are joined to bytes can only be refused for lack of memory. That aside, squares are refused for one
-/// reason at most.
+/// Squares that are joined to bytes can only be refused for lack of memory. Apart from lack of memory, squares are
+/// refused for at most one reason.
 pub fn joining_refusals_are_one()
     ensures joined { (gs : List Grid) (x : List ℕ) (e : ReadFault) → IsJoined gs x
         → IsUnjoined gs e → e ≡ ReadFault.Memory }
@@ -165,7 +166,8 @@ pub fn joining_refusals_are_one()
         → (e ≡ ReadFault.Memory) ⊎ (f ≡ ReadFault.Memory) ⊎ (e ≡ f) }
 {}
 
-/// Symbols are refused for each fault but lack of memory exactly if the fault is theirs, unless memory is refused.
+/// Symbols are refused for a fault, other than lack of memory, exactly if that is the fault of their squares, unless
+/// memory is refused.
 pub fn joinings_are_refused_exactly(alloc: Global, symbols: &[Symbol]) -> Result<Vec<u8>, ReadFault>
     ensures { (e : ReadFault) → e ≢ ReadFault.Memory
         → (result ≡ Err e) ↔ ((result ≢ Err ReadFault.Memory) × IsUnjoined (squares_of symbols.now) e) }
@@ -173,25 +175,26 @@ pub fn joinings_are_refused_exactly(alloc: Global, symbols: &[Symbol]) -> Result
     read_series(alloc, symbols)
 }
 
-/// An input has only one symbol of a level, from a version on.
+/// An input has at most one symbol for a level, a rule and a smallest version.
 pub fn symbols_are_one()
     ensures { SymbolsAreOne }
 {}
 
-/// The symbol of an input is read as the input, in the segments of least bits and without a header.
+/// The symbol of an input is read as this input, in the segments with the fewest bits and without a header.
 pub fn symbols_are_read(smallest: Version)
     ensures { (x : List ℕ) (l : Level) (rule : Rule) (v mask : ℕ) (g : Grid)
         → (s : IsSymbol smallest l rule x v mask g)
         → IsReading g (record { header = None; segments = s.made.segments; bytes = x }) }
 {}
 
-/// An input has only one series of a version and a level.
+/// An input has at most one series for a version, a level and a rule.
 pub fn series_are_one()
     ensures { (x : List ℕ) (l : Level) (rule : Rule) (v : ℕ) (ss ts : List Symbol)
         → IsSeries v l rule x ss → IsSeries v l rule x ts → ss ≡ ts }
 {}
 
-/// The parts of an input fit after headers, and no fewer parts do; so its series is the shortest.
+/// The parts of an input fit after headers. Without kanji mode no fewer parts fit, so the series of the input is the
+/// shortest possible.
 pub fn series_are_shortest()
     ensures fit { (v : ℕ) (l : Level) (rule : Rule) (x : List ℕ) (parts : List (List ℕ))
         → AreParts v l rule x parts → FitParts v l rule x parts }
@@ -202,18 +205,18 @@ pub fn series_are_shortest()
         → IsSeries v l rule x ss → NeedsParts v l rule x (length ss) }
 {}
 
-/// Every input has parts: in any symbol a byte fits after a header.
+/// Every input can be cut into parts, since one byte fits any symbol after a header.
 pub fn parts_are_there(version: Version, level: Level)
     ensures { (rule : Rule) (x : List ℕ) → (parts : List (List ℕ)) × AreParts version level rule x parts }
 {}
 
-/// The first part of what is left of an input has at least five bytes, or it is all that is left.
+/// A part has at least five bytes, unless it is the whole rest of the input.
 pub fn parts_are_long(version: Version, level: Level)
     ensures { (rule : Rule) (x p : List ℕ) (ps : List (List ℕ))
         → AreParts version level rule x (p ∷ ps) → (5 ≤ length p) ⊎ (p ≡ x) }
 {}
 
-/// The symbols of a series have the side of their version, and are 16 at most.
+/// The symbols of a series all have the side of its version, and there are at most 16 of them.
 pub fn series_have_one_side(version: Version)
     ensures side { (x : List ℕ) (l : Level) (rule : Rule) (ss : List Symbol)
         → IsSeries version l rule x ss → All (λ g. g.side ≡ side_of version) (squares_of ss) }
@@ -221,14 +224,13 @@ pub fn series_have_one_side(version: Version)
         → IsSeries version l rule x ss → length ss ≤ 16 }
 {}
 
-/// The symbols of a series are joined to the input.
+/// The symbols of the series of an input are joined to this input.
 pub fn series_are_joined(version: Version)
     ensures { (x : List ℕ) (l : Level) (rule : Rule) (ss : List Symbol)
         → IsSeries version l rule x ss → IsJoined (squares_of ss) x }
 {}
 
-/// An input of `INPUT_MAX` bytes or more has no symbol, from any version on, and no series of a version: it takes more
-/// than 16 symbols.
+/// An input of `INPUT_MAX` bytes or more fits no version, and it has no series, since it needs more than 16 symbols.
 pub fn long_inputs_have_none(version: Version)
     ensures symbol { (x : List ℕ) (l : Level) (rule : Rule) → INPUT_MAX ≤ length x
         → HasNoVersion version l rule x }
@@ -238,8 +240,8 @@ pub fn long_inputs_have_none(version: Version)
         → HasNoSeries version l rule x }
 {}
 
-/// The bits of the format information and the version information are drawn as the standard's examples print them, from the
-/// highest bit to the lowest: level M with mask 101, and version 7.
+/// The bits of the format information and the version information are drawn as the standard's examples print them, from
+/// the highest bit to the lowest: level M with mask 101, and version 7.
 #[tactic(auto, unfolding(qr_layout::specs::Format::format_word_of, qr_layout::specs::Format::version_word_of, qr_layout::specs::Format::remainder_of))]
 pub fn drawn_bits_compute()
     ensures format { (v r c : ℕ) (cw : List ℕ) → bits_down 15 (λ i. colour_by v Level.M 5 cw r c (FormatBit i))
@@ -248,26 +250,26 @@ pub fn drawn_bits_compute()
         → bits_down 18 (λ i. colour_by 7 l mask cw r c (VersionBit i)) ≡ 0b000111110010010100 }
 {}
 
-/// Among masks of equal penalty the one of the smallest number is chosen.
+/// If several masks have the least penalty, the one with the smallest number is chosen.
 pub fn ties_go_to_the_smallest()
     ensures { (v : ℕ) (l : Level) (cw : List ℕ) (mask other : ℕ) → IsMask v l cw mask → other < 8
         → mask_penalty v l cw other ≡ mask_penalty v l cw mask → mask ≤ other }
 {}
 
-/// The last version is 40: no larger one is chosen, and an input that fits it is not refused.
+/// The largest version is 40: no larger version is chosen, and an input that fits version 40 is not refused.
 pub fn the_last_version_is_40(smallest: Version)
     ensures chosen { (l : Level) (rule : Rule) (x : List ℕ) (v : ℕ) → IsVersion smallest l rule x v → v ≤ 40 }
     ensures tried { (l : Level) (rule : Rule) (x : List ℕ) → HasNoVersion smallest l rule x
         → FitsVersion 40 l rule x → ⊥ }
 {}
 
-/// An input is not refused a series whose parts are 16 or fewer.
+/// An input with at most 16 parts is not refused as too long for a series.
 pub fn sixteen_parts_are_a_series()
     ensures { (v : ℕ) (l : Level) (rule : Rule) (x : List ℕ) (parts : List (List ℕ))
         → AreParts v l rule x parts → length parts ≤ 16 → HasNoSeries v l rule x → ⊥ }
 {}
 
-/// The faults of reading have the numbers from 1 to 6, in their order.
+/// The faults of reading are numbered from 1 to 6, in their order.
 pub fn read_faults_are_numbered()
     ensures memory { read_fault_number ReadFault.Memory ≡ 1 }
     ensures side { read_fault_number ReadFault.Side ≡ 2 }
@@ -282,7 +284,8 @@ mod tests {
     use super::*;
     use std::test::Fail;
 
-    // Versions with no remainder bits and with three, four and seven of them; version 7 has version information too.
+    // Versions with no remainder bits and with three, four and seven of them. The versions from 7 on have version
+    // information too.
     #[test]
     fn plain_and_fast_symbols(rt: HostRuntime) -> Result<(), Fail> {
         for number in [1, 2, 7, 14, 21, 40] {

@@ -1,5 +1,5 @@
-//! Symbols: how an input is encoded as one or as a series, how codewords are interleaved, placed and masked, and what
-//! symbols are read as.
+//! Encodes an input as one symbol or as a series of symbols, and reads symbols back. Interleaves codewords, places them
+//! in the square, and masks them.
 #![tactic(auto)]
 
 mod canvas;

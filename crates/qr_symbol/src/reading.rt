@@ -1,5 +1,5 @@
-//! The reading of one symbol: its version by the side, its level and its mask by the format information, then the
-//! codewords, the message and what it says (ISO/IEC 18004:2015, 12).
+//! Reads one symbol: its version from the side, its level and mask from the format information, and then its codewords,
+//! its data codewords, and the segments and bytes in these (ISO/IEC 18004:2015, 12).
 
 ghost use Rattle.std.specs.Prelude.{◌≡◌, ℕ, ◌<◌, ◌≤◌, Err, length, IfOk, MatchOption, MatchResult};
 ghost use Rattle.std.specs.Bool.{Decides};
@@ -17,7 +17,7 @@ use qr_layout::{Level, Version, format_place, format_word, walk};
 use qr_matrix::Matrix;
 use std::alloc::{AllocError, Global};
 
-// Whether the format information beside the top left finder pattern is that of the level and the mask.
+// Returns whether the format information beside the top left finder pattern is that of the level and the mask.
 fn has_format(matrix: &Matrix, level: Level, mask: u8) -> bool
     requires side { 21 ≤ matrix.now.side }
     requires mask_in { mask < 8 }
@@ -33,7 +33,7 @@ fn has_format(matrix: &Matrix, level: Level, mask: u8) -> bool
     true
 }
 
-// The mask that the format information tells beside this level.
+// Returns the mask that the format information contains together with this level.
 fn mask_of(matrix: &Matrix, level: Level) -> Option<u8>
     requires { 21 ≤ matrix.now.side }
     ensures { MatchOption result
@@ -48,7 +48,7 @@ fn mask_of(matrix: &Matrix, level: Level) -> Option<u8>
     None
 }
 
-// The level and the mask that the format information tells.
+// Returns the level and the mask that the format information contains.
 fn format_of(matrix: &Matrix) -> Option<(Level, u8)>
     requires { 21 ≤ matrix.now.side }
     ensures { MatchOption result
@@ -63,8 +63,8 @@ fn format_of(matrix: &Matrix) -> Option<(Level, u8)>
     None
 }
 
-/// The codewords that the modules of the encoding region hold under a mask, read in the order of the walk; the remainder
-/// bits are ignored (ISO/IEC 18004:2015, 7.7.3 and 12).
+/// Reads the codewords from the modules of the encoding region, in the order of `qr_layout::walk`, and undoes the mask.
+/// The remainder bits are ignored (ISO/IEC 18004:2015, 7.7.3 and 12).
 pub fn read_codewords(
     alloc: Global,
     version: Version,
@@ -91,10 +91,10 @@ pub fn read_codewords(
     Ok(codewords)
 }
 
-/// What a symbol says, read without any correction of errors (ISO/IEC 18004:2015, 12): the version by the side, the level
-/// and the mask by the format information beside the top left finder pattern alone, and the data codewords, whose error
-/// correction codewords must be theirs. The other function patterns, the second format information, the version
-/// information and the remainder bits are not looked at.
+/// Reads a symbol, without any correction of errors (ISO/IEC 18004:2015, 12). The version comes from the side, and the
+/// level and the mask come from the format information beside the top left finder pattern alone. The error correction
+/// codewords must be those of the data codewords. The other function patterns, the second format information, the
+/// version information and the remainder bits are ignored.
 pub fn read_symbol(alloc: Global, matrix: &Matrix) -> Result<Parsed, ReadFault>
     ensures read { MatchResult result (IsReading matrix.now) (IsUnread matrix.now) }
     ensures side { IsUnread matrix.now ReadFault.Side → result ≡ Err ReadFault.Side }
@@ -120,7 +120,7 @@ mod tests {
     use qr_bits::{Mode, Rule, Segment};
     use std::test::Fail;
 
-    // Whether a square is read as one segment, without a header.
+    // Returns whether the square is read as these bytes in one segment of this mode, without a header.
     fn says(rt: &HostRuntime, matrix: &Matrix, mode: Mode, bytes: &[u8]) -> Result<bool, Fail> {
         let parsed = read_symbol(rt.alloc(), matrix)?;
         let segment = Segment {
@@ -179,8 +179,8 @@ mod tests {
         Ok(())
     }
 
-    // Of the modules of a symbol of version 1 the first format information has 15 and the codewords 208; the others are
-    // not looked at.
+    // In a symbol of version 1, 15 modules hold the first format information and 208 modules hold codewords. All other
+    // modules are ignored.
     #[test]
     fn each_module_inverted(rt: HostRuntime) -> Result<(), Fail> {
         let version = Version::FIRST;
@@ -210,7 +210,7 @@ mod tests {
         Ok(())
     }
 
-    // The seven modules of version 2 after its 44 codewords.
+    // Version 2 has 44 codewords; the seven modules after them hold its remainder bits.
     #[test]
     fn remainder_bits_inverted(rt: HostRuntime) -> Result<(), Fail> {
         let version = Version::new(2).ok_or("version 2")?;

@@ -1,4 +1,4 @@
-//! What tests read: codewords, and symbols of version 1 in one segment of byte mode, after a header or none.
+//! Codewords and symbols for the tests: symbols of version 1 with one segment of byte mode, after an optional header.
 
 ghost use Rattle.std.specs.Prelude.{◌<◌, ◌≤◌, length};
 ghost use Rattle.std.specs.Option.{ForSome};
@@ -16,7 +16,7 @@ pub(crate) static EIGHT_DIGITS: [u8; 26] = [
     0xA5, 0x24, 0xD4, 0xC1, 0xED, 0x36, 0xC7, 0x87, 0x2C, 0x55,
 ];
 
-/// The data codewords of the bytes.
+/// Returns the data codewords of the bytes, after the optional header.
 pub(crate) fn byte_codewords(
     rt: &HostRuntime,
     bytes: &[u8],
@@ -37,7 +37,7 @@ pub(crate) fn byte_codewords(
     Ok(codewords(rt.alloc(), bytes, &[segment], header, version, level)?)
 }
 
-/// The symbol of the bytes.
+/// Returns the symbol of the bytes, after the optional header.
 pub(crate) fn byte_symbol(
     rt: &HostRuntime,
     bytes: &[u8],

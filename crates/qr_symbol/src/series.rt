@@ -1,4 +1,4 @@
-//! The encoding of an input as a series of symbols, by structured append (ISO/IEC 18004:2015, 8).
+//! Encodes an input as a series of symbols, by structured append (ISO/IEC 18004:2015, 8).
 
 ghost use Rattle.std.specs.Prelude.{◌≡◌, ◌≢◌, ◌-◌, ◌<◌, ◌≤◌, ◌↔◌, ◌⊎◌, ℕ, false, List, [], length, None, Some, Err, IfOk, IfErr, MatchOption};
 ghost use Rattle.qr_bits.specs.declared.modes.Rule.{Rule};
@@ -21,13 +21,14 @@ use qr_bits::{Header, INPUT_MAX, Rule, bit_len, longest_fit, parity, segments};
 use qr_layout::{Level, Version};
 use std::alloc::Global;
 
-/// The series of symbols of an input, all of one version and level (ISO/IEC 18004:2015, 8). Where the input fits one
-/// symbol, that is a plain symbol, without a header. Else it is cut into parts, and each part is the longest prefix of
-/// the rest that fits a symbol after its header, whether or not each shorter one fits. The rule tells which modes the
-/// segments may have. Without kanji mode the series is the shortest: no cut into fewer parts fits.
+/// Encodes the input as a series of symbols, all of the same version and level (ISO/IEC 18004:2015, 8). If the input
+/// fits one symbol, the series is that symbol, without a header. Otherwise the input is cut into parts: each part is the
+/// longest prefix of the rest that fits a symbol after its header, even if some shorter prefix does not fit. `rule` says
+/// which modes the segments may have. Without kanji mode the series is the shortest possible: no cut into fewer parts
+/// fits.
 ///
-/// `Empty` if the input has no byte, and `TooMany` if its parts are more than 16; without kanji mode no other cut into 16
-/// parts fits either.
+/// Returns `Empty` if the input has no byte, and `TooMany` if it has more than 16 parts. If kanji mode is not allowed,
+/// no other cut into 16 parts fits then.
 pub fn encode_series(
     alloc: Global,
     input: &[u8],
@@ -58,7 +59,7 @@ pub fn encode_series(
     part_symbols(alloc, input, lengths.as_slice(), version, level, rule)
 }
 
-// The plain symbol of an input, where it fits one.
+// Returns the symbol of the input without a header, if the input fits it.
 fn plain_symbol(
     alloc: Global,
     input: &[u8],
@@ -83,7 +84,8 @@ fn plain_symbol(
     Ok(Some(symbol))
 }
 
-// The lengths of the parts of an input: of each rest, the longest prefix that fits a symbol after a header.
+// Returns the lengths of the parts of the input: each is the length of the longest prefix of the rest that fits a symbol
+// after a header.
 fn part_lengths(
     alloc: Global,
     input: &[u8],
@@ -113,7 +115,8 @@ fn part_lengths(
     Ok(lengths)
 }
 
-// The length of the longest prefix that fits a symbol after a header. No more bytes are looked at than fit any symbol.
+// Returns the length of the longest prefix of `rest` that fits a symbol after a header. Only reads as many bytes as the
+// largest symbol holds.
 fn front_len(
     alloc: Global,
     rest: &[u8],
@@ -132,7 +135,7 @@ fn front_len(
     Ok(longest_fit(alloc, front, version, level, rule)?)
 }
 
-// The symbols of the parts of these lengths, each after its header (8.1 to 8.3).
+// Returns the symbols of the parts that have these lengths, each with its header (8.1 to 8.3).
 fn part_symbols(
     alloc: Global,
     input: &[u8],
@@ -168,7 +171,7 @@ fn part_symbols(
     Ok(symbols)
 }
 
-// The symbol of a part after its header.
+// Returns the symbol of a part after its header.
 fn part_symbol(
     alloc: Global,
     part: &[u8],
@@ -195,7 +198,7 @@ mod tests {
     use crate::reading::read_symbol;
     use std::test::Fail;
 
-    // Whether a symbol is read as these bytes after this header or none.
+    // Returns whether the symbol is read as these bytes after this optional header.
     fn says(
         rt: &HostRuntime,
         symbol: &Symbol,
@@ -275,7 +278,7 @@ mod tests {
         Ok(())
     }
 
-    // The longest inputs of 16 symbols: each part is as long as a symbol of version 1-H holds after a header.
+    // The longest inputs of 16 symbols: each part fills a symbol of version 1-H after its header.
     #[test]
     fn sixteen_full_parts_at_1_h(rt: HostRuntime) -> Result<(), Fail> {
         let (letters, digits) = ([b'a'; 80], [b'7'; 176]);

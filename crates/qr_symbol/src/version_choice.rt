@@ -1,7 +1,8 @@
-//! The least version that an input fits, and the segments of the input in it (ISO/IEC 18004:2015, 7.1 and 7.4.1).
+//! Finds the least version that an input fits, and the segments of the input in it (ISO/IEC 18004:2015, 7.1 and 7.4.1).
 //!
-//! The bits of segments depend on the version by the widths of the character count indicators alone, and these change
-//! only after the versions 9 and 26. So an input is cut into segments once for each of the three ranges of versions.
+//! The number of bits of a segment depends on the version only by the width of its character count indicator, which
+//! changes only after the versions 9 and 26. So an input is cut into segments at most once for each of the three ranges
+//! of versions.
 
 ghost use Rattle.std.specs.Prelude.{◌≡◌, ◌≤◌, ◌<◌, ℕ, length, IfOk, MatchOption};
 ghost use Rattle.qr_bits.specs.declared.modes.Rule.{Rule};
@@ -17,13 +18,13 @@ use qr_bits::{BitFault, INPUT_MAX, Rule, Segment, bit_len, least_bits, segments}
 use qr_layout::{Level, Version};
 use std::alloc::Global;
 
-// No symbol up to version 9 holds more bits than this (7.4.10, Table 7).
+// The most bits that the data codewords of a symbol up to version 9 hold (7.4.10, Table 7).
 const SMALL_BITS: u32 = 1856;
 
-// No symbol up to version 26 holds more bits than this.
+// The most bits that the data codewords of a symbol up to version 26 hold.
 const MEDIUM_BITS: u32 = 10960;
 
-// Nor more bytes than this: three digits take ten bits (7.4.3).
+// No symbol up to version 26 holds more bytes than this, since three digits take ten bits (7.4.3).
 const MEDIUM_BYTES: usize = 3288;
 
 // A version that an input fits, and the segments of the input in it.
@@ -33,7 +34,7 @@ pub(crate) struct Fit {
     pub segments: Vec<Segment>,
 }
 
-// The last version whose character count indicators are as wide as this one's (7.4.1, Table 3).
+// Returns the last version whose character count indicators are as wide as those of `version` (7.4.1, Table 3).
 fn last_of_width(version: Version) -> u8
     ensures least { version ≤ result }
     ensures most { result ≤ 40 }
@@ -47,8 +48,9 @@ fn last_of_width(version: Version) -> u8
     }
 }
 
-// The first version that may hold the input: the ranges whose symbols all hold fewer bits are passed over. In byte mode
-// alone there is little to pass over.
+// Returns the first version of a range, 1, 10 or 27, such that the input fits no version before it. A range is skipped
+// if all its symbols have too few bits. With byte mode alone only long inputs skip ranges, since a closer look would
+// save little.
 fn first_for(input: &[u8], rule: Rule) -> u8
     requires { length input.now ≤ INPUT_MAX }
     ensures first { 1 ≤ result }
@@ -72,7 +74,7 @@ fn first_for(input: &[u8], rule: Rule) -> u8
     }
 }
 
-// The least version from `first` to `last` whose data codewords hold at least `bits` bits.
+// Returns the least version from `first` to `last` whose data codewords hold at least `bits` bits.
 fn first_with_room(level: Level, first: Version, last: u8, bits: u64) -> Option<Version>
     requires { last ≤ 40 }
     ensures { MatchOption result
@@ -89,7 +91,7 @@ fn first_with_room(level: Level, first: Version, last: u8, bits: u64) -> Option<
     None
 }
 
-// The least version from `smallest` on that the input fits, and the segments of least bits in it.
+// Returns the least version from `smallest` on that the input fits, and the segments of the fewest bits in it.
 pub(crate) fn least_fit(
     alloc: Global,
     input: &[u8],

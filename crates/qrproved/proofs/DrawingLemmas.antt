@@ -1,4 +1,4 @@
--- The squares whose modules have some bytes, one after the other.
+-- The squares whose modules have some bytes, read one square after another.
 use Rattle.std.proofs.Common.{◌≡◌, ℕ, zero, suc, ◌+◌, ◌-◌, ◌*◌, ◌<◌, ◌≤◌, List, [], ◌∷◌, ◌++◌, length, drop, length-drop, map, refl, sym, ap, append-nil, ◌∙◌, arith}
 use Rattle.std.specs.List.{All}
 use Rattle.std.proofs.lemmas.List.{append_assoc}
@@ -16,18 +16,18 @@ unfolding squares_of_bytes
 one-more side left n read rest e =
     rw e (append_assoc read (square_of_bytes side rest ∷ []) (squares_of_bytes side n (drop (side * side) rest)))
 
--- no square is left
+-- at the end no square is left
 pub no-more : (side left : ℕ) (read : List Grid) (rest : List ℕ) → left ≡ 0 → read ++ squares_of_bytes side left rest ≡ read
 unfolding squares_of_bytes
 no-more side left read rest e = rw e (append-nil read)
 
--- as many squares as were asked for
+-- the number of squares that are read
 pub many-squares : (side count : ℕ) (bytes : List ℕ) → length (squares_of_bytes side count bytes) ≡ count
 unfolding squares_of_bytes
 many-squares side zero bytes = refl
 many-squares side (suc n) bytes = ap suc (many-squares side n (drop (side * side) bytes))
 
--- each of this side
+-- each square has this side
 sides : (side count : ℕ) (bytes : List ℕ) → All (λ g. g.side ≡ side) (squares_of_bytes side count bytes)
 unfolding squares_of_bytes
 sides side zero bytes = All-nil (λ g. g.side ≡ side)
@@ -35,7 +35,7 @@ sides side (suc n) bytes =
     All-cons (λ g. g.side ≡ side) (square_of_bytes side bytes) (squares_of_bytes side n (drop (side * side) bytes)) refl
     (sides side n (drop (side * side) bytes))
 
--- and so of one side
+-- so all squares have the same side
 pub one-side : (side count : ℕ) (bytes : List ℕ) → 1 ≤ count → HaveOneSide (squares_of_bytes side count bytes)
 one-side side count bytes some k d l =
     let all = sides side count bytes in

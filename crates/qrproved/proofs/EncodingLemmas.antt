@@ -1,4 +1,4 @@
--- What the statuses of an input that is not encoded say.
+-- What the statuses mean for an input that is not encoded.
 use Rattle.std.proofs.Common.{◌≡◌, ◌≢◌, ◌↔◌, ◌⊎◌, ℕ, List, [], Result, Err, refl, inl, inr, arith}
 use Rattle.std.proofs.lemmas.Bool.{cases_lt}
 use Rattle.qr_layout.specs.declared.level.Level.{Level}
@@ -8,7 +8,7 @@ use Rattle.qr_symbol.specs.declared.fault.EncodeFault.TheVariants as fault
 use Rattle.qr_symbol.specs.VersionChoice.{IsVersion}
 use Rattle.qrproved.specs.Steps.Status.{encode_status}
 
--- bytes have one least version
+-- bytes have at most one least version
 pub least-one : (x : List ℕ) (l : Level) (smallest : ℕ) (r : Rule) (v w : ℕ) → IsVersion smallest l r x v → IsVersion smallest l r x w → v ≡ w
 least-one x l smallest r v w h k = elim (cases_lt v w) [
   | inl a ↦ absurd (k.first v h.least a h.fits)
@@ -18,7 +18,7 @@ least-one x l smallest r v w h k = elim (cases_lt v w) [
   ]
 ]
 
--- the status of an input that is too long comes exactly if it is, P, unless memory was refused
+-- the status of an input that is too long is returned exactly if it is too long, P, unless memory was refused
 pub too-long-status : {X : Type 0} (r : Result X EncodeFault) (f : EncodeFault) (S P : Type 0) → r ≡ Err f → S
     → ((r ≡ Err fault.TooLong) ↔ ((r ≢ Err fault.Memory) × P))
     → (encode_status f ≡ 2) ↔ ((encode_status f ≢ 4) × S × P)
@@ -27,8 +27,8 @@ too-long-status r fault.TooLong S P is s told = (λ h. (λ m. absurd (omega arit
 too-long-status r fault.TooMany S P is s told = (λ h. absurd (omega arith), λ w. absurd (let e = told.1 (λ h. cc, w.2) in cc))
 too-long-status r fault.Memory S P is s told = (λ h. absurd (omega arith), λ w. absurd (w.0 refl))
 
--- an input that is not encoded never has the status of a short buffer; one that has a symbol, R, is refused for lack of
--- memory alone
+-- an input that is not encoded never has the status of a short buffer. If it has a symbol, R, it is refused only for
+-- lack of memory
 pub room-status : {X : Type 0} (r : Result X EncodeFault) (f : EncodeFault) (x : List ℕ) (S P R : Type 0) → r ≡ Err f → (R → P → ⊥)
     → ((r ≡ Err fault.Empty) ↔ (x ≡ []))
     → ((r ≡ Err fault.TooLong) ↔ ((r ≢ Err fault.Memory) × P))

@@ -1,4 +1,4 @@
--- What the struct tells of a square that is mended, and which statuses its bytes rule out.
+-- What the struct of a mended square contains, and which statuses a mended square cannot have.
 use Rattle.std.proofs.Common.{◌≡◌, ℕ, ◌*◌, ◌<◌, ◌≤◌, ◌==◌, Option, None, Some, true, false, List, ◌++◌, drop, length, take, sym, ◌∙◌, ap, subst, arith}
 use Rattle.std.proofs.lemmas.Bool.Decides.{nat_tests}
 use Rattle.std.specs.Prelude.{if◌then◌else◌, Bool}
@@ -18,43 +18,43 @@ use Rattle.qrproved.specs.Reading.{TellsHeader}
 use Rattle.qrproved.specs.Settings.{level_of}
 use Rattle.qrproved.specs.Mending.{square_of_unknown, unknown_in, AreModules, HasMoreMendedBytes, HasOtherByte, IsGivenMended, IsGreatest}
 
--- as many bytes as the square has modules, each 0, 1 or 2, are modules
+-- if there is a byte for each module of the square, and each byte is 0, 1 or 2, these are modules
 pub all-modules : (modules : List ℕ) (side area : ℕ) → area ≡ side * side → area ≤ length modules → All (λ b. b ≤ 2) (take area modules) → AreModules modules side
 all-modules modules side area e long each = record {
   whole = omega (arith, e);
   each = subst (λ (n : ℕ). All (λ b. b ≤ 2) (take n modules)) e each;
 }
 
--- then none is another byte
+-- if the bytes are modules, none of them is another byte
 pub no-other : (modules : List ℕ) (side : ℕ) → AreModules modules side → HasOtherByte modules side → ⊥
 no-other modules side a o = let w = o.one in let low = a.each w.0 w.1 w.2 in omega (arith, w.3, w.4, low)
 
--- counts that are no more than may be are bytes
+-- numbers that are at most t are at most 15, if t is at most 15
 pub few-changes : (x : List ℕ) (t : ℕ) → t ≤ 15 → All (λ n. n ≤ t) x → All (λ n. n ≤ 15) x
 few-changes x t most few = All-weaker (λ n. n ≤ t) (λ n. n ≤ 15) (λ n h. omega arith) x few
 
--- a square that is mended has no fault but lack of memory
+-- a square that is mended has no fault except lack of memory
 abbrev pub MendedExclude : Type 0
 MendedExclude = (u : Option Grid) (g : Grid) (v : ℕ) (l : Level) (m : ℕ) (p : Content) (x : List ℕ) (e : ReadFault) → IsMendedReadingWithout u g v l m p x → IsUnmendedWithout u g e → e ≡ unread.Memory
 
--- a square that is mended has no fault that is told
+-- a square that is mended is not refused for a fault other than lack of memory
 pub not-unmended : (u : Option Grid) (g : Grid) (v : ℕ) (l : Level) (m : ℕ) (p : Content) (x : List ℕ) (e : ReadFault) → MendedExclude → IsMendedReadingWithout u g v l m p x → IsUnmendedWithout u g e → (e ≡ unread.Memory → ⊥) → ⊥
 not-unmended u g v l m p x e law r f known = known (law u g v l m p x e r f)
 
--- the reading in the version, the level and the mask that the struct tells
+-- the reading, stated with the version, the level and the mask that are in the struct
 read-told : (u : Option Grid) (g : Grid) (v w : ℕ) (l k : Level) (m n : ℕ) (p : Content) (x : List ℕ) → w ≡ v → k ≡ l → n ≡ m → IsMendedReadingWithout u g v l m p x → IsMendedReadingWithout u g w k n p x
 read-told u g v w l k m n p x ev el em r =
     subst (λ (z : ℕ). IsMendedReadingWithout u g z k n p x) (sym ev)
     (subst (λ (z : Level). IsMendedReadingWithout u g v z n p x) (sym el) (subst (λ (z : ℕ). IsMendedReadingWithout u g v l z p x) (sym em) r))
 
--- the wrong modules likewise
+-- the wrong modules, stated in the same way
 wrong-told : (u : Option Grid) (g : Grid) (v w : ℕ) (l k : Level) (m n : ℕ) (x : List ℕ) (a b : ℕ) → w ≡ v → k ≡ l → n ≡ m → b ≡ a → HasWrongModulesWithout u g v l m x a → HasWrongModulesWithout u g w k n x b
 wrong-told u g v w l k m n x a b ev el em e r =
     subst (λ (z : ℕ). HasWrongModulesWithout u g z k n x b) (sym ev)
     (subst (λ (z : Level). HasWrongModulesWithout u g v z n x b) (sym el)
     (subst (λ (z : ℕ). HasWrongModulesWithout u g v l z x b) (sym em) (subst (λ (z : ℕ). HasWrongModulesWithout u g v l m x z) (sym e) r)))
 
--- the struct tells what is read and the damage
+-- the struct contains what is read and the damage
 pub given-mended : (modules : List ℕ) (side : ℕ) (before put : List ℕ) (m : Mended) (t : QrprovedMended) (len : ℕ)
     → AreModules modules side
     → IsMendedReadingWithout (unknown_in side modules) (square_of_bytes side modules) m.version m.level m.mask m.parsed m.changed.items
@@ -87,7 +87,7 @@ given-mended modules side before put m t len all r format whole long room same e
       };
     }
 
--- a square that is mended as more bytes than the buffer has
+-- a square that is mended to more bytes than the buffer has
 pub more-bytes : (modules : List ℕ) (side : ℕ) (buffer : List ℕ) (m : Mended) (len : ℕ) → AreModules modules side
     → IsMendedReadingWithout (unknown_in side modules) (square_of_bytes side modules) m.version m.level m.mask m.parsed m.changed.items
     → len ≡ length m.parsed.bytes → length buffer < len → HasMoreMendedBytes modules side buffer
@@ -102,21 +102,21 @@ more-bytes modules side buffer m len all r long short = record {
   room = omega arith;
 }
 
--- the test that a number is 0
+-- the test whether a number is 0
 is-zero : (k : ℕ) → k ≡ 0 → true ≡ (k == 0)
 is-zero k h = grind (arith, nat_tests)
 
 not-zero : (k : ℕ) → (k ≡ 0 → ⊥) → false ≡ (k == 0)
 not-zero k h = grind (arith, nat_tests)
 
--- where no byte is 2 each module is known
+-- if no byte is 2, every module is known
 pub none-unknown : (P : Option Grid → Type 0) (side area n : ℕ) (bytes : List ℕ) → area ≡ side * side →
     n ≡ count_by (λ b. b == 2) (take area bytes) → n ≡ 0 → P None → P (unknown_in side bytes)
 none-unknown P side area n bytes a e t p =
     let none : count_by (λ b. b == 2) (take (side * side) bytes) ≡ 0 = ap (λ k. count_by (λ b. b == 2) (take k bytes)) (sym a) ∙ (sym e ∙ t) in
     subst (λ (b : Bool). P (if b then None else Some (square_of_unknown side bytes))) (is-zero (count_by (λ b. b == 2) (take (side * side) bytes)) none) p
 
--- otherwise those with the byte 2 are not
+-- otherwise the modules with the byte 2 are not known
 pub some-unknown : (P : Option Grid → Type 0) (side area n : ℕ) (bytes : List ℕ) → area ≡ side * side →
     n ≡ count_by (λ b. b == 2) (take area bytes) → (n ≡ 0 → ⊥) → P (Some (square_of_unknown side bytes)) → P (unknown_in side bytes)
 some-unknown P side area n bytes a e t p =

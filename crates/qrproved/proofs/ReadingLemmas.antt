@@ -1,4 +1,4 @@
--- What the statuses of a square that is refused say. U says which faults the square has.
+-- What the statuses mean for a square that is refused. U is the relation that says which faults the square has.
 use Rattle.std.proofs.Common.{◌≡◌, ◌≢◌, ◌↔◌, ◌⊎◌, ℕ, ◌≤◌, Option, None, Some, MatchOption, refl, sym, ◌∙◌, ap, subst, inl, inr, arith}
 use Rattle.qr_bits.specs.declared.fault.ParseFault.{ParseFault}
 use Rattle.qr_symbol.specs.declared.fault.ReadFault.{ReadFault}
@@ -7,22 +7,22 @@ use Rattle.qr_layout.specs.Version.{side_of}
 use Rattle.qrproved.specs.Reading.{IsSide}
 use Rattle.qrproved.specs.Steps.Status.{read_status}
 
--- the version that has a side
+-- the version that has this side
 pub version-of : (o : Option ℕ) (n side : ℕ) → n ≡ side
     → MatchOption o ((v : ℕ) → 1 ≤ v → v ≤ 40 → n ≡ side_of v → ⊥) (λ v. (1 ≤ v) × (v ≤ 40) × (n ≡ side_of v))
     → MatchOption o (IsSide side → ⊥) (λ v. (1 ≤ v) × (v ≤ 40) × (side ≡ side_of v))
 version-of None n side e none = λ w. none w.0 w.1 w.2 (e ∙ w.3)
 version-of (Some v) n side e is = (is.0, is.1, sym e ∙ is.2)
 
--- a square has one fault but for lack of memory
+-- `FaultsAreOne U` says that, by U, a square has at most one fault besides lack of memory
 abbrev pub FaultsAreOne : (ReadFault → Type 0) → Type 0
 FaultsAreOne U = (e f : ReadFault) → U e → U f → (e ≡ unread.Memory) ⊎ (f ≡ unread.Memory) ⊎ (e ≡ f)
 
--- lack of memory has a status of its own
+-- the status of lack of memory is 4
 of-memory : (f : ReadFault) → f ≡ unread.Memory → read_status f ≡ 4
 of-memory f e = ap read_status e
 
--- where the status is not that of lack of memory, the fault is the one that the square has
+-- if the status is not that of lack of memory, the fault is the one that the square has
 same-fault : (U : ReadFault → Type 0) (f e : ReadFault) → FaultsAreOne U → U f → U e → read_status f ≢ 4 → (e ≡ unread.Memory → ⊥) → f ≡ e
 same-fault U f e one u w other known = elim (one f e u w) [
   | inl h ↦ absurd (other (of-memory f h))
@@ -30,7 +30,7 @@ same-fault U f e one u w other known = elim (one f e u w) [
   | inr (inr h) ↦ h
 ]
 
--- a status tells its fault
+-- a status determines its fault
 is-side : (f : ReadFault) → read_status f ≡ 7 → f ≡ unread.Side
 is-side unread.Memory h = absurd (omega arith)
 is-side unread.Side h = refl
@@ -72,7 +72,7 @@ not-room unread.Check h = omega arith
 not-room (unread.Segments why) h = omega arith
 not-room unread.Series h = omega arith
 
--- ---- the statuses, S and P being what else is known
+-- ---- the statuses; S and P are other facts that are known
 
 pub side-status : (U : ReadFault → Type 0) (f : ReadFault) (P : Type 0) → P → U f → (U unread.Side → P → ⊥) → (read_status f ≡ 7) ↔ (P → ⊥)
 side-status U f P p u apart = (λ h. absurd (apart (subst U (is-side f h) u) p), λ none. absurd (none p))

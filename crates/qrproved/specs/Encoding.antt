@@ -1,4 +1,4 @@
--- What a call for one symbol writes, and when its buffer is too short. Public clauses cite this file.
+-- What the call for one symbol writes, and when its buffer is too short.
 use Rattle.std.specs.Prelude.{◌≡◌, ℕ, ◌*◌, ◌<◌, List, [], ◌∷◌, length}
 use Rattle.qr_layout.specs.Version.{side_of}
 use Rattle.qr_matrix.specs.Grid.{Grid}
@@ -9,8 +9,8 @@ use Rattle.qrproved.specs.declared.encoding.QrprovedSymbol.{QrprovedSymbol}
 use Rattle.qrproved.specs.Settings.{AreSettings, level_of, rule_of}
 use Rattle.qrproved.specs.Modules.{HoldsSquares}
 
--- the buffer holds the symbol of the input, which is read as the input, and the struct tells its version, its side and its
--- mask [own]
+-- `IsWritten x version level rule before after s` holds if the buffer `before` became `after`, which contains the symbol
+-- of the input x, and the struct s contains its version, side and mask. The symbol is read as the input [own].
 pub record IsWritten (x : List ℕ) (version level rule : ℕ) (before after : List ℕ) (s : QrprovedSymbol) : Type 0 where
   pub settings : AreSettings version level rule
   pub square : Grid
@@ -19,7 +19,8 @@ pub record IsWritten (x : List ℕ) (version level rule : ℕ) (before after : L
   pub side : s.side ≡ square.side
   pub holds : HoldsSquares s.side (square ∷ []) before after
 
--- the symbol of the input has more modules than the buffer has bytes [own]
+-- `HasNoRoom x version level rule buffer` holds if the symbol of the input x has more modules than the buffer has bytes
+-- [own].
 pub record HasNoRoom (x : List ℕ) (version level rule : ℕ) (buffer : List ℕ) : Type 0 where
   pub least : ℕ
   pub fits : IsVersion version (level_of level) (rule_of rule) x least

@@ -1,5 +1,5 @@
--- What the call that mends a symbol gives, and why it gives nothing. A module whose byte is 2 is not known. Public clauses cite
--- this file.
+-- What the call that mends a symbol writes, and when it writes nothing. The byte 2 stands for a module that is not
+-- known.
 use Rattle.std.specs.Prelude.{◌≡◌, ℕ, ◌+◌, ◌*◌, ◌<◌, ◌≤◌, ◌==◌, if◌then◌else◌, Option, None, Some, List, ◌++◌, drop, length, slice_index_or, take}
 use Rattle.std.specs.List.{All, Any, Contains, count_by}
 use Rattle.qr_layout.specs.declared.level.Level.{Level}
@@ -13,40 +13,45 @@ use Rattle.qrproved.specs.Modules.{square_of_bytes}
 use Rattle.qrproved.specs.Reading.{TellsHeader}
 use Rattle.qrproved.specs.Settings.{level_of}
 
--- the square of this side whose modules are dark where their bytes are 2, row by row [own]
+-- The square with a side of `side` modules in which the modules with the byte 2 are dark; the bytes are row by row
+-- [own].
 abbrev pub square_of_unknown : ℕ → List ℕ → Grid
 square_of_unknown side bytes = square side (λ row col. slice_index_or bytes (row * side + col) 0 == 2)
 
--- the square of the modules that are not known, if there is one: their bytes are 2 [own]
+-- The square of the modules that are not known, whose bytes are 2, if there are such modules [own].
 abbrev pub unknown_in : ℕ → List ℕ → Option Grid
 unknown_in side bytes = if count_by (λ b. b == 2) (take (side * side) bytes) == 0 then None else Some (square_of_unknown side bytes)
 
--- the buffer has a byte for each module of a square of this side, and each of these is 0, 1 or 2 [own]
+-- `AreModules modules side` holds if the buffer has a byte for each module of a square of this side, and each of these
+-- bytes is 0, 1 or 2 [own].
 pub record AreModules (modules : List ℕ) (side : ℕ) : Type 0 where
   pub whole : side * side ≤ length modules
   pub each : All (λ b. b ≤ 2) (take (side * side) modules)
 
--- the buffer has a byte for each module of a square of this side, and one of these is more than 2 [own]
+-- `HasOtherByte modules side` holds if the buffer has a byte for each module of a square of this side, and at least one
+-- of these bytes is more than 2 [own].
 pub record HasOtherByte (modules : List ℕ) (side : ℕ) : Type 0 where
   pub whole : side * side ≤ length modules
   pub one : Any (λ b. 2 < b) (take (side * side) modules)
 
--- the number is the greatest of the list [own]
+-- `IsGreatest xs n` holds if n is the greatest number in the list xs [own].
 pub record IsGreatest (xs : List ℕ) (n : ℕ) : Type 0 where
   pub one : Contains xs n
   pub most : All (λ x. x ≤ n) xs
 
--- the struct tells the damage of a square that is mended in its version, level and mask, where as many codewords of each block
--- were changed as `changed` lists, beside those with a module that is not known: the wrong modules of the whole square and of
--- the format information, the most codewords changed in a block, and how many may be (ISO/IEC 18004:2015, 7.5.1, 7.9.1)
+-- `TellsDamage m changed side modules` holds if the struct m contains the damage of the square: the number of wrong
+-- modules in the whole square and in the format information, the greatest number of codewords changed in a block, and
+-- the number that may be changed. `changed` lists for each block the number of changed codewords, without those with a
+-- module that is not known (ISO/IEC 18004:2015, 7.5.1, 7.9.1).
 pub record TellsDamage (m : QrprovedMended) (changed : List ℕ) (side : ℕ) (modules : List ℕ) : Type 0 where
   pub whole : HasWrongModulesWithout (unknown_in side modules) (square_of_bytes side modules) m.version (level_of m.level) m.mask changed m.wrong_modules
   pub format : m.wrong_format_modules ≡ wrong_format_modules_without (unknown_in side modules) (square_of_bytes side modules) (level_of m.level) m.mask
   pub most : IsGreatest changed m.changed_most
   pub allowed : m.changed_allowed ≡ tolerance_of m.version (level_of m.level)
 
--- the square of the modules is read with its damage mended: its bytes stand at the start of the buffer, the rest of which is as
--- it was, and the struct tells how many they are, the version, level and mask, the header and the damage [own]
+-- `IsGivenMended modules side before after m` holds if the square of the modules, once its damage is mended, is read as
+-- some bytes. The buffer `before` became `after`, which begins with these bytes and is otherwise unchanged. The struct m
+-- contains their number, the version, level and mask, the header and the damage [own].
 pub record IsGivenMended (modules : List ℕ) (side : ℕ) (before after : List ℕ) (m : QrprovedMended) : Type 0 where
   pub all_modules : AreModules modules side
   pub content : Content
@@ -59,7 +64,8 @@ pub record IsGivenMended (modules : List ℕ) (side : ℕ) (before after : List 
   pub header : TellsHeader content.header m.has_header m.position m.last m.parity
   pub damage : TellsDamage m changed side modules
 
--- the square of the modules is read with its damage mended, as more bytes than the buffer has [own]
+-- `HasMoreMendedBytes modules side buffer` holds if the square of the modules, once its damage is mended, is read as
+-- more bytes than the buffer has [own].
 pub record HasMoreMendedBytes (modules : List ℕ) (side : ℕ) (buffer : List ℕ) : Type 0 where
   pub all_modules : AreModules modules side
   pub content : Content
@@ -70,6 +76,6 @@ pub record HasMoreMendedBytes (modules : List ℕ) (side : ℕ) (buffer : List �
   pub read : IsMendedReadingWithout (unknown_in side modules) (square_of_bytes side modules) version level mask content changed
   pub room : length buffer < length content.bytes
 
--- the square of the modules is not mended, for this fault [own]
+-- `IsUnmendedAt modules side fault` holds if the square of the modules is not mended because of this fault [own].
 abbrev pub IsUnmendedAt : List ℕ → ℕ → ReadFault → Type 0
 IsUnmendedAt modules side fault = AreModules modules side × IsUnmendedWithout (unknown_in side modules) (square_of_bytes side modules) fault

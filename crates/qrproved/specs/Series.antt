@@ -1,4 +1,4 @@
--- What a call for a series writes, and when its buffer is too short. Public clauses cite this file.
+-- What the call for a series writes, and when its buffer is too short.
 use Rattle.std.specs.Prelude.{◌≡◌, ℕ, ◌*◌, ◌<◌, false, List, length}
 use Rattle.qr_layout.specs.Version.{side_of}
 use Rattle.qr_bits.specs.declared.modes.Mode.TheVariants.{Kanji}
@@ -10,8 +10,9 @@ use Rattle.qrproved.specs.declared.series.QrprovedSeries.{QrprovedSeries}
 use Rattle.qrproved.specs.Settings.{AreSettings, level_of, rule_of}
 use Rattle.qrproved.specs.Modules.{HoldsSquares}
 
--- the buffer holds the series of the input, whose symbols are joined to the input and which without kanji mode is the
--- shortest, and the struct tells how many symbols it has, and their side [own]
+-- `IsWrittenSeries x version level rule before after t` holds if the buffer `before` became `after`, which contains the
+-- series of the input x, and the struct t contains its number of symbols and their side. The symbols are joined to the
+-- input, and without kanji mode the series is the shortest possible [own].
 pub record IsWrittenSeries (x : List ℕ) (version level rule : ℕ) (before after : List ℕ) (t : QrprovedSeries) : Type 0 where
   pub settings : AreSettings version level rule
   pub symbols : List Symbol
@@ -22,7 +23,8 @@ pub record IsWrittenSeries (x : List ℕ) (version level rule : ℕ) (before aft
   pub side : t.side ≡ side_of version
   pub holds : HoldsSquares t.side (squares_of symbols) before after
 
--- the series of the input has more modules than the buffer has bytes [own]
+-- `HasNoSeriesRoom x version level rule buffer` holds if the series of the input x has more modules than the buffer has
+-- bytes [own].
 pub record HasNoSeriesRoom (x : List ℕ) (version level rule : ℕ) (buffer : List ℕ) : Type 0 where
   pub symbols : List Symbol
   pub made : IsSeries version (level_of level) (rule_of rule) x symbols

@@ -1,3 +1,3 @@
--- Definitions of single steps. Only private clauses cite them, so that a reader need not believe them.
+-- Definitions of single steps. Only contracts of private functions use them, so a reader need not believe them.
 pub mod Status
 pub mod Modules

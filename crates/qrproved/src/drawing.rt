@@ -12,20 +12,20 @@ use qr_drawing::{Drawing, draw};
 use qr_symbol::Matrix;
 use std::alloc::{AllocError, Global};
 
-// What is to be drawn, and how.
+// The checked numbers of a call that draws.
 #[derive(Clone, Copy)]
 struct DrawingSettings {
-    // How many modules a side has.
+    // The number of modules on a side.
     side: u8,
-    // How many squares there are.
+    // The number of squares.
     count: u8,
     // The type of drawing.
     drawing: Drawing,
-    // How many light modules stand on each side.
+    // The number of light modules on each side of a square.
     margin: u8,
 }
 
-// The type of drawing of this number.
+// Returns the type of drawing with this number.
 fn drawing_of(number: u32) -> Option<Drawing>
     ensures { SomeIff result (number < 4) (drawing_of number) }
 {
@@ -38,7 +38,7 @@ fn drawing_of(number: u32) -> Option<Drawing>
     }
 }
 
-// The settings of these numbers, if they are those of a drawing.
+// Returns the settings with these numbers if all of them are in range.
 fn drawing_settings_of(side: u32, count: u32, drawing: u32, margin: u32) -> Option<DrawingSettings>
     ensures { SomeIff result (AreDrawingSettings side count drawing margin)
         (record { side = side; count = count; drawing = drawing_of drawing; margin = margin }) }
@@ -51,7 +51,7 @@ fn drawing_settings_of(side: u32, count: u32, drawing: u32, margin: u32) -> Opti
     })
 }
 
-// The squares whose modules have these bytes, one square after the other.
+// Returns the squares whose modules have these bytes, one square after another.
 fn squares_of(alloc: Global, modules: &[u8], side: u8, count: u8) -> Result<Vec<Matrix>, AllocError>
     requires least { 1 ≤ side }
     requires most { side ≤ 177 }
@@ -67,7 +67,7 @@ fn squares_of(alloc: Global, modules: &[u8], side: u8, count: u8) -> Result<Vec<
     Ok(squares)
 }
 
-// The drawing of the squares whose modules have these bytes.
+// Returns the drawing of the squares whose modules have these bytes.
 fn drawn(alloc: Global, modules: &[u8], asked: DrawingSettings) -> Result<Vec<u8>, AllocError>
     requires least { 1 ≤ asked.side }
     requires most { asked.side ≤ 177 }
@@ -85,13 +85,14 @@ fn drawn(alloc: Global, modules: &[u8], asked: DrawingSettings) -> Result<Vec<u8
     }
 }
 
-/// Writes the drawing of squares of one side as `qrencode` draws symbols. Their modules stand in a buffer as
-/// `qrproved_encode_series` writes them; any byte but 0 is a dark module, and a square may be no symbol. The numbers of
-/// types of drawing are 0 to 3 for ASCII, ASCIIi, UTF8 and SVG.
+/// Writes the drawing of squares of one side, as `qrencode` draws symbols. Their modules are in the buffer `modules`, as
+/// `qrproved_encode_series` writes them; any byte but 0 is a dark module, and a square need not be a symbol. The numbers
+/// of types of drawing are 0 to 3 for ASCII, ASCIIi, UTF8 and SVG.
 ///
-/// The causes of a refusal are looked for in this order: the numbers (1 to 177 modules a side, 1 to 16 squares, a type, a
-/// margin of 0 to 100 modules), a buffer of fewer modules, which says 0 in `written`, and a second buffer that is too short for
-/// the drawing, whose length is then told in `written`. The first two are found without any memory.
+/// The causes of a refusal are checked in this order: the numbers (1 to 177 modules on a side, 1 to 16 squares, a type,
+/// a margin of 0 to 100 modules), too few modules in `modules`, and a buffer `text` that is too short for the drawing.
+/// If there are too few modules, `written` becomes 0; if `text` is too short, it becomes the length of the drawing. The
+/// first two causes are found without any allocation.
 #[unsafe(no_mangle)]
 pub extern "C" fn qrproved_draw(
     alloc: Global,

@@ -13,24 +13,25 @@ use qr_symbol::encode;
 use qr_symbol::laws::long_inputs_have_none;
 use std::alloc::Global;
 
-/// What a symbol was made with.
+/// The version, side and mask of a symbol.
 #[repr(C)]
 #[derive(Clone, Copy)]
 pub struct QrprovedSymbol {
     /// The version, from 1 to 40.
     pub version: u8,
-    /// How many modules a side has, from 21 to 177.
+    /// The number of modules on a side, from 21 to 177.
     pub side: u8,
     /// The mask, from 0 to 7.
     pub mask: u8,
 }
 
-/// Writes the symbol of an input, of the least version from `version` on that it fits: the byte of the module in a row and
-/// a column stands at row times side plus column. The numbers of levels are 0 to 3 for L, M, Q and H, those of rules 0 to 2
-/// for all modes but kanji, byte mode alone, and all modes.
+/// Writes the symbol of an input, in the least version from `version` on that it fits. The byte of a module is at index
+/// `row * side + column`. The numbers of levels are 0 to 3 for L, M, Q and H; the numbers of rules are 0 to 2 for all
+/// modes but kanji, byte mode alone, and all modes.
 ///
-/// The causes of a refusal are looked for in this order: the numbers, an empty input, one that is too long, a buffer that
-/// is too short. Wrong numbers, an empty input and one of more than 7,089 bytes are refused before memory is asked for.
+/// The causes of a refusal are checked in this order: the numbers, an empty input, an input that is too long, a buffer
+/// that is too short. Numbers out of range, an empty input and an input of more than 7,089 bytes are refused before any
+/// allocation.
 #[unsafe(no_mangle)]
 pub extern "C" fn qrproved_encode(
     alloc: Global,
@@ -150,7 +151,7 @@ mod tests {
         Ok(())
     }
 
-    // `g` in version 1-Q has mask 0, and five letters in version 1-L mask 7, as another encoder tells.
+    // According to another encoder, `g` in version 1-Q has mask 0, and five letters in version 1-L have mask 7.
     #[test]
     fn numbers_of_levels_and_rules(rt: HostRuntime) -> Result<(), Fail> {
         let digits = [b'7'; 42];
@@ -173,7 +174,7 @@ mod tests {
             assert_eq!(rt; status, DONE, "{name}");
             assert_eq!(rt; (symbol.version, symbol.mask), (least, mask), "{name}");
         }
-        // what version holds so many digits, or bytes, or kanji pairs (Table 7)
+        // The least version that holds this number of digits or bytes (Table 7).
         let rows = [
             ("41 digits at L", &digits[..41], 0u32, 0u32, 1u8),
             ("42 digits at L", &digits[..], 0, 0, 2),
@@ -204,7 +205,7 @@ mod tests {
         Ok(())
     }
 
-    // Ten kanji fit version 1-L in kanji mode alone (Table 7).
+    // Ten kanji fit version 1-L only if kanji mode is allowed (Table 7).
     #[test]
     fn kanji_at_1_l(rt: HostRuntime) -> Result<(), Fail> {
         let kanji = [0x93, 0x5F].repeat(rt.alloc(), 10)?;

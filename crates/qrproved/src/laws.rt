@@ -1,4 +1,4 @@
-//! Laws of the calls.
+//! The laws of the calls for C.
 
 ghost use Rattle.std.specs.Prelude.{◌≡◌, [], ◌∷◌, map, true, false, IfOk};
 ghost use Rattle.qr_layout.specs.declared.level.Level.{Level};
@@ -16,7 +16,7 @@ use crate::status::{
 };
 use std::alloc::AllocError;
 
-/// The numbers of the statuses that other contracts name, which stay what they are.
+/// The numbers of the statuses, which do not change between versions of the library.
 pub fn statuses()
     ensures done { DONE ≡ 0 }
     ensures empty { EMPTY ≡ 1 }
@@ -31,40 +31,41 @@ pub fn statuses()
     ensures segments { SEGMENTS ≡ 10 }
 {}
 
-/// The levels of the numbers 0 to 3, the rules of the numbers 0 to 2, and the bytes of a dark and a light module.
+/// The numbers 0 to 3 are the four levels, the numbers 0 to 2 are the three rules, and the bytes of a dark and a light
+/// module are 1 and 0.
 pub fn numbers()
     ensures levels { map level_of (0 ∷ 1 ∷ 2 ∷ 3 ∷ []) ≡ Level.L ∷ Level.M ∷ Level.Q ∷ Level.H ∷ [] }
     ensures rules { map rule_of (0 ∷ 1 ∷ 2 ∷ []) ≡ Rule.Auto ∷ Rule.BytesOnly ∷ Rule.WithKanji ∷ [] }
     ensures bytes { map byte_of (true ∷ false ∷ []) ≡ 1 ∷ 0 ∷ [] }
 {}
 
-/// The square that is read from the bytes of a square has its colours.
+/// The square that is read from the bytes of a square has the colours of that square.
 pub fn bytes_are_their_square()
     ensures { BytesAreTheirSquare }
 {}
 
-/// A clone of what is said of a symbol says the same.
+/// A clone of the struct of a symbol has the same fields.
 pub fn symbol_clones(a: QrprovedSymbol) -> Result<QrprovedSymbol, AllocError>
     ensures { IfOk result (λ b. b ≡ a) }
 {
     a.clone()
 }
 
-/// A clone of what is said of a series says the same.
+/// A clone of the struct of a series has the same fields.
 pub fn series_clones(a: QrprovedSeries) -> Result<QrprovedSeries, AllocError>
     ensures { IfOk result (λ b. b ≡ a) }
 {
     a.clone()
 }
 
-/// A clone of what a symbol says says the same.
+/// A clone of the struct of a symbol's content has the same fields.
 pub fn content_clones(a: QrprovedContent) -> Result<QrprovedContent, AllocError>
     ensures { IfOk result (λ b. b ≡ a) }
 {
     a.clone()
 }
 
-/// A clone of what a damaged symbol says says the same.
+/// A clone of the struct of a damaged symbol has the same fields.
 pub fn mended_clones(a: QrprovedMended) -> Result<QrprovedMended, AllocError>
     ensures { IfOk result (λ b. b ≡ a) }
 {

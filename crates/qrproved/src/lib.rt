@@ -1,6 +1,7 @@
-//! Symbols for callers in C, and in all languages that call C: an input is encoded as a symbol or as a series, and a symbol
-//! is read, as it was drawn or with its damage mended; squares are drawn as text or as SVG. Modules are bytes in the caller's buffer, and what is said of them
-//! stands in the caller's struct. A call keeps nothing and hands out no memory. `include/qrproved.h` declares the calls.
+//! The calls for C, and for all languages that can call C. They encode an input as a symbol or as a series, read a
+//! symbol, mend a damaged symbol, and draw squares as text or as SVG. Modules are bytes in the caller's buffer, and all
+//! else about them is written to the caller's struct. A call keeps no memory and returns none. `include/qrproved.h`
+//! declares the calls.
 #![tactic(auto)]
 
 mod drawing;

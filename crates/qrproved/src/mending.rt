@@ -1,4 +1,4 @@
-//! The call that reads a damaged symbol and tells how damaged it is (ISO/IEC 18004:2015, 7.5.1, 7.9.1 and 12).
+//! The call that reads a damaged symbol and reports its damage (ISO/IEC 18004:2015, 7.5.1, 7.9.1 and 12).
 
 ghost use Rattle.std.specs.Prelude.{◌≡◌, ◌≢◌, ◌*◌, ◌<◌, ◌≤◌, ◌==◌, ◌↔◌, ◌⊎◌, length, IfOk, MatchBool, MatchResult};
 ghost use Rattle.std.specs.List.{All, Any, count_by};
@@ -23,21 +23,21 @@ use qr_mending::{Mended, changed_max, mend_symbol, mend_symbol_without};
 use qr_symbol::{Matrix, ReadFault};
 use std::alloc::{AllocError, Global};
 
-/// What a damaged symbol says, and how damaged it is.
+/// The content of a damaged symbol, except for its bytes, and its damage.
 #[repr(C)]
 #[derive(Clone, Copy)]
 pub struct QrprovedMended {
-    /// How many bytes it holds.
+    /// The number of bytes that the symbol contains.
     pub len: usize,
-    /// How many modules of the whole square are not known, or are not those of the symbol; 0 exactly if the square is the
-    /// symbol.
+    /// The number of modules of the whole square that are not known, or that differ from the symbol. It is 0 exactly if
+    /// all modules are known and the square is the symbol.
     pub wrong_modules: u32,
     /// The version, from 1 to 40.
     pub version: u8,
-    /// Whether it has a header: 1 if it is one of a series, 0 if it is a plain symbol, whose `position`, `last` and `parity`
-    /// are 0.
+    /// 1 if the symbol has a header and so is part of a series; 0 if it has none, and then `position`, `last` and
+    /// `parity` are 0.
     pub has_header: u8,
-    /// Which symbol of its series it is, from 0 to 15.
+    /// The position of the symbol in its series, from 0 to 15.
     pub position: u8,
     /// The number of symbols of its series less 1, from 0 to 15.
     pub last: u8,
@@ -47,25 +47,26 @@ pub struct QrprovedMended {
     pub level: u8,
     /// The mask, from 0 to 7.
     pub mask: u8,
-    /// How many of the 30 modules of format information are wrong or not known.
+    /// The number of modules of format information, of 30 in all, that are wrong or not known.
     pub wrong_format_modules: u8,
-    /// The most codewords that were changed in a block, beside those with a module that is not known.
+    /// The greatest number of codewords that were changed in a block. Codewords with a module that is not known do not
+    /// count.
     pub changed_most: u8,
-    /// How many codewords of a block may be changed, from 2 to 15.
+    /// The number of codewords of a block that may be changed, from 2 to 15.
     pub changed_allowed: u8,
 }
 
 // The byte of a module that is not known.
 const NOT_KNOWN: u8 = 2;
 
-// Whether each byte is that of a light or a dark module, or of one that is not known.
+// Returns whether each byte stands for a light module, a dark module, or a module that is not known.
 fn are_modules(modules: &[u8]) -> bool
     ensures { MatchBool result (All (λ b. b ≤ 2) modules.now) (Any (λ b. 2 < b) modules.now) }
 {
     modules.iter().all(|module| *module <= NOT_KNOWN)
 }
 
-// The number of modules that are not known.
+// Returns the number of modules that are not known.
 fn count_unknown(modules: &[u8]) -> usize
     ensures { result ≡ count_by (λ b. b == 2) modules.now }
 {
@@ -75,7 +76,7 @@ fn count_unknown(modules: &[u8]) -> usize
         .count()
 }
 
-// The square of this side whose dark modules are those that are not known.
+// Returns the square of this side whose dark modules are those that are not known.
 fn unknown_of(alloc: Global, modules: &[u8], side: u8) -> Result<Matrix, AllocError>
     requires least { 1 ≤ side }
     requires most { side ≤ 177 }
@@ -94,7 +95,7 @@ fn unknown_of(alloc: Global, modules: &[u8], side: u8) -> Result<Matrix, AllocEr
     Ok(unknown)
 }
 
-// Mends the square of the modules, of which some may not be known.
+// Mends the square of the modules, some of which may not be known.
 fn mend_modules(alloc: Global, modules: &[u8], side: u8) -> Result<Mended, ReadFault>
     requires least { 1 ≤ side }
     requires most { side ≤ 177 }
@@ -116,7 +117,7 @@ fn mend_modules(alloc: Global, modules: &[u8], side: u8) -> Result<Mended, ReadF
     mend_symbol_without(alloc, &matrix, &unknown)
 }
 
-// The greatest of some numbers.
+// Returns the greatest of the numbers.
 fn greatest(numbers: &[usize]) -> usize
     requires { 1 ≤ length numbers.now }
     ensures { IsGreatest numbers.now result }
@@ -124,7 +125,7 @@ fn greatest(numbers: &[usize]) -> usize
     numbers.iter().copied().max().unwrap_or(0)
 }
 
-// What the struct tells of a square that is mended, and whose symbol holds `len` bytes.
+// Returns the struct for a mended square whose symbol contains `len` bytes.
 fn mended_of(len: usize, mended: &Mended) -> QrprovedMended
     requires some { 1 ≤ length mended.now.changed.items }
     requires few { All (λ n. n ≤ 15) mended.now.changed.items }
@@ -158,14 +159,14 @@ fn mended_of(len: usize, mended: &Mended) -> QrprovedMended
     }
 }
 
-/// Reads the symbol whose modules stand in a buffer as `qrproved_encode` writes them, 0 for a light module and 1 for a dark
-/// one, and mends its damage. A module that is not known has the byte 2: a codeword with such a module takes half as much of
-/// the error correction as one that was misread. Its bytes go to the second buffer. What its header says, and how damaged it
-/// is, goes to the struct.
+/// Reads the symbol whose modules are in the buffer `modules`, as `qrproved_encode` writes them, and mends its damage.
+/// The byte of a light module is 0, and that of a dark module is 1. A module that is not known has the byte 2: a
+/// codeword with such a module takes half as much of the error correction as a misread codeword. Writes the bytes of the
+/// symbol to the buffer `bytes`, and its header and its damage to the struct `mended`.
 ///
-/// The causes of a refusal are looked for in this order: the side, a buffer of fewer modules, a byte of these that is more than
-/// 2, the format information, the codewords, what they say, a second buffer that is too short. The first three are found
-/// without any memory.
+/// The causes of a refusal are checked in this order: the side, too few modules in `modules`, a module with a byte of
+/// more than 2, the format information, the codewords, the parse of the data codewords, a buffer `bytes` that is too
+/// short. The first three are found without any allocation.
 #[unsafe(no_mangle)]
 pub extern "C" fn qrproved_mend(
     alloc: Global,
@@ -242,7 +243,7 @@ mod tests {
         }
     }
 
-    // Inverts modules of a square of 21 by 21.
+    // Returns the modules of a square of 21 by 21, with those at these places inverted.
     fn inverted(drawn: [u8; 441], places: &[(u8, u8)]) -> Result<[u8; 441], Fail> {
         let mut modules = drawn;
         for (row, col) in places {
@@ -255,10 +256,10 @@ mod tests {
         Ok(modules)
     }
 
-    // Modules of the encoding region at 1-M, each of another codeword.
+    // Modules of the encoding region at 1-M, each of a different codeword.
     static CODEWORDS: [(u8, u8); 5] = [(20, 20), (16, 20), (12, 20), (9, 18), (13, 18)];
 
-    // Modules of the first copy of the format information, and then of the second.
+    // Four modules of the first copy of the format information, and then four of the second copy.
     static FORMATS: [(u8, u8); 8] = [
         (0, 8),
         (1, 8),
@@ -311,8 +312,8 @@ mod tests {
         Ok(())
     }
 
-    // In version 1-M eight error correction codewords of the ten may be used: five codewords that are not known take five, and
-    // one that was misread two.
+    // In version 1-M eight of the ten error correction codewords may be used. Five codewords that are not known take
+    // five of them, and one misread codeword takes two.
     #[test]
     fn modules_that_are_not_known(rt: HostRuntime) -> Result<(), Fail> {
         let drawn = eight_digits(&rt)?;
@@ -371,7 +372,7 @@ mod tests {
             &mut series,
         );
         assert_eq!(rt; status, DONE);
-        // the last codeword of the second symbol's square is wrong
+        // Inverts the bottom right module of the second symbol, which is a bit of its first codeword.
         modules[881] = 1 - modules[881].min(1);
         let mut bytes = [7u8; 3];
         let mut mended = nothing();

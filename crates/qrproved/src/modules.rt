@@ -1,5 +1,5 @@
-//! The modules of squares as bytes: row by row, one square after the other, without a quiet zone. A dark module is the
-//! byte 1, and any byte but 0 is read as one.
+//! The modules of squares as bytes: row by row, one square after another, without a quiet zone. A dark module is written
+//! as the byte 1, and any byte but 0 is read as a dark module.
 
 ghost use Rattle.std.specs.Prelude.{◌≡◌, ℕ, ◌+◌, ◌*◌, ◌<◌, ◌≤◌, ◌⊎◌, length, slice_index_or, IfOk};
 ghost use Rattle.std.specs.List.{All};
@@ -11,14 +11,14 @@ ghost use Rattle.qrproved.specs.Steps.Modules.{four_bytes};
 use qr_symbol::{Matrix, Symbol};
 use std::alloc::{AllocError, Global};
 
-/// How many modules a square of this side has.
+/// Returns the number of modules of a square with this side.
 pub(crate) fn area(side: u8) -> usize
     ensures { result ≡ side * side }
 {
     usize::from(side) * usize::from(side)
 }
 
-// The bytes of four modules, of which the first is the lowest bit.
+// Returns the bytes of four modules. The first module is the lowest bit of `bits`.
 fn four_bytes(bits: u8) -> [u8; 4]
     requires { bits < 16 }
     ensures { result ≡ four_bytes bits }
@@ -43,7 +43,7 @@ fn four_bytes(bits: u8) -> [u8; 4]
     }
 }
 
-// Writes the bytes of a row from `start` on, four at once as far as there are four.
+// Writes the bytes of a row from index `start` on, four bytes at once where possible.
 fn write_row(matrix: &Matrix, row: u8, start: usize, modules: &mut [u8])
     requires row_in { row < matrix.now.side }
     requires room { start + matrix.now.side ≤ length modules.old }
@@ -66,7 +66,7 @@ fn write_row(matrix: &Matrix, row: u8, start: usize, modules: &mut [u8])
     }
 }
 
-/// Writes the bytes of a square from `start` on.
+/// Writes the bytes of a square from index `start` on.
 pub(crate) fn write_square(matrix: &Matrix, start: usize, modules: &mut [u8])
     requires { start + matrix.now.side * matrix.now.side ≤ length modules.old }
     ensures modules { (row col : ℕ) → row < matrix.now.side → col < matrix.now.side
@@ -83,7 +83,7 @@ pub(crate) fn write_square(matrix: &Matrix, start: usize, modules: &mut [u8])
     }
 }
 
-/// Writes the bytes of symbols of one side, one after the other.
+/// Writes the bytes of symbols that all have this side, one symbol after another.
 pub(crate) fn write_squares(symbols: &[Symbol], side: u8, modules: &mut [u8])
     requires sides { All (λ g. g.side ≡ side) (squares_of symbols.now) }
     requires room { length symbols.now * (side * side) ≤ length modules.old }
@@ -97,7 +97,7 @@ pub(crate) fn write_squares(symbols: &[Symbol], side: u8, modules: &mut [u8])
     }
 }
 
-/// The square of this side whose modules have these bytes.
+/// Returns the square of this side whose modules have these bytes.
 pub(crate) fn matrix_of(alloc: Global, modules: &[u8], side: u8) -> Result<Matrix, AllocError>
     requires least { 1 ≤ side }
     requires most { side ≤ 177 }

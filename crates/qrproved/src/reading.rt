@@ -15,17 +15,18 @@ use qr_symbol::laws::{contents_are_one, refusals_are_one};
 use qr_symbol::read_symbol;
 use std::alloc::Global;
 
-/// What a symbol says.
+/// The content of a symbol, except for its bytes.
 #[repr(C)]
 #[derive(Clone, Copy)]
 pub struct QrprovedContent {
-    /// How many bytes it holds.
+    /// The number of bytes that the symbol contains.
     pub len: usize,
     /// The version, from 1 to 40.
     pub version: u8,
-    /// Whether it has a header: 1 if it is one of a series, 0 if it is a plain symbol, whose other fields are 0.
+    /// 1 if the symbol has a header and so is part of a series; 0 if it has none, and then `position`, `last` and
+    /// `parity` are 0.
     pub has_header: u8,
-    /// Which symbol of its series it is, from 0 to 15.
+    /// The position of the symbol in its series, from 0 to 15.
     pub position: u8,
     /// The number of symbols of its series less 1, from 0 to 15.
     pub last: u8,
@@ -33,7 +34,7 @@ pub struct QrprovedContent {
     pub parity: u8,
 }
 
-/// The version whose symbols have this side.
+/// Returns the version whose symbols have this side.
 pub(crate) fn version_of_side(side: u32) -> Option<Version>
     ensures { MatchOption result (IsSide side → ⊥)
         (λ v. (1 ≤ v) × (v ≤ 40) × (side ≡ side_of v)) }
@@ -42,7 +43,7 @@ pub(crate) fn version_of_side(side: u32) -> Option<Version>
     Version::of_side(side)
 }
 
-/// What the struct tells of a symbol of this version that holds `len` bytes after this header or none.
+/// Returns the struct for a symbol of this version that contains `len` bytes after the optional header.
 pub(crate) fn content_of(len: usize, version: Version, header: Option<Header>) -> QrprovedContent
     ensures len { result.len ≡ len }
     ensures version { result.version ≡ version }
@@ -63,12 +64,13 @@ pub(crate) fn content_of(len: usize, version: Version, header: Option<Header>) -
     }
 }
 
-/// Reads the symbol whose modules stand in a buffer as `qrproved_encode` writes them; any byte but 0 is a dark module. Its
-/// bytes go to the second buffer, and what its header says to the struct. No errors are corrected.
+/// Reads the symbol whose modules are in the buffer `modules`, as `qrproved_encode` writes them; any byte but 0 is a
+/// dark module. Writes its bytes to the buffer `bytes`, and its version and header to the struct `content`. No errors
+/// are corrected.
 ///
-/// The causes of a refusal are looked for in this order: the side, a buffer of fewer modules, the format information, the
-/// codewords, what they say, a second buffer that is too short. What is refused for the side, or for too few modules, is
-/// refused without any memory.
+/// The causes of a refusal are checked in this order: the side, too few modules in `modules`, the format information,
+/// the codewords, the parse of the data codewords, a buffer `bytes` that is too short. A wrong side and too few modules
+/// are refused without any allocation.
 #[unsafe(no_mangle)]
 pub extern "C" fn qrproved_read(
     alloc: Global,

@@ -1,4 +1,4 @@
-//! What tests share: the modules of a symbol.
+//! Symbols that the tests share, as the bytes of their modules.
 
 use crate::encoding::{QrprovedSymbol, qrproved_encode};
 use crate::modules::write_square;
@@ -7,7 +7,7 @@ use qr_layout::{Level, Version};
 use qr_symbol::{build_masked, interleave};
 use std::test::Fail;
 
-/// The modules of eight digits in version 1-M.
+/// Returns the modules of eight digits in version 1-M.
 pub(crate) fn eight_digits(rt: &HostRuntime) -> Result<[u8; 441], Fail> {
     let mut modules = [0u8; 441];
     let mut symbol = QrprovedSymbol {
@@ -22,7 +22,8 @@ pub(crate) fn eight_digits(rt: &HostRuntime) -> Result<[u8; 441], Fail> {
     Ok(modules)
 }
 
-/// The modules of a symbol in version 1-M whose data codewords begin with the mode indicator 0111, which is none that is read.
+/// Returns the modules of a symbol in version 1-M whose data codewords begin with the mode indicator 0111, which the
+/// parser does not know.
 pub(crate) fn another_mode(rt: &HostRuntime) -> Result<[u8; 441], Fail> {
     let version = Version::FIRST;
     let message = [0x70u8; 16];

@@ -13,22 +13,24 @@ use qr_symbol::encode_series;
 use qr_symbol::laws::{long_inputs_have_none, series_are_one, series_have_one_side};
 use std::alloc::Global;
 
-/// What a series was made with.
+/// The number of symbols of a series, and their side.
 #[repr(C)]
 #[derive(Clone, Copy)]
 pub struct QrprovedSeries {
-    /// How many symbols it has, from 1 to 16.
+    /// The number of symbols, from 1 to 16.
     pub count: u8,
-    /// How many modules a side of each has, from 21 to 177.
+    /// The number of modules on a side of each symbol, from 21 to 177.
     pub side: u8,
 }
 
-/// Writes the series of an input, all of one version: the byte of the module of a symbol in a row and a column stands at
-/// the number of the symbol, from 0 on, times side times side, plus row times side plus column. An input that fits one
-/// symbol is a plain symbol. The numbers are those of `qrproved_encode`.
+/// Writes the series of an input, all of whose symbols have the version `version`. The byte of a module is at index
+/// `number * side * side + row * side + column`, where `number` is the number of its symbol, from 0 on. The series of an
+/// input that fits one symbol is that symbol, without a header. The numbers of levels and rules are those of
+/// `qrproved_encode`.
 ///
-/// The causes of a refusal are looked for in this order: the numbers, an empty input, more than 16 symbols, a buffer that is
-/// too short. Wrong numbers, an empty input and one of more than 113,425 bytes are refused before memory is asked for.
+/// The causes of a refusal are checked in this order: the numbers, an empty input, more than 16 symbols, a buffer that
+/// is too short. Numbers out of range, an empty input and an input of more than 113,425 bytes are refused before any
+/// allocation.
 #[unsafe(no_mangle)]
 pub extern "C" fn qrproved_encode_series(
     alloc: Global,
@@ -90,7 +92,7 @@ mod tests {
     use super::*;
     use std::test::Fail;
 
-    // Eight letters in byte mode in version 1-H are two symbols of five and three letters.
+    // Eight letters in byte mode in version 1-H are two symbols, with five letters and three letters.
     #[test]
     fn eight_letters_at_1_h(rt: HostRuntime) -> Result<(), Fail> {
         let mut modules = [7u8; 884];

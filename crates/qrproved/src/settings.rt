@@ -1,4 +1,5 @@
-//! What the numbers of a call ask for: any number may come from C, and those that stand for nothing are refused.
+//! Checks the numbers that a call gets for the version, the level and the rule. C may pass any number, and numbers out
+//! of range are refused.
 
 ghost use Rattle.std.specs.Prelude.{◌≡◌, ◌<◌, ◌≤◌, SomeIff};
 ghost use Rattle.qrproved.specs.Settings.{AreSettings, level_of, rule_of};
@@ -6,10 +7,10 @@ ghost use Rattle.qrproved.specs.Settings.{AreSettings, level_of, rule_of};
 use qr_bits::Rule;
 use qr_layout::{Level, Version};
 
-/// What a symbol or a series is made with.
+/// The version, level and rule that a symbol or a series is made with.
 #[derive(Clone, Copy)]
 pub(crate) struct Settings {
-    /// The smallest version, or that of a series.
+    /// The smallest version of a symbol, or the version of a series.
     pub version: Version,
     /// The level of error correction.
     pub level: Level,
@@ -17,7 +18,7 @@ pub(crate) struct Settings {
     pub rule: Rule,
 }
 
-/// This number, if it is neither below `least` nor above `most`.
+/// Returns the number if it is from `least` to `most`.
 pub(crate) fn between(number: u32, least: u8, most: u8) -> Option<u8>
     ensures { SomeIff result ((least ≤ number) × (number ≤ most)) number }
 {
@@ -28,7 +29,7 @@ pub(crate) fn between(number: u32, least: u8, most: u8) -> Option<u8>
     Some(byte)
 }
 
-/// The settings of these numbers, if they are those of a version, a level and a rule.
+/// Returns the settings with these numbers if all of them are in range.
 pub(crate) fn settings_of(version: u32, level: u32, rule: u32) -> Option<Settings>
     ensures { SomeIff result (AreSettings version level rule)
         (record { version = version; level = level_of level; rule = rule_of rule }) }
@@ -40,7 +41,7 @@ pub(crate) fn settings_of(version: u32, level: u32, rule: u32) -> Option<Setting
     })
 }
 
-// The level of this number.
+// Returns the level with this number.
 fn level_of(number: u32) -> Option<Level>
     ensures { SomeIff result (number < 4) (level_of number) }
 {
@@ -53,7 +54,7 @@ fn level_of(number: u32) -> Option<Level>
     }
 }
 
-/// The number of a level.
+/// Returns the number of the level.
 pub(crate) fn number_of(level: Level) -> u8
     ensures in_range { result < 4 }
     ensures same { level_of result ≡ level }
@@ -66,7 +67,7 @@ pub(crate) fn number_of(level: Level) -> u8
     }
 }
 
-// The rule of this number.
+// Returns the rule with this number.
 fn rule_of(number: u32) -> Option<Rule>
     ensures { SomeIff result (number < 3) (rule_of number) }
 {

@@ -1,26 +1,26 @@
-//! The status that a call returns: a number has the same meaning for all calls.
+//! The statuses that calls return. A number has the same meaning for all calls.
 
 ghost use Rattle.std.specs.Prelude.{◌≡◌};
 ghost use Rattle.qrproved.specs.Steps.Status.{encode_status, read_status};
 
 use qr_symbol::{EncodeFault, ReadFault};
 
-/// All that was asked for is written.
+/// The call wrote everything that it was called for.
 pub(crate) const DONE: u8 = 0;
 
 /// The input has no byte.
 pub(crate) const EMPTY: u8 = 1;
 
-/// No version from the smallest one on holds the input.
+/// The input fits no version from the smallest one on.
 pub(crate) const TOO_LONG: u8 = 2;
 
-/// The input takes more than 16 symbols of the version.
+/// The input needs more than 16 symbols of the version.
 pub(crate) const TOO_MANY: u8 = 3;
 
-/// Memory was refused.
+/// An allocation was refused.
 pub(crate) const MEMORY: u8 = 4;
 
-/// The number of the version, the level or the rule is none, or a byte is that of no module.
+/// The version, the level, the rule or a number of a drawing is out of range, or a byte is not that of a module.
 pub(crate) const SETTINGS: u8 = 5;
 
 /// A buffer is too short.
@@ -29,17 +29,17 @@ pub(crate) const ROOM: u8 = 6;
 /// No version has this side.
 pub(crate) const SIDE: u8 = 7;
 
-/// The format information is that of no level and mask; where damage is mended, it is near to none.
+/// The format information belongs to no level and mask; when damage is mended, it is near to no level and mask.
 pub(crate) const FORMAT: u8 = 8;
 
-/// The error correction codewords of a block are not those of its data codewords; where damage is mended, some block has more
-/// than can be mended.
+/// The error correction codewords of a block are not those of its data codewords; when damage is mended, some block has
+/// more damage than can be mended.
 pub(crate) const CHECK: u8 = 9;
 
 /// The data codewords cannot be parsed.
 pub(crate) const SEGMENTS: u8 = 10;
 
-// The status of an input that is not encoded.
+// Returns the status of an input that is not encoded because of this fault.
 pub(crate) fn encode_status(fault: EncodeFault) -> u8
     ensures { result ≡ encode_status fault }
 {
@@ -51,7 +51,8 @@ pub(crate) fn encode_status(fault: EncodeFault) -> u8
     }
 }
 
-// The status of a symbol that is not read, or not mended. That symbols are no series is no fault of one symbol.
+// Returns the status of a symbol that is not read or not mended because of this fault. `Series` is never the fault of a
+// single symbol.
 pub(crate) fn read_status(fault: ReadFault) -> u8
     ensures { result ≡ read_status fault }
 {

@@ -1,4 +1,4 @@
--- The errors of a damaged block. No public clause rests on how this is written.
+-- The errors of a damaged block. An error is the difference of a received codeword and the correct one.
 use Rattle.std.specs.Prelude.{◌≡◌, ℕ, ◌+◌, ◌-◌, ◌<◌, ◌≤◌, ◌==◌, if◌then◌else◌, List, [], ◌∷◌, length, take}
 use Rattle.std.specs.List.{All}
 use Rattle.qr_field.specs.Galois.{product}
@@ -6,22 +6,22 @@ use Rattle.qr_field.specs.Polynomial.{IsByte, power}
 use Rattle.qr_field.specs.Steps.Polynomial.{value_at}
 use Rattle.qr_mending.specs.Steps.Sums.{eval, blend}
 
--- the coefficient of x^m in a list from the highest power on
+-- The coefficient of x^m of a polynomial whose coefficients are listed from the highest power on.
 abbrev pub coefficient : ℕ → List ℕ → ℕ
 coefficient m [] = 0
 coefficient m (c ∷ e) = if m == length e then c else coefficient m e
 
--- all coefficients but the leading one, which comes last
+-- All coefficients but the leading one, which is the last in the list.
 abbrev pub low : List ℕ → List ℕ
 low p = take (length p - 1) p
 
--- each error, in a list from the highest power on, times the value of a polynomial at its place
+-- Each error of a list, from the highest power on, times the value of the polynomial p at 2 to that power.
 abbrev pub weighted : List ℕ → List ℕ → List ℕ
 weighted p [] = []
 weighted p (c ∷ e) = product c (eval (power (length e)) p) ∷ weighted p e
 
--- the errors e stand at roots of the polynomial p, whose coefficients are listed from the lowest power of x to the leading
--- 1, and so each of their values follows from those before
+-- `IsLocated p e` holds if the polynomial p, listed from the lowest power of x to the leading coefficient 1, has a root
+-- for each error in e. The values of e then form a recurrence: each of them follows from the values before it.
 pub record IsLocated (p e : List ℕ) : Type 0 where
   pub bytes : All IsByte e
   pub most : length e ≤ 255

@@ -1,4 +1,5 @@
--- The colours that one step of drawing gives. No public clause rests on how this is written.
+-- The colours of modules after single steps of drawing. A codeword bit is named by its number: bit 0 is the highest bit
+-- of the first codeword.
 use Rattle.std.specs.Prelude.{◌≡◌, ◌<◌, ℕ, ◌+◌, ◌-◌, ◌%◌, ◌==◌, ◌&&◌, ◌||◌, nat_le, nat_lt, Bool, false, if◌then◌else◌, List, [], ◌∷◌, Option, None, Some}
 use Rattle.qr_layout.specs.declared.level.Level.{Level}
 use Rattle.qr_layout.specs.declared.region.Module.{Module}
@@ -17,90 +18,104 @@ use Rattle.qr_symbol.specs.Mask.{inverts, inverted}
 use Rattle.qr_symbol.specs.Symbol.{word_bit}
 use Rattle.qr_matrix.specs.Penalty.{penalty_of}
 
--- the colour of a module outside the encoding region, with the words of format and version information
+-- The colour of a module outside the encoding region by its role, where `format` and `version` are the words of the
+-- format and the version information.
 unfoldable pub fixed_colour : ℕ → ℕ → Role → Bool
 fixed_colour format version (Fixed dark) = dark
 fixed_colour format version (FormatBit i) = word_bit format i
 fixed_colour format version (VersionBit i) = word_bit version i
 fixed_colour format version Region = false
 
--- what a module outside the encoding region is painted: its colour with the words of format and version information, or
--- light
+-- The colour that a module outside the encoding region is painted with: light if there is no word of format information,
+-- otherwise the module's colour by its role.
 unfoldable pub paint_of : ℕ → Option ℕ → ℕ → ℕ → Bool
 paint_of v None r c = false
 paint_of v (Some format) r c = fixed_colour format (version_word_of v) (role_of v r c)
 
--- the module at `at` of row 6, or of column 6, is dark: finder patterns take its ends, and a timing pattern the rest
+-- `is_dark_in_six s at` is true if the module with index `at` of row 6, or of column 6, is dark, where s is the side.
+-- The first seven and the last seven modules belong to finder patterns; the modules at even indices between them belong
+-- to a timing pattern.
 abbrev pub is_dark_in_six : ℕ → ℕ → Bool
 is_dark_in_six s at = nat_lt at 7 || nat_le (s - 7) at || at % 2 == 0
 
--- in the encoding region the bit of the codewords, elsewhere the other colour
+-- The colour in row r and column c once the codewords are placed: the codeword bit in the encoding region, `other r c`
+-- elsewhere.
 unfoldable pub placed_colour : ℕ → List ℕ → (ℕ → ℕ → Bool) → ℕ → ℕ → Bool
 placed_colour v cw other r c =
     if is_in_region v r c then codeword_bit cw (number_of v (record { row = r; col = c })) else other r c
 
--- in the encoding region the bit of the codewords under a mask, elsewhere the other colour
+-- The colour in row r and column c once the codewords are placed under a mask: in the encoding region the codeword bit,
+-- inverted if the mask inverts there; elsewhere `other r c`.
 unfoldable pub walked_colour : ℕ → List ℕ → ℕ → (ℕ → ℕ → Bool) → ℕ → ℕ → Bool
 walked_colour v cw mask other r c =
     if is_in_region v r c then inverted (inverts mask r c) (codeword_bit cw (number_of v (record { row = r; col = c }))) else other r c
 
--- a square with a bit of the codewords at a module, if it is one of the region
+-- The square g after codeword bit `number` was placed in its row `row` and column `col`. If `is_in` is false, the module
+-- is not in the encoding region, and g is unchanged.
 abbrev pub placed_if : Bool → List ℕ → ℕ → Grid → ℕ → ℕ → Grid
 placed_if is_in cw number g row col = if is_in then painted g row col (codeword_bit cw number) else g
 
--- the number of the bit after that
+-- The number of the next codeword bit after a module. It is `number + 1` if `is_in` is true, since a module in the
+-- encoding region takes bit `number`; otherwise it is `number`.
 abbrev pub number_after : Bool → ℕ → ℕ
 number_after is_in number = if is_in then number + 1 else number
 
--- the number of the next bit after places, of which those of the region get one each
+-- The number of the next codeword bit after a list of modules, of which each module in the encoding region takes one
+-- bit.
 abbrev pub number_along : ℕ → List Module → ℕ → ℕ
 number_along v [] number = number
 number_along v (m ∷ ms) number = number_along v ms (number_after (is_in_region v m.row m.col) number)
 
--- a square after places, of which those of the region get one bit each
+-- The square g after a list of modules was drawn, of which each module in the encoding region takes one codeword bit,
+-- the first of them bit `number`.
 abbrev pub placed_along : ℕ → List ℕ → List Module → ℕ → Grid → Grid
 placed_along v cw [] number g = g
 placed_along v cw (m ∷ ms) number g =
     placed_along v cw ms (number_after (is_in_region v m.row m.col) number) (placed_if (is_in_region v m.row m.col) cw number g m.row m.col)
 
--- a window holds 64 bits of the codewords, the first its highest
+-- `IsWindow cw w` holds if the window w contains 64 bits of the codewords cw from bit `w.first` on, the first of them as
+-- its highest bit.
 abbrev pub IsWindow : List ℕ → Window → Type 0
 IsWindow cw w = (k : ℕ) → k < 64 → has_bit w.bits (63 - k) ≡ codeword_bit cw (w.first + k)
 
--- eight bits are those of the codewords from a number on, the first the highest
+-- `AreNext cw number bits` holds if `bits` contains the eight bits of the codewords cw from bit `number` on, the first
+-- of them as its highest bit.
 abbrev pub AreNext : List ℕ → ℕ → ℕ → Type 0
 AreNext cw number bits = (k : ℕ) → k < 8 → has_bit bits (7 - k) ≡ codeword_bit cw (number + k)
 
--- places were gone through, of which those of the region get one bit each from the first on, and the square is
--- transposed: the number of the next bit, and the square after it
+-- `IsDrawnAcross v cw ms first before next after` holds if the modules ms were drawn in the square `before`, which
+-- became the square `after`. Each of them in the encoding region took one bit of the codewords cw, from bit `first` on,
+-- and `next` is the number of the bit after those. Both squares are transposed.
 pub record IsDrawnAcross (v : ℕ) (cw : List ℕ) (ms : List Module) (first : ℕ) (before : Grid) (next : ℕ) (after : Grid) : Type 0 where
   pub number : next ≡ number_along v ms first
   pub placed : transposed after ≡ placed_along v cw ms first (transposed before)
   pub square : IsSquare (side_of v) after
 
--- the bit of the format information, at a module that holds one, and elsewhere the other colour
+-- The colour of a module after the format information is drawn: its bit of the format information if its role is such a
+-- bit, otherwise the colour `other` that it had.
 unfoldable pub format_or : ℕ → Role → Bool → Bool
 format_or format (Fixed dark) other = other
 format_or format (FormatBit i) other = word_bit format i
 format_or format (VersionBit i) other = other
 format_or format Region other = other
 
--- the colours of a symbol that was drawn without mask and format information, with them
+-- The colour in row r and column c of a symbol with its mask and format information. It is computed from `plain`, the
+-- symbol without mask and format information, and `region`, the square in which the encoding region is dark.
 unfoldable pub masked_colour : ℕ → ℕ → ℕ → Grid → Grid → ℕ → ℕ → Bool
 masked_colour v format mask region plain r c = format_or format (role_of v r c) (inverted (colour region r c && inverts mask r c) (colour plain r c))
 
--- the symbol of these colours
+-- The symbol with its mask and format information: the square of these colours.
 abbrev pub masked_grid : ℕ → Level → ℕ → Grid → Grid → Grid
 masked_grid v l mask region plain = square (side_of v) (masked_colour v (format_word_of l mask) mask region plain)
 
--- the modules of the encoding region, dark
+-- The square in which the modules of the encoding region are dark, and all other modules are light.
 abbrev pub region_grid : ℕ → Grid
 region_grid v = square (side_of v) (is_in_region v)
 
--- a symbol without mask and format information
+-- The symbol of the codewords cw without mask and format information.
 abbrev pub plain_grid : ℕ → List ℕ → Grid
 plain_grid v cw = square (side_of v) (placed_colour v cw (λ r c. fixed_colour 0 (version_word_of v) (role_of v r c)))
 
--- its penalty
+-- The penalty of the symbol with its mask and format information.
 abbrev pub masked_penalty : ℕ → Level → Grid → Grid → ℕ → ℕ
 masked_penalty v l region plain mask = penalty_of (side_of v) (colour (masked_grid v l mask region plain))

@@ -1,17 +1,19 @@
--- What one step of interleaving gives. No public clause rests on how this is written.
+-- Sequences of codewords after single steps of interleaving.
 use Rattle.std.specs.Prelude.{◌≡◌, ℕ, ◌<◌, List, [], ◌++◌, map, length, slice_index_or}
 use Rattle.qr_field.specs.Polynomial.{IsCorrection}
 use Rattle.qr_layout.specs.declared.blocks.Blocks.{Blocks}
 use Rattle.qr_symbol.specs.declared.interleaving.Cut.{Cut}
 use Rattle.qr_symbol.specs.Interleaving.{Tag, IsTag, IsTagOrder, start_of, correction_cut, codeword_at, block_of, check_at}
 
--- the codewords by rising tags, after others
+-- `IsSent c d before after` holds if `after` is `before`, followed by the codewords d of the cut c in the order of their
+-- tags.
 pub record IsSent (c : Cut) (d before after : List ℕ) : Type 0 where
   pub tags : List Tag
   pub order : IsTagOrder c tags
   pub sent : after ≡ before ++ map (codeword_at c d) tags
 
--- the error correction codewords of the first blocks, block after block
+-- `IsChecks b d blocks xs` holds if xs are the error correction codewords of the first blocks of the data codewords d,
+-- block after block; `blocks` is the number of these blocks.
 pub record IsChecks (b : Blocks) (d : List ℕ) (blocks : ℕ) (xs : List ℕ) : Type 0 where
   pub corrections : List (List ℕ)
   pub count : length corrections ≡ blocks

@@ -1,16 +1,16 @@
--- The lengths of the parts that an input is cut into. No public clause rests on how this is written.
+-- The lengths of the parts that an input is cut into.
 use Rattle.std.specs.Prelude.{◌≡◌, ℕ, ◌<◌, List, [], ◌∷◌, take, drop}
 use Rattle.qr_layout.specs.declared.level.Level.{Level}
 use Rattle.qr_bits.specs.declared.modes.Rule.{Rule}
 use Rattle.qr_bits.specs.Segmentation.{IsLongestFit}
 use Rattle.qr_bits.specs.Padding.{room_of}
 
--- the lengths are those of the parts of the bytes
+-- `AreLengths v l rule x lengths` holds if these are the lengths of the parts of the bytes x, in their order.
 unfoldable pub AreLengths : ℕ → Level → Rule → List ℕ → List ℕ → Type 0
 AreLengths v l rule x [] = x ≡ []
 AreLengths v l rule x (n ∷ ns) = (0 < n) × IsLongestFit v rule x (room_of v l) n × AreLengths v l rule (drop n x) ns
 
--- the parts of these lengths, one after the other
+-- The parts of the bytes x that have these lengths, one after another.
 unfoldable pub parts_of : List ℕ → List ℕ → List (List ℕ)
 parts_of x [] = []
 parts_of x (n ∷ ns) = take n x ∷ parts_of (drop n x) ns

@@ -17,19 +17,19 @@ use Rattle.qr_symbol.proofs.encoding.encode.Goals as goal
 answer : EncodeFault → Result Symbol EncodeFault
 answer e = Err e
 
--- A fault of the bits is no empty input.
+-- A fault of `qr_bits` is never `Empty`.
 not_empty : (f : BitFault) → answer (fault_of f) ≡ answer fault.Empty → ⊥
 unfolding answer
 not_empty Memory e = cc
 not_empty TooLong e = cc
 
--- Too many bits come from too many bits alone.
+-- The fault is `TooLong` only if that of `qr_bits` is `TooLong`.
 is_too_long : (f : BitFault) → answer (fault_of f) ≡ answer fault.TooLong → f ≡ TooLong
 unfolding answer
 is_too_long Memory e = cc
 is_too_long TooLong e = cc
 
--- The fault of bits is one of two.
+-- A fault of `qr_bits` becomes `TooLong` or `Memory`.
 of_bits : (f : BitFault) → (fault_of f ≡ fault.Empty) ⊎ (fault_of f ≡ fault.TooLong) ⊎ (fault_of f ≡ fault.Memory)
 of_bits Memory = inr (inr refl)
 of_bits TooLong = inr (inl refl)

@@ -2,14 +2,14 @@ use Rattle.std.proofs.Common.{◌≡◌, ◌+◌, ◌*◌, ◌==◌, not, false,
 use Rattle.qr_matrix.proofs.Facts.{filled}
 use Rattle.qrproved.proofs.modules.matrix_of.Given as goal
 
--- the rows as far as they are taken over
+-- the rows before the current one have been read
 abbrev pub invariant-loop-row : goal.invariant-loop-row
 invariant-loop-row l = record {
   start : l.start ≡ l.row * l.side;
   matrix : l.matrix ≡ filled l.side (λ row col. not (slice_index_or l.modules (row * l.side + col) 0 == 0)) (λ _ _. false) l.row 0;
 }
 
--- the row as far as it is taken over
+-- the modules of the row before the current one have been read
 abbrev pub invariant-loop-col : goal.invariant-loop-col
 invariant-loop-col l = record {
   start : l.start ≡ l.row * l.side;

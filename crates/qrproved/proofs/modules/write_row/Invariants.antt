@@ -3,7 +3,7 @@ use Rattle.qr_matrix.specs.Grid.{colour}
 use Rattle.qrproved.specs.Modules.{byte_of}
 use Rattle.qrproved.proofs.modules.write_row.Given as goal
 
--- the row as far as it is written
+-- the modules of the row before the current one have been written
 abbrev pub invariant-cols : goal.invariant-cols
 invariant-cols l = record {
   side : l.side ≡ l.matrix.side;

@@ -3,7 +3,7 @@ use Rattle.qr_matrix.specs.Grid.{colour}
 use Rattle.qrproved.specs.Modules.{byte_of}
 use Rattle.qrproved.proofs.modules.write_square.Given as goal
 
--- the rows as far as they are written
+-- the rows before the current one have been written
 abbrev pub invariant-loop-row : goal.invariant-loop-row
 invariant-loop-row l = record {
   side : l.side ≡ l.matrix.side;

@@ -4,7 +4,7 @@ use Rattle.qr_symbol.specs.Series.{squares_of}
 use Rattle.qrproved.specs.Modules.{byte_of}
 use Rattle.qrproved.proofs.modules.write_squares.Given as goal
 
--- the squares as far as they are written
+-- the squares before the current one have been written
 abbrev pub invariant-loop-symbol : goal.invariant-loop-symbol
 invariant-loop-symbol l = record {
   area : l.area ≡ l.fn.side * l.fn.side;
