@@ -29,7 +29,7 @@ pub(crate) fn read_input<R: Source>(alloc: Global, input: &mut R) -> Result<Vec<
     // unknown.
     ensures ended { (R.device input.old).counts ≡ no_reads
         → IfOk result (λ bytes. ((R.device input.new).counts.ends ≡ 1) ⊎ (length bytes.items ≡ INPUT_MAX)) }
-    // The counts of the reads keep their limits: at most one end, one failure and 1,000 interrupted reads.
+    // Each count of the reads keeps its limit, and no read comes after the end of the input.
     ensures within { (R.device input.old).counts ≡ no_reads → IsReadWithin (R.device input.new).counts }
 {
     let mut bytes = Vec::new(alloc);
