@@ -19,8 +19,8 @@ IsMendedContent g content = (v : ℕ) × (l : Level) × (mask : ℕ) × (changed
 abbrev pub IsMendedSeries : List Grid → List ℕ → Type 0
 IsMendedSeries squares bytes = IsJoinedBy IsMendedContent squares bytes
 
--- `IsUnmendedSeries squares e` holds if the squares are not joined because of the fault e, although damage is mended
--- (ISO/IEC 18004:2015, 12).
+-- `IsUnmendedSeries squares e` holds if the squares, even with their damage mended, are not joined because of the fault
+-- e (ISO/IEC 18004:2015, 12).
 abbrev pub IsUnmendedSeries : List Grid → ReadFault → Type 0
 IsUnmendedSeries squares e = IsUnjoinedBy IsMendedContent IsUnmended squares e
 

@@ -28,8 +28,8 @@ pub record AreMarks (v : ℕ) (unknown : Grid) (marks : List ℕ) : Type 0 where
   pub order : IsOrder v places
   pub bits : bits_of marks ≡ map (colour_at unknown) (take (8 * total_codewords_of v) places)
 
--- `AreInBlocks b sent d e` holds if the codewords `sent`, in the order in which they are sent, are these put back into
--- blocks: the data codewords d and then the error correction codewords e, each block after block
+-- `AreInBlocks b sent d e` holds if d and e are the codewords `sent`, put back into blocks from the order in which they
+-- are sent: d contains the data codewords and e the error correction codewords, both block after block
 -- (ISO/IEC 18004:2015, 7.6).
 pub record AreInBlocks (b : Blocks) (sent d e : List ℕ) : Type 0 where
   pub gathered : IsGathered (data_cut b) sent d

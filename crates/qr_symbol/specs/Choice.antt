@@ -6,8 +6,8 @@ use Rattle.qr_matrix.specs.Grid.{colour}
 use Rattle.qr_symbol.specs.Symbol.{grid_of}
 use Rattle.qr_matrix.specs.Penalty.{penalty_of}
 
--- `IsFirstLeast n f m` holds if m is the number below n with the least value f m. If several numbers have the least
--- value, m is the smallest of them [own].
+-- `IsFirstLeast n f m` holds if m is the number below n with the least value f m. If several numbers have equal least
+-- values, m is the smallest of them [own].
 pub record IsFirstLeast (n : ℕ) (f : ℕ → ℕ) (m : ℕ) : Type 0 where
   pub in_range : m < n
   pub least : (k : ℕ) → k < n → (f m < f k) ⊎ ((f m ≡ f k) × (m ≤ k))
@@ -17,7 +17,7 @@ pub record IsFirstLeast (n : ℕ) (f : ℕ → ℕ) (m : ℕ) : Type 0 where
 abbrev pub mask_penalty : ℕ → Level → List ℕ → ℕ → ℕ
 mask_penalty v l cw mask = penalty_of (side_of v) (colour (grid_of v l mask cw))
 
--- `IsMask v l cw mask` holds if the symbol has the least penalty under this mask. If several masks have the least
--- penalty, it is the one with the smallest number (ISO/IEC 18004:2015, 7.8.3; among equals [own]).
+-- `IsMask v l cw mask` holds if the symbol has the least penalty under this mask. If several masks have equal least
+-- penalties, it is the one with the smallest number (ISO/IEC 18004:2015, 7.8.3; among equals [own]).
 abbrev pub IsMask : ℕ → Level → List ℕ → ℕ → Type 0
 IsMask v l cw mask = IsFirstLeast 8 (mask_penalty v l cw) mask

@@ -16,7 +16,8 @@ use crate::status::{
 };
 use std::alloc::AllocError;
 
-/// The numbers of the statuses, which do not change between versions of the library.
+/// The numbers of the statuses that the contracts of other functions name. They do not change between versions of the
+/// library.
 pub fn statuses()
     ensures done { DONE ≡ 0 }
     ensures empty { EMPTY ≡ 1 }

@@ -5,7 +5,7 @@ use Rattle.qr_label.specs.Label.{line_of_row}
 use Rattle.qr_label.proofs.LineLemmas.{flat-more}
 use Rattle.qr_label.proofs.label.Goals as goal
 
--- a refusal that is passed on comes exactly where it came before
+-- if `encode` returns a refusal exactly if P holds, unless memory is refused, so does the call that passes it on
 passed-on : {X Y E : Type 0} (r : Result X E) (s : Result Y E) (e refused memory : E) (P : Type 0) → r ≡ Err e → s ≡ Err e
     → ((r ≡ Err refused) ↔ ((r ≢ Err memory) × P)) → ((s ≡ Err refused) ↔ ((s ≢ Err memory) × P))
 passed-on r s e refused memory P is goes (f, g) = (

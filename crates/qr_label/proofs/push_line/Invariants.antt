@@ -4,6 +4,6 @@ use Rattle.qr_matrix.specs.Grid.{colour}
 use Rattle.qr_label.specs.Label.{character_of}
 use Rattle.qr_label.proofs.push_line.Given as goal
 
--- the line as far as it was added
+-- the characters of the modules before the current one have been added
 abbrev pub invariant-loop-col : goal.invariant-loop-col
 invariant-loop-col l = l.text.items ≡ l.fn.text.items ++ map (λ col. character_of (colour l.matrix l.row col)) (range_with_len 0 l.col)

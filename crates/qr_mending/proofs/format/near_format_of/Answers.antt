@@ -7,11 +7,11 @@ use Rattle.qr_mending.specs.declared.format.FormatCopy.{FormatCopy}
 use Rattle.qr_mending.specs.Format.{IsNearFormat}
 use Rattle.qr_mending.proofs.format.near_format_of.Goals as goal
 
--- the level number k
+-- the level with the number k
 abbrev level : ℕ → Level
 level k = get_or (L ∷ M ∷ Q ∷ H ∷ []) k L
 
--- what holds of four levels holds of each
+-- if the copy is near to none of the four levels in the list, it is near to no level
 every : (copy : FormatCopy) (g : Grid) → ((k : ℕ) → k < 4 → (mask : ℕ) → IsNearFormat copy g (level k) mask → ⊥) →
     (l : Level) (mask : ℕ) → IsNearFormat copy g l mask → ⊥
 every copy g none L = none 0 (omega arith)

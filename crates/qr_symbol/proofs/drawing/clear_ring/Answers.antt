@@ -4,7 +4,7 @@ use Rattle.qr_matrix.specs.Grid.{Grid, colour}
 use Rattle.qr_symbol.proofs.PaintLemmas.{over, over-twice, over-rectangle, ring-sides}
 use Rattle.qr_symbol.proofs.drawing.clear_ring.Goals as goal
 
--- a rectangle
+-- the test that a place is in a rectangle
 abbrev inside : ℕ → ℕ → ℕ → ℕ → ℕ → ℕ → Bool
 inside top bottom left right r c = leb top r && ltb r bottom && leb left c && ltb c right
 

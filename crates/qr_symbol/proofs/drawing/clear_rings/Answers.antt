@@ -9,7 +9,7 @@ use Rattle.qr_matrix.specs.Grid.{Grid, colour}
 use Rattle.qr_symbol.proofs.PaintLemmas.{over, over-item, over-same, inside-at}
 use Rattle.qr_symbol.proofs.drawing.clear_rings.Goals as goal
 
--- no place
+-- a module that stands in for an index past the end of a list
 abbrev none : Module
 none = record { row = 0; col = 0 }
 

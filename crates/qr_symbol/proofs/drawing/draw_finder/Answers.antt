@@ -6,7 +6,7 @@ use Rattle.qr_symbol.proofs.FinderLemmas.{rings-square, three-squares}
 use Rattle.qr_symbol.proofs.PaintLemmas.{over-colour, over-rectangle}
 use Rattle.qr_symbol.proofs.drawing.draw_finder.Goals as goal
 
--- the square of the rings up to k
+-- the test that a place is in the rings up to k round a centre
 abbrev rings : ℕ → ℕ → ℕ → ℕ → ℕ → Bool
 rings a b k r c = leb (a - k) r && ltb r (a + (k + 1)) && leb (b - k) c && ltb c (b + (k + 1))
 

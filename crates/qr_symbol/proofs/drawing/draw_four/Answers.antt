@@ -11,12 +11,12 @@ use Rattle.qr_symbol.proofs.SplitLemmas.{split, split-high, split-low}
 use Rattle.qr_symbol.proofs.drawing.draw_four.Goals as goal
 use Rattle.qr_symbol.proofs.drawing.draw_four.Goals.{then-strip, else-strip}
 
--- the rank of one of four rows
+-- the rank of one of four rows is less than 4
 rank-small : (b : Bool) (j : ℕ) → j < 4 → rank_of b j < 4
 rank-small true j l = omega arith
 rank-small false j l = l
 
--- four bits that are 1 in two numbers
+-- four bits that are 1 in the common bits of two numbers are 1 in both numbers
 both-fifteen : (a b j : ℕ) → bit_and a b ≡ 15 → j < 4 → (has_bit a j && has_bit b j) ≡ true
 both-fifteen a b j e l =
     let t : ltb j 4 ≡ true = grind (arith, nat_tests) in

@@ -12,7 +12,7 @@ use Rattle.qr_symbol.specs.Steps.Drawing.{paint_of}
 use Rattle.qr_symbol.proofs.PaintLemmas.{over-square, over-colour, over-rectangle, region-tests}
 use Rattle.qr_symbol.proofs.drawing.draw_region.Goals as goal
 
--- the places of the three kinds
+-- the tests that a place is in a corner, in a timing pattern, or in the version information
 abbrev corners : ℕ → ℕ → ℕ → Bool
 corners v r c = list_any (is_in_rectangle r c) (corner_rectangles (side_of v))
 
@@ -22,7 +22,7 @@ timing v r c = list_any (is_in_rectangle r c) (timing_lines (side_of v))
 abbrev version : ℕ → ℕ → ℕ → Bool
 version v r c = list_any (is_in_rectangle r c) (version_rectangles v (side_of v))
 
--- the whole square
+-- the test that a place is in the square
 abbrev whole : ℕ → ℕ → ℕ → Bool
 whole s r c = leb 0 r && ltb r s && leb 0 c && ltb c s
 

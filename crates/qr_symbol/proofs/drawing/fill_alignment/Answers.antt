@@ -11,7 +11,7 @@ use Rattle.qr_matrix.specs.Grid.{Grid, colour}
 use Rattle.qr_symbol.proofs.PaintLemmas.{over-rectangle, over-item, over-same, inside-at}
 use Rattle.qr_symbol.proofs.drawing.fill_alignment.Goals as goal
 
--- no place
+-- a module that stands in for an index past the end of a list
 abbrev none : Module
 none = record { row = 0; col = 0 }
 

@@ -8,7 +8,7 @@ use Rattle.qr_symbol.proofs.FinderLemmas.{block-paint, paint-none}
 use Rattle.qr_symbol.proofs.PaintLemmas.{over-colour, over-rectangle}
 use Rattle.qr_symbol.proofs.drawing.paint_finder.Goals as goal
 
--- the block
+-- the test that a place is in the eight by eight modules of a finder pattern and its separator
 abbrev block : ℕ → ℕ → ℕ → ℕ → Bool
 block top left r c = leb top r && ltb r (top + 8) && leb left c && ltb c (left + 8)
 

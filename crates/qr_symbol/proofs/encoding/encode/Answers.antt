@@ -13,7 +13,7 @@ use Rattle.qr_symbol.proofs.ExactLemmas.{too-long-exactly}
 use Rattle.qr_symbol.proofs.SymbolMakingLemmas.{symbol-found, symbol-back}
 use Rattle.qr_symbol.proofs.encoding.encode.Goals as goal
 
--- the answer of a fault
+-- the result of a call that is refused for this fault
 answer : EncodeFault → Result Symbol EncodeFault
 answer e = Err e
 

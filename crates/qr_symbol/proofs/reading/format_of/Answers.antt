@@ -6,11 +6,11 @@ use Rattle.qr_matrix.specs.Grid.{Grid}
 use Rattle.qr_symbol.specs.Reading.{IsFormat}
 use Rattle.qr_symbol.proofs.reading.format_of.Goals as goal
 
--- the level number k
+-- the level with the number k
 abbrev level : ℕ → Level
 level k = get_or (L ∷ M ∷ Q ∷ H ∷ []) k L
 
--- what holds of four levels holds of each
+-- if the square has the format information of none of the four levels in the list, it has that of no level
 every : (g : Grid) → ((k : ℕ) → k < 4 → (mask : ℕ) → IsFormat g (level k) mask → ⊥) → (l : Level) (mask : ℕ) → IsFormat g l mask → ⊥
 every g none L = none 0 (omega arith)
 every g none M = none 1 (omega arith)

@@ -5,8 +5,8 @@ use Rattle.qr_bits.specs.Modes.{may_use}
 use Rattle.qr_symbol.specs.Steps.Series.{AreLengths}
 use Rattle.qr_symbol.proofs.series.part_lengths.Given as goal
 
--- the lengths so far and those of the rest are those of the input; the parts of the input are as many as the lengths so far
--- and the parts of the rest, and without kanji mode no cut has fewer
+-- the lengths found and those of the rest are the lengths of the input; the input has at least as many parts as lengths
+-- found and parts of the rest together; without kanji mode it also needs as many parts as that
 abbrev pub invariant-loop-rest : goal.invariant-loop-rest
 invariant-loop-rest l = record {
   short : length l.rest ≤ length l.fn.input;

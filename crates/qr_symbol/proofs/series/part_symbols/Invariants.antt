@@ -6,7 +6,7 @@ use Rattle.qr_symbol.specs.Series.{AreSymbolsFrom}
 use Rattle.qr_symbol.specs.Steps.Series.{AreLengths, parts_of}
 use Rattle.qr_symbol.proofs.series.part_symbols.Given as goal
 
--- the symbols so far and those of the rest are those of the whole
+-- the symbols made and those of the rest are the symbols of all parts
 abbrev pub invariant-loop-len : goal.invariant-loop-len
 invariant-loop-len l = record {
   short : length l.rest ≤ length l.fn.input;
