@@ -71,8 +71,7 @@ LeastSegmentationsFit =
     (v : ℕ) (r : Rule) (xs : List ℕ) (segs : List Segment) → IsLeastSegmentation v r xs segs →
     Covers xs segs × ((n : ℕ) → HasFit v r xs n ↔ (bits v segs ≤ n))
 
--- If an input has a valid assignment of at most n bits under a rule without kanji mode, each piece of the input has a valid
--- assignment of at most n bits too [own].
+-- If an input can be written in at most n bits under a rule without kanji mode, so can each piece of the input [own].
 abbrev pub PiecesNeedNoMore : Type 0
 PiecesNeedNoMore =
     (v : ℕ) (r : Rule) (xs ys zs : List ℕ) (n : ℕ) → may_use r Kanji ≡ false → HasFit v r (xs ++ (ys ++ zs)) n → HasFit v r ys n

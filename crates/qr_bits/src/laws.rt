@@ -152,8 +152,8 @@ pub fn rules_compute()
     ensures kanji { map (may_use Rule.WithKanji) all_modes ≡ true ∷ true ∷ true ∷ true ∷ [] }
 {}
 
-/// Folding of the first and the last letters and of the characters beside them, without kanji mode. With kanji mode, a pair
-/// whose second byte is a small letter stays as it is, and so does the first half of a pair at the end.
+/// Folding of the first and the last letters and of the characters beside them, without kanji mode. With kanji mode, a
+/// kanji pair stays as it is even if its second byte is a small letter, and so does a last byte that would begin a pair.
 #[tactic(auto, unfolding(crate::specs::Folding::folded_around_pairs, crate::specs::Modes::is_kanji_pair))]
 pub fn foldings_compute()
     ensures auto { folded Rule.Auto (codes "@AZ[`az{") ≡ codes "@AZ[`AZ{" }

@@ -84,7 +84,7 @@ fn first_header(reader: &mut BitReader) -> Result<Option<Header>, ParseFault>
     Ok(Some(header))
 }
 
-// Reads a header after its indicator (8.1). It does not allocate either.
+// Reads a header after its indicator (8.1). It does not allocate.
 #[tactic(auto, unfolding(crate::specs::Parsing::header_at))]
 fn header(reader: &mut BitReader) -> Result<Header, ParseFault>
     ensures ok { IfOk result (λ h. header_at reader.old ≡ Ok (h, reader.new)) }

@@ -75,8 +75,9 @@ fn modes_of(numbers: &ByPlace<u32>) -> u32
 }
 
 // Returns, for each state before a byte, the mode of the best choice, as a row of the table, and the number of that choice.
-// The flags say whether the byte may be written as a digit, as a character and as the first byte of a kanji pair. `rest`
-// contains the numbers for the bytes after it.
+// The flags say whether the byte may be written as a digit, as a character and as the first byte of a kanji pair. For each
+// state after the byte, `rest` contains the number of the best choice for the bytes that follow: four times its bits plus
+// the rank of its mode.
 #[inline(always)]
 fn choices(
     heads: &Heads,

@@ -1,4 +1,4 @@
-//! Laws of devices.
+//! Laws of readers and writers, which are called devices here: their values clone and compare as they should.
 
 ghost use Rattle.std.specs.Prelude.{◌≡◌, ◌-◌, ◌^◌, false};
 ghost use Rattle.qr_devices.specs.declared.device.TheConstants.{INTERRUPTIONS_MAX};

@@ -36,8 +36,9 @@ pub fn order_is_full(v: Version)
     ensures most { module_count_of v ≤ 29648 }
 {}
 
-/// The encoding region is the square without the corners, the timing patterns between them, the alignment patterns and the
-/// version information, and has exactly as many modules as the codewords and remainder bits need.
+/// The encoding region is the square without these: the three corners (finder patterns, separators and format information),
+/// the timing patterns, the alignment patterns and the version information. It has exactly as many modules as the codewords
+/// and remainder bits need.
 pub fn region_is_counted(v: Version)
     ensures region { places_passing (side_of v) (is_in_region v) ≡ region_size v }
     ensures filled { module_count_of v ≡ region_size v }

@@ -30,6 +30,6 @@ unfoldable pub begins_long_run : ℕ → (ℕ → Bool) → ℕ → Bool
 begins_long_run s line c = begins_five s line c && not (nat_lt 0 c && joins s line (c - 1))
 
 -- The cost of the runs of a line of s modules: 1 for each module at which five modules of one colour begin, and 2 more if
--- the module before them has the other colour or there is none [own]
+-- a run begins there. So a run of 5 + i modules costs 3 + i [own]
 unfoldable pub place_cost : ℕ → (ℕ → Bool) → ℕ
 place_cost s line = count_below s (begins_five s line) + 2 * count_below s (begins_long_run s line)

@@ -48,7 +48,7 @@ fn exchange_rows(tile: &mut [u64; 64], first: usize, steps: usize, mask: u64)
     }
 }
 
-// Exchanges the parts in all rows. This is one stage.
+// Exchanges the parts in all rows: one of the six stages.
 #[inline(always)]
 fn exchange(tile: &mut [u64; 64], steps: usize, mask: u64)
     requires some { 1 ≤ steps }

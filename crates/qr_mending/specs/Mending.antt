@@ -20,8 +20,9 @@ use Rattle.qr_mending.specs.declared.format.FormatCopy.TheVariants.{First, Secon
 use Rattle.qr_mending.specs.Format.{IsNearFormat, wrong_bit, wrong_bits, wrong_bits_without}
 use Rattle.qr_mending.specs.Unread.{IsMendedInWithout}
 
--- `HoldsDamagedWithout unknown v l mask g message changed` holds if the square g of version v contains, under the mask,
--- a damaged form of the message in the blocks of level l. A codeword with a module that was not read is erased,
+-- `HoldsDamagedWithout unknown v l mask g message changed` holds if the square g contains, under the mask, a damaged
+-- form of the message, in the blocks of version v and level l. `unknown` is the square of the modules that were not
+-- read, if there are such modules. A codeword with a module that was not read is erased,
 -- `changed` lists for each block the number of misread codewords, and no block has more damage than can be mended
 -- (ISO/IEC 18004:2015, 7.5.1, 7.6, 7.7.3, 12).
 pub record HoldsDamagedWithout (unknown : Option Grid) (v : ℕ) (l : Level) (mask : ℕ) (g : Grid) (message changed : List ℕ) : Type 0 where

@@ -51,8 +51,8 @@ protection_of v H = if v == 1 then 1 else 0
 abbrev pub tolerance_of : ℕ → Level → ℕ
 tolerance_of v l = ((blocks_of v l).ec_len - protection_of v l) / 2
 
--- `IsMendedIn v l cw message changed` holds if the codewords cw are a damaged form of the final sequence of the message
--- in a symbol of version v and level l, and `changed` lists the number of changed codewords for each block
--- (ISO/IEC 18004:2015, 7.5.1, 7.6).
+-- `IsMendedIn v l cw message changed` holds if the codewords cw can be mended to the message: in each block they differ
+-- from the final sequence of the message in no more codewords than can be mended in a symbol of version v and level l,
+-- and `changed` lists in how many (ISO/IEC 18004:2015, 7.5.1, 7.6).
 abbrev pub IsMendedIn : ℕ → Level → List ℕ → List ℕ → List ℕ → Type 0
 IsMendedIn v l cw message changed = IsMendedMessage (blocks_of v l) (tolerance_of v l) cw message changed

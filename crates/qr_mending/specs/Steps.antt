@@ -1,4 +1,5 @@
--- Definitions of single steps. Only contracts of private functions use them, so a reader need not believe them.
+-- Definitions of single steps of the code. Only the contracts of private functions use them, so a reader who judges the
+-- promises need not read them.
 pub mod Sums
 pub mod Polynomial
 pub mod Errors

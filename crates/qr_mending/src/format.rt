@@ -134,7 +134,8 @@ pub(crate) fn wrong_format_modules_without(
     first + wrong_bits_without(matrix, unknown, version, FormatCopy::Second, word)
 }
 
-// Returns the mask for which the copy is near to the level and this mask.
+// Returns the mask that, with `level`, has format information from which the copy differs in at most three modules, if
+// there is one.
 fn near_mask_of(matrix: &Matrix, version: Version, copy: FormatCopy, level: Level) -> Option<u8>
     requires { matrix.now.side ≡ side_of version }
     ensures { MatchOption result

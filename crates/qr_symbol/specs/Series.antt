@@ -42,8 +42,8 @@ pub record IsSymbolOf (v : ℕ) (l : Level) (rule : Rule) (x : List ℕ) (h : Op
   pub made : IsSymbolAt v l rule x h s.mask s.matrix
 
 -- `AreSymbolsFrom v l rule last parity k parts symbols` holds if the symbols are those of the parts, in their order. The
--- header of each symbol contains its position, counted from k, the number of symbols less 1 (`last`) and the parity
--- (ISO/IEC 18004:2015, 8.1 to 8.3).
+-- header of each symbol contains its position, which is k for the first symbol; `last`, which is the number of symbols
+-- less 1; and the parity (ISO/IEC 18004:2015, 8.1 to 8.3).
 unfoldable pub AreSymbolsFrom : ℕ → Level → Rule → (last parity k : ℕ) → List (List ℕ) → List Symbol → Type 0
 AreSymbolsFrom v l rule last parity k [] [] = Unit {0}
 AreSymbolsFrom v l rule last parity k [] (s ∷ ss) = ⊥

@@ -1,5 +1,5 @@
 //! Draws the modules of a symbol: the function patterns with the format and version information, and the bits of the
-//! codewords. These are drawn either strip by strip or module by module, in the order of `qr_layout::walk`
+//! codewords. The bits are drawn either strip by strip or module by module, in the order of `qr_layout::walk`
 //! (ISO/IEC 18004:2015, 7.7.2 and 7.7.3).
 
 ghost use Rattle.std.specs.Prelude.{◌≡◌, ℕ, List, ◌*◌, ◌%◌, ◌+◌, ◌-◌, ◌<◌, ◌≤◌, ◌==◌, ◌&&◌, not, if◌then◌else◌, nat_le, nat_lt, false, slice_index};
@@ -383,8 +383,8 @@ pub(crate) fn draw_region(matrix: &mut Matrix, v: Version)
 }
 
 // If the module `place` is in the encoding region, draws the next of the eight bits `bits` there, of which `taken` are
-// drawn already. Returns the number of bits that are drawn then. `across` is transposed, so row and column are exchanged
-// in it.
+// drawn already. Returns how many of the eight bits are drawn after the call. `across` is transposed, so row and column
+// are exchanged in it.
 fn draw_module(across: &mut Matrix, region: &Matrix, bits: u8, taken: u8, place: Module) -> u8
     requires row_in { place.row < across.old.side }
     requires col_in { place.col < across.old.side }
@@ -446,8 +446,8 @@ fn draw_rows(
     taken
 }
 
-// Draws the next of eight bits at each module of the encoding region in four rows of a strip. Returns the number of bits
-// that are drawn. In the transposed square each column of the strip is a row, so four modules of it are set at once.
+// Draws up to eight bits in four rows of a strip: one bit in each module that is in the encoding region. Returns how many
+// of them are drawn. In the transposed square each column of the strip is a row, so four modules of it are set at once.
 #[inline(always)]
 fn draw_four(
     across: &mut Matrix,

@@ -180,7 +180,8 @@ fn deinterleave_into(message: &mut Vec<u8>, cut: Cut, codewords: &[u8])
     }
 }
 
-// Returns the data codewords if `codewords` is their final sequence, otherwise `Check`.
+// Undoes the interleaving, and returns the data codewords. The fault is `Check` if the error correction codewords in
+// `codewords` are not theirs.
 fn deinterleave_blocks(
     alloc: Global,
     blocks: Blocks,

@@ -166,8 +166,7 @@ pub fn joining_refusals_are_one()
         → (e ≡ ReadFault.Memory) ⊎ (f ≡ ReadFault.Memory) ⊎ (e ≡ f) }
 {}
 
-/// Symbols are refused for a fault, other than lack of memory, exactly if that is the fault of their squares, unless
-/// memory is refused.
+/// If memory is not refused, symbols are refused with a fault exactly if their squares have this fault.
 pub fn joinings_are_refused_exactly(alloc: Global, symbols: &[Symbol]) -> Result<Vec<u8>, ReadFault>
     ensures { (e : ReadFault) → e ≢ ReadFault.Memory
         → (result ≡ Err e) ↔ ((result ≢ Err ReadFault.Memory) × IsUnjoined (squares_of symbols.now) e) }

@@ -49,8 +49,8 @@ fn last_of_width(version: Version) -> u8
 }
 
 // Returns the first version of a range, 1, 10 or 27, such that the input fits no version before it. A range is skipped
-// if all its symbols have too few bits. With byte mode alone only long inputs skip ranges, since a closer look would
-// save little.
+// if all its symbols have too few bits. With byte mode alone a range is skipped only for the length of the
+// input, since to compute its bits as well would save little.
 fn first_for(input: &[u8], rule: Rule) -> u8
     requires { length input.now ≤ INPUT_MAX }
     ensures first { 1 ≤ result }

@@ -110,14 +110,14 @@ Reads old new given (Err fault.Read) = Unit {0}
 Reads old new given (Err fault.Memory) = Unit {0}
 Reads old new given _ = GivesInput old new given
 
--- `ReadsFor settings old new given outcome` says what a run did to the reader: it made no call if the command line has
--- no settings or contains a string, and otherwise `Reads` holds [own]
+-- `ReadsFor settings old new given outcome` says what a run did to the reader: it made no call if the command line is
+-- refused or contains the input as a string, and otherwise `Reads` holds [own]
 abbrev pub ReadsFor : Result SettingsView Reason → Reader → Reader → List ℕ → {T : Type 0} → Result T Fault → Type 0
 ReadsFor (Err r) old new given outcome = new ≡ old
 ReadsFor (Ok s) old new given outcome = MatchOption s.string (Reads old new given outcome) (λ _. new ≡ old)
 
--- `IsTold old new line` says what standard error received: the whole line, or a prefix of it if the counts show the
--- cause of a write fault. It received no more bytes than the line has, and was not flushed [own]
+-- `IsTold old new line` says what standard error received: the whole line; or only a prefix of it, if its counts show
+-- that a write failed, took nothing, or was interrupted too often. It received no more bytes than the line has, and was not flushed [own]
 abbrev pub IsTold : Writer → Writer → List ℕ → Type 0
 IsTold old new line = AppendsBeginning old.taken new.taken line
     × (old.counts ≡ no_writes → new.counts.taken ≤ counted (length line))
@@ -126,8 +126,8 @@ IsTold old new line = AppendsBeginning old.taken new.taken line
     × (new.counts.flushes ≡ old.counts.flushes)
 
 -- `Runs` says what a run of the command returns and does to its devices, for its outcome: success or a fault. If the
--- counts of the devices start at 0, the outcome is the one that the arguments and the input determine, or lack of
--- memory, or a fault of a device that the counts show. Standard error receives nothing after success, and otherwise the
+-- counts of the devices start at 0, the outcome is one of three: what the arguments and the input determine; lack of
+-- memory; or a fault of a device, and then the counts show this fault. Standard error receives nothing after success, and otherwise the
 -- line of the fault. The status is 0 after success, and otherwise 1 [own]
 pub record Runs (words : List Text) (in0 in1 : Reader) (out0 out1 err0 err1 : Writer) (outcome : Result (Unit {0}) Fault) (status : ℕ) : Type 0 where
   pub given : List ℕ

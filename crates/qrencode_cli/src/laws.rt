@@ -32,7 +32,7 @@ pub fn rules_of_modes()
     ensures { RulesOfModes }
 {}
 
-/// The input is folded under `-i` only. Under `-k` as well, kanji pairs are not changed.
+/// The input is folded under `-i` only. With `-i` and `-k` together, kanji pairs are not changed.
 #[tactic(auto, unfolding(qr_bits::specs::Folding::folded_around_pairs, qr_bits::specs::Modes::is_kanji_pair))]
 pub fn folding_follows_the_rule()
     ensures { FoldingFollowsTheRule }

@@ -18,7 +18,7 @@ use Rattle.qrproved.specs.Settings.{level_of}
 abbrev pub square_of_unknown : ℕ → List ℕ → Grid
 square_of_unknown side bytes = square side (λ row col. slice_index_or bytes (row * side + col) 0 == 2)
 
--- The square of the modules that are not known, whose bytes are 2, if there are such modules [own].
+-- The square in which exactly the unknown modules, those with byte 2, are dark; `None` if no module is unknown [own].
 abbrev pub unknown_in : ℕ → List ℕ → Option Grid
 unknown_in side bytes = if count_by (λ b. b == 2) (take (side * side) bytes) == 0 then None else Some (square_of_unknown side bytes)
 

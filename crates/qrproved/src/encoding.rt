@@ -26,8 +26,8 @@ pub struct QrprovedSymbol {
 }
 
 /// Writes the symbol of an input, in the least version from `version` on that it fits. The byte of a module is at index
-/// `row * side + column`. The numbers of levels are 0 to 3 for L, M, Q and H; the numbers of rules are 0 to 2 for all
-/// modes but kanji, byte mode alone, and all modes.
+/// `row * side + column`. Levels are numbered 0 to 3: L, M, Q and H. Rules are numbered 0 to 2: 0 allows every mode
+/// except kanji, 1 byte mode alone, and 2 every mode.
 ///
 /// The causes of a refusal are checked in this order: the numbers, an empty input, an input that is too long, a buffer
 /// that is too short. Numbers out of range, an empty input and an input of more than 7,089 bytes are refused before any

@@ -25,7 +25,7 @@ pub struct QrprovedSeries {
 
 /// Writes the series of an input, all of whose symbols have the version `version`. The byte of a module is at index
 /// `number * side * side + row * side + column`, where `number` is the number of its symbol, from 0 on. The series of an
-/// input that fits one symbol is that symbol, without a header. The numbers of levels and rules are those of
+/// input that fits one symbol is that symbol, without a header. Levels and rules are numbered as in
 /// `qrproved_encode`.
 ///
 /// The causes of a refusal are checked in this order: the numbers, an empty input, more than 16 symbols, a buffer that

@@ -1,12 +1,13 @@
--- What the operations of a pen do to the pen and the writer. Only private clauses cite this file.
+-- What the operations of a pen do to the pen and the writer.
 use Rattle.std.specs.Prelude.{ℕ, ◌++◌, List, Result, MatchResult}
 use Rattle.qr_devices.specs.Device.{Writer}
 use Rattle.qr_drawing.specs.Steps.Writing.{Stops, Writes}
 use Rattle.qr_drawing.specs.declared.pen.DrawFault.{DrawFault}
 use Rattle.qr_drawing.specs.declared.pen.Pen.{Pen}
 
--- `Puts old new before after text r` says what adding the text to the pen does: some of the bytes that the pen held,
--- and of the text, may be written, and the pen holds the rest. After an error a prefix of these bytes was written
+-- `Puts old new before after text r` says what adding the text to the pen does. Of the bytes that the pen contains
+-- then, a prefix may be written, and the pen keeps the rest; after an error a prefix of these bytes was written. The
+-- writer is `old` and then `new`, the pen `before` and then `after`
 abbrev pub Puts : Writer → Writer → Pen → Pen → List ℕ → {T : Type 0} → Result T DrawFault → Type 0
 Puts old new before after text r = MatchResult r
     (λ _. Writes old new before.interrupted after.interrupted (before.piece.items ++ text) after.piece.items)

@@ -1,4 +1,4 @@
--- The parts of a document before and after the paths. Only private clauses cite this file.
+-- The parts of a document before and after the paths.
 use Rattle.std.specs.Prelude.{ℕ, List, ◌++◌, codes}
 use Rattle.qr_drawing.specs.Svg.{background, closing, declaration, opening}
 

@@ -1,4 +1,4 @@
--- The cells of a text by the bits of their modules, and the room that they take. Only private clauses cite this file.
+-- The cells of a text by the bits of their modules, and the room that they take.
 use Rattle.std.specs.Prelude.{◌≡◌, ℕ, ◌+◌, ◌*◌, ◌<◌, Bool, false, not, List, Option, Some, None}
 use Rattle.qr_matrix.specs.Grid.{Grid}
 use Rattle.qr_matrix.specs.Line.{has_bit}

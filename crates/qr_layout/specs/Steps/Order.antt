@@ -1,4 +1,5 @@
--- For the proof of the walk: its position, and the modules that are still to come.
+-- The position of the walk, which visits the encoding region in the order of the bits, and the modules that it has still to
+-- visit.
 use Rattle.std.specs.Prelude.{◌≡◌, ℕ, ◌+◌, ◌-◌, ◌*◌, ◌/◌, ◌%◌, ◌<◌, ◌≤◌, Bool, true, false, nat_lt, ◌==◌, if◌then◌else◌, List, [], ◌∷◌}
 use Prim.Native.Nat.{zero, suc}
 use Rattle.qr_layout.specs.declared.region.Module.{Module}

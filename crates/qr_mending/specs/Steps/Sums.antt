@@ -14,8 +14,8 @@ abbrev pub eval : ℕ → List ℕ → ℕ
 eval x [] = 0
 eval x (a ∷ p) = bit_xor a (product x (eval x p))
 
--- The sum of the products of the coefficients in the list and the values of the polynomial e at 2 to the power i, i + 1
--- and so on.
+-- The sum a0 e(2^i) + a1 e(2^(i + 1)) + ..., where a0, a1 and so on are the items of the list, and e(x) is the value of
+-- the polynomial e at x.
 abbrev pub blend : List ℕ → ℕ → List ℕ → ℕ
 blend [] i e = 0
 blend (a ∷ p) i e = bit_xor (product a (value_at i e)) (blend p (i + 1) e)

@@ -5,7 +5,8 @@ use Rattle.qr_bits.specs.declared.modes.Rule.{Rule}
 use Rattle.qr_bits.specs.Segmentation.{IsLongestFit}
 use Rattle.qr_bits.specs.Padding.{room_of}
 
--- `AreLengths v l rule x lengths` holds if these are the lengths of the parts of the bytes x, in their order.
+-- `AreLengths v l rule x lengths` holds if these are the lengths of the parts into which the bytes x are cut: each is the
+-- longest prefix of the rest that fits one symbol of the series.
 unfoldable pub AreLengths : ℕ → Level → Rule → List ℕ → List ℕ → Type 0
 AreLengths v l rule x [] = x ≡ []
 AreLengths v l rule x (n ∷ ns) = (0 < n) × IsLongestFit v rule x (room_of v l) n × AreLengths v l rule (drop n x) ns

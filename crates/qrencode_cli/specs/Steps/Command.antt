@@ -1,4 +1,4 @@
--- The results of the parts of a run. Only private clauses cite this file.
+-- The results of the parts of a run.
 use Rattle.std.specs.Prelude.{◌≡◌, ◌<◌, ◌≤◌, ℕ, List, [], length, IfErr, Result, MatchResult}
 use Rattle.clap.specs.Walk.{Text}
 use Rattle.qrencode_cli.specs.Command.{Asks, IsFault, ReadsFor, Shows}
