@@ -99,3 +99,17 @@ def needed(cites, definitions):
             keys.add(key)
             left += [it for it in definitions[key]["cites"] if it in definitions]
     return keys
+
+
+def public_contracts(functions):
+    """The public functions whose contracts promise something of the code. Laws say what the definitions imply."""
+    return [f for f in functions if f["hidden"] == 0 and not f["law"]]
+
+
+def outside_steps(definitions):
+    """All definitions but those of private steps: no public contract rests on them, only what a type promises of its fields."""
+    return {key: it for key, it in definitions.items() if not key[1].startswith("Steps")}
+
+
+def lines_of(keys, definitions):
+    return sum(definitions[key]["lines"] for key in keys)

@@ -12,11 +12,11 @@ use Rattle.qr_matrix.specs.Grid.{Grid}
 use Rattle.qr_symbol.specs.Series.{HasNoSeries, IsSeries, squares_of}
 use Rattle.qr_symbol.specs.VersionChoice.{FitsVersion}
 use Rattle.qr_symbol.proofs.Facts.{series-one, symbol-one}
-use Rattle.qrencode_cli.specs.Command.{IsDrawing, IsRefusal, Refuses, held, input_for}
+use Rattle.qrencode_cli.specs.Command.{HasRefusal, IsDrawing, IsRefusal, held, input_for}
 use Rattle.qrencode_cli.specs.Laws.{AnswersAreOne, RefusalsAreOne, RefusalsExcludeDrawings}
 use Rattle.qrencode_cli.specs.Arguments.{faults_for, rows_for}
 use Rattle.qr_drawing.specs.Drawing.{drawn}
-use Rattle.qrencode_cli.specs.Settings.{Reason, SettingsView, checked_series, drawing_named, level_named, needs_version, no_matches, number_or, rule_for, settings_for, settings_of, settings_with, unknown_level, unknown_type}
+use Rattle.qrencode_cli.specs.Settings.{Reason, SettingsView, checked_series, drawing_named, level_named, needs_version, number_or, refused_by_clap, rule_for, settings_for, settings_of, settings_with, unknown_level, unknown_type}
 use Rattle.qr_drawing.specs.declared.drawing.Drawing.{Drawing}
 use Rattle.qrencode_cli.specs.declared.fault.Refusal.{Refusal}
 use Rattle.qrencode_cli.specs.Picture.{AreSquares, AreSymbols, IsTooLong, IsTooMany, smallest_of}
@@ -100,9 +100,9 @@ checked-have P (Some l) (Some k) f h s e = subst P (series-checked ((f l k).stru
 
 -- a property of all settings with a level and a type holds of the settings of a command line
 taken-have : (P : SettingsView → Type 0) (well : Bool) (rows : List Row) → ((l : Level) (k : Drawing) → P (settings_with rows l k))
-    → (s : SettingsView) → cond well (settings_of rows) (Err no_matches) ≡ Ok s → P s
+    → (s : SettingsView) → cond well (settings_of rows) (Err refused_by_clap) ≡ Ok s → P s
 taken-have P true rows h s e = checked-have P (option_map_or level_named (first_of (codes "level") rows) (Some level.L)) (option_and_then drawing_named (first_of (codes "type") rows)) (settings_with rows) h s e
-taken-have P false rows h s e = absurd (err-ok no_matches s e)
+taken-have P false rows h s e = absurd (err-ok refused_by_clap s e)
 
 -- a version of -v is at most 40
 version-most : (n : ℕ) → unwrap_or (cond (leb 1 n && leb n 40) (Some n) None) 1 ≤ 40
@@ -135,7 +135,7 @@ long-not-many s x y long many = let e : true ≡ false = sym many.0 ∙ long.0 i
 -- a number for why a command line has no settings, or 0 if it has settings
 class_of : Result SettingsView Reason → ℕ
 class_of (Ok s) = 0
-class_of (Err no_matches) = 1
+class_of (Err refused_by_clap) = 1
 class_of (Err unknown_level) = 2
 class_of (Err unknown_type) = 3
 class_of (Err needs_version) = 4
@@ -160,7 +160,7 @@ class-is words given refusal.TooLong h = ap class_of h.taken
 class-is words given refusal.TooMany h = ap class_of h.taken
 
 -- two refusals of an input are about the same settings
-because-one : (words : List Text) (given : List ℕ) (P Q : SettingsView → List ℕ → Type 0) → Refuses words given P → Refuses words given Q
+because-one : (words : List Text) (given : List ℕ) (P Q : SettingsView → List ℕ → Type 0) → HasRefusal words given P → HasRefusal words given Q
     → (s : SettingsView) × (settings_for words ≡ Ok s) × P s (held s (input_for s given)) × Q s (held s (input_for s given))
 because-one words given P Q h k =
     (k.settings, k.taken, subst (λ (s : SettingsView). P s (held s (input_for s given))) (settings-one words h.settings k.settings h.taken k.taken) h.holds, k.holds)

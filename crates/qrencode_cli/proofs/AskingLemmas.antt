@@ -18,7 +18,7 @@ use Rattle.qr_symbol.specs.Joining.{AreReadBy, IsJoined}
 use Rattle.qr_symbol.specs.Reading.{IsReadBack}
 use Rattle.qr_symbol.specs.Series.{IsSeries, squares_of}
 use Rattle.qr_symbol.proofs.Facts.{long-has-no-series, series-few, series-side, series-some}
-use Rattle.qrencode_cli.specs.Command.{Asks, GivesInput, IsDrawing, IsFault, Reads, ReadsFor, held, input_for}
+use Rattle.qrencode_cli.specs.Command.{AllRead, HasDrawing, InputConsumed, InputConsumedFor, IsDrawing, IsFault, held, input_for}
 use Rattle.qr_devices.specs.Device.{Reader}
 use Rattle.qrencode_cli.specs.Steps.Fault.{fault_of_input, fault_of_words}
 use Rattle.qrencode_cli.specs.Input.{IsInputOf}
@@ -122,9 +122,9 @@ drawn-for-series s rule input version symbols many least most e same some series
   one_side = one-side (squares_of symbols) (side_of version) (series-side input s.level rule version symbols series);
 }
 
--- if nothing was read, and the outcome is lack of memory, `ReadsFor` holds
+-- if nothing was read, and the outcome is lack of memory, `InputConsumedFor` holds
 reads-nothing : (o : Result SettingsView Reason) (in0 : Reader) (given : List ℕ)
-    → ReadsFor o in0 in0 given {T = Picture} (Err fault.Memory)
+    → InputConsumedFor o in0 in0 given {T = Picture} (Err fault.Memory)
 reads-nothing (Err r) in0 given = refl
 reads-nothing (Ok s) in0 given = nothing s.string
   where
@@ -161,7 +161,7 @@ module _ (words : List Text) (s : SettingsView) (taken : settings_for words ≡ 
   -- a correct result for the input that is encoded is correct for the command line
   answer-for : (given input : List ℕ) (r : Result Picture Fault) → input_for s given ≡ input
       → MatchResult r (λ p. IsDrawing s (held s input) (drawing_of p)) (IsInputFault s (held s input))
-      → MatchResult r (λ p. Asks words given (drawing_of p)) (λ f. IsFault words given f × IsEarly f)
+      → MatchResult r (λ p. HasDrawing words given (drawing_of p)) (λ f. IsFault words given f × IsEarly f)
   answer-for given input (Ok p) e h = record { settings = s; taken = taken; holds = rw e h }
   answer-for given input (Err (fault.Refused refusal.Empty)) e h = (record { settings = s; taken = taken; holds = rw e h }, tt)
   answer-for given input (Err (fault.Refused refusal.TooLong)) e h = (record { settings = s; taken = taken; holds = rw e h }, tt)
@@ -170,7 +170,7 @@ module _ (words : List Text) (s : SettingsView) (taken : settings_for words ≡ 
   answer-for given input (Err _) e h = absurd h
 
   -- what was done to the reader is stated by the settings, if the command line has settings
-  reads-taken : (in0 in1 : Reader) (given : List ℕ) (r : Result Picture Fault) → ReadsFor (Ok s) in0 in1 given r → ReadsFor (settings_for words) in0 in1 given r
+  reads-taken : (in0 in1 : Reader) (given : List ℕ) (r : Result Picture Fault) → InputConsumedFor (Ok s) in0 in1 given r → InputConsumedFor (settings_for words) in0 in1 given r
   reads-taken in0 in1 given r h = rw taken h
 
   -- the case that the input is the string of the command line
@@ -186,7 +186,7 @@ module _ (words : List Text) (s : SettingsView) (taken : settings_for words ≡ 
 
   -- the case that the input is what the reader returned
   pub prepares-reader : (in0 in1 : Reader) (bytes buf : List ℕ) (r : Result Picture Fault) → s.string ≡ None → buf ≡ bytes
-      → IsInputOf in0.remaining bytes → GivesInput in0 in1 bytes
+      → IsInputOf in0.remaining bytes → AllRead in0 in1 bytes
       → MatchResult r (λ p. IsDrawing s (held s buf) (drawing_of p)) (IsInputFault s (held s buf))
       → Prepares words in0 in1 r
   prepares-reader in0 in1 bytes buf r string is input gives h = record {
@@ -197,7 +197,7 @@ module _ (words : List Text) (s : SettingsView) (taken : settings_for words ≡ 
   }
     where
       gives-for : (r : Result Picture Fault) → MatchResult r (λ p. IsDrawing s (held s buf) (drawing_of p)) (IsInputFault s (held s buf))
-          → Reads in0 in1 bytes r
+          → InputConsumed in0 in1 bytes r
       gives-for (Ok p) h = gives
       gives-for (Err fault.Read) h = tt
       gives-for (Err fault.Memory) h = tt

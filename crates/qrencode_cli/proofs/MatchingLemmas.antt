@@ -9,7 +9,7 @@ use Rattle.clap.specs.declared.error.Error.{Error}
 use Rattle.clap.specs.declared.error.kind.ErrorKind.TheVariants as kind
 use Rattle.clap.specs.declared.parser.matches.ArgMatches.{ArgMatches}
 use Rattle.qrencode_cli.specs.Arguments.{command, faults_for, rows_for}
-use Rattle.qrencode_cli.specs.Settings.{no_matches, settings_for, settings_of}
+use Rattle.qrencode_cli.specs.Settings.{refused_by_clap, settings_for, settings_of}
 
 pub is_simple-command : is_simple command ≡ true
 unfolding command
@@ -31,9 +31,9 @@ pub kinds_not_empty : (kinds : Kinds) (e : Error) → (kind_of e ≡ kind.OutOfM
 kinds_not_empty kinds e other h none = elim h [ inl memory ↦ other memory | inr among ↦ let no : IsAmong (kind_of e) [] = rw none at among in no ]
 
 -- a command line for which `clap` states a fault has no settings
-pub refused_words : (words : List Text) → (faults_for words ≡ [] → ⊥) → settings_for words ≡ Err no_matches
+pub refused_words : (words : List Text) → (faults_for words ≡ [] → ⊥) → settings_for words ≡ Err refused_by_clap
 refused_words words some = go (length (faults_for words) == 0) refl
   where
-    go : (b : Bool) → (length (faults_for words) == 0) ≡ b → cond b (settings_of (rows_for words)) (Err no_matches) ≡ Err no_matches
+    go : (b : Bool) → (length (faults_for words) == 0) ≡ b → cond b (settings_of (rows_for words)) (Err refused_by_clap) ≡ Err refused_by_clap
     go true e = absurd (some (nil_from_length (faults_for words) (eqb-true (length (faults_for words)) 0 e)))
     go false e = refl

@@ -2,7 +2,7 @@
 use Rattle.std.proofs.Common.{◌≤◌, arith, ◌≡◌, ◌∙◌, ℕ, List, [], Option, Result, Ok, Err, MatchOption, OnOk, OnErr, None, Some, IfErr, is_err, true, false, refl, sym, append-nil, length}
 use Rattle.std.specs.Io.KnownBytes.{Appends}
 use Rattle.clap.specs.Walk.{Text}
-use Rattle.qrencode_cli.specs.Command.{Breaks, Draws, IsTold, Reads, ReadsFor, Shows}
+use Rattle.qrencode_cli.specs.Command.{DrawnInPart, DrawnWhole, ErrorHolds, InputConsumed, InputConsumedFor, OutputHolds}
 use Rattle.qr_devices.specs.Device.{AppendsBeginning, Reader, Writer, counted, is_write_fault, no_writes}
 use Rattle.qrencode_cli.specs.Fault.{fault_line}
 use Rattle.qrencode_cli.specs.Settings.{Reason, SettingsView, settings_for}
@@ -14,22 +14,22 @@ use Rattle.qr_drawing.specs.declared.pen.DrawFault.{DrawFault}
 
 -- writing a drawing reads nothing more from the reader
 reads-on : (o : Result SettingsView Reason) (in0 in1 : Reader) (given : List ℕ) (p : Picture) (r : Result (Unit {0}) Fault)
-    → IfErr r (λ f. f ≡ fault.Write) → ReadsFor o in0 in1 given {T = Picture} (Ok p) → ReadsFor o in0 in1 given r
+    → IfErr r (λ f. f ≡ fault.Write) → InputConsumedFor o in0 in1 given {T = Picture} (Ok p) → InputConsumedFor o in0 in1 given r
 reads-on (Err e) in0 in1 given p r w h = h
 reads-on (Ok s) in0 in1 given p r w h = on s.string h
   where
-    same : (r : Result (Unit {0}) Fault) → IfErr r (λ f. f ≡ fault.Write) → Reads in0 in1 given {T = Picture} (Ok p) → Reads in0 in1 given r
+    same : (r : Result (Unit {0}) Fault) → IfErr r (λ f. f ≡ fault.Write) → InputConsumed in0 in1 given {T = Picture} (Ok p) → InputConsumed in0 in1 given r
     same (Ok t) w h = h
     same (Err f) w h = rw w h
 
-    on : (o : Option Text) → MatchOption o (Reads in0 in1 given {T = Picture} (Ok p)) (λ _. in1 ≡ in0) → MatchOption o (Reads in0 in1 given r) (λ _. in1 ≡ in0)
+    on : (o : Option Text) → MatchOption o (InputConsumed in0 in1 given {T = Picture} (Ok p)) (λ _. in1 ≡ in0) → MatchOption o (InputConsumed in0 in1 given r) (λ _. in1 ≡ in0)
     on None h = same r w h
     on (Some t) h = h
 
 -- the case that the drawing was written, or the writer was at fault
 pub attempts-shown : (words : List Text) (in0 in1 : Reader) (out0 out1 : Writer) (p : Picture) → Prepares words in0 in1 (Ok p)
-    → (r : Result (Unit {0}) Fault) → OnOk r (Draws out0 out1 (drawing_of p))
-    → IfErr r (λ f. (f ≡ fault.Write) × Breaks out0 out1 (drawing_of p)) → Attempts words in0 in1 out0 out1 r
+    → (r : Result (Unit {0}) Fault) → OnOk r (DrawnWhole out0 out1 (drawing_of p))
+    → IfErr r (λ f. (f ≡ fault.Write) × DrawnInPart out0 out1 (drawing_of p)) → Attempts words in0 in1 out0 out1 r
 attempts-shown words in0 in1 out0 out1 p h (Ok t) ok err = record {
   given = h.given;
   is_input = h.is_input;
@@ -46,21 +46,21 @@ attempts-shown words in0 in1 out0 out1 p h (Err f) ok (e, b) = rw e (record {
 })
 
 -- a fault before the first byte is written leaves the writer as it was
-shows-nothing : (words : List Text) (given : List ℕ) (out0 : Writer) (f : Fault) → IsEarly f → Shows words given out0 out0 {T = Unit {0}} (Err f)
+shows-nothing : (words : List Text) (given : List ℕ) (out0 : Writer) (f : Fault) → IsEarly f → OutputHolds words given out0 out0 {T = Unit {0}} (Err f)
 shows-nothing words given out0 fault.Write h = absurd h
 shows-nothing words given out0 _ h = refl
 
 -- what was done to the reader is the same if a fault's result has another type
 reads-fault : (o : Result SettingsView Reason) (in0 in1 : Reader) (given : List ℕ) (f : Fault)
-    → ReadsFor o in0 in1 given {T = Picture} (Err f) → ReadsFor o in0 in1 given {T = Unit {0}} (Err f)
+    → InputConsumedFor o in0 in1 given {T = Picture} (Err f) → InputConsumedFor o in0 in1 given {T = Unit {0}} (Err f)
 reads-fault (Err e) in0 in1 given f h = h
 reads-fault (Ok s) in0 in1 given f h = on s.string h
   where
-    same : (f : Fault) → Reads in0 in1 given {T = Picture} (Err f) → Reads in0 in1 given {T = Unit {0}} (Err f)
+    same : (f : Fault) → InputConsumed in0 in1 given {T = Picture} (Err f) → InputConsumed in0 in1 given {T = Unit {0}} (Err f)
     same _ h = h
 
-    on : (o : Option Text) → MatchOption o (Reads in0 in1 given {T = Picture} (Err f)) (λ _. in1 ≡ in0)
-        → MatchOption o (Reads in0 in1 given {T = Unit {0}} (Err f)) (λ _. in1 ≡ in0)
+    on : (o : Option Text) → MatchOption o (InputConsumed in0 in1 given {T = Picture} (Err f)) (λ _. in1 ≡ in0)
+        → MatchOption o (InputConsumed in0 in1 given {T = Unit {0}} (Err f)) (λ _. in1 ≡ in0)
     on None h = same f h
     on (Some t) h = h
 
@@ -85,6 +85,6 @@ pub tells-fault : (old new : Writer) (f : Fault) (slice : List ℕ) → slice �
     → (old.counts ≡ no_writes → is_write_fault new.counts ≡ is_err r)
     → (old.counts ≡ no_writes → OnOk r (new.counts.taken ≡ counted (length slice)))
     → (old.counts ≡ no_writes → OnErr r (new.counts.taken ≤ counted (length slice))) → new.counts.flushes ≡ old.counts.flushes
-    → IsTold old new (fault_line f)
+    → ErrorHolds old new (fault_line f)
 tells-fault old new f slice is (Ok t) ok err well many most flushes = rw (← is) (begins-all old.taken new.taken slice ok, λ z. let m = many z in omega arith, λ z w. ok, λ z w. many z, flushes)
 tells-fault old new f slice is (Err e) ok err well many most flushes = rw (← is) (err, λ z. most z, λ z w. let bad : true ≡ false = sym (well z) ∙ w in cc, λ z w. let bad : true ≡ false = sym (well z) ∙ w in cc, flushes)

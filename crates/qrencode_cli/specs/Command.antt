@@ -12,7 +12,7 @@ use Rattle.qr_devices.specs.Device.{AppendsBeginning, IsWrittenWithin, Reader, W
 use Rattle.qr_drawing.specs.Drawing.{drawn}
 use Rattle.qrencode_cli.specs.Fault.{fault_line}
 use Rattle.qrencode_cli.specs.Input.{IsInputOf, IsReadWithin}
-use Rattle.qrencode_cli.specs.Settings.{Reason, SettingsView, needs_version, no_matches, rule_for, settings_for, unknown_level, unknown_type}
+use Rattle.qrencode_cli.specs.Settings.{Reason, SettingsView, needs_version, refused_by_clap, rule_for, settings_for, unknown_level, unknown_type}
 use Rattle.qrencode_cli.specs.Picture.{AreSymbols, IsTooLong, IsTooMany}
 use Rattle.qrencode_cli.specs.declared.fault.Fault.{Fault}
 use Rattle.qrencode_cli.specs.declared.fault.Fault.TheVariants as fault
@@ -39,87 +39,87 @@ pub record IsDrawing (s : SettingsView) (input drawing : List ℕ) : Type 0 wher
   pub short : length input < INPUT_MAX
   pub is_drawn : drawing ≡ drawn s.kind s.margin squares
 
--- `AskFor words P` holds if the command line `words` has settings, and `P` holds of them [own]
-pub record AskFor (words : List Text) (P : SettingsView → Type 0) : Type 0 where
+-- `HasSettingsWith words P` holds if the command line `words` has settings, and `P` holds of them [own]
+pub record HasSettingsWith (words : List Text) (P : SettingsView → Type 0) : Type 0 where
   pub settings : SettingsView
   pub taken : settings_for words ≡ Ok settings
   pub holds : P settings
 
--- `Asks words given drawing` holds if `drawing` is what the command line `words` asks for, where `given` are the bytes
+-- `HasDrawing words given drawing` holds if `drawing` is what the command line `words` asks for, where `given` are the bytes
 -- of the reader [own]
-abbrev pub Asks : List Text → List ℕ → List ℕ → Type 0
-Asks words given drawing = AskFor words (λ s. IsDrawing s (held s (input_for s given)) drawing)
+abbrev pub HasDrawing : List Text → List ℕ → List ℕ → Type 0
+HasDrawing words given drawing = HasSettingsWith words (λ s. IsDrawing s (held s (input_for s given)) drawing)
 
--- `Refuses words given why` holds if the command line `words` has settings, but `why` holds of these settings and of
+-- `HasRefusal words given why` holds if the command line `words` has settings, but `why` holds of these settings and of
 -- the input, so that the input cannot be drawn [own]
-abbrev pub Refuses : List Text → List ℕ → (SettingsView → List ℕ → Type 0) → Type 0
-Refuses words given why = AskFor words (λ s. why s (held s (input_for s given)))
+abbrev pub HasRefusal : List Text → List ℕ → (SettingsView → List ℕ → Type 0) → Type 0
+HasRefusal words given why = HasSettingsWith words (λ s. why s (held s (input_for s given)))
 
 -- `IsRefusal words given r` holds if `r` is a correct reason to refuse the command line `words` or its input, where
 -- `given` are the bytes of the reader [own]
 abbrev pub IsRefusal : List Text → List ℕ → Refusal → Type 0
-IsRefusal words given (refusal.Words text) = settings_for words ≡ Err no_matches
+IsRefusal words given (refusal.Words text) = settings_for words ≡ Err refused_by_clap
 IsRefusal words given refusal.Level = settings_for words ≡ Err unknown_level
 IsRefusal words given refusal.Kind = settings_for words ≡ Err unknown_type
 IsRefusal words given refusal.NeedsVersion = settings_for words ≡ Err needs_version
-IsRefusal words given refusal.Empty = Refuses words given (λ s input. input ≡ [])
-IsRefusal words given refusal.TooLong = Refuses words given IsTooLong
-IsRefusal words given refusal.TooMany = Refuses words given IsTooMany
+IsRefusal words given refusal.Empty = HasRefusal words given (λ s input. input ≡ [])
+IsRefusal words given refusal.TooLong = HasRefusal words given IsTooLong
+IsRefusal words given refusal.TooMany = HasRefusal words given IsTooMany
 
 -- `IsFault words given f` holds if the fault `f` can occur for the command line `words` and the bytes `given`: a
 -- refusal if it is correct, a read fault if the arguments have no string, a write fault if there is a drawing, and lack
 -- of memory always [own]
 abbrev pub IsFault : List Text → List ℕ → Fault → Type 0
 IsFault words given (fault.Refused r) = IsRefusal words given r
-IsFault words given fault.Read = AskFor words (λ s. s.string ≡ None)
+IsFault words given fault.Read = HasSettingsWith words (λ s. s.string ≡ None)
 IsFault words given fault.Memory = Unit {0}
-IsFault words given fault.Write = (drawing : List ℕ) × Asks words given drawing
+IsFault words given fault.Write = (drawing : List ℕ) × HasDrawing words given drawing
 
--- `Draws old new drawing` holds if the writer took the whole drawing, and was flushed once, after its last byte [own]
-pub record Draws (old new : Writer) (drawing : List ℕ) : Type 0 where
+-- `DrawnWhole old new drawing` holds if the writer took the whole drawing, and was flushed once, after its last byte [own]
+pub record DrawnWhole (old new : Writer) (drawing : List ℕ) : Type 0 where
   pub grows : Appends old.taken new.taken drawing
   pub many : old.counts ≡ no_writes → new.counts.taken ≡ counted (length drawing)
   pub flushed : new.counts.flushes ≡ counted (old.counts.flushes + 1)
   pub settled : new.counts.settled ≡ true
 
--- `Breaks old new drawing` holds if the writer took a prefix of the drawing and was not flushed, or took the whole
+-- `DrawnInPart old new drawing` holds if the writer took a prefix of the drawing and was not flushed, or took the whole
 -- drawing and its one flush failed. In both cases it took no more bytes than the drawing has [own]
-abbrev pub Breaks : Writer → Writer → List ℕ → Type 0
-Breaks old new drawing = (old.counts ≡ no_writes → new.counts.taken ≤ counted (length drawing))
+abbrev pub DrawnInPart : Writer → Writer → List ℕ → Type 0
+DrawnInPart old new drawing = (old.counts ≡ no_writes → new.counts.taken ≤ counted (length drawing))
     × ((AppendsBeginning old.taken new.taken drawing × (new.counts.flushes ≡ old.counts.flushes))
     ⊎ (Appends old.taken new.taken drawing × (new.counts.flushes ≡ counted (old.counts.flushes + 1)) × (new.counts.settled ≡ false)))
 
--- `Shows words given old new outcome` says what standard output received: the drawing after success, a prefix of it or
+-- `OutputHolds words given old new outcome` says what standard output received: the drawing after success, a prefix of it or
 -- the whole after a write fault, and no call after any other fault [own]
-abbrev pub Shows : List Text → List ℕ → Writer → Writer → {T : Type 0} → Result T Fault → Type 0
-Shows words given old new (Ok t) = (drawing : List ℕ) × Asks words given drawing × Draws old new drawing
-Shows words given old new (Err fault.Write) = (drawing : List ℕ) × Asks words given drawing × Breaks old new drawing
-Shows words given old new _ = new ≡ old
+abbrev pub OutputHolds : List Text → List ℕ → Writer → Writer → {T : Type 0} → Result T Fault → Type 0
+OutputHolds words given old new (Ok t) = (drawing : List ℕ) × HasDrawing words given drawing × DrawnWhole old new drawing
+OutputHolds words given old new (Err fault.Write) = (drawing : List ℕ) × HasDrawing words given drawing × DrawnInPart old new drawing
+OutputHolds words given old new _ = new ≡ old
 
--- `GivesInput old new given` holds if `given` is all that the reader returned, and it was read to its end or to
+-- `AllRead old new given` holds if `given` is all that the reader returned, and it was read to its end or to
 -- `INPUT_MAX` bytes [own]
-abbrev pub GivesInput : Reader → Reader → List ℕ → Type 0
-GivesInput old new given = Consumes old.remaining new.remaining given
+abbrev pub AllRead : Reader → Reader → List ℕ → Type 0
+AllRead old new given = Consumes old.remaining new.remaining given
     × (old.counts ≡ no_reads → new.counts.given ≡ length given)
     × (old.counts ≡ no_reads → (new.counts.ends ≡ 1) ⊎ (length given ≡ INPUT_MAX))
 
--- `Reads old new given outcome` says what a run did to a reader that it had to read: it read the whole input, unless
+-- `InputConsumed old new given outcome` says what a run did to a reader that it had to read: it read the whole input, unless
 -- the outcome is a read fault or lack of memory [own]
-abbrev pub Reads : Reader → Reader → List ℕ → {T : Type 0} → Result T Fault → Type 0
-Reads old new given (Err fault.Read) = Unit {0}
-Reads old new given (Err fault.Memory) = Unit {0}
-Reads old new given _ = GivesInput old new given
+abbrev pub InputConsumed : Reader → Reader → List ℕ → {T : Type 0} → Result T Fault → Type 0
+InputConsumed old new given (Err fault.Read) = Unit {0}
+InputConsumed old new given (Err fault.Memory) = Unit {0}
+InputConsumed old new given _ = AllRead old new given
 
--- `ReadsFor settings old new given outcome` says what a run did to the reader: it made no call if the command line is
--- refused or contains the input as a string, and otherwise `Reads` holds [own]
-abbrev pub ReadsFor : Result SettingsView Reason → Reader → Reader → List ℕ → {T : Type 0} → Result T Fault → Type 0
-ReadsFor (Err r) old new given outcome = new ≡ old
-ReadsFor (Ok s) old new given outcome = MatchOption s.string (Reads old new given outcome) (λ _. new ≡ old)
+-- `InputConsumedFor settings old new given outcome` says what a run did to the reader: it made no call if the command line is
+-- refused or contains the input as a string, and otherwise `InputConsumed` holds [own]
+abbrev pub InputConsumedFor : Result SettingsView Reason → Reader → Reader → List ℕ → {T : Type 0} → Result T Fault → Type 0
+InputConsumedFor (Err r) old new given outcome = new ≡ old
+InputConsumedFor (Ok s) old new given outcome = MatchOption s.string (InputConsumed old new given outcome) (λ _. new ≡ old)
 
--- `IsTold old new line` says what standard error received: the whole line; or only a prefix of it, if its counts show
+-- `ErrorHolds old new line` says what standard error received: the whole line; or only a prefix of it, if its counts show
 -- that a write failed, took nothing, or was interrupted too often. It received no more bytes than the line has, and was not flushed [own]
-abbrev pub IsTold : Writer → Writer → List ℕ → Type 0
-IsTold old new line = AppendsBeginning old.taken new.taken line
+abbrev pub ErrorHolds : Writer → Writer → List ℕ → Type 0
+ErrorHolds old new line = AppendsBeginning old.taken new.taken line
     × (old.counts ≡ no_writes → new.counts.taken ≤ counted (length line))
     × (old.counts ≡ no_writes → is_write_fault new.counts ≡ false → Appends old.taken new.taken line)
     × (old.counts ≡ no_writes → is_write_fault new.counts ≡ false → new.counts.taken ≡ counted (length line))
@@ -133,9 +133,9 @@ pub record Runs (words : List Text) (in0 in1 : Reader) (out0 out1 err0 err1 : Wr
   pub given : List ℕ
   pub is_input : IsInputOf in0.remaining given
   pub is_fault : IfErr outcome (IsFault words given)
-  pub shows : Shows words given out0 out1 outcome
-  pub reads : ReadsFor (settings_for words) in0 in1 given outcome
-  pub tells : MatchResult outcome (λ _. err1 ≡ err0) (λ f. IsTold err0 err1 (fault_line f))
+  pub shows : OutputHolds words given out0 out1 outcome
+  pub reads : InputConsumedFor (settings_for words) in0 in1 given outcome
+  pub tells : MatchResult outcome (λ _. err1 ≡ err0) (λ f. ErrorHolds err0 err1 (fault_line f))
   pub status_is : status ≡ (if is_ok outcome then 0 else 1)
   pub read_fault : in0.counts ≡ no_reads → IsErrOf outcome fault.Read ↔ IsTrue (is_read_fault in1.counts)
   pub write_fault : out0.counts ≡ no_writes → IsErrOf outcome fault.Write ↔ IsTrue (is_write_fault out1.counts)

@@ -5,10 +5,10 @@ use Rattle.clap.specs.Walk.{Text}
 use Rattle.qr_layout.specs.declared.level.Level.TheVariants.{H, L, M, Q}
 use Rattle.qr_bits.specs.declared.modes.Rule.TheVariants.{Auto, BytesOnly, WithKanji}
 use Rattle.qr_bits.specs.Folding.{folded}
-use Rattle.qrencode_cli.specs.Command.{Asks, IsRefusal, Runs, held}
+use Rattle.qrencode_cli.specs.Command.{HasDrawing, IsRefusal, Runs, held}
 use Rattle.qr_devices.specs.Device.{Reader, Writer}
 use Rattle.qrencode_cli.specs.Fault.{fault_line}
-use Rattle.qrencode_cli.specs.Settings.{Reason, SettingsView, needs_version, no_matches, rule_for, settings_for, unknown_level, unknown_type, usage_fault_number}
+use Rattle.qrencode_cli.specs.Settings.{Reason, SettingsView, needs_version, refused_by_clap, rule_for, settings_for, unknown_level, unknown_type, usage_fault_number}
 use Rattle.qr_drawing.specs.declared.drawing.Drawing.TheVariants.{Ascii, AsciiInverse, Svg, Utf8}
 use Rattle.qrencode_cli.specs.declared.fault.Fault.{Fault}
 use Rattle.qrencode_cli.specs.declared.fault.Fault.TheVariants as fault
@@ -63,47 +63,47 @@ pub record RowsOfWords : Type 0 where
       (record by_default { smallest = Some 2; kind = Utf8; bytes_only = true; structured = true; string = Some (codes "A") })
   pub plus_5 : IsTaken (codes "-v+5" ∷ codes "-t" ∷ codes "ASCII" ∷ []) (record by_default { smallest = Some 5 })
   pub minus_0 : IsTaken (codes "-m-0" ∷ codes "-t" ∷ codes "ASCII" ∷ []) (record by_default { margin = 0 })
-  pub no_words : settings_for [] ≡ Err no_matches
-  pub name_alone : IsRefused [] no_matches
-  pub no_type : IsRefused (codes "-8" ∷ []) no_matches
+  pub no_words : settings_for [] ≡ Err refused_by_clap
+  pub name_alone : IsRefused [] refused_by_clap
+  pub no_type : IsRefused (codes "-8" ∷ []) refused_by_clap
   pub other_type : IsRefused (codes "-t" ∷ codes "PNG" ∷ []) unknown_type
   pub type_before_version : IsRefused (codes "-S" ∷ codes "-t" ∷ codes "PNG" ∷ []) unknown_type
   pub empty_type : IsRefused (codes "-t" ∷ codes "" ∷ []) unknown_type
   pub other_level : IsRefused (codes "-l" ∷ codes "X" ∷ codes "-t" ∷ codes "PNG" ∷ []) unknown_level
   pub empty_level : IsRefused (codes "-l" ∷ codes "" ∷ codes "-t" ∷ codes "ASCII" ∷ []) unknown_level
-  pub level_twice : IsRefused (codes "-l" ∷ codes "L" ∷ codes "-l" ∷ codes "L" ∷ codes "-t" ∷ codes "ASCII" ∷ []) no_matches
-  pub past_versions : IsRefused (codes "-v" ∷ codes "41" ∷ codes "-t" ∷ codes "ASCII" ∷ []) no_matches
-  pub type_twice : IsRefused (codes "-t" ∷ codes "ASCII" ∷ codes "-t" ∷ codes "ASCII" ∷ []) no_matches
-  pub flag_twice : IsRefused (codes "-8" ∷ codes "-8" ∷ codes "-t" ∷ codes "ASCII" ∷ []) no_matches
-  pub two_strings : IsRefused (codes "-t" ∷ codes "ASCII" ∷ codes "a" ∷ codes "b" ∷ []) no_matches
-  pub past_margins : IsRefused (codes "-m" ∷ codes "101" ∷ codes "-t" ∷ codes "ASCII" ∷ []) no_matches
+  pub level_twice : IsRefused (codes "-l" ∷ codes "L" ∷ codes "-l" ∷ codes "L" ∷ codes "-t" ∷ codes "ASCII" ∷ []) refused_by_clap
+  pub past_versions : IsRefused (codes "-v" ∷ codes "41" ∷ codes "-t" ∷ codes "ASCII" ∷ []) refused_by_clap
+  pub type_twice : IsRefused (codes "-t" ∷ codes "ASCII" ∷ codes "-t" ∷ codes "ASCII" ∷ []) refused_by_clap
+  pub flag_twice : IsRefused (codes "-8" ∷ codes "-8" ∷ codes "-t" ∷ codes "ASCII" ∷ []) refused_by_clap
+  pub two_strings : IsRefused (codes "-t" ∷ codes "ASCII" ∷ codes "a" ∷ codes "b" ∷ []) refused_by_clap
+  pub past_margins : IsRefused (codes "-m" ∷ codes "101" ∷ codes "-t" ∷ codes "ASCII" ∷ []) refused_by_clap
   pub no_version : IsRefused (codes "-S" ∷ codes "-t" ∷ codes "ASCII" ∷ []) needs_version
   pub version_0 : IsRefused (codes "-S" ∷ codes "-v" ∷ codes "0" ∷ codes "-t" ∷ codes "ASCII" ∷ []) needs_version
-  pub series_twice : IsRefused (codes "-S" ∷ codes "-S" ∷ codes "-v" ∷ codes "1" ∷ codes "-t" ∷ codes "ASCII" ∷ []) no_matches
+  pub series_twice : IsRefused (codes "-S" ∷ codes "-S" ∷ codes "-v" ∷ codes "1" ∷ codes "-t" ∷ codes "ASCII" ∷ []) refused_by_clap
   pub with_kanji : IsTaken (codes "-k" ∷ codes "-t" ∷ codes "ASCII" ∷ []) (record by_default { kanji = true })
   pub folding : IsTaken (codes "-i" ∷ codes "-t" ∷ codes "ASCII" ∷ []) (record by_default { fold = true })
   pub both_and_bytes : IsTaken (codes "-8ki" ∷ codes "-t" ∷ codes "ASCII" ∷ [])
       (record by_default { bytes_only = true; kanji = true; fold = true })
-  pub kanji_twice : IsRefused (codes "-k" ∷ codes "-k" ∷ codes "-t" ∷ codes "ASCII" ∷ []) no_matches
-  pub folding_twice : IsRefused (codes "-ii" ∷ codes "-t" ∷ codes "ASCII" ∷ []) no_matches
-  pub long_name : IsRefused (codes "--type" ∷ codes "ASCII" ∷ []) no_matches
-  pub help : IsRefused (codes "-h" ∷ []) no_matches
-  pub long_help : IsRefused (codes "--help" ∷ []) no_matches
-  pub margin_twice : IsRefused (codes "-m" ∷ codes "1" ∷ codes "-m" ∷ codes "1" ∷ codes "-t" ∷ codes "ASCII" ∷ []) no_matches
-  pub version_twice : IsRefused (codes "-v" ∷ codes "1" ∷ codes "-v" ∷ codes "1" ∷ codes "-t" ∷ codes "ASCII" ∷ []) no_matches
-  pub below_versions : IsRefused (codes "-v" ∷ codes "-1" ∷ codes "-t" ∷ codes "ASCII" ∷ []) no_matches
-  pub version_of_letters : IsRefused (codes "-v" ∷ codes "abc" ∷ codes "-t" ∷ codes "ASCII" ∷ []) no_matches
-  pub empty_version : IsRefused (codes "-v" ∷ codes "" ∷ codes "-t" ∷ codes "ASCII" ∷ []) no_matches
-  pub type_without_a_value : IsRefused (codes "-t" ∷ []) no_matches
-  pub two_strings_after_dashes : IsRefused (codes "-t" ∷ codes "ASCII" ∷ codes "--" ∷ codes "A" ∷ codes "B" ∷ []) no_matches
+  pub kanji_twice : IsRefused (codes "-k" ∷ codes "-k" ∷ codes "-t" ∷ codes "ASCII" ∷ []) refused_by_clap
+  pub folding_twice : IsRefused (codes "-ii" ∷ codes "-t" ∷ codes "ASCII" ∷ []) refused_by_clap
+  pub long_name : IsRefused (codes "--type" ∷ codes "ASCII" ∷ []) refused_by_clap
+  pub help : IsRefused (codes "-h" ∷ []) refused_by_clap
+  pub long_help : IsRefused (codes "--help" ∷ []) refused_by_clap
+  pub margin_twice : IsRefused (codes "-m" ∷ codes "1" ∷ codes "-m" ∷ codes "1" ∷ codes "-t" ∷ codes "ASCII" ∷ []) refused_by_clap
+  pub version_twice : IsRefused (codes "-v" ∷ codes "1" ∷ codes "-v" ∷ codes "1" ∷ codes "-t" ∷ codes "ASCII" ∷ []) refused_by_clap
+  pub below_versions : IsRefused (codes "-v" ∷ codes "-1" ∷ codes "-t" ∷ codes "ASCII" ∷ []) refused_by_clap
+  pub version_of_letters : IsRefused (codes "-v" ∷ codes "abc" ∷ codes "-t" ∷ codes "ASCII" ∷ []) refused_by_clap
+  pub empty_version : IsRefused (codes "-v" ∷ codes "" ∷ codes "-t" ∷ codes "ASCII" ∷ []) refused_by_clap
+  pub type_without_a_value : IsRefused (codes "-t" ∷ []) refused_by_clap
+  pub two_strings_after_dashes : IsRefused (codes "-t" ∷ codes "ASCII" ∷ codes "--" ∷ codes "A" ∷ codes "B" ∷ []) refused_by_clap
 
 -- A command line and an input have at most one drawing [own].
 abbrev pub AnswersAreOne : Type 0
-AnswersAreOne = (words : List Text) (given d e : List ℕ) → Asks words given d → Asks words given e → d ≡ e
+AnswersAreOne = (words : List Text) (given d e : List ℕ) → HasDrawing words given d → HasDrawing words given e → d ≡ e
 
 -- A command line and an input that have a drawing are not refused [own].
 abbrev pub RefusalsExcludeDrawings : Type 0
-RefusalsExcludeDrawings = (words : List Text) (given d : List ℕ) (r : Refusal) → Asks words given d → IsRefusal words given r → ⊥
+RefusalsExcludeDrawings = (words : List Text) (given d : List ℕ) (r : Refusal) → HasDrawing words given d → IsRefusal words given r → ⊥
 
 -- `AreAlike r q` holds if the two refusals are equal. The texts of `clap` are not compared [own]
 abbrev pub AreAlike : Refusal → Refusal → Type 0

@@ -17,7 +17,7 @@ use Rattle.qrencode_cli.specs.declared.settings.UsageFault.TheVariants as usage
 -- Why a command line is refused: `clap` finds no matches, the level is unknown, the type of drawing is unknown, or a
 -- series is asked for without a version [own]
 pub data Reason : Type 0 where
-  no_matches : Reason
+  refused_by_clap : Reason
   unknown_level : Reason
   unknown_type : Reason
   needs_version : Reason
@@ -99,12 +99,12 @@ settings_of rows =
 -- `settings_for words` is the settings of the command line `words`: those of the matches that `clap` states for it. If
 -- `clap` states a fault, the command line is refused [own]
 abbrev pub settings_for : List Text → Result SettingsView Reason
-settings_for words = if length (faults_for words) == 0 then settings_of (rows_for words) else Err no_matches
+settings_for words = if length (faults_for words) == 0 then settings_of (rows_for words) else Err refused_by_clap
 
 -- `IsUsageFault o f` holds if `f` is the fault of a command line whose settings, or reason to be refused, are `o`. Lack
 -- of memory can always occur instead [own]
 abbrev pub IsUsageFault : Result SettingsView Reason → UsageFault → Type 0
-IsUsageFault o (usage.Words text) = o ≡ Err no_matches
+IsUsageFault o (usage.Words text) = o ≡ Err refused_by_clap
 IsUsageFault o usage.Level = o ≡ Err unknown_level
 IsUsageFault o usage.Kind = o ≡ Err unknown_type
 IsUsageFault o usage.NeedsVersion = o ≡ Err needs_version

@@ -4,7 +4,7 @@ ghost use Rattle.std.specs.Prelude.{◌≡◌, ◌≤◌, ◌<◌, ◌↔◌, Er
 ghost use Rattle.std.specs.Prelude.{MatchResult, Result};
 ghost use Rattle.std.specs.String.{string_bytes};
 ghost use Rattle.qrencode_cli.specs.Input.{IsReadWithin};
-ghost use Rattle.qrencode_cli.specs.Command.{Breaks, Draws, IsDrawing, RunsTo, held};
+ghost use Rattle.qrencode_cli.specs.Command.{DrawnInPart, DrawnWhole, IsDrawing, RunsTo, held};
 ghost use Rattle.qr_devices.specs.Device.{IsWrittenWithin, is_read_fault, is_write_fault, no_reads, no_writes};
 ghost use Rattle.qrencode_cli.specs.Steps.Command.{AreDrawnFor, Attempts, IsInputFault, Prepares, drawing_of};
 ghost use Rattle.qrencode_cli.specs.declared.fault.Fault.{Fault};
@@ -86,10 +86,10 @@ fn picture_for<R: Source>(alloc: Global, words: &[String], input: &mut R) -> Res
 
 // Writes the drawing of `picture` to `out`, and flushes `out` after the last byte.
 fn write_picture<W: Sink>(picture: &Picture, out: &mut W) -> Result<(), Fault>
-    ensures ok { OnOk result (Draws (W.device out.old) (W.device out.new)
+    ensures ok { OnOk result (DrawnWhole (W.device out.old) (W.device out.new)
         (drawing_of picture.now)) }
     ensures err { IfErr result (λ f. (f ≡ Fault.Write)
-        × Breaks (W.device out.old) (W.device out.new)
+        × DrawnInPart (W.device out.old) (W.device out.new)
         (drawing_of picture.now)) }
     ensures fault { (W.device out.old).counts ≡ no_writes → IsErrOf result Fault.Write ↔ IsTrue (is_write_fault (W.device out.new).counts) }
     ensures within { (W.device out.old).counts ≡ no_writes → IsWrittenWithin (W.device out.new).counts }

@@ -6,7 +6,7 @@ ghost use Rattle.qr_layout.specs.declared.level.Level.{Level};
 ghost use Rattle.std.specs.String.{string_bytes};
 ghost use Rattle.clap.specs.Words.{first_of, found_of, one_of};
 ghost use Rattle.clap.specs.Walk.{rows_of};
-ghost use Rattle.qrencode_cli.specs.Settings.{IsUsageFault, drawing_named, flag_at, level_named, needs_version, no_matches, number_or, rule_for, settings_for, settings_of, unknown_level, unknown_type, version_at};
+ghost use Rattle.qrencode_cli.specs.Settings.{IsUsageFault, drawing_named, flag_at, level_named, needs_version, number_or, refused_by_clap, rule_for, settings_for, settings_of, unknown_level, unknown_type, version_at};
 ghost use Rattle.qrencode_cli.specs.declared.settings.UsageFault.{UsageFault};
 ghost use Rattle.std.specs.Global.{Global};
 
@@ -258,7 +258,7 @@ pub fn options(alloc: Global, words: &[String]) -> Result<Settings, UsageFault>
     ensures settings { MatchResult result (λ s. settings_for (map string_bytes words.now) ≡ Ok s)
         (IsUsageFault (settings_for (map string_bytes words.now))) }
     ensures words { ((text : String Global) × (result ≡ Err (UsageFault.Words text)))
-        ↔ ((result ≢ Err UsageFault.Memory) × (settings_for (map string_bytes words.now) ≡ Err no_matches)) }
+        ↔ ((result ≢ Err UsageFault.Memory) × (settings_for (map string_bytes words.now) ≡ Err refused_by_clap)) }
     ensures level { (result ≡ Err UsageFault.Level) ↔ ((result ≢ Err UsageFault.Memory)
         × (settings_for (map string_bytes words.now) ≡ Err unknown_level)) }
     ensures kind { (result ≡ Err UsageFault.Kind) ↔ ((result ≢ Err UsageFault.Memory)

@@ -1,7 +1,7 @@
 -- The results of the parts of a run.
 use Rattle.std.specs.Prelude.{◌≡◌, ◌<◌, ◌≤◌, ℕ, List, [], length, IfErr, Result, MatchResult}
 use Rattle.clap.specs.Walk.{Text}
-use Rattle.qrencode_cli.specs.Command.{Asks, IsFault, ReadsFor, Shows}
+use Rattle.qrencode_cli.specs.Command.{HasDrawing, InputConsumedFor, IsFault, OutputHolds}
 use Rattle.qr_devices.specs.Device.{Reader, Writer}
 use Rattle.qr_bits.specs.declared.modes.TheConstants.{INPUT_MAX}
 use Rattle.qr_symbol.specs.declared.symbol.Symbol.{Symbol}
@@ -48,13 +48,13 @@ IsEarly _ = Unit {0}
 pub record Prepares (words : List Text) (old new : Reader) (result : Result Picture Fault) : Type 0 where
   pub given : List ℕ
   pub is_input : IsInputOf old.remaining given
-  pub reads : ReadsFor (settings_for words) old new given result
-  pub answer : MatchResult result (λ p. Asks words given (drawing_of p)) (λ f. IsFault words given f × IsEarly f)
+  pub reads : InputConsumedFor (settings_for words) old new given result
+  pub answer : MatchResult result (λ p. HasDrawing words given (drawing_of p)) (λ f. IsFault words given f × IsEarly f)
 
 -- `Attempts words in0 in1 out0 out1 result` says what a run did before it reports a fault on standard error
 pub record Attempts (words : List Text) (in0 in1 : Reader) (out0 out1 : Writer) (result : Result (Unit {0}) Fault) : Type 0 where
   pub given : List ℕ
   pub is_input : IsInputOf in0.remaining given
   pub is_fault : IfErr result (IsFault words given)
-  pub shows : Shows words given out0 out1 result
-  pub reads : ReadsFor (settings_for words) in0 in1 given result
+  pub shows : OutputHolds words given out0 out1 result
+  pub reads : InputConsumedFor (settings_for words) in0 in1 given result

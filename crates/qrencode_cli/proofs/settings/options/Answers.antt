@@ -1,14 +1,14 @@
 use Rattle.std.proofs.Common.{◌≡◌, ◌≢◌, ◌↔◌, Result, Ok, Err, String, MatchResult, map, refl, rules}
 use Rattle.std.specs.Global.{Global}
 use Rattle.std.specs.String.{string_bytes}
-use Rattle.qrencode_cli.specs.Settings.{IsUsageFault, Reason, SettingsView, needs_version, no_matches, settings_for, unknown_level, unknown_type}
+use Rattle.qrencode_cli.specs.Settings.{IsUsageFault, Reason, SettingsView, needs_version, refused_by_clap, settings_for, unknown_level, unknown_type}
 use Rattle.qrencode_cli.specs.declared.settings.UsageFault.{UsageFault}
 use Rattle.qrencode_cli.specs.declared.settings.UsageFault.TheVariants as usage
 use Rattle.qrencode_cli.proofs.settings.options.Goals as goal
 
 -- each fault comes exactly for its reason, unless memory is refused
 record ComeExactly (o : Result SettingsView Reason) (r : Result SettingsView UsageFault) : Type 0 where
-  words : ((text : String Global) × (r ≡ Err (usage.Words text))) ↔ ((r ≢ Err usage.Memory) × (o ≡ Err no_matches))
+  words : ((text : String Global) × (r ≡ Err (usage.Words text))) ↔ ((r ≢ Err usage.Memory) × (o ≡ Err refused_by_clap))
   level : (r ≡ Err usage.Level) ↔ ((r ≢ Err usage.Memory) × (o ≡ Err unknown_level))
   kind : (r ≡ Err usage.Kind) ↔ ((r ≢ Err usage.Memory) × (o ≡ Err unknown_type))
   version : (r ≡ Err usage.NeedsVersion) ↔ ((r ≢ Err usage.Memory) × (o ≡ Err needs_version))
