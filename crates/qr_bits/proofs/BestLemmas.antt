@@ -4,7 +4,7 @@ use Rattle.qr_bits.specs.declared.modes.Mode.{Mode}
 use Rattle.qr_bits.specs.declared.modes.Mode.TheVariants.{Numeric, Alphanumeric, Byte, Kanji}
 use Rattle.qr_bits.specs.declared.modes.Rule.{Rule}
 use Rattle.qr_bits.specs.declared.place.Place.{Place}
-use Rattle.qr_bits.specs.Segmentation.{rank, NotAfter}
+use Rattle.qr_bits.specs.Segmentation.{rank, IsNotAfter}
 use Rattle.qr_bits.specs.Steps.Place.{place_after, step_bits, begins, may_take, allowed, walk, IsBestRest, IsChoice}
 
 -- two modes of one rank are equal
@@ -55,7 +55,7 @@ step_least v r test p x xs f cost m n below choice (k ∷ ks) h =
 -- Whatever its first mode is, a rest with equally many bits does not come before the best one.
 step_first : (v : ℕ) (r : Rule) (test : ℕ → ℕ → Bool) (p : Place) (x : ℕ) (xs : List ℕ) (f : Place → List Mode) (cost : Place → ℕ) (m : Mode) (n : ℕ)
     → BestBelow v r test xs f cost → IsChoice v r p x (begins r test (x ∷ xs)) cost m n
-    → (ks : List Mode) → IsTrue (allowed r test p (x ∷ xs) ks) → walk v p ks ≡ n → NotAfter (m ∷ f (place_after p m)) ks
+    → (ks : List Mode) → IsTrue (allowed r test p (x ∷ xs) ks) → walk v p ks ≡ n → IsNotAfter (m ∷ f (place_after p m)) ks
 unfolding allowed walk
 step_first v r test p x xs f cost m n below choice [] h e = cc
 step_first v r test p x xs f cost m n below choice (k ∷ ks) h e =
@@ -64,9 +64,9 @@ step_first v r test p x xs f cost m n below choice (k ∷ ks) h e =
     let best = below (place_after p k) ks rest in
     let at_k : step_bits v p k + cost (place_after p k) ≡ n = omega (arith, choice.least k takes, best.least ks rest) in
     let low : rank m ≤ rank k = choice.first k takes at_k in
-    let tail : NotAfter (f (place_after p k)) ks = best.first ks rest (omega arith) in
+    let tail : IsNotAfter (f (place_after p k)) ks = best.first ks rest (omega arith) in
     ⊎_elim (λ (l : rank m < rank k). inl l)
-    (λ (same : m ≡ k). inr (same, subst (λ (c : Mode). NotAfter (f (place_after p c)) ks) (sym same) tail))
+    (λ (same : m ≡ k). inr (same, subst (λ (c : Mode). IsNotAfter (f (place_after p c)) ks) (sym same) tail))
     (lower_or_same m k low)
 
 -- the best rest: the best mode, and the best rest after it

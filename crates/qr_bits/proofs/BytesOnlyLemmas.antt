@@ -9,13 +9,13 @@ use Rattle.qr_bits.specs.declared.modes.Rule.TheVariants.{BytesOnly}
 use Rattle.qr_bits.specs.declared.segmentation.Segment.{Segment}
 use Rattle.qr_bits.specs.declared.place.Place.{Place}
 use Rattle.qr_bits.specs.declared.place.Place.TheVariants.{Start}
-use Rattle.qr_bits.specs.Segmentation.{bits, with_front, runs_of, IsLettering, NotAfter, IsLeastSegmentation, IsLongestFit}
+use Rattle.qr_bits.specs.Segmentation.{bits, prepend_mode, runs_of, IsAssignment, IsNotAfter, IsLeastSegmentation, IsLongestFit}
 use Rattle.qr_bits.specs.Modes.{is_kanji_pair, may_use, count_width}
 use Rattle.qr_bits.specs.Steps.Place.{begins, place_after, may_begin, may_end, may_take, allowed}
 use Rattle.qr_bits.specs.Steps.Segmentation.{one_segment}
 use Rattle.qr_bits.proofs.ChoiceLemmas.{take_begin}
 use Rattle.qr_bits.proofs.SegmentLemmas.{least_fits}
-use Rattle.qr_bits.proofs.LetteringLemmas.{may_end-after, can_take, is_lettering, covers_by, by_covers}
+use Rattle.qr_bits.proofs.AssignmentLemmas.{may_end-after, can_take, is_assignment, covers_by, by_covers}
 
 -- byte mode for each byte
 all_bytes : List ℕ → List Mode
@@ -50,7 +50,7 @@ only_bytes (x ∷ xs) (k ∷ ks) p u h =
     λ i. same i ∷ rest i
 
 -- a list of modes is not after itself
-not_after_self : (ms : List Mode) → NotAfter ms ms
+not_after_self : (ms : List Mode) → IsNotAfter ms ms
 not_after_self [] = tt
 not_after_self (m ∷ ms) = inr (refl, not_after_self ms)
 
@@ -65,25 +65,25 @@ runs_of-bytes [] = refl
 runs_of-bytes (x ∷ []) = refl
 runs_of-bytes (x ∷ y ∷ ys) =
     let e : 1 + suc (length ys) ≡ suc (suc (length ys)) = omega arith in
-    let p : runs_of (all_bytes (x ∷ y ∷ ys)) ≡ with_front Byte (one_segment Byte (length (y ∷ ys))) = ap (with_front Byte) (runs_of-bytes (y ∷ ys)) in
-    let q : with_front Byte (one_segment Byte (length (y ∷ ys))) ≡ one (suc (suc (length ys))) = ap one e in
+    let p : runs_of (all_bytes (x ∷ y ∷ ys)) ≡ prepend_mode Byte (one_segment Byte (length (y ∷ ys))) = ap (prepend_mode Byte) (runs_of-bytes (y ∷ ys)) in
+    let q : prepend_mode Byte (one_segment Byte (length (y ∷ ys))) ≡ one (suc (suc (length ys))) = ap one e in
     p ∙ q
 
 -- each valid assignment by this rule is byte mode for each byte
-one_lettering : (xs : List ℕ) (ks : List Mode) → IsLettering BytesOnly xs ks → ks ≡ all_bytes xs
+one_assignment : (xs : List ℕ) (ks : List Mode) → IsAssignment BytesOnly xs ks → ks ≡ all_bytes xs
 unfolding may_end
-one_lettering xs ks h = only_bytes xs ks Start h.0 (can_take is_kanji_pair BytesOnly xs ks (h.0, covers_by xs (runs_of ks) h.1) Start refl)
+one_assignment xs ks h = only_bytes xs ks Start h.0 (can_take is_kanji_pair BytesOnly xs ks (h.0, covers_by xs (runs_of ks) h.1) Start refl)
 
 -- If only byte mode may be used, the one segment of all bytes is the least segmentation.
 pub bytes_least : (v : ℕ) (xs : List ℕ) → IsLeastSegmentation v BytesOnly xs (one_segment Byte (length xs))
 unfolding may_end
 bytes_least v xs =
-    let is = is_lettering is_kanji_pair BytesOnly xs (all_bytes xs) Start refl (bytes_taken xs Start refl) in (
+    let is = is_assignment is_kanji_pair BytesOnly xs (all_bytes xs) Start refl (bytes_taken xs Start refl) in (
       all_bytes xs,
       record {
-        lettering = (is.0, by_covers xs (runs_of (all_bytes xs)) is.1);
-        least = λ ks h. let f = ap (λ (l : List Mode). bits v (runs_of l)) (one_lettering xs ks h) in omega (arith, f);
-        first = λ ks h _. subst (λ (l : List Mode). NotAfter (all_bytes xs) l) (sym (one_lettering xs ks h)) (not_after_self (all_bytes xs));
+        assignment = (is.0, by_covers xs (runs_of (all_bytes xs)) is.1);
+        least = λ ks h. let f = ap (λ (l : List Mode). bits v (runs_of l)) (one_assignment xs ks h) in omega (arith, f);
+        first = λ ks h _. subst (λ (l : List Mode). IsNotAfter (all_bytes xs) l) (sym (one_assignment xs ks h)) (not_after_self (all_bytes xs));
       },
       sym (runs_of-bytes xs),
     )

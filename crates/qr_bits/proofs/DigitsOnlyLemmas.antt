@@ -9,7 +9,7 @@ use Rattle.qr_bits.specs.declared.modes.Rule.{Rule}
 use Rattle.qr_bits.specs.declared.segmentation.Segment.{Segment}
 use Rattle.qr_bits.specs.Modes.{suits, may_use, count_width, payload_bits}
 use Rattle.qr_bits.proofs.CoverLemmas.{CoversInTurn, in_turn, from_turn}
-use Rattle.qr_bits.specs.Segmentation.{bits, with_front, runs_of, Covers, NotAfter, IsLeastSegmentation}
+use Rattle.qr_bits.specs.Segmentation.{bits, prepend_mode, runs_of, Covers, IsNotAfter, IsLeastSegmentation}
 use Rattle.qr_bits.specs.Steps.Segmentation.{one_segment}
 use Rattle.qr_bits.proofs.BackLemmas.{sum_by-runs_of}
 use Rattle.qr_bits.proofs.SegmentLemmas.{covers_all}
@@ -36,8 +36,8 @@ runs_of-digits [] = refl
 runs_of-digits (x ∷ []) = refl
 runs_of-digits (x ∷ y ∷ ys) =
     let e : 1 + suc (length ys) ≡ suc (suc (length ys)) = omega arith in
-    let p : runs_of (all_digits (x ∷ y ∷ ys)) ≡ with_front Numeric (one_segment Numeric (length (y ∷ ys))) = ap (with_front Numeric) (runs_of-digits (y ∷ ys)) in
-    let q : with_front Numeric (one_segment Numeric (length (y ∷ ys))) ≡ one (suc (suc (length ys))) = ap one e in
+    let p : runs_of (all_digits (x ∷ y ∷ ys)) ≡ prepend_mode Numeric (one_segment Numeric (length (y ∷ ys))) = ap (prepend_mode Numeric) (runs_of-digits (y ∷ ys)) in
+    let q : prepend_mode Numeric (one_segment Numeric (length (y ∷ ys))) ≡ one (suc (suc (length ys))) = ap one e in
     p ∙ q
 
 -- the one segment covers the digits
@@ -91,7 +91,7 @@ digits_fewest v (x ∷ xs) [] c = absurd (let e = ap length c in omega arith)
 digits_fewest v (x ∷ xs) (s ∷ ss) c = omega (arith, segments_more v s ss (x ∷ xs) c, digits_bits (length (x ∷ xs)))
 
 -- the assignment of numeric mode to each byte comes after no other assignment
-digits_first : (xs : List ℕ) (ks : List Mode) → length xs ≤ length ks → NotAfter (all_digits xs) ks
+digits_first : (xs : List ℕ) (ks : List Mode) → length xs ≤ length ks → IsNotAfter (all_digits xs) ks
 unfolding all_digits
 digits_first [] ks h = tt
 digits_first (x ∷ xs) [] h = absurd (omega arith)
@@ -105,7 +105,7 @@ pub digits_least : (v : ℕ) (r : Rule) (xs : List ℕ) → may_use r Numeric �
 digits_least v r xs u h = (
   all_digits xs,
   record {
-    lettering = (digits_used r xs u, subst (Covers xs) (sym (runs_of-digits xs)) (from_turn _ _ (digits_covered xs h)));
+    assignment = (digits_used r xs u, subst (Covers xs) (sym (runs_of-digits xs)) (from_turn _ _ (digits_covered xs h)));
     least = λ ks k. let f = ap (bits v) (runs_of-digits xs) in omega (arith, f, digits_fewest v xs (runs_of ks) (in_turn _ _ k.1));
     first = λ ks k _. digits_first xs ks (let e = (covers_all xs (runs_of ks) k.1).1 in let f = sum_by-runs_of ks in omega arith);
   },

@@ -6,8 +6,8 @@ pub mod WritingLemmas
 pub mod PaddingLemmas
 pub mod CountLemmas
 pub mod BestLemmas
-pub mod LetterLemmas
-pub mod LetteringLemmas
+pub mod CostLemmas
+pub mod AssignmentLemmas
 pub mod ChoiceLemmas
 pub mod TableLemmas
 pub mod BackLemmas

@@ -11,15 +11,15 @@ use Rattle.qr_bits.specs.declared.modes.Rule.{Rule}
 use Rattle.qr_bits.specs.declared.segmentation.Segment.{Segment}
 use Rattle.qr_bits.specs.declared.place.Place.{Place}
 use Rattle.qr_bits.specs.declared.place.Place.TheVariants.{Start}
-use Rattle.qr_bits.specs.Segmentation.{rank, bits, with_front, runs_of, HasFit}
+use Rattle.qr_bits.specs.Segmentation.{rank, bits, prepend_mode, runs_of, HasFit}
 use Rattle.qr_bits.specs.Modes.{in_twos, is_kanji_pair, is_digit, is_alphanumeric, may_use}
-use Rattle.qr_bits.specs.Steps.Segmentation.{with_back}
+use Rattle.qr_bits.specs.Steps.Segmentation.{append_mode}
 use Rattle.qr_bits.specs.Steps.Place.{turned, begins, may_end}
 use Rattle.qr_bits.proofs.BestLemmas.{BestBelow, same_rank}
-use Rattle.qr_bits.proofs.BackLemmas.{runs_of-push, with_back-last}
-use Rattle.qr_bits.proofs.LetterLemmas.{bits-runs_of}
+use Rattle.qr_bits.proofs.BackLemmas.{runs_of-push, append_mode-last}
+use Rattle.qr_bits.proofs.CostLemmas.{bits-runs_of}
 use Rattle.qr_bits.proofs.CoverLemmas.{CoversInTurn, from_turn}
-use Rattle.qr_bits.proofs.LetteringLemmas.{suits_by, CoversBy, IsLetteringBy, covers_by, by_covers, can_take, is_lettering}
+use Rattle.qr_bits.proofs.AssignmentLemmas.{suits_by, CoversBy, IsAssignmentBy, covers_by, by_covers, can_take, is_assignment}
 use Rattle.qr_bits.proofs.TableLemmas.{bytes_rest, best_more}
 use Rattle.qr_bits.specs.declared.place.ByPlace.{ByPlace}
 use Rattle.qr_bits.specs.Steps.Table.{bits_at, follow, IsRow}
@@ -70,12 +70,12 @@ covers-reverse test xs (s ∷ ss) c =
     rw (reverse-append (s ∷ []) ss) (subst (λ (ys : List ℕ). CoversBy (turned test) ys (reverse ss ++ s ∷ [])) (sym whole) all)
 
 -- a mode added before segments is added after the reversed segments
-with_front-reverse : (m : Mode) (ss : List Segment) → with_back (reverse ss) m ≡ reverse (with_front m ss)
-unfolding with_back
-with_front-reverse m [] = refl
-with_front-reverse m (s ∷ ss) =
-    rw (reverse-append (s ∷ []) ss, with_back-last (reverse ss) s m)
-    (cond_both (rank m == rank s.mode) _ _ (λ (r : List Segment). reverse ss ++ with_back (s ∷ []) m ≡ reverse r)
+prepend_mode-reverse : (m : Mode) (ss : List Segment) → append_mode (reverse ss) m ≡ reverse (prepend_mode m ss)
+unfolding append_mode
+prepend_mode-reverse m [] = refl
+prepend_mode-reverse m (s ∷ ss) =
+    rw (reverse-append (s ∷ []) ss, append_mode-last (reverse ss) s m)
+    (cond_both (rank m == rank s.mode) _ _ (λ (r : List Segment). reverse ss ++ append_mode (s ∷ []) m ≡ reverse r)
     (λ e.
     let same = same_rank m s.mode (eqb-true _ _ e) in
     let t : (rank s.mode == rank m) ≡ true = eq-eqb _ _ (sym (eqb-true _ _ e)) in
@@ -90,7 +90,7 @@ runs_of-reverse : (ms : List Mode) → runs_of (reverse ms) ≡ reverse (runs_of
 unfolding runs_of
 runs_of-reverse [] = refl
 runs_of-reverse (m ∷ ms) =
-    rw (reverse-append (m ∷ []) ms) (runs_of-push (reverse ms) m ∙ ap (λ (r : List Segment). with_back r m) (runs_of-reverse ms) ∙ with_front-reverse m (runs_of ms))
+    rw (reverse-append (m ∷ []) ms) (runs_of-push (reverse ms) m ∙ ap (λ (r : List Segment). append_mode r m) (runs_of-reverse ms) ∙ prepend_mode-reverse m (runs_of ms))
 
 -- the bits of two lists of segments add up
 bits-append : (v : ℕ) (ss ts : List Segment) → bits v (ss ++ ts) ≡ bits v ss + bits v ts
@@ -103,8 +103,8 @@ bits-reverse v [] = refl
 bits-reverse v (s ∷ ss) = rw (reverse-append (s ∷ []) ss) (omega (arith, bits-append v (reverse ss) (s ∷ []), bits-reverse v ss))
 
 -- If an assignment is valid for some bytes, its reverse is valid for the reversed bytes, and has the same number of bits.
-mirror : (v : ℕ) (test : ℕ → ℕ → Bool) (r : Rule) (xs : List ℕ) (ms : List Mode) → IsLetteringBy test r xs ms
-    → IsLetteringBy (turned test) r (reverse xs) (reverse ms) × (bits v (runs_of (reverse ms)) ≡ bits v (runs_of ms))
+mirror : (v : ℕ) (test : ℕ → ℕ → Bool) (r : Rule) (xs : List ℕ) (ms : List Mode) → IsAssignmentBy test r xs ms
+    → IsAssignmentBy (turned test) r (reverse xs) (reverse ms) × (bits v (runs_of (reverse ms)) ≡ bits v (runs_of ms))
 mirror v test r xs ms h = (
   (list_all-reverse (may_use r) ms h.0, rw (runs_of-reverse ms) (covers-reverse test xs (runs_of ms) h.1)),
   ap (bits v) (runs_of-reverse ms) ∙ bits-reverse v (runs_of ms),
@@ -115,7 +115,7 @@ pub front_fits : (v : ℕ) (r : Rule) (xs : List ℕ) (f : Place → List Mode) 
 unfolding may_end
 front_fits v r xs f cost n below small =
     let best = below Start _ (bytes_rest r (turned is_kanji_pair) Start (reverse xs) refl) in
-    let back = mirror v (turned is_kanji_pair) r (reverse xs) (f Start) (is_lettering (turned is_kanji_pair) r (reverse xs) (f Start) Start refl best.is_allowed) in
+    let back = mirror v (turned is_kanji_pair) r (reverse xs) (f Start) (is_assignment (turned is_kanji_pair) r (reverse xs) (f Start) Start refl best.is_allowed) in
     let again : CoversBy is_kanji_pair (reverse (reverse xs)) (runs_of (reverse (f Start))) = back.0.1 in
     (reverse (f Start), (back.0.0, by_covers xs _ (rw (reverse-reverse xs) at again)), omega (arith, back.1, small, bits-runs_of v (f Start), best.has_bits))
 

@@ -19,23 +19,23 @@ value_take_below w bs =
     omega (arith, value_below (take w bs), pow-le-pow_right {n = 2} (lit< tt) short)
 
 -- the result for the rest, with the bytes that were read before it
-abbrev pub with_front : List ℕ → Result (List ℕ) ParseFault → Result (List ℕ) ParseFault
-with_front front read = read >>= λ xs. Ok (front ++ xs)
+abbrev pub prepend_mode : List ℕ → Result (List ℕ) ParseFault → Result (List ℕ) ParseFault
+prepend_mode front read = read >>= λ xs. Ok (front ++ xs)
 
 -- if the whole is read, the rest is read
-pub with_front-ok : (front : List ℕ) (read : Result (List ℕ) ParseFault) (ys : List ℕ) → with_front front read ≡ Ok ys → (xs : List ℕ) × (read ≡ Ok xs) × (ys ≡ front ++ xs)
-with_front-ok front (Ok xs) ys h = (xs, refl, cc)
-with_front-ok front (Err e) ys h = cc
+pub prepend_mode-ok : (front : List ℕ) (read : Result (List ℕ) ParseFault) (ys : List ℕ) → prepend_mode front read ≡ Ok ys → (xs : List ℕ) × (read ≡ Ok xs) × (ys ≡ front ++ xs)
+prepend_mode-ok front (Ok xs) ys h = (xs, refl, cc)
+prepend_mode-ok front (Err e) ys h = cc
 
 -- if the whole fails, the rest fails with the same fault
-pub with_front-err : (front : List ℕ) (read : Result (List ℕ) ParseFault) (e : ParseFault) → with_front front read ≡ Err e → read ≡ Err e
-with_front-err front (Ok xs) e h = cc
-with_front-err front (Err d) e h = cc
+pub prepend_mode-err : (front : List ℕ) (read : Result (List ℕ) ParseFault) (e : ParseFault) → prepend_mode front read ≡ Err e → read ≡ Err e
+prepend_mode-err front (Ok xs) e h = cc
+prepend_mode-err front (Err d) e h = cc
 
 -- two prefixes in turn are one prefix
-pub with_front-twice : (front middle : List ℕ) (read : Result (List ℕ) ParseFault) → with_front front (read >>= λ xs. Ok (middle ++ xs)) ≡ with_front (front ++ middle) read
-with_front-twice front middle (Ok xs) = ap Ok (sym (append_assoc front middle xs))
-with_front-twice front middle (Err e) = refl
+pub prepend_mode-twice : (front middle : List ℕ) (read : Result (List ℕ) ParseFault) → prepend_mode front (read >>= λ xs. Ok (middle ++ xs)) ≡ prepend_mode (front ++ middle) read
+prepend_mode-twice front middle (Ok xs) = ap Ok (sym (append_assoc front middle xs))
+prepend_mode-twice front middle (Err e) = refl
 
 -- ---- digits
 
@@ -45,14 +45,14 @@ payload_less n h = let e : n ≡ 3 + (n - 3) = omega arith in ap (payload_bits N
 
 -- a group of three digits, and the digits after it
 pub digits_more : (front : List ℕ) (n : ℕ) (bits : List Bool) → 3 ≤ n → value (take 10 bits) < 1000
-    → with_front front (digits_of n bits) ≡ with_front (front ++ digit (value (take 10 bits) / 100) ∷ digit (value (take 10 bits) / 10) ∷ digit (value (take 10 bits)) ∷ []) (digits_of (n - 3) (drop 10 bits))
+    → prepend_mode front (digits_of n bits) ≡ prepend_mode (front ++ digit (value (take 10 bits) / 100) ∷ digit (value (take 10 bits) / 10) ∷ digit (value (take 10 bits)) ∷ []) (digits_of (n - 3) (drop 10 bits))
 unfolding digits_of
 digits_more front zero bits h low = absurd (omega arith)
 digits_more front (suc zero) bits h low = absurd (omega arith)
 digits_more front (suc (suc zero)) bits h low = absurd (omega arith)
 digits_more front (suc (suc (suc n))) bits h low =
     let e : suc (suc (suc n)) - 3 ≡ n = omega arith in
-    rw (e, lt-ltb _ _ low) (with_front-twice front (digit (value (take 10 bits) / 100) ∷ digit (value (take 10 bits) / 10) ∷ digit (value (take 10 bits)) ∷ []) (digits_of n (drop 10 bits)))
+    rw (e, lt-ltb _ _ low) (prepend_mode-twice front (digit (value (take 10 bits) / 100) ∷ digit (value (take 10 bits) / 10) ∷ digit (value (take 10 bits)) ∷ []) (digits_of n (drop 10 bits)))
 
 -- a group of three digits that is too large
 pub digits_bad : (n : ℕ) (bits : List Bool) → 3 ≤ n → 1000 ≤ value (take 10 bits) → digits_of n bits ≡ Err BadValue
@@ -95,13 +95,13 @@ payload_two_less n h = let e : n ≡ 2 + (n - 2) = omega arith in ap (payload_bi
 
 -- a pair of characters, and the characters after it
 pub characters_more : (front : List ℕ) (n : ℕ) (bits : List Bool) → 2 ≤ n → value (take 11 bits) < 2025
-    → with_front front (characters_of n bits) ≡ with_front (front ++ character (value (take 11 bits) / 45) ∷ character (value (take 11 bits) % 45) ∷ []) (characters_of (n - 2) (drop 11 bits))
+    → prepend_mode front (characters_of n bits) ≡ prepend_mode (front ++ character (value (take 11 bits) / 45) ∷ character (value (take 11 bits) % 45) ∷ []) (characters_of (n - 2) (drop 11 bits))
 unfolding characters_of
 characters_more front zero bits h low = absurd (omega arith)
 characters_more front (suc zero) bits h low = absurd (omega arith)
 characters_more front (suc (suc n)) bits h low =
     let e : suc (suc n) - 2 ≡ n = omega arith in
-    rw (e, lt-ltb _ _ low) (with_front-twice front (character (value (take 11 bits) / 45) ∷ character (value (take 11 bits) % 45) ∷ []) (characters_of n (drop 11 bits)))
+    rw (e, lt-ltb _ _ low) (prepend_mode-twice front (character (value (take 11 bits) / 45) ∷ character (value (take 11 bits) % 45) ∷ []) (characters_of n (drop 11 bits)))
 
 -- a pair of characters that is too large
 pub characters_bad : (n : ℕ) (bits : List Bool) → 2 ≤ n → 2025 ≤ value (take 11 bits) → characters_of n bits ≡ Err BadValue
@@ -141,9 +141,9 @@ unfolding bytes_of
 bytes_none bits = refl
 
 -- if the rest is read, the whole is read
-pub finish : (front out zs : List ℕ) (read whole : Result (List ℕ) ParseFault) → with_front front read ≡ with_front out whole → read ≡ Ok zs → (xs : List ℕ) × (whole ≡ Ok xs) × (front ++ zs ≡ out ++ xs)
-finish front out zs read whole h e = with_front-ok out whole (front ++ zs) (sym h ∙ ap (with_front front) e)
+pub finish : (front out zs : List ℕ) (read whole : Result (List ℕ) ParseFault) → prepend_mode front read ≡ prepend_mode out whole → read ≡ Ok zs → (xs : List ℕ) × (whole ≡ Ok xs) × (front ++ zs ≡ out ++ xs)
+finish front out zs read whole h e = prepend_mode-ok out whole (front ++ zs) (sym h ∙ ap (prepend_mode front) e)
 
 -- if the rest fails, the whole fails
-pub fails : (front out : List ℕ) (read whole : Result (List ℕ) ParseFault) (f : ParseFault) → with_front front read ≡ with_front out whole → read ≡ Err f → IsFaultOf f whole
-fails front out read whole f h e = inr (with_front-err out whole f (sym h ∙ ap (with_front front) e))
+pub fails : (front out : List ℕ) (read whole : Result (List ℕ) ParseFault) (f : ParseFault) → prepend_mode front read ≡ prepend_mode out whole → read ≡ Err f → IsFaultOf f whole
+fails front out read whole f h e = inr (prepend_mode-err out whole f (sym h ∙ ap (prepend_mode front) e))

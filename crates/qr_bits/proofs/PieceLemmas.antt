@@ -7,11 +7,11 @@ use Rattle.qr_bits.specs.declared.modes.Mode.TheVariants.{Numeric, Alphanumeric,
 use Rattle.qr_bits.specs.declared.modes.Rule.{Rule}
 use Rattle.qr_bits.specs.declared.place.Place.{Place}
 use Rattle.qr_bits.specs.declared.place.Place.TheVariants.{Start, Digit1, Digit2, Digit3, Character1, Character2, InBytes, HalfPair, WholePair}
-use Rattle.qr_bits.specs.Segmentation.{rank, bits, runs_of, IsLettering, HasFit}
+use Rattle.qr_bits.specs.Segmentation.{rank, bits, runs_of, IsAssignment, HasFit}
 use Rattle.qr_bits.specs.Modes.{may_use, is_kanji_pair}
 use Rattle.qr_bits.specs.Steps.Place.{place_after, step_bits, begins, may_take, may_end, allowed, walk}
-use Rattle.qr_bits.proofs.LetterLemmas.{bits-runs_of}
-use Rattle.qr_bits.proofs.LetteringLemmas.{may_end-after, take_one, one_taken, can_take, is_lettering, covers_by, by_covers}
+use Rattle.qr_bits.proofs.CostLemmas.{bits-runs_of}
+use Rattle.qr_bits.proofs.AssignmentLemmas.{may_end-after, take_one, one_taken, can_take, is_assignment, covers_by, by_covers}
 use Rattle.qr_bits.proofs.ChoiceLemmas.{take_begin}
 
 -- the state of a run after one more byte
@@ -113,18 +113,18 @@ back v r (x ∷ xs) ys (m ∷ ms) n u h =
     let use_ = and_parts (may_use r m) (list_all (may_use r) ms) u in
     let low = plain r m n use_.0 in
     let parts = and_parts (may_take r Start x (begins r is_kanji_pair (x ∷ (xs ++ ys))) m) _ h in
-    let again = can_take is_kanji_pair r (xs ++ ys) ms (is_lettering is_kanji_pair r (xs ++ ys) ms (place_after Start m) (may_end-after Start m low) parts.1) Start refl in
+    let again = can_take is_kanji_pair r (xs ++ ys) ms (is_assignment is_kanji_pair r (xs ++ ys) ms (place_after Start m) (may_end-after Start m low) parts.1) Start refl in
     let rest = back v r xs ys ms n use_.1 again in
     (rest.0, rest.1, rest.2, omega (arith, rest.3, without_first v m ms low))
 
 -- If an assignment is valid for an input, each piece of the input has a valid assignment of no more bits.
-pub piece : (v : ℕ) (r : Rule) (xs ys zs : List ℕ) (ms : List Mode) → IsPlain r → IsLettering r (xs ++ (ys ++ zs)) ms
-    → (ks : List Mode) × IsLettering r ys ks × (bits v (runs_of ks) ≤ bits v (runs_of ms))
+pub piece : (v : ℕ) (r : Rule) (xs ys zs : List ℕ) (ms : List Mode) → IsPlain r → IsAssignment r (xs ++ (ys ++ zs)) ms
+    → (ks : List Mode) × IsAssignment r ys ks × (bits v (runs_of ks) ≤ bits v (runs_of ms))
 unfolding may_end
 piece v r xs ys zs ms n h =
     let b = back v r xs (ys ++ zs) ms n h.0 (can_take is_kanji_pair r (xs ++ (ys ++ zs)) ms (h.0, covers_by (xs ++ (ys ++ zs)) (runs_of ms) h.1) Start refl) in
     let f = front v r Start ys zs b.0 n b.1 refl b.2 in
-    let is = is_lettering is_kanji_pair r ys f.0 Start refl f.2 in
+    let is = is_assignment is_kanji_pair r ys f.0 Start refl f.2 in
     (f.0, (is.0, by_covers ys (runs_of f.0) is.1), omega (arith, bits-runs_of v f.0, bits-runs_of v ms, f.3, b.3))
 
 -- If an input fits, each piece of it fits.

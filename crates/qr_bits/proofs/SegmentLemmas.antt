@@ -12,7 +12,7 @@ use Rattle.qr_bits.specs.declared.modes.Mode.TheVariants.{Numeric, Alphanumeric,
 use Rattle.qr_bits.specs.declared.modes.Rule.{Rule}
 use Rattle.qr_bits.specs.declared.segmentation.Segment.{Segment}
 use Rattle.qr_bits.specs.Modes.{count_width, payload_bits, suits}
-use Rattle.qr_bits.specs.Segmentation.{segment_bits, bits, rank, Covers, runs_of, NotAfter, IsLeastSegmentation, HasFit}
+use Rattle.qr_bits.specs.Segmentation.{segment_bits, bits, rank, Covers, runs_of, IsNotAfter, IsLeastSegmentation, HasFit}
 use Rattle.qr_bits.specs.Stream.{Suits}
 
 -- a choice between small numbers is small
@@ -117,24 +117,24 @@ least_fits v r xs segs h =
     let ms = h.0 in
     let is = h.1 in
     let same : bits v segs ≡ bits v (runs_of ms) = ap (bits v) h.2 in (
-      rw h.2 is.lettering.1,
-      λ n. (λ fit. omega (arith, same, is.least fit.0 fit.1, fit.2), λ small. (ms, is.lettering, omega (arith, same))),
+      rw h.2 is.assignment.1,
+      λ n. (λ fit. omega (arith, same, is.least fit.0 fit.1, fit.2), λ small. (ms, is.assignment, omega (arith, same))),
     )
 
 -- Assignments are equal if neither comes after the other.
-letters-one : (ms ks : List Mode) → NotAfter ms ks → NotAfter ks ms → ms ≡ ks
-letters-one [] [] a b = refl
-letters-one [] (k ∷ ks) a b = absurd b
-letters-one (m ∷ ms) [] a b = absurd a
-letters-one (m ∷ ms) (k ∷ ks) a b =
+best-one : (ms ks : List Mode) → IsNotAfter ms ks → IsNotAfter ks ms → ms ≡ ks
+best-one [] [] a b = refl
+best-one [] (k ∷ ks) a b = absurd b
+best-one (m ∷ ms) [] a b = absurd a
+best-one (m ∷ ms) (k ∷ ks) a b =
     elim a [
       | inl i ↦ elim b [ inl j ↦ absurd (omega arith) | inr y ↦ (let e = ap rank y.0 in absurd (omega arith)) ]
-      | inr x ↦ elim b [ inl j ↦ (let e = ap rank x.0 in absurd (omega arith)) | inr y ↦ (let e = letters-one ms ks x.1 y.1 in let f = x.0 in cc) ]
+      | inr x ↦ elim b [ inl j ↦ (let e = ap rank x.0 in absurd (omega arith)) | inr y ↦ (let e = best-one ms ks x.1 y.1 in let f = x.0 in cc) ]
     ]
 
 -- There is only one least segmentation.
 pub segmentation-one : (v : ℕ) (r : Rule) (xs : List ℕ) (ss ts : List Segment) → IsLeastSegmentation v r xs ss → IsLeastSegmentation v r xs ts → ss ≡ ts
 segmentation-one v r xs ss ts a b =
-    let ab = a.1.least b.0 b.1.lettering in
-    let ba = b.1.least a.0 a.1.lettering in
-    a.2 ∙ ap runs_of (letters-one a.0 b.0 (a.1.first b.0 b.1.lettering (omega arith)) (b.1.first a.0 a.1.lettering (omega arith))) ∙ sym b.2
+    let ab = a.1.least b.0 b.1.assignment in
+    let ba = b.1.least a.0 a.1.assignment in
+    a.2 ∙ ap runs_of (best-one a.0 b.0 (a.1.first b.0 b.1.assignment (omega arith)) (b.1.first a.0 a.1.assignment (omega arith))) ∙ sym b.2

@@ -8,14 +8,14 @@ use Rattle.qr_bits.specs.declared.modes.Rule.{Rule}
 use Rattle.qr_bits.specs.declared.place.Place.{Place}
 use Rattle.qr_bits.specs.declared.place.Place.TheVariants.{Start, Digit1, Digit2, Digit3, Character1, Character2, InBytes, HalfPair, WholePair}
 use Rattle.qr_bits.specs.declared.place.ByPlace.{ByPlace}
-use Rattle.qr_bits.specs.Segmentation.{IsLetters}
+use Rattle.qr_bits.specs.Segmentation.{IsBestAssignment}
 use Rattle.qr_bits.specs.Modes.{is_kanji_pair}
 use Rattle.qr_bits.specs.Steps.Place.{place_after, begins, may_begin, may_take, may_end, allowed, walk, ranked, IsBestRest, IsChoice}
 use Rattle.qr_bits.specs.Steps.Table.{at_place, bits_at, shift_of, mode_at, follow, IsBestTable, IsRow, IsSmall}
 use Rattle.qr_bits.proofs.BestLemmas.{BestBelow, best_step}
 use Rattle.qr_bits.proofs.ChoiceLemmas.{byte_used, step_bits_bound, take_begin}
-use Rattle.qr_bits.proofs.LetterLemmas.{bits-runs_of}
-use Rattle.qr_bits.proofs.LetteringLemmas.{can_take, is_lettering, may_end-after, covers_by, by_covers}
+use Rattle.qr_bits.proofs.CostLemmas.{bits-runs_of}
+use Rattle.qr_bits.proofs.AssignmentLemmas.{can_take, is_assignment, may_end-after, covers_by, by_covers}
 
 -- byte mode for each byte is an allowed rest if no half pair is open
 pub bytes_rest : (r : Rule) (test : ℕ → ℕ → Bool) (p : Place) (xs : List ℕ) → may_end p ≡ true → allowed r test p xs (replicate (length xs) Byte) ≡ true
@@ -132,23 +132,23 @@ row_of v r x pair rest numbers row modes a b c d e f g h i InBytes = rw (modes I
 row_of v r x pair rest numbers row modes a b c d e f g h i HalfPair = rw (modes HalfPair) h
 row_of v r x pair rest numbers row modes a b c d e f g h i WholePair = rw (modes WholePair) i
 
--- the best assignment from the start is the one that `IsLetters` describes
-letters_from_best : (v : ℕ) (r : Rule) (xs : List ℕ) (ms : List Mode) (n : ℕ) → IsBestRest v r is_kanji_pair Start xs ms n → IsLetters v r xs ms
+-- the best assignment from the start is the one that `IsBestAssignment` describes
+assignment_from_best : (v : ℕ) (r : Rule) (xs : List ℕ) (ms : List Mode) (n : ℕ) → IsBestRest v r is_kanji_pair Start xs ms n → IsBestAssignment v r xs ms
 unfolding may_end
-letters_from_best v r xs ms n best =
-    let is = is_lettering is_kanji_pair r xs ms Start refl best.is_allowed in
+assignment_from_best v r xs ms n best =
+    let is = is_assignment is_kanji_pair r xs ms Start refl best.is_allowed in
     record {
-      lettering = (is.0, by_covers xs _ is.1);
+      assignment = (is.0, by_covers xs _ is.1);
       least = λ ks h. omega (arith, bits-runs_of v ms, bits-runs_of v ks, best.has_bits, best.least ks (can_take is_kanji_pair r xs ks (h.0, covers_by xs _ h.1) Start refl));
       first = λ ks h e. best.first ks (can_take is_kanji_pair r xs ks (h.0, covers_by xs _ h.1) Start refl) (omega (arith, bits-runs_of v ms, bits-runs_of v ks, best.has_bits));
     }
 
 -- the modes to which a table leads are the best assignment
-pub letters_from_table : (v : ℕ) (r : Rule) (xs : List ℕ) (rows : List ℕ) → IsBestTable v r is_kanji_pair xs rows → IsLetters v r xs (follow Start rows)
+pub assignment_from_table : (v : ℕ) (r : Rule) (xs : List ℕ) (rows : List ℕ) → IsBestTable v r is_kanji_pair xs rows → IsBestAssignment v r xs (follow Start rows)
 unfolding may_end
-letters_from_table v r xs rows table =
+assignment_from_table v r xs rows table =
     let some = table Start (replicate (length xs) Byte) (bytes_rest r is_kanji_pair Start xs refl) in
-    letters_from_best v r xs (follow Start rows) some.0 some.1
+    assignment_from_best v r xs (follow Start rows) some.0 some.1
 
 -- the modes found so far, the mode of one more row, and then the modes of the other rows
 pub led_on : (p : Place) (items rows : List ℕ) (row : ℕ) (ms all : List Mode) (m : Mode) → items ≡ rows ++ row ∷ [] → m ≡ mode_at row p

@@ -30,43 +30,43 @@ rank Alphanumeric = 1
 rank Byte = 2
 rank Kanji = 3
 
--- `with_front m segs` adds one byte in mode m before the segments: the first segment grows, or a new segment begins
-abbrev pub with_front : Mode → List Segment → List Segment
-with_front m [] = record { mode = m; len = 1 } ∷ []
-with_front m (s ∷ ss) = if rank m == rank s.mode then record { mode = m; len = 1 + s.len } ∷ ss else record { mode = m; len = 1 } ∷ s ∷ ss
+-- `prepend_mode m segs` adds one byte in mode m before the segments: the first segment grows, or a new segment begins
+abbrev pub prepend_mode : Mode → List Segment → List Segment
+prepend_mode m [] = record { mode = m; len = 1 } ∷ []
+prepend_mode m (s ∷ ss) = if rank m == rank s.mode then record { mode = m; len = 1 + s.len } ∷ ss else record { mode = m; len = 1 } ∷ s ∷ ss
 
 -- The segments of an assignment of modes to bytes: its maximal runs of equal modes [own]
 unfoldable pub runs_of : List Mode → List Segment
 runs_of [] = []
-runs_of (m ∷ ms) = with_front m (runs_of ms)
+runs_of (m ∷ ms) = prepend_mode m (runs_of ms)
 
--- `IsLettering r xs ms` holds if ms is a valid assignment of modes to the bytes xs: the rule r allows each mode, and the
+-- `IsAssignment r xs ms` holds if ms is a valid assignment of modes to the bytes xs: the rule r allows each mode, and the
 -- bytes of each maximal run of equal modes can be written in its mode [own].
-abbrev pub IsLettering : Rule → List ℕ → List Mode → Type 0
-IsLettering r xs ms = IsTrue (list_all (may_use r) ms) × Covers xs (runs_of ms)
+abbrev pub IsAssignment : Rule → List ℕ → List Mode → Type 0
+IsAssignment r xs ms = IsTrue (list_all (may_use r) ms) × Covers xs (runs_of ms)
 
--- `NotAfter ms ks` holds if ms does not come after ks in lexicographic order: where the two lists first differ, ms has the
+-- `IsNotAfter ms ks` holds if ms does not come after ks in lexicographic order: where the two lists first differ, ms has the
 -- mode of the lower rank [own]
-abbrev pub NotAfter : List Mode → List Mode → Type 0
-NotAfter [] ks = Unit {0}
-NotAfter (m ∷ ms) [] = ⊥
-NotAfter (m ∷ ms) (k ∷ ks) = (rank m < rank k) ⊎ ((m ≡ k) × NotAfter ms ks)
+abbrev pub IsNotAfter : List Mode → List Mode → Type 0
+IsNotAfter [] ks = Unit {0}
+IsNotAfter (m ∷ ms) [] = ⊥
+IsNotAfter (m ∷ ms) (k ∷ ks) = (rank m < rank k) ⊎ ((m ≡ k) × IsNotAfter ms ks)
 
--- `IsLetters v r xs ms` holds if the assignment ms takes the fewest bits of all valid assignments of modes to the bytes xs,
+-- `IsBestAssignment v r xs ms` holds if the assignment ms takes the fewest bits of all valid assignments of modes to the bytes xs,
 -- and is the lexicographically first of those that take the fewest bits [own].
-pub record IsLetters (v : ℕ) (r : Rule) (xs : List ℕ) (ms : List Mode) : Type 0 where
-  pub lettering : IsLettering r xs ms
-  pub least : (ks : List Mode) → IsLettering r xs ks → bits v (runs_of ms) ≤ bits v (runs_of ks)
-  pub first : (ks : List Mode) → IsLettering r xs ks → bits v (runs_of ks) ≡ bits v (runs_of ms) → NotAfter ms ks
+pub record IsBestAssignment (v : ℕ) (r : Rule) (xs : List ℕ) (ms : List Mode) : Type 0 where
+  pub assignment : IsAssignment r xs ms
+  pub least : (ks : List Mode) → IsAssignment r xs ks → bits v (runs_of ms) ≤ bits v (runs_of ks)
+  pub first : (ks : List Mode) → IsAssignment r xs ks → bits v (runs_of ks) ≡ bits v (runs_of ms) → IsNotAfter ms ks
 
 -- `IsLeastSegmentation v r xs segs` holds if the segments are the maximal runs of equal modes of the assignment that
--- `IsLetters` describes [own]
+-- `IsBestAssignment` describes [own]
 abbrev pub IsLeastSegmentation : ℕ → Rule → List ℕ → List Segment → Type 0
-IsLeastSegmentation v r xs segs = (ms : List Mode) × IsLetters v r xs ms × (segs ≡ runs_of ms)
+IsLeastSegmentation v r xs segs = (ms : List Mode) × IsBestAssignment v r xs ms × (segs ≡ runs_of ms)
 
 -- `HasFit v r xs n` holds if some valid assignment of modes to the bytes xs takes at most n bits [own]
 abbrev pub HasFit : ℕ → Rule → List ℕ → ℕ → Type 0
-HasFit v r xs n = (ms : List Mode) × IsLettering r xs ms × (bits v (runs_of ms) ≤ n)
+HasFit v r xs n = (ms : List Mode) × IsAssignment r xs ms × (bits v (runs_of ms) ≤ n)
 
 -- A lower bound on the number of bits that a byte takes, in sixths of a bit: three digits take 10 bits, two characters 11
 -- and a kanji pair 13, and no character comes after `Z` (ISO/IEC 18004:2015, 7.4.3 to 7.4.6)

@@ -6,7 +6,7 @@ use Rattle.qr_bits.specs.declared.modes.Rule.{Rule}
 use Rattle.qr_bits.specs.declared.modes.Mode.{Mode}
 use Rattle.qr_bits.specs.declared.segmentation.Segment.{Segment}
 use Rattle.qr_bits.specs.Modes.{count_width}
-use Rattle.qr_bits.specs.Segmentation.{bits, runs_of, IsLetters, IsLeastSegmentation}
+use Rattle.qr_bits.specs.Segmentation.{bits, runs_of, IsBestAssignment, IsLeastSegmentation}
 use Rattle.qr_bits.specs.Padding.{capacity_of}
 use Rattle.qr_bits.proofs.Facts.{least_fits}
 use Rattle.qr_symbol.specs.VersionChoice.{FitsVersion, IsVersion}
@@ -23,8 +23,8 @@ segmentation-same u v rule xs segs same h =
     let ms = h.0 in
     let is = h.1 in
     let mine = bits-same u v same (runs_of ms) in
-    let letters : IsLetters v rule xs ms = record {
-      lettering = is.lettering;
+    let letters : IsBestAssignment v rule xs ms = record {
+      assignment = is.assignment;
       least = λ ks k. omega (arith, mine, bits-same u v same (runs_of ks), is.least ks k);
       first = λ ks k e. is.first ks k (omega (arith, mine, bits-same u v same (runs_of ks), e));
     } in

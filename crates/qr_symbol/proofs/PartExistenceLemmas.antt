@@ -10,7 +10,7 @@ use Rattle.qr_bits.specs.declared.modes.Mode.TheVariants.{Numeric, Alphanumeric,
 use Rattle.qr_bits.specs.declared.modes.Rule.{Rule}
 use Rattle.qr_bits.specs.declared.segmentation.Segment.{Segment}
 use Rattle.qr_bits.specs.Modes.{may_use, suits}
-use Rattle.qr_bits.specs.Segmentation.{bits, rank, with_front, runs_of, Covers, IsLettering, HasFit, IsLongestFit}
+use Rattle.qr_bits.specs.Segmentation.{bits, rank, prepend_mode, runs_of, Covers, IsAssignment, HasFit, IsLongestFit}
 use Rattle.qr_bits.specs.Padding.{room_of}
 use Rattle.qr_bits.proofs.Facts.{CoversInTurn, byte_used, capacity_least, count_width_bound, covers_all, empty_fits, from_turn, in_turn}
 use Rattle.qr_symbol.specs.Series.{AreParts}
@@ -94,7 +94,7 @@ unfolding runs_of
 runs-long [] = refl
 runs-long (m ∷ ms) = front (runs_of ms) (runs-long ms)
   where
-    front : (ss : List Segment) → sum_by (λ s. s.len) ss ≡ length ms → sum_by (λ s. s.len) (with_front m ss) ≡ length (m ∷ ms)
+    front : (ss : List Segment) → sum_by (λ s. s.len) ss ≡ length ms → sum_by (λ s. s.len) (prepend_mode m ss) ≡ length (m ∷ ms)
     front [] e = omega arith
     front (s ∷ ss) e = by_rank (nat_eq (rank m) (rank s.mode))
       where
@@ -105,7 +105,7 @@ runs-long (m ∷ ms) = front (runs_of ms) (runs-long ms)
 -- it is decided whether bytes fit
 fits-or-not : (v : ℕ) (r : Rule) (xs : List ℕ) (n : ℕ) → Decided (HasFit v r xs n)
 fits-or-not v r xs n =
-    elim (some-modes (length xs) (λ ms. IsLettering r xs ms × (bits v (runs_of ms) ≤ n)) (λ ms. both (IsLettering r xs ms) (bits v (runs_of ms) ≤ n)
+    elim (some-modes (length xs) (λ ms. IsAssignment r xs ms × (bits v (runs_of ms) ≤ n)) (λ ms. both (IsAssignment r xs ms) (bits v (runs_of ms) ≤ n)
     (both (IsTrue (list_all (may_use r) ms)) (Covers xs (runs_of ms)) (true-or-not (list_all (may_use r) ms)) (covers-or-not xs (runs_of ms)))
     (most-or-not (bits v (runs_of ms)) n))) [
       | inl p ↦ inl (p.0, p.1.0, p.1.1)

@@ -7,12 +7,12 @@ use Rattle.qr_bits.specs.declared.segmentation.Segment.{Segment}
 use Rattle.qr_bits.specs.declared.place.Place.TheVariants.{Start}
 use Rattle.qr_bits.specs.Segmentation.{runs_of}
 use Rattle.qr_bits.specs.Steps.Place.{place_after, place_on}
-use Rattle.qr_bits.specs.Steps.Segmentation.{one_segment, with_back}
+use Rattle.qr_bits.specs.Steps.Segmentation.{one_segment, append_mode}
 use Rattle.qr_bits.specs.Steps.Table.{follow}
 use Rattle.qr_bits.proofs.BackLemmas.{run_same, run_other, runs_of-push, sameb_self}
 use Rattle.qr_bits.proofs.ChoiceLemmas.{on_after}
 use Rattle.std.proofs.lemmas.List.{append-nil, nil_from_length}
-use Rattle.qr_bits.proofs.TableLemmas.{follow-nil, led_on, letters_from_table}
+use Rattle.qr_bits.proofs.TableLemmas.{follow-nil, led_on, assignment_from_table}
 use Rattle.qr_bits.proofs.segmentation.least_segments.Goals as goal
 
 pub loop-modes-init : goal.loop-modes-init
@@ -26,7 +26,7 @@ loop-modes-preserved-then-eq c =
     let same : c.mode_at-next.result ≡ l.mode = same_true the_type (search rules) _ _ (sym c.if-eq.ensures) in
     let place : c.place_on-place.result ≡ place_after l.place l.mode = c.place_on-place.ensures ∙ i.5 in (
       i.0 ++ l.mode ∷ [],
-      sym (run_same l.found.items l.mode l.len i.4) ∙ ap (λ (r : List Segment). with_back r l.mode) i.1 ∙ sym (runs_of-push i.0 l.mode),
+      sym (run_same l.found.items l.mode l.len i.4) ∙ ap (λ (r : List Segment). append_mode r l.mode) i.1 ∙ sym (runs_of-push i.0 l.mode),
       rw place (led_on l.place l.table.items _ c.in-Some.modes i.0 _ l.mode c.in-Some.ensures.items (sym same ∙ c.mode_at-next.ensures) i.2),
       omega (arith, i.3, c.in-Some.ensures.len),
       λ z. absurd (omega arith),
@@ -41,7 +41,7 @@ loop-modes-preserved c =
     let other : l.mode ≡ mode → ⊥ = λ e. false≢true (c.if-eq.ensures ∙ ap (λ (m : Mode). sameb the_type m l.mode) (sym e) ∙ sameb_self l.mode) in (
       i.0 ++ mode ∷ [],
       ap (λ (r : List Segment). r ++ one_segment mode 1) c.in_ok-push_segment.ensures ∙ sym (run_other l.found.items l.mode mode l.len i.4 other)
-          ∙ ap (λ (r : List Segment). with_back r mode) i.1 ∙ sym (runs_of-push i.0 mode),
+          ∙ ap (λ (r : List Segment). append_mode r mode) i.1 ∙ sym (runs_of-push i.0 mode),
       rw c.after-place.ensures (led_on l.place l.table.items _ c.in-Some.modes i.0 _ mode c.in-Some.ensures.items c.mode_at-next.ensures i.2),
       omega (arith, i.3, c.in-Some.ensures.len),
       λ z. absurd (omega arith),
@@ -55,4 +55,4 @@ returns-clause-ok c =
     let end : i.0 ++ [] ≡ follow Start (reverse c.in_ok-table.table.items) =
     ap (λ (t : List Mode). i.0 ++ t) (sym (follow-nil c.loop-modes.place) ∙ ap (λ (t : List ℕ). follow c.loop-modes.place (reverse t)) (sym none)) ∙ i.2 in
     let whole : i.0 ≡ follow Start (reverse c.in_ok-table.table.items) = sym (append-nil i.0) ∙ end in
-    (i.0, rw whole (letters_from_table c.args.version c.args.rule c.args.input.now (reverse c.in_ok-table.table.items) c.in_ok-table.ensures.best), c.in_ok-push_segment-2.ensures ∙ i.1)
+    (i.0, rw whole (assignment_from_table c.args.version c.args.rule c.args.input.now (reverse c.in_ok-table.table.items) c.in_ok-table.ensures.best), c.in_ok-push_segment-2.ensures ∙ i.1)

@@ -1,4 +1,4 @@
--- An assignment is valid (`IsLettering`) exactly if each of its modes is allowed after those before it (`allowed`).
+-- An assignment is valid (`IsAssignment`) exactly if each of its modes is allowed after those before it (`allowed`).
 use Rattle.std.proofs.Common.{◌≡◌, ℕ, suc, ◌+◌, ◌<◌, ◌≤◌, Bool, true, false, ◌==◌, ◌&&◌, List, [], ◌∷◌, length, IsTrue, take, drop, refl, sym, ◌∙◌, subst, arith, lit<}
 use Rattle.std.specs.List.{list_all}
 use Rattle.std.proofs.lemmas.Bool.{cond_both, and_parts, and_from, false≢true, eqb-true}
@@ -9,7 +9,7 @@ use Rattle.qr_bits.specs.declared.segmentation.Segment.{Segment}
 use Rattle.qr_bits.specs.declared.place.Place.{Place}
 use Rattle.qr_bits.specs.declared.place.Place.TheVariants.{Digit1, Digit2, Character1, HalfPair, WholePair}
 use Rattle.qr_bits.specs.Modes.{is_digit, is_alphanumeric, in_twos, is_kanji_pair, may_use, suits}
-use Rattle.qr_bits.specs.Segmentation.{Covers, rank, with_front, runs_of}
+use Rattle.qr_bits.specs.Segmentation.{Covers, rank, prepend_mode, runs_of}
 use Rattle.qr_bits.proofs.CoverLemmas.{CoversInTurn, in_turn, from_turn}
 use Rattle.qr_bits.specs.Steps.Place.{place_after, begins, may_begin, may_take, may_end, allowed}
 use Rattle.qr_bits.proofs.BestLemmas.{same_rank}
@@ -28,8 +28,8 @@ CoversBy test xs [] = xs ≡ []
 CoversBy test xs (s ∷ ss) = (0 < s.len) × (s.len ≤ length xs) × IsTrue (suits_by test s.mode (take s.len xs)) × CoversBy test (drop s.len xs) ss
 
 -- a valid assignment, where two bytes are a pair if they pass the test
-abbrev pub IsLetteringBy : (ℕ → ℕ → Bool) → Rule → List ℕ → List Mode → Type 0
-IsLetteringBy test r xs ms = IsTrue (list_all (may_use r) ms) × CoversBy test xs (runs_of ms)
+abbrev pub IsAssignmentBy : (ℕ → ℕ → Bool) → Rule → List ℕ → List Mode → Type 0
+IsAssignmentBy test r xs ms = IsTrue (list_all (may_use r) ms) × CoversBy test xs (runs_of ms)
 
 -- with the test for kanji pairs, this is `suits`
 suits-by : (m : Mode) (xs : List ℕ) → suits m xs ≡ suits_by is_kanji_pair m xs
@@ -61,14 +61,14 @@ abbrev Positive : List Segment → Type 0
 Positive [] = Unit {0}
 Positive (s ∷ ss) = (0 < s.len) × Positive ss
 
-Positive-with_front : (m : Mode) (segs : List Segment) → Positive segs → Positive (with_front m segs)
-Positive-with_front m [] h = (lit< tt, tt)
-Positive-with_front m (s ∷ ss) h = cond_both (rank m == rank s.mode) _ _ (λ (r : List Segment). Positive r) (λ _. (omega arith, h.1)) (λ _. (lit< tt, h))
+Positive-prepend_mode : (m : Mode) (segs : List Segment) → Positive segs → Positive (prepend_mode m segs)
+Positive-prepend_mode m [] h = (lit< tt, tt)
+Positive-prepend_mode m (s ∷ ss) h = cond_both (rank m == rank s.mode) _ _ (λ (r : List Segment). Positive r) (λ _. (omega arith, h.1)) (λ _. (lit< tt, h))
 
 Positive-runs_of : (ms : List Mode) → Positive (runs_of ms)
 unfolding runs_of
 Positive-runs_of [] = tt
-Positive-runs_of (m ∷ ms) = Positive-with_front m (runs_of ms) (Positive-runs_of ms)
+Positive-runs_of (m ∷ ms) = Positive-prepend_mode m (runs_of ms) (Positive-runs_of ms)
 
 -- ---- one byte in a mode other than kanji mode
 
@@ -84,7 +84,7 @@ suits_uncons test Alphanumeric x xs k h = let p = and_parts (is_alphanumeric x) 
 suits_uncons test Byte x xs k h = (refl, refl)
 suits_uncons test Kanji x xs k h = absurd (omega arith)
 
-add_one : (test : ℕ → ℕ → Bool) (m : Mode) (x : ℕ) (xs : List ℕ) (segs : List Segment) → rank m < 3 → suits_by test m (x ∷ []) ≡ true → CoversBy test xs segs → CoversBy test (x ∷ xs) (with_front m segs)
+add_one : (test : ℕ → ℕ → Bool) (m : Mode) (x : ℕ) (xs : List ℕ) (segs : List Segment) → rank m < 3 → suits_by test m (x ∷ []) ≡ true → CoversBy test xs segs → CoversBy test (x ∷ xs) (prepend_mode m segs)
 unfolding CoversBy
 add_one test m x xs [] k h c = (lit< tt, omega arith, h, c)
 add_one test m x xs (s ∷ ss) k h c =
@@ -96,7 +96,7 @@ add_one test m x xs (s ∷ ss) k h c =
     (omega arith, omega arith, rw one (suits_cons test m x (take s.len xs) k h t), rw one c.3))
     (λ e. (lit< tt, omega arith, h, c))
 
-drop_one : (test : ℕ → ℕ → Bool) (m : Mode) (x : ℕ) (xs : List ℕ) (segs : List Segment) → rank m < 3 → Positive segs → CoversBy test (x ∷ xs) (with_front m segs) → (suits_by test m (x ∷ []) ≡ true) × CoversBy test xs segs
+drop_one : (test : ℕ → ℕ → Bool) (m : Mode) (x : ℕ) (xs : List ℕ) (segs : List Segment) → rank m < 3 → Positive segs → CoversBy test (x ∷ xs) (prepend_mode m segs) → (suits_by test m (x ∷ []) ≡ true) × CoversBy test xs segs
 unfolding CoversBy
 drop_one test m x xs [] k p c = (c.2, c.3)
 drop_one test m x xs (s ∷ ss) k p c =
@@ -112,7 +112,7 @@ drop_one test m x xs (s ∷ ss) k p c =
     c
 
 -- segments with one more mode cover at least one byte
-none_left : (test : ℕ → ℕ → Bool) (m : Mode) (segs : List Segment) → CoversBy test [] (with_front m segs) → ⊥
+none_left : (test : ℕ → ℕ → Bool) (m : Mode) (segs : List Segment) → CoversBy test [] (prepend_mode m segs) → ⊥
 unfolding CoversBy
 none_left test m [] c = absurd (omega (arith, c.1))
 none_left test m (s ∷ ss) c =
@@ -120,11 +120,11 @@ none_left test m (s ∷ ss) c =
 
 -- ---- two bytes in kanji mode
 
-add_pair : (test : ℕ → ℕ → Bool) (x y : ℕ) (xs : List ℕ) (segs : List Segment) → test x y ≡ true → CoversBy test xs segs → CoversBy test (x ∷ y ∷ xs) (with_front Kanji (with_front Kanji segs))
+add_pair : (test : ℕ → ℕ → Bool) (x y : ℕ) (xs : List ℕ) (segs : List Segment) → test x y ≡ true → CoversBy test xs segs → CoversBy test (x ∷ y ∷ xs) (prepend_mode Kanji (prepend_mode Kanji segs))
 unfolding CoversBy
 add_pair test x y xs [] h c = (lit< tt, omega arith, and_from (test x y) true h refl, c)
 add_pair test x y xs (s ∷ ss) h c =
-    cond_both (3 == rank s.mode) _ _ (λ (r : List Segment). CoversBy test (x ∷ y ∷ xs) (with_front Kanji r))
+    cond_both (3 == rank s.mode) _ _ (λ (r : List Segment). CoversBy test (x ∷ y ∷ xs) (prepend_mode Kanji r))
     (λ e.
     let same = same_rank Kanji s.mode (eqb-true _ _ e) in
     let t : in_twos test (take s.len xs) ≡ true = subst (λ (m : Mode). suits_by test m (take s.len xs) ≡ true) (sym same) c.2 in
@@ -132,11 +132,11 @@ add_pair test x y xs (s ∷ ss) h c =
     (omega arith, omega arith, rw two (and_from (test x y) _ h t), rw two c.3))
     (λ e. (lit< tt, omega arith, and_from (test x y) true h refl, c))
 
-drop_pair : (test : ℕ → ℕ → Bool) (x y : ℕ) (xs : List ℕ) (segs : List Segment) → Positive segs → CoversBy test (x ∷ y ∷ xs) (with_front Kanji (with_front Kanji segs)) → (test x y ≡ true) × CoversBy test xs segs
+drop_pair : (test : ℕ → ℕ → Bool) (x y : ℕ) (xs : List ℕ) (segs : List Segment) → Positive segs → CoversBy test (x ∷ y ∷ xs) (prepend_mode Kanji (prepend_mode Kanji segs)) → (test x y ≡ true) × CoversBy test xs segs
 unfolding CoversBy
 drop_pair test x y xs [] p c = ((and_parts (test x y) true c.2).0, c.3)
 drop_pair test x y xs (s ∷ ss) p c =
-    cond_both (3 == rank s.mode) _ _ (λ (r : List Segment). CoversBy test (x ∷ y ∷ xs) (with_front Kanji r) → (test x y ≡ true) × CoversBy test xs (s ∷ ss))
+    cond_both (3 == rank s.mode) _ _ (λ (r : List Segment). CoversBy test (x ∷ y ∷ xs) (prepend_mode Kanji r) → (test x y ≡ true) × CoversBy test xs (s ∷ ss))
     (λ e c.
     let same = same_rank Kanji s.mode (eqb-true _ _ e) in
     let two : 1 + (1 + s.len) ≡ suc (suc s.len) = omega arith in
@@ -148,23 +148,23 @@ drop_pair test x y xs (s ∷ ss) p c =
     c
 
 -- a single byte in kanji mode before another mode is not valid
-half_before : (test : ℕ → ℕ → Bool) (m : Mode) (n x : ℕ) (xs : List ℕ) (ss : List Segment) → rank m < 3 → CoversBy test (x ∷ xs) (with_front Kanji (record { mode = m; len = n } ∷ ss)) → ⊥
+half_before : (test : ℕ → ℕ → Bool) (m : Mode) (n x : ℕ) (xs : List ℕ) (ss : List Segment) → rank m < 3 → CoversBy test (x ∷ xs) (prepend_mode Kanji (record { mode = m; len = n } ∷ ss)) → ⊥
 unfolding CoversBy
 half_before test Numeric n x xs ss k c = false≢true c.2
 half_before test Alphanumeric n x xs ss k c = false≢true c.2
 half_before test Byte n x xs ss k c = false≢true c.2
 half_before test Kanji n x xs ss k c = absurd (omega arith)
 
-half : (test : ℕ → ℕ → Bool) (m : Mode) (x : ℕ) (xs : List ℕ) (segs : List Segment) → rank m < 3 → CoversBy test (x ∷ xs) (with_front Kanji (with_front m segs)) → ⊥
+half : (test : ℕ → ℕ → Bool) (m : Mode) (x : ℕ) (xs : List ℕ) (segs : List Segment) → rank m < 3 → CoversBy test (x ∷ xs) (prepend_mode Kanji (prepend_mode m segs)) → ⊥
 unfolding CoversBy
 half test m x xs [] k c = half_before test m 1 x xs [] k c
 half test m x xs (s ∷ ss) k c =
-    cond_both (rank m == rank s.mode) _ _ (λ (r : List Segment). CoversBy test (x ∷ xs) (with_front Kanji r) → ⊥)
+    cond_both (rank m == rank s.mode) _ _ (λ (r : List Segment). CoversBy test (x ∷ xs) (prepend_mode Kanji r) → ⊥)
     (λ e c. half_before test m (1 + s.len) x xs ss k c)
     (λ e c. half_before test m 1 x xs (s ∷ ss) k c)
     c
 
-alone : (test : ℕ → ℕ → Bool) (x : ℕ) (segs : List Segment) → Positive segs → CoversBy test (x ∷ []) (with_front Kanji segs) → ⊥
+alone : (test : ℕ → ℕ → Bool) (x : ℕ) (segs : List Segment) → Positive segs → CoversBy test (x ∷ []) (prepend_mode Kanji segs) → ⊥
 unfolding CoversBy
 alone test x [] p c = false≢true c.2
 alone test x (s ∷ ss) p c =
@@ -205,14 +205,14 @@ one_taken test r Kanji x pair k u h = absurd (omega arith)
 abbrev CanTake : (ℕ → ℕ → Bool) → Rule → List ℕ → List Mode → Type 0
 CanTake test r xs ms = (p : Place) → may_end p ≡ true → allowed r test p xs ms ≡ true
 
-one_can : (test : ℕ → ℕ → Bool) (r : Rule) (m : Mode) (x : ℕ) (xs : List ℕ) (ms : List Mode) → rank m < 3 → (IsLetteringBy test r xs ms → CanTake test r xs ms) → IsLetteringBy test r (x ∷ xs) (m ∷ ms) → CanTake test r (x ∷ xs) (m ∷ ms)
+one_can : (test : ℕ → ℕ → Bool) (r : Rule) (m : Mode) (x : ℕ) (xs : List ℕ) (ms : List Mode) → rank m < 3 → (IsAssignmentBy test r xs ms → CanTake test r xs ms) → IsAssignmentBy test r (x ∷ xs) (m ∷ ms) → CanTake test r (x ∷ xs) (m ∷ ms)
 unfolding allowed runs_of
 one_can test r m x xs ms k rest h p e =
     let uses = and_parts (may_use r m) (list_all (may_use r) ms) h.0 in
     let parts = drop_one test m x xs (runs_of ms) k (Positive-runs_of ms) h.1 in
     and_from _ _ (take_begin r p x (begins r test (x ∷ xs)) m e ∙ one_taken test r m x (begins r test (x ∷ xs)) k uses.0 parts.0) (rest (uses.1, parts.1) (place_after p m) (may_end-after p m k))
 
-pub can_take : (test : ℕ → ℕ → Bool) (r : Rule) (xs : List ℕ) (ms : List Mode) → IsLetteringBy test r xs ms → CanTake test r xs ms
+pub can_take : (test : ℕ → ℕ → Bool) (r : Rule) (xs : List ℕ) (ms : List Mode) → IsAssignmentBy test r xs ms → CanTake test r xs ms
 unfolding CoversBy runs_of allowed may_take may_begin begins place_after may_end
 can_take test r [] [] h p e = e
 can_take test r [] (m ∷ ms) h p e = absurd (none_left test m (runs_of ms) h.1)
@@ -233,7 +233,7 @@ can_take test r (x ∷ y ∷ xs) (Kanji ∷ Kanji ∷ ms) h p e =
     and_from _ _ (take_begin r p x (may_use r Kanji && test x y) Kanji e ∙ and_from _ _ uses.0 parts.0) (rw (place_after-whole p e) rest)
 
 one_is : (test : ℕ → ℕ → Bool) (r : Rule) (m : Mode) (x : ℕ) (xs : List ℕ) (ms : List Mode) (p : Place) → rank m < 3 → may_end p ≡ true
-    → (allowed r test (place_after p m) xs ms ≡ true → IsLetteringBy test r xs ms) → allowed r test p (x ∷ xs) (m ∷ ms) ≡ true → IsLetteringBy test r (x ∷ xs) (m ∷ ms)
+    → (allowed r test (place_after p m) xs ms ≡ true → IsAssignmentBy test r xs ms) → allowed r test p (x ∷ xs) (m ∷ ms) ≡ true → IsAssignmentBy test r (x ∷ xs) (m ∷ ms)
 unfolding allowed runs_of
 one_is test r m x xs ms p k e rest h =
     let parts = and_parts _ _ h in
@@ -242,24 +242,24 @@ one_is test r m x xs ms p k e rest h =
     (and_from _ _ taken.0 rest.0, add_one test m x xs (runs_of ms) k taken.1 rest.1)
 
 -- What is allowed is a valid assignment.
-pub is_lettering : (test : ℕ → ℕ → Bool) (r : Rule) (xs : List ℕ) (ms : List Mode) (p : Place) → may_end p ≡ true → allowed r test p xs ms ≡ true → IsLetteringBy test r xs ms
+pub is_assignment : (test : ℕ → ℕ → Bool) (r : Rule) (xs : List ℕ) (ms : List Mode) (p : Place) → may_end p ≡ true → allowed r test p xs ms ≡ true → IsAssignmentBy test r xs ms
 unfolding CoversBy runs_of allowed may_take may_begin begins place_after may_end
-is_lettering test r [] [] p e h = (refl, refl)
-is_lettering test r [] (m ∷ ms) p e h = absurd (false≢true h)
-is_lettering test r (x ∷ xs) [] p e h = absurd (false≢true h)
-is_lettering test r (x ∷ xs) (Numeric ∷ ms) p e h = one_is test r Numeric x xs ms p (lit< tt) e (is_lettering test r xs ms (place_after p Numeric) (may_end-after p Numeric (lit< tt))) h
-is_lettering test r (x ∷ xs) (Alphanumeric ∷ ms) p e h = one_is test r Alphanumeric x xs ms p (lit< tt) e (is_lettering test r xs ms (place_after p Alphanumeric) (may_end-after p Alphanumeric (lit< tt))) h
-is_lettering test r (x ∷ xs) (Byte ∷ ms) p e h = one_is test r Byte x xs ms p (lit< tt) e (is_lettering test r xs ms (place_after p Byte) (may_end-after p Byte (lit< tt))) h
-is_lettering test r (x ∷ []) (Kanji ∷ ms) p e h =
+is_assignment test r [] [] p e h = (refl, refl)
+is_assignment test r [] (m ∷ ms) p e h = absurd (false≢true h)
+is_assignment test r (x ∷ xs) [] p e h = absurd (false≢true h)
+is_assignment test r (x ∷ xs) (Numeric ∷ ms) p e h = one_is test r Numeric x xs ms p (lit< tt) e (is_assignment test r xs ms (place_after p Numeric) (may_end-after p Numeric (lit< tt))) h
+is_assignment test r (x ∷ xs) (Alphanumeric ∷ ms) p e h = one_is test r Alphanumeric x xs ms p (lit< tt) e (is_assignment test r xs ms (place_after p Alphanumeric) (may_end-after p Alphanumeric (lit< tt))) h
+is_assignment test r (x ∷ xs) (Byte ∷ ms) p e h = one_is test r Byte x xs ms p (lit< tt) e (is_assignment test r xs ms (place_after p Byte) (may_end-after p Byte (lit< tt))) h
+is_assignment test r (x ∷ []) (Kanji ∷ ms) p e h =
     absurd (false≢true (sym (take_begin r p x false Kanji e) ∙ (and_parts (may_take r p x false Kanji) _ h).0))
-is_lettering test r (x ∷ y ∷ xs) (Kanji ∷ []) p e h = absurd (false≢true (and_parts (may_take r p x (may_use r Kanji && test x y) Kanji) false h).1)
-is_lettering test r (x ∷ y ∷ xs) (Kanji ∷ Kanji ∷ ms) p e h =
+is_assignment test r (x ∷ y ∷ xs) (Kanji ∷ []) p e h = absurd (false≢true (and_parts (may_take r p x (may_use r Kanji && test x y) Kanji) false h).1)
+is_assignment test r (x ∷ y ∷ xs) (Kanji ∷ Kanji ∷ ms) p e h =
     let parts = and_parts (may_take r p x (may_use r Kanji && test x y) Kanji) _ h in
     let first = and_parts (may_use r Kanji) (test x y) (sym (take_begin r p x (may_use r Kanji && test x y) Kanji e) ∙ parts.0) in
     let second : allowed r test HalfPair (y ∷ xs) (Kanji ∷ ms) ≡ true = rw (place_after-whole p e) at parts.1 in
-    let rest = is_lettering test r xs ms WholePair refl second in
+    let rest = is_assignment test r xs ms WholePair refl second in
     (and_from _ _ first.0 (and_from _ _ first.0 rest.0), add_pair test x y xs (runs_of ms) first.1 rest.1)
-is_lettering test r (x ∷ y ∷ xs) (Kanji ∷ m ∷ ms) p e h =
+is_assignment test r (x ∷ y ∷ xs) (Kanji ∷ m ∷ ms) p e h =
     let parts = and_parts (may_take r p x (may_use r Kanji && test x y) Kanji) _ h in
     let second : allowed r test HalfPair (y ∷ xs) (m ∷ ms) ≡ true = rw (place_after-whole p e) at parts.1 in
     absurd (false≢true second)

@@ -7,7 +7,7 @@ use Rattle.qr_bits.specs.declared.segmentation.Segment.{Segment}
 use Rattle.qr_bits.specs.declared.place.Place.{Place}
 use Rattle.qr_bits.specs.declared.place.Place.TheVariants.{Start, Digit1, Digit2, Digit3, Character1, Character2, InBytes, HalfPair, WholePair}
 use Rattle.qr_bits.specs.Modes.{count_width, payload_bits}
-use Rattle.qr_bits.specs.Segmentation.{segment_bits, bits, rank, with_front, runs_of}
+use Rattle.qr_bits.specs.Segmentation.{segment_bits, bits, rank, prepend_mode, runs_of}
 use Rattle.qr_bits.specs.Steps.Place.{place_after, step_bits, walk}
 use Rattle.qr_bits.proofs.BestLemmas.{same_rank}
 
@@ -139,7 +139,7 @@ front_same v p m n ss =
 
 -- the bits of one more byte before segments
 front : (v : ℕ) (p : Place) (m : Mode) (segs : List Segment)
-    → step_bits v p m + rest_bits v (place_after p m) segs ≡ rest_bits v p (with_front m segs)
+    → step_bits v p m + rest_bits v (place_after p m) segs ≡ rest_bits v p (prepend_mode m segs)
 unfolding walk
 front v p m [] = omega (arith, one_run v p m 0)
 front v p m (s ∷ ss) =
