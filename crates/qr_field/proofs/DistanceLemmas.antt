@@ -76,8 +76,8 @@ value-none i (c ∷ p) e = elim (cases_eq c 0) [
 
 -- ---- one coefficient less
 
--- each coefficient of a polynomial, times the sum of 2 to its own exponent and 2 to the power k; the coefficient of
--- exponent k becomes 0 by this
+-- each coefficient of a polynomial, times the sum of two powers of 2: that to the exponent of this coefficient, and that
+-- to k; the coefficient of exponent k becomes 0 by this
 abbrev lowered : ℕ → List ℕ → List ℕ
 lowered k [] = []
 lowered k (c ∷ p) = product c (bit_xor (power (length p)) (power k)) ∷ lowered k p

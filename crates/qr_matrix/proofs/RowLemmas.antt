@@ -24,8 +24,8 @@ size-counts words q e = count_below-same 192 (has words) q (λ c _. e c)
 
 -- ---- neighbours of one colour
 
--- if bit r is set just where module c is not the last one and does not differ from the module after it, then r is set just
--- where module c is joined to the module after it
+-- if bit r is set just where module c is not the last module and does not differ from the module after it, then r is set
+-- just where module c is joined to the module after it
 pub joins-bit : (s : ℕ) (line : ℕ → Bool) (c : ℕ) (r i d y : Bool) → 0 < s → r ≡ (i && not d) → i ≡ ltb c (s - 1) → d ≡ not (is_same (line c) y) → y ≡ line (c + 1) → r ≡ joins s line c
 unfolding joins
 joins-bit s line c r i d y h e f g k =
@@ -34,7 +34,7 @@ joins-bit s line c r i d y h e f g k =
     let n : i ≡ ltb (c + 1) s = f ∙ l in
     e ∙ (ap (λ z. z && not d) n ∙ ap (λ z. ltb (c + 1) s && z) m)
 
--- no module c from the last one on is joined to a module after it
+-- neither the last module nor a module c past the side is joined to a module after it
 pub joins-past : (s : ℕ) (line : ℕ → Bool) (c : ℕ) → s ≤ c + 1 → joins s line c ≡ false
 unfolding joins
 joins-past s line c h = false-and (ltb (c + 1) s) (is_same (line c) (line (c + 1))) (grind (arith, nat_tests))
@@ -68,8 +68,8 @@ unfolding begins_long_run
 run-bit s line j c r f u h e g k = let a = h (c - 1) in cc
 
 -- if the bit row j has bit c set just where module c is joined to the module after it, f is the conjunction of j and of j
--- moved by 1, 2 and 3, and u is j moved up by one bit, then the number of set bits of f, plus twice the number of bits
--- that are set in f but not in u, is the cost of the runs
+-- moved down by 1, 2 and 3 bits, and u is j moved up by one bit, then the number of set bits of f, plus twice the number
+-- of bits that are set in f but not in u, is the cost of the runs
 pub row_cost : (s n : ℕ) (line : ℕ → Bool) (j f u : List ℕ) → s ≤ 192 → ((c : ℕ) → has j c ≡ joins s line c) → ((c : ℕ) → has f c ≡ ((has j c && has j (c + 1)) && (has j (c + 2) && has j (c + 3)))) → ((c : ℕ) → c < 192 → has u c ≡ (ltb 0 c && has j (c - 1))) → n ≡ size_of f + 2 * count_below 192 (λ c. has f c && not (has u c)) → n ≡ place_cost s line
 unfolding place_cost
 row_cost s n line j f u l hj hf hu e =

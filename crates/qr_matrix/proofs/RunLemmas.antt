@@ -30,8 +30,8 @@ all_below-false (suc k) p i h e = elim (cases_lt i k) [
 
 -- ---- the number of modules after a module that belong to its run
 
--- the number of modules after module a that belong to its run, if n modules from a on are left, and j is the test of a
--- module that is joined to the module after it
+-- the number of modules that module a has ahead, which are the modules after a that belong to its run; n modules are left
+-- from a on, and j is the test of a module that is joined to the module after it
 unfoldable ahead : (ℕ → Bool) → ℕ → ℕ → ℕ
 ahead j zero a = 0
 ahead j (suc n) a = cond (j a) (suc (ahead j n (a + 1))) 0
@@ -61,7 +61,7 @@ joins-true s line a h =
     let t = e.0 in
     (grind (arith, nat_tests), sym (same-true (line a) (line (a + 1)) e.1))
 
--- if module a is not joined to the module after it, then module a is the last one, or the module after it has another
+-- if module a is not joined to the module after it, then module a is the last module, or the module after it has another
 -- colour
 joins-false : (s : ℕ) (line : ℕ → Bool) (a : ℕ) → joins s line a ≡ false → (s ≤ a + 1) ⊎ (is_same (line a) (line (a + 1)) ≡ false)
 unfolding joins
@@ -81,7 +81,7 @@ unfolding ahead
 ahead-false j zero a e = refl
 ahead-false j (suc n) a e = ap (λ z. cond z (suc (ahead j n (a + 1))) 0) e
 
--- if module a has k modules or more ahead, then there is a module a + k, and it has the colour of module a
+-- if module a has at least k modules ahead, then module a + k is not past the side and has the colour of module a
 stretch : (s : ℕ) (line : ℕ → Bool) (n a k : ℕ) → a + n ≡ s → 0 < n → k ≤ ahead (joins s line) n a → (a + k < s) × (line (a + k) ≡ line a)
 stretch s line zero a k e p h = absurd (omega arith)
 stretch s line (suc n) a zero e p h = (omega arith, ap line (plain a))
@@ -202,8 +202,8 @@ is_run-is s line a k l =
 
 -- ---- the sum over the lengths
 
--- in the sum of costs over all lengths k of maximal runs that begin at module a, only the term of the length of the run of
--- a is counted
+-- the sum of the costs of the maximal runs of k modules that begin at module a, over all lengths k, is the cost of the run
+-- of module a, if this run begins at a and has at least 5 modules, else 0
 run_at : (s : ℕ) (line : ℕ → Bool) (a : ℕ) → a < s → sum_below (s + 1) (λ k. cond (leb 5 k && is_run s line a k) (k - 2) 0) ≡ cond (leb 5 (run_len s line a) && heads line a) (run_len s line a - 2) 0
 run_at s line a l =
     let m = run_len s line a in
@@ -222,7 +222,7 @@ run_at s line a l =
 
 -- ---- module by module
 
--- the number of modules after module a that belong to its run
+-- the number of modules that module a has ahead, in a row or column of s modules
 abbrev left : ℕ → (ℕ → Bool) → ℕ → ℕ
 left s line a = ahead (joins s line) (s - a) a
 
@@ -242,8 +242,9 @@ left-is s line a = elim (cases_lt a s) [
     step : (j : ℕ → Bool) (n a : ℕ) → ahead j (suc n) a ≡ cond (j a) (suc (ahead j n (a + 1))) 0
     step j n a = refl
 
--- if a, b, c, d and e are the modules ahead of five modules, one after another, of which i, j, k and l say if they are
--- joined, then i, j, k and l are all true just when a is at least 4
+-- if a module and the four modules after it have `a`, b, c, d and e modules ahead, and i, j, k and l are the tests that
+-- the first four of these modules are joined to the module after them, then i, j, k and l all pass just when `a` is at
+-- least 4
 five-from : (a b c d e : ℕ) (i j k l : Bool) → a ≡ cond i (suc b) 0 → b ≡ cond j (suc c) 0 → c ≡ cond k (suc d) 0 → d ≡ cond l (suc e) 0 → ((i && j) && (k && l)) ≡ leb 4 a
 five-from a b c d e true true true true p q r s = grind (arith, nat_tests)
 five-from a b c d e true true true false p q r s = grind (arith, nat_tests)
@@ -280,30 +281,30 @@ heads-is s line a h = elim (cases_lt 0 a) [
       ap (λ z. z || not (is_same (line (a - 1)) (line a))) e ∙ ap (λ z. not (z && (ltb (a - 1 + 1) s && is_same (line (a - 1)) (line (a - 1 + 1))))) (sym f)
 ]
 
--- the cost of the maximal run that begins at module a, or 0 if it is shorter than 5 modules or no run begins at a
+-- the cost of the maximal run that begins at module a, or 0 if no run begins at a or the run is shorter than 5 modules
 abbrev cost_at : ℕ → (ℕ → Bool) → ℕ → ℕ
 cost_at s line a = cond (leb 5 (run_len s line a) && heads line a) (run_len s line a - 2) 0
 
--- the cost that is counted at module a: 1 if five modules of one colour begin there, and 2 more if a long run begins there
+-- the cost that is counted at module a: 1 if five modules of one colour begin at a, and 2 more if a run of five modules or
+-- more begins at a
 abbrev place_at : ℕ → (ℕ → Bool) → ℕ → ℕ
 place_at s line a = cond (begins_five s line a) 1 0 + 2 * cond (begins_long_run s line a) 1 0
 
--- the number of modules from a on at which five modules of one colour begin within the run of module a, if this run began
--- before a, else 0
+-- the open cost at module a: if the run of module a begins before a, the number of modules of this run from a on at which
+-- five modules of one colour begin, else 0
 abbrev open_at : ℕ → (ℕ → Bool) → ℕ → ℕ
 open_at s line a = cond (ltb 0 a && joins s line (a - 1)) (left s line a - 3) 0
 
--- if a modules are ahead of a module and b ahead of the module after it, j says if these two modules are joined, and f if
--- the module is joined to the module before it, then the cost counted at this module plus what is open after it equals the
--- cost of the run that begins there plus what is open at it
+-- if a module has `a` modules ahead, the module after it has `b` modules ahead, j is the test that these two modules are
+-- joined, and f the test that the module is joined to the module before it, then the cost counted at the module plus the
+-- open cost at the module after it equals the cost of the run that begins at the module plus the open cost at the module
 balance : (a b : ℕ) (j f : Bool) → a ≡ cond j (suc b) 0 → cond (leb 4 a) 1 0 + 2 * cond (leb 4 a && not f) 1 0 + cond j (b - 3) 0 ≡ cond (leb 5 (suc a) && not f) (suc a - 2) 0 + cond f (a - 3) 0
 balance a b true true e = grind (arith, nat_tests)
 balance a b true false e = grind (arith, nat_tests)
 balance a b false true e = grind (arith, nat_tests)
 balance a b false false e = grind (arith, nat_tests)
 
--- at module a + 1 the number of fives that are open is the number of modules ahead less 3 if module a is joined to it,
--- else 0
+-- the open cost at module a + 1 is the number of modules that it has ahead, less 3, if module a is joined to it, else 0
 open-next : (s : ℕ) (line : ℕ → Bool) (a : ℕ) → open_at s line (a + 1) ≡ cond (joins s line a) (left s line (a + 1) - 3) 0
 open-next s line a =
     let e : ltb 0 (a + 1) ≡ true = grind (arith, nat_tests) in
@@ -320,8 +321,8 @@ begins_long_run-is s line a = ap (λ z. z && not (ltb 0 a && joins s line (a - 1
 as-number : (a b : Bool) → a ≡ b → cond {A = ℕ} a 1 0 ≡ cond {A = ℕ} b 1 0
 as-number a b e = ap (λ z. cond {A = ℕ} z 1 0) e
 
--- the cost counted at module a plus what is open at module a + 1 equals the cost of the run that begins at a plus what is
--- open at a
+-- the cost counted at module a plus the open cost at module a + 1 equals the cost of the run that begins at a plus the
+-- open cost at a
 place-step : (s : ℕ) (line : ℕ → Bool) (a : ℕ) → a < s → place_at s line a + open_at s line (a + 1) ≡ cost_at s line a + open_at s line a
 place-step s line a h =
     let f = ltb 0 a && joins s line (a - 1) in
@@ -332,7 +333,7 @@ place-step s line a h =
     let t = ap (λ z. cond (leb 5 (run_len s line a) && z) (run_len s line a - 2) 0) (heads-is s line a h) in
     omega arith
 
--- the cost counted at the first n modules plus what is open at module n equals the cost of the runs that begin at the
+-- the cost counted at the first n modules plus the open cost at module n equals the cost of the runs that begin at the
 -- first n modules
 places-sum : (s : ℕ) (line : ℕ → Bool) (n : ℕ) → n ≤ s → sum_below n (place_at s line) + open_at s line n ≡ sum_below n (cost_at s line)
 places-sum s line zero h = refl
@@ -343,7 +344,7 @@ places-sum s line (suc n) h =
     let f = ap (open_at s line) e in
     omega arith
 
--- at module s, which is past the last one, 0 is open
+-- the open cost past the last module, at s, is 0
 open-end : (s : ℕ) (line : ℕ → Bool) → open_at s line s ≡ 0
 open-end s line = elim (cases_lt 0 s) [
   | inl h ↦ ap (λ z. cond z (left s line s - 3) 0) (and-false (ltb 0 s) (joins s line (s - 1)) (joins-past s line (s - 1) (omega arith)))

@@ -43,8 +43,8 @@ window-down-bit s line c r x a b h ex ea eb =
     common true a b = refl
     common false a b = refl
 
--- if at most ten rows are left from row r on, then no window of column c begins in row r, so a bit x that is not set is
--- right
+-- if at most ten rows are left from row r on, then no window of column c begins in row r, and a bit x that is not set
+-- agrees with this
 pub window-down-none : (s : ℕ) (line : ℕ → Bool) (c r : ℕ) (x : Bool) → s < r + 11 → x ≡ false → x ≡ (ltb c s && is_window s line r)
 unfolding is_window
 window-down-none s line c r x h e = e ∙ sym (and-false (ltb c s) _ (false-and (leb (r + 11) s) (reads line r tail_window || reads line r head_window) (grind (arith, nat_tests))))
