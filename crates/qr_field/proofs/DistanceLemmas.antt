@@ -1,5 +1,5 @@
--- A list whose first n values are 0 has more than n coefficients that are not 0, or no such coefficient. So two blocks with
--- n error correction codewords differ in more than n codewords, or in none.
+-- If the values of a polynomial at the first n powers of 2 are 0, then more than n of its coefficients are not 0, or every
+-- coefficient is 0. So two blocks with n error correction codewords each are equal or differ in more than n codewords.
 use Rattle.std.proofs.Common.{◌≡◌, ℕ, zero, suc, ◌+◌, ◌-◌, ◌*◌, ◌<◌, ◌≤◌, Option, None, Some, List, [], ◌∷◌, ◌++◌, length, map, take, refl, sym, ap, ◌∙◌, inl, inr, arith, bit_xor, length-append}
 use Rattle.std.specs.List.{All}
 use Rattle.std.specs.Int.Bits.{xor_zero_l, xor_zero_r, xor_self}
@@ -21,27 +21,28 @@ use Rattle.qr_field.proofs.ValueLemmas.{value-lt, value-zero, value-plus, block-
 
 -- ---- coefficients that are not 0
 
--- the number of coefficients that are not 0
+-- the number of coefficients of a polynomial that are not 0
 abbrev pub weight : List ℕ → ℕ
 weight [] = 0
 weight (c ∷ p) = difference c 0 + weight p
 
--- codewords that agree
+-- two equal codewords x and y count as 0 differences
 pub difference-same : (x y : ℕ) → x ≡ y → difference x y ≡ 0
 difference-same x y e = rw (eq-eqb x y e)
 
--- codewords that differ
+-- two different codewords x and y count as 1 difference
 pub difference-other : (x y : ℕ) → (x ≡ y → ⊥) → difference x y ≡ 1
 difference-other x y n = rw (ne_eqb x y n)
 
--- where two pairs agree and differ together
+-- if x equals y just when u equals v, then x and y count as many differences as u and v
 pub difference-alike : (x y u v : ℕ) → (x ≡ y → u ≡ v) → (u ≡ v → x ≡ y) → difference x y ≡ difference u v
 difference-alike x y u v f g = elim (cases_eq x y) [
   | inl e ↦ difference-same x y e ∙ sym (difference-same u v (f e))
   | inr n ↦ difference-other x y n ∙ sym (difference-other u v (λ e. n (g e)))
 ]
 
--- the weight of a sum is the number of places in which its lists differ
+-- if xs and ys are equally long, then the number of coefficients of their sum that are not 0 is the number of positions at
+-- which xs and ys differ
 pub weight-plus : (xs ys : List ℕ) → length xs ≡ length ys → weight (plus xs ys) ≡ differences xs ys
 weight-plus [] [] e = refl
 weight-plus [] (y ∷ ys) e = absurd (omega arith)
@@ -52,7 +53,7 @@ weight-plus (x ∷ xs) (y ∷ ys) e =
     let f = weight-plus xs ys (omega arith) in
     omega (arith, one, f)
 
--- lists that differ nowhere are one
+-- if two lists xs and ys differ at 0 positions, then they are equal
 pub differences-none : (xs ys : List ℕ) → differences xs ys ≡ 0 → xs ≡ ys
 differences-none [] [] e = refl
 differences-none [] (y ∷ ys) e = absurd (omega (arith, e))
@@ -64,7 +65,7 @@ differences-none (x ∷ xs) (y ∷ ys) e = elim (cases_eq x y) [
   | inr n ↦ let one = difference-other x y n in absurd (omega (arith, e, one))
 ]
 
--- a list with no coefficient but 0 has the value 0
+-- if every coefficient of the polynomial p is 0, then the value of p at 2 to the power i is 0
 pub value-none : (i : ℕ) (p : List ℕ) → weight p ≡ 0 → value_at i p ≡ 0
 value-none i [] e = refl
 value-none i (c ∷ p) e = elim (cases_eq c 0) [
@@ -73,19 +74,20 @@ value-none i (c ∷ p) e = elim (cases_eq c 0) [
   | inr n ↦ let one = difference-other c 0 n in absurd (omega (arith, e, one))
 ]
 
--- ---- one place less
+-- ---- one coefficient less
 
--- each coefficient times the sum of the power of its own place and that of the place k
+-- each coefficient of a polynomial, times the sum of two powers of 2: that to the exponent of this coefficient, and that
+-- to k; the coefficient of exponent k becomes 0 by this
 abbrev lowered : ℕ → List ℕ → List ℕ
 lowered k [] = []
 lowered k (c ∷ p) = product c (bit_xor (power (length p)) (power k)) ∷ lowered k p
 
--- as many places
+-- `lowered k p` has as many coefficients as p
 length-lowered : (k : ℕ) (p : List ℕ) → length (lowered k p) ≡ length p
 length-lowered k [] = refl
 length-lowered k (c ∷ p) = ap suc (length-lowered k p)
 
--- and bytes
+-- if the coefficients of p are bytes, then the coefficients of `lowered k p` are bytes
 bytes-lowered : (k : ℕ) (p : List ℕ) → All IsByte p → All IsByte (lowered k p)
 bytes-lowered k [] a = All-nil IsByte
 bytes-lowered k (c ∷ p) a =
@@ -93,7 +95,8 @@ bytes-lowered k (c ∷ p) a =
     All-cons IsByte (product c factor) (lowered k p) (product-lt c factor (All-head IsByte c p a))
     (bytes-lowered k p (All-tail IsByte c p a))
 
--- if k is at least the length of a polynomial, `lowered k` makes none of its coefficients 0
+-- if k is below 255 and at least the number of coefficients of p, then `lowered k p` has as many coefficients that are not
+-- 0 as p
 weight-lowered : (k : ℕ) (p : List ℕ) → k < 255 → length p ≤ k → All IsByte p → weight (lowered k p) ≡ weight p
 weight-lowered k [] h l a = refl
 weight-lowered k (c ∷ p) h l a =
@@ -107,7 +110,8 @@ weight-lowered k (c ∷ p) h l a =
     let f = weight-lowered k p h (omega arith) (All-tail IsByte c p a) in
     omega (arith, one, f)
 
--- its values are sums of two values
+-- the value of `lowered k p` at 2 to the power i is the value of p at 2 to the power i + 1, plus 2 to the power k times
+-- the value of p at 2 to the power i
 value-lowered : (i k : ℕ) (p : List ℕ) → All IsByte p →
     value_at i (lowered k p) ≡ bit_xor (value_at (i + 1) p) (product (power k) (value_at i p))
 value-lowered i k [] a = sym (xor_zero_l (product (power k) 0) ∙ product-by_zero (power k) (power-lt k))
@@ -141,7 +145,8 @@ value-lowered i k (c ∷ p) a =
     ∙ (xor-swap (product c (power ((i + 1) * m))) (product other (product c place)) w (product other v)
     ∙ ap (bit_xor (bit_xor (product c (power ((i + 1) * m))) w)) joined))
 
--- where two values of a list are 0, so is the value of its tail that is lowered by its first place
+-- if the values of the polynomial c ∷ p are 0 at 2 to the powers i and i + 1, and p has m coefficients, then the value of
+-- `lowered m p` at 2 to the power i is 0
 lowered-root : (i c : ℕ) (p : List ℕ) → c < 256 → All IsByte p → value_at i (c ∷ p) ≡ 0 →
     value_at (i + 1) (c ∷ p) ≡ 0 → value_at i (lowered (length p) p) ≡ 0
 lowered-root i c p lc lp e f =
@@ -160,9 +165,9 @@ lowered-root i c p lc lp e f =
     ∙ (ap (product c) (sym (power-add m (i * m)) ∙ ap power (sym exponent)) ∙ next)) in
     value-lowered i m p lp ∙ (ap (bit_xor (value_at (i + 1) p)) same ∙ xor_self (value_at (i + 1) p))
 
--- ---- few coefficients
+-- ---- few coefficients that are not 0
 
--- the value at 1 of a coefficient before coefficients 0
+-- if every coefficient of p is 0, then the value of the polynomial c ∷ p at 1 is c
 value-alone : (c : ℕ) (p : List ℕ) → c < 256 → weight p ≡ 0 → value_at 0 (c ∷ p) ≡ c
 value-alone c p l e =
     let none : 0 * length p ≡ 0 = omega arith in
@@ -170,8 +175,8 @@ value-alone c p l e =
     ∙ (ap (λ t. bit_xor t (value_at 0 p)) (product-by_one c l)
     ∙ (ap (bit_xor c) (value-none 0 p e) ∙ xor_zero_r c))
 
--- a list of at most 255 coefficients, of which at most n are not 0, whose values at the first n powers are 0, has no
--- coefficient but 0
+-- if p has at most 255 coefficients, of which at most n are not 0, and the values of p at the first n powers of 2 are 0,
+-- then every coefficient of p is 0
 pub weight-none : (k n : ℕ) (p : List ℕ) → length p ≤ k → k ≤ 255 → All IsByte p → weight p ≤ n →
     ((i : ℕ) → i < n → value_at i p ≡ 0) → weight p ≡ 0
 weight-none k n [] l h a w r = refl
@@ -203,7 +208,8 @@ weight-none (suc k) n (c ∷ p) l h a w r =
 
 -- ---- blocks
 
--- blocks that differ in n places at most have the same data codewords
+-- if two blocks of at most 255 codewords, with n error correction codewords each and equally many data codewords d and d',
+-- differ in at most n codewords, then d equals d'
 pub near-same : (n : ℕ) (d e d' e' : List ℕ) → IsCorrection d n e → IsCorrection d' n e' → length d ≡ length d' →
     length d + n ≤ 255 → differences (d ++ e) (d' ++ e') ≤ n → d ≡ d'
 near-same n d e d' e' c c' s l w =
@@ -226,7 +232,8 @@ near-same n d e d' e' c c' s l w =
     front-same : (xs ys us vs : List ℕ) → length xs ≡ length ys → xs ++ us ≡ ys ++ vs → xs ≡ ys
     front-same xs ys us vs s e = sym (take_at xs us (length xs) refl) ∙ (ap (take (length xs)) e ∙ take_at ys vs (length xs) (sym s))
 
--- the law of distance
+-- if two blocks of at most 255 codewords, with n error correction codewords each and equally many data codewords d and d',
+-- have different data codewords, then the blocks differ in at least n + 1 codewords
 pub apart : (n : ℕ) (d e d' e' : List ℕ) → IsCorrection d n e → IsCorrection d' n e' → length d ≡ length d' →
     length d + n ≤ 255 → (d ≡ d' → ⊥) → n + 1 ≤ differences (d ++ e) (d' ++ e')
 apart n d e d' e' c c' s l o = elim (cases_lt n (differences (d ++ e) (d' ++ e'))) [
@@ -236,7 +243,7 @@ apart n d e d' e' c c' s l o = elim (cases_lt n (differences (d ++ e) (d' ++ e')
 
 -- ---- damage
 
--- two codewords and a third
+-- the difference of the codewords x and y is at most the difference of z and x plus the difference of z and y
 difference-between : (z x y : ℕ) → difference x y ≤ difference z x + difference z y
 difference-between z x y = elim (cases_eq x y) [
   | inl e ↦ let none = difference-same x y e in omega (arith, none)
@@ -250,20 +257,21 @@ difference-between z x y = elim (cases_eq x y) [
       ]
 ]
 
--- two lists and a third, and the length of one
+-- the length of xs is at most the number of differences of zs and xs plus the length of zs
 differences-length : (zs xs : List ℕ) → length xs ≤ differences zs xs + length zs
 differences-length [] xs = omega arith
 differences-length (z ∷ zs) [] = omega arith
 differences-length (z ∷ zs) (x ∷ xs) = let e = differences-length zs xs in omega (arith, e)
 
--- a place counts once at most
+-- two codewords x and y count as at most 1 difference
 pub difference-most : (x y : ℕ) → difference x y ≤ 1
 difference-most x y = elim (cases_eq x y) [
   | inl e ↦ let none = difference-same x y e in omega (arith, none)
   | inr n ↦ let one = difference-other x y n in omega (arith, one)
 ]
 
--- two lists and a third
+-- the number of differences of xs and ys is at most the number of differences of zs and xs plus the number of differences
+-- of zs and ys
 differences-between : (zs xs ys : List ℕ) → differences xs ys ≤ differences zs xs + differences zs ys
 differences-between [] [] ys = omega arith
 differences-between [] (x ∷ xs) [] = omega arith
@@ -278,7 +286,8 @@ differences-between (z ∷ zs) (x ∷ xs) (y ∷ ys) =
     let f = differences-between zs xs ys in
     omega (arith, e, f)
 
--- the law of damage
+-- if 2 * t is at most n and the list `damaged` differs from each of two blocks in at most t codewords, then the blocks
+-- have the same data codewords d and d'
 pub unambiguous : (n t : ℕ) (d e d' e' damaged : List ℕ) → IsCorrection d n e → IsCorrection d' n e' →
     length d ≡ length d' → length d + n ≤ 255 → 2 * t ≤ n → differences damaged (d ++ e) ≤ t →
     differences damaged (d' ++ e') ≤ t → d ≡ d'
@@ -286,14 +295,15 @@ unambiguous n t d e d' e' damaged c c' s l h a b =
     let f = differences-between damaged (d ++ e) (d' ++ e') in
     near-same n d e d' e' c c' s l (omega (arith, f, h, a, b))
 
--- what was read, and the length of a list
+-- the length of xs is at most the number of errors of rs against xs plus the length of rs
 errors-length : (rs : List (Option ℕ)) (xs : List ℕ) → length xs ≤ errors rs xs + length rs
 errors-length [] xs = omega arith
 errors-length (r ∷ rs) [] = omega arith
 errors-length (None ∷ rs) (x ∷ xs) = let e = errors-length rs xs in omega (arith, e)
 errors-length (Some z ∷ rs) (x ∷ xs) = let e = errors-length rs xs in omega (arith, e)
 
--- two lists and what was read
+-- the number of differences of xs and ys is at most the number of erasures of rs, plus the number of errors of rs against
+-- xs, plus the number of errors of rs against ys
 errors-between : (rs : List (Option ℕ)) (xs ys : List ℕ) →
     differences xs ys ≤ erasures rs + (errors rs xs + errors rs ys)
 errors-between [] [] ys = omega arith
@@ -314,7 +324,8 @@ errors-between (Some z ∷ rs) (x ∷ xs) (y ∷ ys) =
     let f = errors-between rs xs ys in
     omega (arith, e, f)
 
--- the law of damage of which some places are known
+-- if k codewords of the list `read` are erasures, `read` has at most t errors against each of two blocks, and k + 2 * t is
+-- at most n, then the blocks have the same data codewords d and d'
 pub unambiguous-known : (n t : ℕ) (d e d' e' : List ℕ) (read : List (Option ℕ)) → IsCorrection d n e →
     IsCorrection d' n e' → length d ≡ length d' → length d + n ≤ 255 → erasures read + 2 * t ≤ n →
     errors read (d ++ e) ≤ t → errors read (d' ++ e') ≤ t → d ≡ d'
@@ -322,12 +333,12 @@ unambiguous-known n t d e d' e' read c c' s l h a b =
     let f = errors-between read (d ++ e) (d' ++ e') in
     near-same n d e d' e' c c' s l (omega (arith, f, h, a, b))
 
--- a list of which each place was read has no erasures
+-- a list xs of which every codeword was read has 0 erasures
 pub erasures-read : (xs : List ℕ) → erasures (map (λ x. Some x) xs) ≡ 0
 erasures-read [] = refl
 erasures-read (x ∷ xs) = erasures-read xs
 
--- its errors are the places in which it differs
+-- if every codeword of xs was read, then the number of errors of xs against ys is the number of differences of xs and ys
 pub errors-read : (xs ys : List ℕ) → errors (map (λ x. Some x) xs) ys ≡ differences xs ys
 errors-read [] ys = refl
 errors-read (x ∷ xs) [] = ap suc (length-map xs (λ x. Some x))

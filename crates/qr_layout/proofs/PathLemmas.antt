@@ -1,4 +1,5 @@
--- The positions of a walk: each step leaves one place fewer, and fewer places left mean a later key.
+-- The positions of the walk: each step leaves one position fewer, and a position with fewer positions left has a later
+-- key.
 use Rattle.std.proofs.Common.{◌≡◌, ℕ, zero, suc, ◌+◌, ◌-◌, ◌*◌, ◌/◌, ◌%◌, ◌<◌, ◌≤◌, Bool, true, false, cond, eqb, sym, ap, ◌∙◌, inl, inr, ◌⊎◌, arith}
 use Rattle.std.proofs.Math.Nat.{mul-le-mul_right}
 use Rattle.std.proofs.lemmas.Bool.Decides.{nat_tests}
@@ -8,56 +9,57 @@ use Rattle.qr_layout.specs.Version.{side_of}
 use Rattle.qr_layout.specs.Order.{column_without_timing, Key, strip_of, key_of, is_before}
 use Rattle.qr_layout.specs.Steps.Order.{half_of, column_of, place_of, rank_of, left_of, next_of, IsCursor}
 
--- a positive number of times w is at least w
+-- if p is positive, then w is at most p * w
 pub mul-le_one : (p w : ℕ) → 0 < p → w ≤ p * w
 mul-le_one zero w h = absurd (omega arith)
 mul-le_one (suc p) w h = omega arith
 
--- one time more adds w
+-- if p is q + 1, then q * w + w equals p * w
 mul-add_one : (q p w : ℕ) → p ≡ q + 1 → q * w + w ≡ p * w
 mul-add_one q p w e = rw e (omega arith)
 
--- one time fewer leaves out w
+-- if p is positive, then (p - 1) * w + w equals p * w
 mul-pred : (p w : ℕ) → 0 < p → (p - 1) * w + w ≡ p * w
 mul-pred p w h = mul-add_one (p - 1) p w (omega arith)
 
--- a step leaves one place fewer
+-- in a square of side s, the position after position a has one position fewer left than a
 pub next-left : (s : ℕ) (a : Cursor) → 0 < a.strips → a.row < s → left_of s (next_of s a) + 1 ≡ left_of s a
 unfolding left_of next_of
 next-left s a h k = let m = mul-le_one a.strips (2 * s) h in let n = mul-pred a.strips (2 * s) h in grind (arith, nat_tests)
 
--- a step leads to a position
+-- in version v, the position after position a of the walk is a position of the walk or the end of the walk
 pub next-IsCursor : (v : ℕ) (a : Cursor) → IsCursor v a → 0 < a.strips → IsCursor v (next_of (side_of v) a)
 unfolding next_of
 next-IsCursor v a k h = record { strips_in = let i = k.strips_in in grind (arith, nat_tests); row_in = let i = k.row_in in grind (arith, nat_tests); turned = let i = k.turned in grind (arith, nat_tests) }
 
--- a row of a strip has two halves
+-- the number of a half of a strip is 0 or 1
 pub half_of-bound : (b : Bool) → half_of b < 2
 half_of-bound true = omega arith
 half_of-bound false = omega arith
 
--- the column's parts
+-- half h of strip p has column number 2 * p - 1 - h when column 6 is left out
 column-back : (p h : ℕ) → 0 < p → h < 2 → column_without_timing (column_of p h) ≡ 2 * p - 1 - h
 column-back p h k l = grind (arith, nat_tests)
 
--- the number of a strip from the right
+-- in version v, if c is the number that half h of strip p has when column 6 is left out, then c is in the strip with
+-- number 8 + 2 * v - p from the right
 strip-arith : (v p h c : ℕ) → c ≡ 2 * p - 1 - h → 0 < p → p ≤ 8 + 2 * v → h < 2 → (side_of v - 2 - c) / 2 ≡ 8 + 2 * v - p
 strip-arith v p h c e k m l = omega arith
 
--- strips counted from the right and from the left are even together
+-- the number of strip p from the right, which is 8 + 2 * v - p in version v, is even just when p is even
 parity-arith : (v p : ℕ) → p ≤ 8 + 2 * v → eqb ((8 + 2 * v - p) % 2) 0 ≡ eqb (p % 2) 0
 parity-arith v p m = grind (arith, nat_tests)
 
--- the right half of a row comes first
+-- the column number 2 * p - 1 - half_of b is odd just when half_of b is 0, which is the right half
 side-arith : (p : ℕ) (b : Bool) → 0 < p → cond (eqb ((2 * p - 1 - half_of b) % 2) 1) 0 1 ≡ half_of b
 side-arith p true k = grind (arith, nat_tests)
 side-arith p false k = grind (arith, nat_tests)
 
--- the strip of the key of a position
+-- in version v, the module at position a is in the strip with number 8 + 2 * v - a.strips from the right
 key-strip : (v : ℕ) (a : Cursor) → IsCursor v a → 0 < a.strips → strip_of v (place_of a).col ≡ 8 + 2 * v - a.strips
 key-strip v a i k = let l = half_of-bound a.second in let m = i.strips_in in strip-arith v a.strips (half_of a.second) _ (column-back a.strips (half_of a.second) k l) k m l
 
--- the key of a position's place
+-- in version v, the key of the module at position a has the strip, the rank and the half of a
 key_of-place : (v : ℕ) (a : Cursor) → IsCursor v a → 0 < a.strips → key_of v (place_of a) ≡ record { strip = 8 + 2 * v - a.strips; rank = rank_of (side_of v) a; side = half_of a.second }
 unfolding key_of
 key_of-place v a i k =
@@ -68,15 +70,16 @@ key_of-place v a i k =
     let d : cond (eqb (column_without_timing (column_of a.strips (half_of a.second)) % 2) 1) 0 1 ≡ half_of a.second = rw c (side-arith a.strips a.second k) in
     λ j. record { strip = s j; rank = cond (t j) (side_of v - 1 - a.row) a.row; side = d j }
 
--- the places of a strip are fewer than the rows
+-- the rank of a position a whose row is below s is below s
 pub rank-bound : (s : ℕ) (a : Cursor) → a.row < s → rank_of s a < s
 rank-bound s a k = grind (arith, nat_tests)
 
--- a smaller number of times w is smaller by w at least
+-- if p is below q, then p * w + w is at most q * w
 pub mul-lt : (p q w : ℕ) → p < q → p * w + w ≤ q * w
 mul-lt p q w k = let m : (p + 1) * w ≤ q * w = mul-le-mul_right w (omega arith) in omega (arith, m)
 
--- fewer places left mean a later strip, or the same strip and a later place of it
+-- with w positions in each strip: if position y of strip q has fewer positions left than position x of strip p, then strip
+-- q comes later than strip p, or the strips are the same and y is greater than x
 before-arith : (h p q w x y : ℕ) → p ≤ h → q ≤ h → x < w → y < w → q * w - y < p * w - x → 0 < q → (h - p < h - q) ⊎ ((h - p ≡ h - q) × (x < y))
 before-arith h p q w x y a b c d e f = elim (cases_lt q p) [
   | inl k ↦ inl (omega arith)
@@ -86,25 +89,27 @@ before-arith h p q w x y a b c d e f = elim (cases_lt q p) [
   ]
 ]
 
--- two numbers of a row's place
+-- if i and j are 0 or 1 and 2 * x + i is below 2 * y + j, then x is below y, or x equals y and i is below j
 digits-arith : (x y i j : ℕ) → i < 2 → j < 2 → 2 * x + i < 2 * y + j → (x < y) ⊎ ((x ≡ y) × (i < j))
 digits-arith x y i j a b c = elim (cases_lt x y) [ inl k ↦ inl k | inr k ↦ inr (omega arith, omega arith) ]
 
--- what it means for a key to be before another
+-- key a comes before key b: a has the smaller strip, or the same strip and the smaller rank, or the same strip and rank
+-- and the smaller side
 abbrev KeysRise : Key → Key → Type 0
 KeysRise a b = (a.strip < b.strip) ⊎ ((a.strip ≡ b.strip) × ((a.rank < b.rank) ⊎ ((a.rank ≡ b.rank) × (a.side < b.side))))
 
--- a key that passes the test is before the other
+-- if the test `is_before a b` passes, then `KeysRise a b` holds
 pub before-parts : (a b : Key) → is_before a b ≡ true → KeysRise a b
 unfolding is_before
 before-parts a b h = grind (arith, nat_tests)
 
--- a key that is before the other passes the test
+-- if `KeysRise a b` holds, then the test `is_before a b` passes
 before-test : (a b : Key) → KeysRise a b → is_before a b ≡ true
 unfolding is_before
 before-test a b h = grind (arith, nat_tests)
 
--- a position with fewer places left has a later key
+-- in version v, if position b has fewer positions left than position a, then the module at b has a later key than the
+-- module at a
 pub is_before-left : (v : ℕ) (a b : Cursor) → IsCursor v a → IsCursor v b → 0 < a.strips → 0 < b.strips → left_of (side_of v) b < left_of (side_of v) a → is_before (key_of v (place_of a)) (key_of v (place_of b)) ≡ true
 unfolding left_of
 is_before-left v a b i j k l m =

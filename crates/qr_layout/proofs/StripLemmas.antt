@@ -1,4 +1,5 @@
--- The places of the strips, one strip after the other, are the order once the places outside the region are left out.
+-- The places of the strips, one strip after the other, are the order of the version when the places outside the encoding
+-- region are left out.
 use Rattle.std.proofs.Common.{◌≡◌, ℕ, zero, suc, ◌+◌, ◌-◌, ◌*◌, ◌%◌, ◌<◌, ◌≤◌, Bool, true, false, not, cond, eqb, ltb, List, [], ◌∷◌, ◌++◌, refl, sym, ap, ◌∙◌, arith}
 use Rattle.std.proofs.lemmas.List.Elements.{All-from_recursion}
 use Rattle.std.proofs.lemmas.Bool.Decides.{nat_tests}
@@ -13,22 +14,23 @@ use Rattle.qr_layout.specs.Steps.Order.{column_of, place_of, left_of, next_of, p
 use Rattle.qr_layout.specs.Strips.{rows_from, both_of, places_of, strip_at, strips_to_come}
 use Rattle.qr_layout.proofs.WalkLemmas.{places-nil, places-suc, to_come-start}
 
--- the right places of the next n rows, in the region or not
+-- the right places of n rows of strips, from position a on, in the encoding region or not
 pairs_within : ℕ → ℕ → Cursor → List Module
 pairs_within v zero a = []
 pairs_within v (suc n) a = place_of a ∷ pairs_within v n (next_of (side_of v) (next_of (side_of v) a))
 
--- no row in no step
+-- the right places of 0 rows are the empty list
 pairs-nil : (v : ℕ) (a : Cursor) → pairs_within v 0 a ≡ []
 unfolding pairs_within
 pairs-nil v a = refl
 
--- the rows of one step more
+-- the right places of n + 1 rows from position a on are the place of a and the right places of n rows from two steps after
+-- a on
 pairs-suc : (v n : ℕ) (a : Cursor) → pairs_within v (suc n) a ≡ place_of a ∷ pairs_within v n (next_of (side_of v) (next_of (side_of v) a))
 unfolding pairs_within
 pairs-suc v n a = refl
 
--- from the right place of a row one step leads to the left one
+-- if position a is at the right place of a row, then one step leads to the place to the left of it
 second-place : (s : ℕ) (a : Cursor) → a.second ≡ false → place_of (next_of s a) ≡ record { row = a.row; col = (place_of a).col - 1 }
 unfolding next_of
 second-place s a e = rw (e, cols a.strips) refl
@@ -36,12 +38,13 @@ second-place s a e = rw (e, cols a.strips) refl
     cols : (p : ℕ) → column_of p 1 ≡ column_of p 0 - 1
     cols p = grind (arith, nat_tests)
 
--- two steps lead to a right place again
+-- if position a is at the right place of a row, then two steps lead to the right place of a row
 right-again : (s : ℕ) (a : Cursor) → a.second ≡ false → (next_of s (next_of s a)).second ≡ false
 unfolding next_of
 right-again s a e = grind (arith, nat_tests)
 
--- of the places of rows, those in the region are the places that the walk over the rows yields
+-- the places of n rows from position a on that are in the encoding region are the places that 2 * n steps of the walk
+-- visit from a on
 kept : (v n : ℕ) (a : Cursor) → a.second ≡ false → in_region_of v (both_of (pairs_within v n a)) ≡ places_within v (2 * n) a
 kept v zero a e = ap (λ (z : List Module). in_region_of v (both_of z)) (pairs-nil v a) ∙ sym (places-nil v a)
 kept v (suc n) a e =
@@ -60,11 +63,11 @@ kept v (suc n) a e =
 
 -- ---- row by row, and strip by strip
 
--- the right place of the row that comes after k others in strip p
+-- the position at the right place of the row of strip p that comes after k other rows of this strip
 abbrev at_row : ℕ → ℕ → Bool → ℕ → Cursor
 at_row s p upward k = record { strips = p; row = cond upward (s - 1 - k) k; second = false; upward = upward }
 
--- the next row of a strip
+-- in a square of side s, two steps lead from row k of strip p to row k + 1 of this strip, if there is such a row
 next-row : (s p k : ℕ) (upward : Bool) → k + 1 < s → next_of s (next_of s (at_row s p upward k)) ≡ at_row s p upward (k + 1)
 unfolding next_of
 next-row s p k true l =
@@ -73,7 +76,8 @@ next-row s p k true l =
     rw t (λ i. record { strips = p; row = e i; second = false; upward = true })
 next-row s p k false l = let t : eqb (k + 1) s ≡ false = grind (arith, nat_tests) in rw t refl
 
--- after the last row the next strip, the other way
+-- in a square of side s, two steps lead from the last row of strip p to the first row of strip p - 1, which goes the other
+-- way
 next-strip : (s p k : ℕ) (upward : Bool) → k + 1 ≡ s → next_of s (next_of s (at_row s p upward k)) ≡ at_row s (p - 1) (not upward) 0
 unfolding next_of
 next-strip s p k true e = let t : eqb (s - 1 - k) 0 ≡ true = grind (arith, nat_tests) in rw t refl
@@ -82,15 +86,17 @@ next-strip s p k false e =
     let f : k ≡ s - 1 - 0 = omega arith in
     rw t (λ i. record { strips = p - 1; row = f i; second = false; upward = true })
 
--- a strip goes the other way than the next
+-- strip p goes the other way than strip p + 1
 turned : (p : ℕ) → not (eqb (suc p % 2) 0) ≡ eqb (p % 2) 0
 turned p = grind (arith, nat_tests)
 
--- the right place of a row of a strip
+-- the position at row k of strip p is at row k of the strip that `strip_at p` describes, and at the right column of this
+-- strip
 row-place : (s p k : ℕ) → place_of (at_row s p (eqb (p % 2) 0) k) ≡ record { row = cond (strip_at p).upward (s - 1 - k) k; col = (strip_at p).right }
 row-place s p k = let e : 2 * p - 1 - 0 ≡ 2 * p - 1 = omega arith in λ i. record { row = cond (eqb (p % 2) 0) (s - 1 - k) k; col = cond (ltb (e i) 6) (e i) (e i + 1) }
 
--- the rows of a strip that are left, and those that come after it
+-- in version v, the right places of n + 1 + m rows, from row k of strip p + 1 on, are the right places of the n + 1 rows
+-- that are left in this strip, followed by the right places of m rows from strip p on
 rows-then : (v p k n m : ℕ) → k + suc n ≡ side_of v → pairs_within v (suc n + m) (at_row (side_of v) (suc p) (eqb (suc p % 2) 0) k) ≡ rows_from (side_of v) (strip_at (suc p)) k (suc n) ++ pairs_within v m (at_row (side_of v) p (eqb (p % 2) 0) 0)
 rows-then v p k zero m e =
     let s = side_of v in
@@ -107,12 +113,13 @@ rows-then v p k (suc n) m e =
     ∙ (ap (λ (z : List Module). place_of a ∷ z) (rows-then v p (k + 1) n m (omega arith))
     ∙ ap (λ (z : Module). z ∷ (rows_from s (strip_at (suc p)) (k + 1) (suc n) ++ pairs_within v m (at_row s p (eqb (p % 2) 0) 0))) (row-place s (suc p) k))))
 
--- the right places of all rows of strips
+-- the right places of all rows of the strips, in a square of side s
 abbrev all_rows : ℕ → List Strip → List Module
 all_rows s [] = []
 all_rows s (x ∷ xs) = rows_from s x 0 s ++ all_rows s xs
 
--- all rows of strip p and those to the left of it
+-- in version v, the right places of all rows from the first row of strip p on are the right places of strip p and of the
+-- strips to the left of it
 rows-all : (v p : ℕ) → pairs_within v (p * side_of v) (at_row (side_of v) p (eqb (p % 2) 0) 0) ≡ all_rows (side_of v) (strips_to_come p)
 rows-all v zero = let e : zero * side_of v ≡ 0 = omega arith in ap (λ z. pairs_within v z (at_row (side_of v) 0 true 0)) e ∙ pairs-nil v (at_row (side_of v) 0 true 0)
 rows-all v (suc p) =
@@ -126,29 +133,30 @@ rows-all v (suc p) =
     times : (p s : ℕ) → 0 < s → suc p * s ≡ suc (s - 1) + p * s
     times p s l = omega arith
 
--- both places of the rows of two lists
+-- `both_of` of the list xs followed by the list ys is `both_of xs` followed by `both_of ys`
 both-append : (xs ys : List Module) → both_of (xs ++ ys) ≡ both_of xs ++ both_of ys
 both-append [] ys = refl
 both-append (x ∷ xs) ys = ap (λ (z : List Module). x ∷ record { row = x.row; col = x.col - 1 } ∷ z) (both-append xs ys)
 
--- the places of strips are the right and the left places of all their rows
+-- in a square of side s, the right places of all rows of the strips xs, each followed by the place to the left of it, are
+-- the places of the strips
 places-both : (s : ℕ) (xs : List Strip) → both_of (all_rows s xs) ≡ places_of s xs
 places-both s [] = refl
 places-both s (x ∷ xs) = both-append (rows_from s x 0 s) (all_rows s xs) ∙ ap (λ (z : List Module). both_of (rows_from s x 0 s) ++ z) (places-both s xs)
 
--- at the start all places are left
+-- in version v, the number of positions left at the beginning of the walk is twice the number of rows of all strips
 left-start : (v : ℕ) → 2 * ((8 + 2 * v) * side_of v) ≡ left_of (side_of v) (start_of v)
 unfolding left_of
 left-start v = let e : (8 + 2 * v) * (2 * side_of v) ≡ 2 * ((8 + 2 * v) * side_of v) = omega arith in omega arith
 
--- the start is the first row of the first strip
+-- in version v, the walk begins at the right place of the first row of the rightmost strip
 start-row : (v : ℕ) → at_row (side_of v) (8 + 2 * v) (eqb ((8 + 2 * v) % 2) 0) 0 ≡ start_of v
 start-row v =
     let t : eqb ((8 + 2 * v) % 2) 0 ≡ true = grind (arith, nat_tests) in
     let e : side_of v - 1 - 0 ≡ 16 + 4 * v = omega arith in
     ap (λ z. at_row (side_of v) (8 + 2 * v) z 0) t ∙ (λ i. record { strips = 8 + 2 * v; row = e i; second = false; upward = true })
 
--- of the places of all strips, those in the region are the order
+-- in version v, the places of all strips, when the places outside the encoding region are left out, are the order
 pub strips-order : (v n : ℕ) → n ≡ v → IsOrder v (in_region_of v (places_of (side_of v) (strips_to_come (8 + 2 * n))))
 unfolding to_come
 strips-order v n e =
@@ -156,11 +164,11 @@ strips-order v n e =
     let rows : pairs_within v ((8 + 2 * v) * side_of v) (start_of v) ≡ all_rows (side_of v) (strips_to_come (8 + 2 * v)) = ap (pairs_within v ((8 + 2 * v) * side_of v)) (sym (start-row v)) ∙ rows-all v (8 + 2 * v) in
     rw (h, ← places-both (side_of v) (strips_to_come (8 + 2 * v)), ← rows, kept v ((8 + 2 * v) * side_of v) (start_of v) refl, left-start v) (to_come-start v)
 
--- a strip inside the square
+-- both columns of strip x are columns of the square of version v
 abbrev pub Inside : ℕ → Strip → Type 0
 Inside v x = (1 ≤ x.right) × (x.right < side_of v)
 
--- a strip of a symbol is inside
+-- each strip p + 1 of version v has both columns in the square
 strip-inside : (v p : ℕ) → suc p ≤ 8 + 2 * v → Inside v (strip_at (suc p))
 strip-inside v p l = (least p, most p l)
   where
@@ -170,16 +178,16 @@ strip-inside v p l = (least p, most p l)
     most : (p : ℕ) → suc p ≤ 8 + 2 * v → (strip_at (suc p)).right < side_of v
     most p l = grind (arith, nat_tests)
 
--- all strips of a symbol are inside
+-- strip p of version v and the strips to the left of it have both columns in the square
 all-inside : (v p : ℕ) → p ≤ 8 + 2 * v → AllByRecursion (Inside v) (strips_to_come p)
 all-inside v zero l = tt
 all-inside v (suc p) l = (strip-inside v p l, all-inside v p (omega arith))
 
--- all strips are inside
+-- all strips of version v have both columns in the square
 pub strips-inside : (v n : ℕ) → n ≡ v → All (Inside v) (strips_to_come (8 + 2 * n))
 strips-inside v n e = All-from_recursion (Inside v) _ (all-inside v (8 + 2 * n) (omega arith))
 
--- the next strip
+-- the strips from strip p on are strip p and the strips from strip p - 1 on
 pub strips-next : (p : ℕ) (x : Strip) → 0 < p → x ≡ strip_at p → strips_to_come p ≡ x ∷ strips_to_come (p - 1)
 strips-next zero x l e = absurd (omega arith)
 strips-next (suc p) x l e = let f : p ≡ suc p - 1 = omega arith in ap (λ z. z ∷ strips_to_come p) (sym e) ∙ ap (λ z. x ∷ strips_to_come z) f

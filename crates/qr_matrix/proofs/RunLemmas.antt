@@ -1,4 +1,4 @@
--- The cost of the maximal runs of a line is the cost that is counted module by module.
+-- The cost of the maximal runs of a row or column is the cost that is counted module by module.
 use Rattle.std.proofs.Common.{◌≡◌, ℕ, zero, suc, ◌+◌, ◌-◌, ◌*◌, ◌<◌, ◌≤◌, ◌⊎◌, inl, inr, eqb, ltb, leb, Bool, true, false, not, ◌&&◌, ◌||◌, cond, refl, sym, ap, ◌∙◌, subst, arith}
 use Rattle.std.proofs.lemmas.Bool.{cases_lt, false≢true}
 use Rattle.std.proofs.lemmas.Bool.Decides.{nat_tests}
@@ -8,19 +8,19 @@ use Rattle.qr_matrix.proofs.SumLemmas.{sum_below-same, sum_below-add, sum_below-
 use Rattle.qr_matrix.proofs.BoolLemmas.{and-false}
 use Rattle.qr_matrix.proofs.RowLemmas.{joins-past}
 
--- a test is true or false
+-- each test b is true or false
 true_or_false : (b : Bool) → (b ≡ true) ⊎ (b ≡ false)
 true_or_false true = inl refl
 true_or_false false = inr refl
 
--- ---- tests of all below
+-- ---- tests of all numbers below a bound
 
--- all numbers pass
+-- if each i below k passes the test p, then `all_below k p` is true
 all_below-true : (k : ℕ) (p : ℕ → Bool) → ((i : ℕ) → i < k → p i ≡ true) → all_below k p ≡ true
 all_below-true zero p h = refl
 all_below-true (suc k) p h = ap (λ z. z && all_below k p) (h k (omega arith)) ∙ all_below-true k p (λ i l. h i (omega arith))
 
--- one number does not pass
+-- if some i below k does not pass the test p, then `all_below k p` is false
 all_below-false : (k : ℕ) (p : ℕ → Bool) (i : ℕ) → i < k → p i ≡ false → all_below k p ≡ false
 all_below-false zero p i h e = absurd (omega arith)
 all_below-false (suc k) p i h e = elim (cases_lt i k) [
@@ -28,31 +28,32 @@ all_below-false (suc k) p i h e = elim (cases_lt i k) [
   | inr l ↦ let g : k ≡ i = omega arith in ap (λ z. z && all_below k p) (ap p g ∙ e)
 ]
 
--- ---- how many places after this one belong to its run
+-- ---- the number of modules after a module that belong to its run
 
--- how many places after place a belong to its run, of n places that are left
+-- the number of modules that module a has ahead, which are the modules after a that belong to its run; n modules are left
+-- from a on, and j is the test of a module that is joined to the module after it
 unfoldable ahead : (ℕ → Bool) → ℕ → ℕ → ℕ
 ahead j zero a = 0
 ahead j (suc n) a = cond (j a) (suc (ahead j n (a + 1))) 0
 
--- colours that are the same are equal
+-- two colours a and b that pass the test `is_same` are equal
 same-true : (a b : Bool) → is_same a b ≡ true → a ≡ b
 same-true true true e = refl
 same-true true false e = sym e
 same-true false true e = e
 same-true false false e = refl
 
--- equal colours are the same
+-- two equal colours a and b pass the test `is_same`
 same-self : (a b : Bool) → a ≡ b → is_same a b ≡ true
 same-self true b e = sym e
 same-self false b e = ap not (sym e)
 
--- both parts of a conjunction
+-- if the conjunction of a and b is true, then a and b are true
 and-both : (a b : Bool) → (a && b) ≡ true → (a ≡ true) × (b ≡ true)
 and-both true b e = (refl, e)
 and-both false b e = absurd (false≢true e)
 
--- a place that is joined to the next
+-- if module a is joined to the module after it, then there is a module after it, which has the colour of module a
 joins-true : (s : ℕ) (line : ℕ → Bool) (a : ℕ) → joins s line a ≡ true → (a + 1 < s) × (line (a + 1) ≡ line a)
 unfolding joins
 joins-true s line a h =
@@ -60,7 +61,8 @@ joins-true s line a h =
     let t = e.0 in
     (grind (arith, nat_tests), sym (same-true (line a) (line (a + 1)) e.1))
 
--- a place that is not
+-- if module a is not joined to the module after it, then module a is the last module, or the module after it has another
+-- colour
 joins-false : (s : ℕ) (line : ℕ → Bool) (a : ℕ) → joins s line a ≡ false → (s ≤ a + 1) ⊎ (is_same (line a) (line (a + 1)) ≡ false)
 unfolding joins
 joins-false s line a h = elim (cases_lt (a + 1) s) [
@@ -68,18 +70,18 @@ joins-false s line a h = elim (cases_lt (a + 1) s) [
   | inr l ↦ inl l
 ]
 
--- a place that is joined has one more ahead than the next
+-- if module a is joined to the module after it, then it has one module more ahead than the module after it
 ahead-true : (j : ℕ → Bool) (n a : ℕ) → j a ≡ true → ahead j (suc n) a ≡ suc (ahead j n (a + 1))
 unfolding ahead
 ahead-true j n a e = ap (λ z. cond z (suc (ahead j n (a + 1))) 0) e
 
--- a place that is not has none
+-- if module a is not joined to the module after it, then it has 0 modules ahead
 ahead-false : (j : ℕ → Bool) (n a : ℕ) → j a ≡ false → ahead j n a ≡ 0
 unfolding ahead
 ahead-false j zero a e = refl
 ahead-false j (suc n) a e = ap (λ z. cond z (suc (ahead j n (a + 1))) 0) e
 
--- the places up to there are of one colour
+-- if module a has at least k modules ahead, then module a + k is not past the side and has the colour of module a
 stretch : (s : ℕ) (line : ℕ → Bool) (n a k : ℕ) → a + n ≡ s → 0 < n → k ≤ ahead (joins s line) n a → (a + k < s) × (line (a + k) ≡ line a)
 stretch s line zero a k e p h = absurd (omega arith)
 stretch s line (suc n) a zero e p h = (omega arith, ap line (plain a))
@@ -98,7 +100,7 @@ stretch s line (suc n) a (suc k) e p h = elim (true_or_false (joins s line a)) [
   | inr t ↦ let f = ahead-false (joins s line) (suc n) a t in absurd (omega arith)
 ]
 
--- and the next one is not, or there is none
+-- the module after the modules that module a has ahead is past the side or has another colour than module a
 stretch-end : (s : ℕ) (line : ℕ → Bool) (n a : ℕ) → a + n ≡ s → 0 < n → (a + suc (ahead (joins s line) n a) ≡ s) ⊎ (is_same (line (a + suc (ahead (joins s line) n a))) (line a) ≡ false)
 stretch-end s line zero a e p = absurd (omega arith)
 stretch-end s line (suc n) a e p = elim (true_or_false (joins s line a)) [
@@ -126,17 +128,17 @@ stretch-end s line (suc n) a e p = elim (true_or_false (joins s line a)) [
     turn false true = refl
     turn false false = refl
 
--- ---- the maximal run from a place, if one begins there
+-- ---- the maximal run from a module on, if a run begins at this module
 
--- no place before this one is of its run
+-- no module before module a belongs to its run
 abbrev heads : (ℕ → Bool) → ℕ → Bool
 heads line a = eqb a 0 || not (is_same (line (a - 1)) (line a))
 
--- how long the run is that begins at this place
+-- the number of modules of the run of module a, from module a on
 abbrev run_len : ℕ → (ℕ → Bool) → ℕ → ℕ
 run_len s line a = suc (ahead (joins s line) (s - a) a)
 
--- of four tests three are passed
+-- if p, q and r are true, then the conjunction of p, q, h and r is h
 four : (p q h r : Bool) → p ≡ true → q ≡ true → r ≡ true → (((p && q) && h) && r) ≡ h
 four p q h r a b c = subst (λ z. (((z && q) && h) && r) ≡ h) (sym a) (subst (λ z. ((z && h) && r) ≡ h) (sym b) (subst (λ z. (h && z) ≡ h) (sym c) (last h)))
   where
@@ -144,7 +146,8 @@ four p q h r a b c = subst (λ z. (((z && q) && h) && r) ≡ h) (sym a) (subst (
     last true = refl
     last false = refl
 
--- a maximal run of k places begins at a place just where none before it is of its run and k is its length
+-- a maximal run of k modules begins at module a just when no module before a belongs to the run of a and k is the number
+-- of modules of this run from a on
 is_run-is : (s : ℕ) (line : ℕ → Bool) (a k : ℕ) → a < s → is_run s line a k ≡ (heads line a && eqb k (run_len s line a))
 unfolding is_run
 is_run-is s line a k l =
@@ -199,7 +202,8 @@ is_run-is s line a k l =
 
 -- ---- the sum over the lengths
 
--- of all lengths only that of the run counts
+-- the sum of the costs of the maximal runs of k modules that begin at module a, over all lengths k, is the cost of the run
+-- of module a, if this run begins at a and has at least 5 modules, else 0
 run_at : (s : ℕ) (line : ℕ → Bool) (a : ℕ) → a < s → sum_below (s + 1) (λ k. cond (leb 5 k && is_run s line a k) (k - 2) 0) ≡ cond (leb 5 (run_len s line a) && heads line a) (run_len s line a - 2) 0
 run_at s line a l =
     let m = run_len s line a in
@@ -216,13 +220,14 @@ run_at s line a l =
     turn false h true x = refl
     turn false h false x = refl
 
--- ---- place by place
+-- ---- module by module
 
--- how many places after a belong to its run
+-- the number of modules that module a has ahead, in a row or column of s modules
 abbrev left : ℕ → (ℕ → Bool) → ℕ → ℕ
 left s line a = ahead (joins s line) (s - a) a
 
--- the places ahead of one that is joined are those ahead of the next and the next
+-- if module a is joined to the module after it, then it has one module more ahead than the module after it, else it has 0
+-- modules ahead
 left-is : (s : ℕ) (line : ℕ → Bool) (a : ℕ) → left s line a ≡ cond (joins s line a) (suc (left s line (a + 1))) 0
 unfolding ahead
 left-is s line a = elim (cases_lt a s) [
@@ -237,7 +242,9 @@ left-is s line a = elim (cases_lt a s) [
     step : (j : ℕ → Bool) (n a : ℕ) → ahead j (suc n) a ≡ cond (j a) (suc (ahead j n (a + 1))) 0
     step j n a = refl
 
--- four joins one after another are four places ahead
+-- if a module and the four modules after it have `a`, b, c, d and e modules ahead, and i, j, k and l are the tests that
+-- the first four of these modules are joined to the module after them, then i, j, k and l all pass just when `a` is at
+-- least 4
 five-from : (a b c d e : ℕ) (i j k l : Bool) → a ≡ cond i (suc b) 0 → b ≡ cond j (suc c) 0 → c ≡ cond k (suc d) 0 → d ≡ cond l (suc e) 0 → ((i && j) && (k && l)) ≡ leb 4 a
 five-from a b c d e true true true true p q r s = grind (arith, nat_tests)
 five-from a b c d e true true true false p q r s = grind (arith, nat_tests)
@@ -245,7 +252,7 @@ five-from a b c d e true true false l p q r s = grind (arith, nat_tests)
 five-from a b c d e true false k l p q r s = grind (arith, nat_tests)
 five-from a b c d e false j k l p q r s = grind (arith, nat_tests)
 
--- five places begin where four are ahead
+-- five modules of one colour begin at module a just when it has at least four modules ahead
 five-is : (s : ℕ) (line : ℕ → Bool) (a : ℕ) → begins_five s line a ≡ leb 4 (left s line a)
 unfolding begins_five
 five-is s line a =
@@ -255,7 +262,7 @@ five-is s line a =
     next : (i k : ℕ) → a + i + 1 ≡ a + k → left s line (a + i) ≡ cond (joins s line (a + i)) (suc (left s line (a + k))) 0
     next i k e = left-is s line (a + i) ∙ ap (λ z. cond (joins s line (a + i)) (suc (left s line z)) 0) e
 
--- no place before is of its run where none is joined to it
+-- no module before module a belongs to its run just when no module before a is joined to it
 heads-is : (s : ℕ) (line : ℕ → Bool) (a : ℕ) → a < s → heads line a ≡ not (ltb 0 a && joins s line (a - 1))
 unfolding joins
 heads-is s line a h = elim (cases_lt 0 a) [
@@ -274,42 +281,48 @@ heads-is s line a h = elim (cases_lt 0 a) [
       ap (λ z. z || not (is_same (line (a - 1)) (line a))) e ∙ ap (λ z. not (z && (ltb (a - 1 + 1) s && is_same (line (a - 1)) (line (a - 1 + 1))))) (sym f)
 ]
 
--- what the runs cost from a place that begins one
+-- the cost of the maximal run that begins at module a, or 0 if no run begins at a or the run is shorter than 5 modules
 abbrev cost_at : ℕ → (ℕ → Bool) → ℕ → ℕ
 cost_at s line a = cond (leb 5 (run_len s line a) && heads line a) (run_len s line a - 2) 0
 
--- what a place adds
+-- the cost that is counted at module a: 1 if five modules of one colour begin at a, and 2 more if a run of five modules or
+-- more begins at a
 abbrev place_at : ℕ → (ℕ → Bool) → ℕ → ℕ
 place_at s line a = cond (begins_five s line a) 1 0 + 2 * cond (begins_long_run s line a) 1 0
 
--- the fives that are still to come of the run that place a goes on
+-- the open cost at module a: if the run of module a begins before a, the number of modules of this run from a on at which
+-- five modules of one colour begin, else 0
 abbrev open_at : ℕ → (ℕ → Bool) → ℕ → ℕ
 open_at s line a = cond (ltb 0 a && joins s line (a - 1)) (left s line a - 3) 0
 
--- a place adds what its run still has to come less what the next one has
+-- if a module has `a` modules ahead, the module after it has `b` modules ahead, j is the test that these two modules are
+-- joined, and f the test that the module is joined to the module before it, then the cost counted at the module plus the
+-- open cost at the module after it equals the cost of the run that begins at the module plus the open cost at the module
 balance : (a b : ℕ) (j f : Bool) → a ≡ cond j (suc b) 0 → cond (leb 4 a) 1 0 + 2 * cond (leb 4 a && not f) 1 0 + cond j (b - 3) 0 ≡ cond (leb 5 (suc a) && not f) (suc a - 2) 0 + cond f (a - 3) 0
 balance a b true true e = grind (arith, nat_tests)
 balance a b true false e = grind (arith, nat_tests)
 balance a b false true e = grind (arith, nat_tests)
 balance a b false false e = grind (arith, nat_tests)
 
--- what is still to come at the next place
+-- the open cost at module a + 1 is the number of modules that it has ahead, less 3, if module a is joined to it, else 0
 open-next : (s : ℕ) (line : ℕ → Bool) (a : ℕ) → open_at s line (a + 1) ≡ cond (joins s line a) (left s line (a + 1) - 3) 0
 open-next s line a =
     let e : ltb 0 (a + 1) ≡ true = grind (arith, nat_tests) in
     let f : a + 1 - 1 ≡ a = omega arith in
     ap (λ z. cond (z && joins s line (a + 1 - 1)) (left s line (a + 1) - 3) 0) e ∙ ap (λ z. cond (joins s line z) (left s line (a + 1) - 3) 0) f
 
--- a run begins where four places are ahead and none before is joined
+-- a run of five modules or more begins at module a just when it has at least four modules ahead and the module before it
+-- is not joined to it
 begins_long_run-is : (s : ℕ) (line : ℕ → Bool) (a : ℕ) → begins_long_run s line a ≡ (leb 4 (left s line a) && not (ltb 0 a && joins s line (a - 1)))
 unfolding begins_long_run
 begins_long_run-is s line a = ap (λ z. z && not (ltb 0 a && joins s line (a - 1))) (five-is s line a)
 
--- equal tests count the same
+-- equal tests a and b count as equal numbers
 as-number : (a b : Bool) → a ≡ b → cond {A = ℕ} a 1 0 ≡ cond {A = ℕ} b 1 0
 as-number a b e = ap (λ z. cond {A = ℕ} z 1 0) e
 
--- one place more
+-- the cost counted at module a plus the open cost at module a + 1 equals the cost of the run that begins at a plus the
+-- open cost at a
 place-step : (s : ℕ) (line : ℕ → Bool) (a : ℕ) → a < s → place_at s line a + open_at s line (a + 1) ≡ cost_at s line a + open_at s line a
 place-step s line a h =
     let f = ltb 0 a && joins s line (a - 1) in
@@ -320,7 +333,8 @@ place-step s line a h =
     let t = ap (λ z. cond (leb 5 (run_len s line a) && z) (run_len s line a - 2) 0) (heads-is s line a h) in
     omega arith
 
--- the first n places
+-- the cost counted at the first n modules plus the open cost at module n equals the cost of the runs that begin at the
+-- first n modules
 places-sum : (s : ℕ) (line : ℕ → Bool) (n : ℕ) → n ≤ s → sum_below n (place_at s line) + open_at s line n ≡ sum_below n (cost_at s line)
 places-sum s line zero h = refl
 places-sum s line (suc n) h =
@@ -330,15 +344,15 @@ places-sum s line (suc n) h =
     let f = ap (open_at s line) e in
     omega arith
 
--- nothing is still to come past the last place
+-- the open cost past the last module, at s, is 0
 open-end : (s : ℕ) (line : ℕ → Bool) → open_at s line s ≡ 0
 open-end s line = elim (cases_lt 0 s) [
   | inl h ↦ ap (λ z. cond z (left s line s - 3) 0) (and-false (ltb 0 s) (joins s line (s - 1)) (joins-past s line (s - 1) (omega arith)))
   | inr h ↦ let e : ltb 0 s ≡ false = grind (arith, nat_tests) in ap (λ z. cond (z && joins s line (s - 1)) (left s line s - 3) 0) e
 ]
 
--- the maximal runs cost 1 for each place where five equal ones begin, and 2 more where the one before is not equal or there
--- is none
+-- the cost of the maximal runs of s modules is 1 for each module at which five modules of one colour begin, and 2 more for
+-- each such module before which there is no module or a module of another colour
 pub runs-by-places : (s : ℕ) (line : ℕ → Bool) → run_cost s line ≡ place_cost s line
 unfolding run_cost place_cost
 runs-by-places s line =

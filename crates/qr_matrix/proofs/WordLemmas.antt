@@ -1,39 +1,40 @@
--- Operations on three words, as operations on one number.
+-- Operations on the three words of a bit row, as operations on one number.
 use Rattle.std.proofs.Common.{◌≡◌, ℕ, ◌+◌, ◌-◌, ◌*◌, ◌/◌, ◌%◌, ◌^◌, ◌<◌, bit_and, bit_or, bit_xor, count_ones, sym, ap, ◌∙◌, subst, arith}
 use Rattle.std.proofs.lemmas.Nat.{and_block, or_block, xor_block, ones_cat, shr_high, mod_low, or_shifted, or_comm, pow-add, pow_pos, shl_below, shr_below, shr_split, mod_below}
 use Rattle.std.proofs.Math.Nat.{mul-add-mod_self_right}
 
--- three words as one number, the lowest first
+-- the number that consists of the three words a, b and c of a bit row, a being the lowest word
 abbrev pub three : ℕ → ℕ → ℕ → ℕ
 three a b c = (c * 2 ^ 64 + b) * 2 ^ 64 + a
 
--- the conjunction of lines word by word
+-- the conjunctions of the words of two bit rows are the words of the conjunction of the two bit rows
 pub three-and : (a b c d e f : ℕ) → a < 2 ^ 64 → b < 2 ^ 64 → d < 2 ^ 64 → e < 2 ^ 64 → three (bit_and a d) (bit_and b e) (bit_and c f) ≡ bit_and (three a b c) (three d e f)
 three-and a b c d e f ha hb hd he =
     sym (and_block 64 (c * 2 ^ 64 + b) (f * 2 ^ 64 + e) a d ha hd ∙ ap (λ z. z * 2 ^ 64 + bit_and a d) (and_block 64 c f b e hb he))
 
--- the exclusive or of lines word by word
+-- the exclusive ors of the words of two bit rows are the words of the exclusive or of the two bit rows
 pub three-xor : (a b c d e f : ℕ) → a < 2 ^ 64 → b < 2 ^ 64 → d < 2 ^ 64 → e < 2 ^ 64 → three (bit_xor a d) (bit_xor b e) (bit_xor c f) ≡ bit_xor (three a b c) (three d e f)
 three-xor a b c d e f ha hb hd he =
     sym (xor_block 64 (c * 2 ^ 64 + b) (f * 2 ^ 64 + e) a d ha hd ∙ ap (λ z. z * 2 ^ 64 + bit_xor a d) (xor_block 64 c f b e hb he))
 
--- the disjunction of lines word by word
+-- the disjunctions of the words of two bit rows are the words of the disjunction of the two bit rows
 pub three-or : (a b c d e f : ℕ) → a < 2 ^ 64 → b < 2 ^ 64 → d < 2 ^ 64 → e < 2 ^ 64 → three (bit_or a d) (bit_or b e) (bit_or c f) ≡ bit_or (three a b c) (three d e f)
 three-or a b c d e f ha hb hd he =
     sym (or_block 64 (c * 2 ^ 64 + b) (f * 2 ^ 64 + e) a d ha hd ∙ ap (λ z. z * 2 ^ 64 + bit_or a d) (or_block 64 c f b e hb he))
 
--- the bits of a line that are 1 are those of its words
+-- the numbers of set bits of the three words of a bit row add up to the number of set bits of the bit row
 pub three-ones : (a b c : ℕ) → a < 2 ^ 64 → b < 2 ^ 64 → count_ones a + count_ones b + count_ones c ≡ count_ones (three a b c)
 three-ones a b c ha hb =
     let p = ones_cat 64 (c * 2 ^ 64 + b) a ha in
     let q = ones_cat 64 c b hb in
     omega arith
 
--- a line is below 2 to the 192
+-- a bit row of three words is below 2 ^ 192
 pub three-below : (a b c : ℕ) → a < 2 ^ 64 → b < 2 ^ 64 → c < 2 ^ 64 → three a b c < 2 ^ 192
 three-below a b c ha hb hc = omega arith
 
--- of two words shifted down the lower one takes the lowest bits of the higher
+-- if the word h, followed below by the word l of j + k bits, is shifted down by k bits, then the lower word of the result
+-- is the disjunction of l, shifted down by k bits, and of h, shifted up by j bits
 two-down : (j k h l : ℕ) → l < 2 ^ (j + k) → (h * 2 ^ (j + k) + l) / 2 ^ k ≡ h / 2 ^ k * 2 ^ (j + k) + bit_or (l / 2 ^ k) (h * 2 ^ j % 2 ^ (j + k))
 two-down j k h l hl =
     let p = pow-add 2 j k in
@@ -61,11 +62,12 @@ two-down j k h l hl =
     whole : (h l J K W x y : ℕ) → W ≡ J * K → x * K + y ≡ l → h * W + l ≡ (h * J + x) * K + y
     whole h l J K W x y e f = let g = ap (λ z. h * z) e in omega arith
 
--- the same for words of 64 bits
+-- if the word h, followed below by the word l of 64 bits, is shifted down by k bits, then the lower word of the result is
+-- the disjunction of l, shifted down by k bits, and of h, shifted up by j = 64 - k bits
 at-64 : (j k h l : ℕ) → j + k ≡ 64 → l < 2 ^ 64 → (h * 2 ^ 64 + l) / 2 ^ k ≡ h / 2 ^ k * 2 ^ 64 + bit_or (l / 2 ^ k) (h * 2 ^ j % 2 ^ 64)
 at-64 j k h l e = subst (λ z. l < 2 ^ z → (h * 2 ^ z + l) / 2 ^ k ≡ h / 2 ^ k * 2 ^ z + bit_or (l / 2 ^ k) (h * 2 ^ j % 2 ^ z)) e (two-down j k h l)
 
--- a line is shifted down word by word
+-- a bit row is shifted down by k bits word by word, where the lowest k bits of each word move into the word below it
 pub three-down : (a b c k : ℕ) → k < 64 → a < 2 ^ 64 → b < 2 ^ 64 → three (bit_or (a / 2 ^ k) (b * 2 ^ (64 - k) % 2 ^ 64)) (bit_or (b / 2 ^ k) (c * 2 ^ (64 - k) % 2 ^ 64)) (c / 2 ^ k) ≡ three a b c / 2 ^ k
 three-down a b c k hk ha hb =
     let e : 64 - k + k ≡ 64 = omega arith in
@@ -79,11 +81,12 @@ three-down a b c k hk ha hb =
 
 -- ---- the n lowest bits
 
--- the n lowest bits where they end in the low word
+-- if x is 2 ^ n - 1, then the bit row whose low word is x, above which all bits are 0, has its n lowest bits set
 pub three-low : (n x : ℕ) → x ≡ 2 ^ n - 1 → three x 0 0 ≡ 2 ^ n - 1
 three-low n x e = omega arith
 
--- the n lowest bits where they end in the middle word
+-- if n is m + 64 and x is 2 ^ m - 1, then the bit row with a low word of ones and the middle word x has its n lowest bits
+-- set
 pub three-middle : (n m x : ℕ) → m + 64 ≡ n → x ≡ 2 ^ m - 1 → three (2 ^ 64 - 1) x 0 ≡ 2 ^ n - 1
 three-middle n m x e f =
     let p = pow-add 2 m 64 in
@@ -91,7 +94,8 @@ three-middle n m x e f =
     let g = ap (λ z. 2 ^ z) e in
     omega arith
 
--- the n lowest bits where they end in the high word
+-- if n is m + 128 and x is 2 ^ m - 1, then the bit row with two words of ones and the high word x has its n lowest bits
+-- set
 pub three-high : (n m x : ℕ) → m + 128 ≡ n → x ≡ 2 ^ m - 1 → three (2 ^ 64 - 1) (2 ^ 64 - 1) x ≡ 2 ^ n - 1
 three-high n m x e f =
     let p = pow-add 2 m 128 in
@@ -99,16 +103,16 @@ three-high n m x e f =
     let g = ap (λ z. 2 ^ z) e in
     omega arith
 
--- ---- one place up
+-- ---- a shift up by one bit
 
--- a word shifted up takes the highest bit of the one below
+-- the disjunction of the word b, shifted up by one bit, and of the highest bit of the word a is the sum of these numbers
 up-low : (b a : ℕ) → a < 2 ^ 64 → bit_or (b * 2 % 2 ^ 64) (a / 2 ^ 63) ≡ b * 2 % 2 ^ 64 + a / 2 ^ 63
 up-low b a h =
     let e : b * 2 % 2 ^ 64 ≡ b % 2 ^ 63 * 2 ^ 1 = omega arith in
     let f : a / 2 ^ 63 < 2 ^ 1 = omega arith in
     ap (λ z. bit_or z (a / 2 ^ 63)) e ∙ (or_shifted (b % 2 ^ 63) 1 (a / 2 ^ 63) f ∙ ap (λ z. z + a / 2 ^ 63) (sym e))
 
--- a line is shifted up word by word
+-- a bit row is shifted up by one bit word by word, where the highest bit of each word moves into the word above it
 pub three-up : (a b c : ℕ) → a < 2 ^ 64 → b < 2 ^ 64 → c < 2 ^ 64 → three (a * 2 % 2 ^ 64) (bit_or (b * 2 % 2 ^ 64) (a / 2 ^ 63)) (bit_or (c * 2 % 2 ^ 64) (b / 2 ^ 63)) ≡ three a b c * 2 % 2 ^ 192
 three-up a b c ha hb hc =
     let p = up-low b a ha in
