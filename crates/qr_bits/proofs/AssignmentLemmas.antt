@@ -5,15 +5,15 @@ use Rattle.std.proofs.lemmas.Bool.{cond_both, and_parts, and_from, false≢true,
 use Rattle.qr_bits.specs.declared.modes.Mode.{Mode}
 use Rattle.qr_bits.specs.declared.modes.Mode.TheVariants.{Numeric, Alphanumeric, Byte, Kanji}
 use Rattle.qr_bits.specs.declared.modes.Rule.{Rule}
-use Rattle.qr_bits.specs.declared.segmentation.Segment.{Segment}
-use Rattle.qr_bits.specs.declared.place.Place.{Place}
-use Rattle.qr_bits.specs.declared.place.Place.TheVariants.{Digit1, Digit2, Character1, HalfPair, WholePair}
+use Rattle.qr_bits.specs.declared.segment.Segment.{Segment}
+use Rattle.qr_bits.specs.declared.run_state.RunState.{RunState}
+use Rattle.qr_bits.specs.declared.run_state.RunState.TheVariants.{Digit1, Digit2, Character1, HalfPair, WholePair}
 use Rattle.qr_bits.specs.Modes.{is_digit, is_alphanumeric, in_twos, is_kanji_pair, may_use, suits}
 use Rattle.qr_bits.specs.Segmentation.{Covers, rank, prepend_mode, runs_of}
 use Rattle.qr_bits.proofs.CoverLemmas.{CoversInTurn, in_turn, from_turn}
-use Rattle.qr_bits.specs.Steps.Place.{place_after, begins, may_begin, may_take, may_end, allowed}
+use Rattle.qr_bits.specs.Steps.RunState.{state_after, begins_with_pair, may_begin, may_take, may_end, allowed}
 use Rattle.qr_bits.proofs.BestLemmas.{same_rank}
-use Rattle.qr_bits.proofs.ChoiceLemmas.{take_begin, place_after-whole}
+use Rattle.qr_bits.proofs.ChoiceLemmas.{take_begin, state_after-whole}
 
 -- the bytes can be written in the mode, where two bytes are a pair if they pass the test
 abbrev pub suits_by : (ℕ → ℕ → Bool) → Mode → List ℕ → Bool
@@ -175,8 +175,8 @@ alone test x (s ∷ ss) p c =
 
 -- ---- valid assignments are allowed, and allowed ones are valid
 
-pub may_end-after : (p : Place) (m : Mode) → rank m < 3 → may_end (place_after p m) ≡ true
-unfolding may_end place_after
+pub may_end-after : (p : RunState) (m : Mode) → rank m < 3 → may_end (state_after p m) ≡ true
+unfolding may_end state_after
 may_end-after Digit1 Numeric k = refl
 may_end-after Digit2 Numeric k = refl
 may_end-after _ Numeric k = refl
@@ -203,17 +203,17 @@ one_taken test r Kanji x pair k u h = absurd (omega arith)
 
 -- a valid assignment is allowed, from any state in which no half pair is open
 abbrev CanTake : (ℕ → ℕ → Bool) → Rule → List ℕ → List Mode → Type 0
-CanTake test r xs ms = (p : Place) → may_end p ≡ true → allowed r test p xs ms ≡ true
+CanTake test r xs ms = (p : RunState) → may_end p ≡ true → allowed r test p xs ms ≡ true
 
 one_can : (test : ℕ → ℕ → Bool) (r : Rule) (m : Mode) (x : ℕ) (xs : List ℕ) (ms : List Mode) → rank m < 3 → (IsAssignmentBy test r xs ms → CanTake test r xs ms) → IsAssignmentBy test r (x ∷ xs) (m ∷ ms) → CanTake test r (x ∷ xs) (m ∷ ms)
 unfolding allowed runs_of
 one_can test r m x xs ms k rest h p e =
     let uses = and_parts (may_use r m) (list_all (may_use r) ms) h.0 in
     let parts = drop_one test m x xs (runs_of ms) k (Positive-runs_of ms) h.1 in
-    and_from _ _ (take_begin r p x (begins r test (x ∷ xs)) m e ∙ one_taken test r m x (begins r test (x ∷ xs)) k uses.0 parts.0) (rest (uses.1, parts.1) (place_after p m) (may_end-after p m k))
+    and_from _ _ (take_begin r p x (begins_with_pair r test (x ∷ xs)) m e ∙ one_taken test r m x (begins_with_pair r test (x ∷ xs)) k uses.0 parts.0) (rest (uses.1, parts.1) (state_after p m) (may_end-after p m k))
 
 pub can_take : (test : ℕ → ℕ → Bool) (r : Rule) (xs : List ℕ) (ms : List Mode) → IsAssignmentBy test r xs ms → CanTake test r xs ms
-unfolding CoversBy runs_of allowed may_take may_begin begins place_after may_end
+unfolding CoversBy runs_of allowed may_take may_begin begins_with_pair state_after may_end
 can_take test r [] [] h p e = e
 can_take test r [] (m ∷ ms) h p e = absurd (none_left test m (runs_of ms) h.1)
 can_take test r (x ∷ xs) [] h p e = cc (h.1)
@@ -230,36 +230,36 @@ can_take test r (x ∷ y ∷ xs) (Kanji ∷ Kanji ∷ ms) h p e =
     let more = and_parts (may_use r Kanji) (list_all (may_use r) ms) uses.1 in
     let parts = drop_pair test x y xs (runs_of ms) (Positive-runs_of ms) h.1 in
     let rest = can_take test r xs ms (more.1, parts.1) WholePair refl in
-    and_from _ _ (take_begin r p x (may_use r Kanji && test x y) Kanji e ∙ and_from _ _ uses.0 parts.0) (rw (place_after-whole p e) rest)
+    and_from _ _ (take_begin r p x (may_use r Kanji && test x y) Kanji e ∙ and_from _ _ uses.0 parts.0) (rw (state_after-whole p e) rest)
 
-one_is : (test : ℕ → ℕ → Bool) (r : Rule) (m : Mode) (x : ℕ) (xs : List ℕ) (ms : List Mode) (p : Place) → rank m < 3 → may_end p ≡ true
-    → (allowed r test (place_after p m) xs ms ≡ true → IsAssignmentBy test r xs ms) → allowed r test p (x ∷ xs) (m ∷ ms) ≡ true → IsAssignmentBy test r (x ∷ xs) (m ∷ ms)
+one_is : (test : ℕ → ℕ → Bool) (r : Rule) (m : Mode) (x : ℕ) (xs : List ℕ) (ms : List Mode) (p : RunState) → rank m < 3 → may_end p ≡ true
+    → (allowed r test (state_after p m) xs ms ≡ true → IsAssignmentBy test r xs ms) → allowed r test p (x ∷ xs) (m ∷ ms) ≡ true → IsAssignmentBy test r (x ∷ xs) (m ∷ ms)
 unfolding allowed runs_of
 one_is test r m x xs ms p k e rest h =
     let parts = and_parts _ _ h in
-    let taken = take_one test r m x (begins r test (x ∷ xs)) k (sym (take_begin r p x (begins r test (x ∷ xs)) m e) ∙ parts.0) in
+    let taken = take_one test r m x (begins_with_pair r test (x ∷ xs)) k (sym (take_begin r p x (begins_with_pair r test (x ∷ xs)) m e) ∙ parts.0) in
     let rest = rest parts.1 in
     (and_from _ _ taken.0 rest.0, add_one test m x xs (runs_of ms) k taken.1 rest.1)
 
 -- What is allowed is a valid assignment.
-pub is_assignment : (test : ℕ → ℕ → Bool) (r : Rule) (xs : List ℕ) (ms : List Mode) (p : Place) → may_end p ≡ true → allowed r test p xs ms ≡ true → IsAssignmentBy test r xs ms
-unfolding CoversBy runs_of allowed may_take may_begin begins place_after may_end
+pub is_assignment : (test : ℕ → ℕ → Bool) (r : Rule) (xs : List ℕ) (ms : List Mode) (p : RunState) → may_end p ≡ true → allowed r test p xs ms ≡ true → IsAssignmentBy test r xs ms
+unfolding CoversBy runs_of allowed may_take may_begin begins_with_pair state_after may_end
 is_assignment test r [] [] p e h = (refl, refl)
 is_assignment test r [] (m ∷ ms) p e h = absurd (false≢true h)
 is_assignment test r (x ∷ xs) [] p e h = absurd (false≢true h)
-is_assignment test r (x ∷ xs) (Numeric ∷ ms) p e h = one_is test r Numeric x xs ms p (lit< tt) e (is_assignment test r xs ms (place_after p Numeric) (may_end-after p Numeric (lit< tt))) h
-is_assignment test r (x ∷ xs) (Alphanumeric ∷ ms) p e h = one_is test r Alphanumeric x xs ms p (lit< tt) e (is_assignment test r xs ms (place_after p Alphanumeric) (may_end-after p Alphanumeric (lit< tt))) h
-is_assignment test r (x ∷ xs) (Byte ∷ ms) p e h = one_is test r Byte x xs ms p (lit< tt) e (is_assignment test r xs ms (place_after p Byte) (may_end-after p Byte (lit< tt))) h
+is_assignment test r (x ∷ xs) (Numeric ∷ ms) p e h = one_is test r Numeric x xs ms p (lit< tt) e (is_assignment test r xs ms (state_after p Numeric) (may_end-after p Numeric (lit< tt))) h
+is_assignment test r (x ∷ xs) (Alphanumeric ∷ ms) p e h = one_is test r Alphanumeric x xs ms p (lit< tt) e (is_assignment test r xs ms (state_after p Alphanumeric) (may_end-after p Alphanumeric (lit< tt))) h
+is_assignment test r (x ∷ xs) (Byte ∷ ms) p e h = one_is test r Byte x xs ms p (lit< tt) e (is_assignment test r xs ms (state_after p Byte) (may_end-after p Byte (lit< tt))) h
 is_assignment test r (x ∷ []) (Kanji ∷ ms) p e h =
     absurd (false≢true (sym (take_begin r p x false Kanji e) ∙ (and_parts (may_take r p x false Kanji) _ h).0))
 is_assignment test r (x ∷ y ∷ xs) (Kanji ∷ []) p e h = absurd (false≢true (and_parts (may_take r p x (may_use r Kanji && test x y) Kanji) false h).1)
 is_assignment test r (x ∷ y ∷ xs) (Kanji ∷ Kanji ∷ ms) p e h =
     let parts = and_parts (may_take r p x (may_use r Kanji && test x y) Kanji) _ h in
     let first = and_parts (may_use r Kanji) (test x y) (sym (take_begin r p x (may_use r Kanji && test x y) Kanji e) ∙ parts.0) in
-    let second : allowed r test HalfPair (y ∷ xs) (Kanji ∷ ms) ≡ true = rw (place_after-whole p e) at parts.1 in
+    let second : allowed r test HalfPair (y ∷ xs) (Kanji ∷ ms) ≡ true = rw (state_after-whole p e) at parts.1 in
     let rest = is_assignment test r xs ms WholePair refl second in
     (and_from _ _ first.0 (and_from _ _ first.0 rest.0), add_pair test x y xs (runs_of ms) first.1 rest.1)
 is_assignment test r (x ∷ y ∷ xs) (Kanji ∷ m ∷ ms) p e h =
     let parts = and_parts (may_take r p x (may_use r Kanji && test x y) Kanji) _ h in
-    let second : allowed r test HalfPair (y ∷ xs) (m ∷ ms) ≡ true = rw (place_after-whole p e) at parts.1 in
+    let second : allowed r test HalfPair (y ∷ xs) (m ∷ ms) ≡ true = rw (state_after-whole p e) at parts.1 in
     absurd (false≢true second)

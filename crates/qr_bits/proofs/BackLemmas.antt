@@ -5,7 +5,7 @@ use Rattle.qr_bits.specs.declared.modes.Mode.{Mode}
 use Rattle.qr_bits.specs.declared.modes.Mode.TheVariants.{Numeric, Alphanumeric, Byte, Kanji}
 use denote.Enum.Bare.{sameb}
 use Rattle.qr_bits.specs.contracts.modes.Mode.{the_type}
-use Rattle.qr_bits.specs.declared.segmentation.Segment.{Segment}
+use Rattle.qr_bits.specs.declared.segment.Segment.{Segment}
 use Rattle.qr_bits.specs.Segmentation.{rank, prepend_mode, runs_of}
 use Rattle.qr_bits.specs.Steps.Segmentation.{one_segment, append_mode}
 use Rattle.std.specs.List.{sum_by}

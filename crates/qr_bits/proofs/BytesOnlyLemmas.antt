@@ -6,12 +6,12 @@ use Rattle.std.proofs.lemmas.Bool.{and_from, and_parts, cases_lt, eqb-true, fals
 use Rattle.qr_bits.specs.declared.modes.Mode.{Mode}
 use Rattle.qr_bits.specs.declared.modes.Mode.TheVariants.{Numeric, Alphanumeric, Byte, Kanji}
 use Rattle.qr_bits.specs.declared.modes.Rule.TheVariants.{BytesOnly}
-use Rattle.qr_bits.specs.declared.segmentation.Segment.{Segment}
-use Rattle.qr_bits.specs.declared.place.Place.{Place}
-use Rattle.qr_bits.specs.declared.place.Place.TheVariants.{Start}
+use Rattle.qr_bits.specs.declared.segment.Segment.{Segment}
+use Rattle.qr_bits.specs.declared.run_state.RunState.{RunState}
+use Rattle.qr_bits.specs.declared.run_state.RunState.TheVariants.{Start}
 use Rattle.qr_bits.specs.Segmentation.{bits, prepend_mode, runs_of, IsAssignment, IsNotAfter, IsLeastSegmentation, IsLongestFit}
 use Rattle.qr_bits.specs.Modes.{is_kanji_pair, may_use, count_width}
-use Rattle.qr_bits.specs.Steps.Place.{begins, place_after, may_begin, may_end, may_take, allowed}
+use Rattle.qr_bits.specs.Steps.RunState.{begins_with_pair, state_after, may_begin, may_end, may_take, allowed}
 use Rattle.qr_bits.specs.Steps.Segmentation.{one_segment}
 use Rattle.qr_bits.proofs.ChoiceLemmas.{take_begin}
 use Rattle.qr_bits.proofs.SegmentLemmas.{least_fits}
@@ -23,11 +23,11 @@ all_bytes [] = []
 all_bytes (x ∷ xs) = Byte ∷ all_bytes xs
 
 -- byte mode is allowed for each byte
-bytes_taken : (xs : List ℕ) (p : Place) → may_end p ≡ true → allowed BytesOnly is_kanji_pair p xs (all_bytes xs) ≡ true
+bytes_taken : (xs : List ℕ) (p : RunState) → may_end p ≡ true → allowed BytesOnly is_kanji_pair p xs (all_bytes xs) ≡ true
 unfolding allowed may_begin all_bytes
 bytes_taken [] p e = e
 bytes_taken (x ∷ xs) p e =
-    and_from _ _ (take_begin BytesOnly p x (begins BytesOnly is_kanji_pair (x ∷ xs)) Byte e) (bytes_taken xs (place_after p Byte) (may_end-after p Byte (lit< tt)))
+    and_from _ _ (take_begin BytesOnly p x (begins_with_pair BytesOnly is_kanji_pair (x ∷ xs)) Byte e) (bytes_taken xs (state_after p Byte) (may_end-after p Byte (lit< tt)))
 
 -- the only mode that the rule allows is byte mode
 only_byte : (m : Mode) → may_use BytesOnly m ≡ true → m ≡ Byte
@@ -37,16 +37,16 @@ only_byte Byte h = refl
 only_byte Kanji h = absurd (false≢true h)
 
 -- the only modes that are allowed are byte modes
-only_bytes : (xs : List ℕ) (ks : List Mode) (p : Place) → list_all (may_use BytesOnly) ks ≡ true → allowed BytesOnly is_kanji_pair p xs ks ≡ true → ks ≡ all_bytes xs
+only_bytes : (xs : List ℕ) (ks : List Mode) (p : RunState) → list_all (may_use BytesOnly) ks ≡ true → allowed BytesOnly is_kanji_pair p xs ks ≡ true → ks ≡ all_bytes xs
 unfolding allowed all_bytes
 only_bytes [] [] p u h = refl
 only_bytes [] (k ∷ ks) p u h = absurd (false≢true h)
 only_bytes (x ∷ xs) [] p u h = absurd (false≢true h)
 only_bytes (x ∷ xs) (k ∷ ks) p u h =
     let used = and_parts (may_use BytesOnly k) (list_all (may_use BytesOnly) ks) u in
-    let parts = and_parts (may_take BytesOnly p x (begins BytesOnly is_kanji_pair (x ∷ xs)) k) (allowed BytesOnly is_kanji_pair (place_after p k) xs ks) h in
+    let parts = and_parts (may_take BytesOnly p x (begins_with_pair BytesOnly is_kanji_pair (x ∷ xs)) k) (allowed BytesOnly is_kanji_pair (state_after p k) xs ks) h in
     let same = only_byte k used.0 in
-    let rest = only_bytes xs ks (place_after p k) used.1 parts.1 in
+    let rest = only_bytes xs ks (state_after p k) used.1 parts.1 in
     λ i. same i ∷ rest i
 
 -- a list of modes is not after itself

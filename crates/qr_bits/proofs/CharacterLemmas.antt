@@ -10,7 +10,7 @@ use Rattle.qr_bits.specs.declared.modes.Mode.TheVariants.{Numeric, Alphanumeric}
 use Rattle.qr_bits.specs.declared.modes.Rule.{Rule}
 use Rattle.qr_bits.specs.declared.modes.Rule.TheVariants.{Auto, BytesOnly, WithKanji}
 use Rattle.qr_bits.specs.Modes.{characters, is_alphanumeric, is_digit, character_value, may_use}
-use Rattle.qr_bits.specs.Steps.Place.{may_begin}
+use Rattle.qr_bits.specs.Steps.RunState.{may_begin}
 use Rattle.qr_bits.specs.Parsing.{character}
 use Rattle.qr_layout.proofs.Facts.{below, below-at}
 

@@ -5,11 +5,11 @@ use Rattle.qr_bits.specs.declared.modes.Mode.{Mode}
 use Rattle.qr_bits.specs.declared.modes.Mode.TheVariants.{Numeric, Alphanumeric, Byte, Kanji}
 use Rattle.qr_bits.specs.declared.modes.Rule.{Rule}
 use Rattle.qr_bits.specs.declared.modes.Rule.TheVariants.{Auto, BytesOnly, WithKanji}
-use Rattle.qr_bits.specs.declared.place.Place.{Place}
-use Rattle.qr_bits.specs.declared.place.Place.TheVariants.{Digit1, Digit2, Digit3, Character1, Character2, InBytes, HalfPair, WholePair}
+use Rattle.qr_bits.specs.declared.run_state.RunState.{RunState}
+use Rattle.qr_bits.specs.declared.run_state.RunState.TheVariants.{Digit1, Digit2, Digit3, Character1, Character2, InBytes, HalfPair, WholePair}
 use Rattle.qr_bits.specs.Segmentation.{rank}
 use Rattle.qr_bits.specs.Modes.{may_use}
-use Rattle.qr_bits.specs.Steps.Place.{place_after, place_on, step_bits, may_begin, may_take, may_end, number_of, ranked, IsChoice}
+use Rattle.qr_bits.specs.Steps.RunState.{state_after, state_on, byte_cost, may_begin, may_take, may_end, number_of, ranked, IsChoice}
 use Rattle.qr_bits.proofs.BestLemmas.{same_rank}
 use Rattle.qr_bits.proofs.SegmentLemmas.{count_width_bound}
 
@@ -57,20 +57,20 @@ ranked-number c b Byte e = let r : c % 4 ≡ 2 = omega arith in rw r refl
 ranked-number c b Kanji e = let r : c % 4 ≡ 3 = omega arith in rw r refl
 
 -- a byte adds at most 33 bits
-pub step_bits_bound : (v : ℕ) (p : Place) (m : Mode) → step_bits v p m ≤ 33
-unfolding step_bits
-step_bits_bound v Digit1 Numeric = lit≤ tt
-step_bits_bound v Digit2 Numeric = lit≤ tt
-step_bits_bound v Digit3 Numeric = lit≤ tt
-step_bits_bound v _ Numeric = omega (arith, count_width_bound v Numeric)
-step_bits_bound v Character1 Alphanumeric = lit≤ tt
-step_bits_bound v Character2 Alphanumeric = lit≤ tt
-step_bits_bound v _ Alphanumeric = omega (arith, count_width_bound v Alphanumeric)
-step_bits_bound v InBytes Byte = lit≤ tt
-step_bits_bound v _ Byte = omega (arith, count_width_bound v Byte)
-step_bits_bound v HalfPair Kanji = lit≤ tt
-step_bits_bound v WholePair Kanji = lit≤ tt
-step_bits_bound v _ Kanji = omega (arith, count_width_bound v Kanji)
+pub byte_cost_bound : (v : ℕ) (p : RunState) (m : Mode) → byte_cost v p m ≤ 33
+unfolding byte_cost
+byte_cost_bound v Digit1 Numeric = lit≤ tt
+byte_cost_bound v Digit2 Numeric = lit≤ tt
+byte_cost_bound v Digit3 Numeric = lit≤ tt
+byte_cost_bound v _ Numeric = omega (arith, count_width_bound v Numeric)
+byte_cost_bound v Character1 Alphanumeric = lit≤ tt
+byte_cost_bound v Character2 Alphanumeric = lit≤ tt
+byte_cost_bound v _ Alphanumeric = omega (arith, count_width_bound v Alphanumeric)
+byte_cost_bound v InBytes Byte = lit≤ tt
+byte_cost_bound v _ Byte = omega (arith, count_width_bound v Byte)
+byte_cost_bound v HalfPair Kanji = lit≤ tt
+byte_cost_bound v WholePair Kanji = lit≤ tt
+byte_cost_bound v _ Kanji = omega (arith, count_width_bound v Kanji)
 
 -- each rule allows byte mode
 pub byte_used : (r : Rule) → may_use r Byte ≡ true
@@ -86,7 +86,7 @@ rank_below Byte = lit< tt
 rank_below Kanji = lit< tt
 
 -- if no half pair is open, the modes that may be used are those that may begin
-pub take_begin : (r : Rule) (p : Place) (x : ℕ) (pair : Bool) (m : Mode) → may_end p ≡ true → may_take r p x pair m ≡ may_begin r x pair m
+pub take_begin : (r : Rule) (p : RunState) (x : ℕ) (pair : Bool) (m : Mode) → may_end p ≡ true → may_take r p x pair m ≡ may_begin r x pair m
 unfolding may_end may_take
 take_begin r HalfPair x pair m e = absurd (false≢true e)
 take_begin r _ x pair m e = refl
@@ -96,9 +96,9 @@ kanji_alone : (k : Mode) → (rank k == rank Kanji) ≡ true → k ≡ Kanji
 kanji_alone k h = same_rank k Kanji (eqb-true _ _ h)
 
 -- after half a pair, kanji mode is the choice
-pub half_choice : (v : ℕ) (r : Rule) (x : ℕ) (pair : Bool) (cost : Place → ℕ) (c : ℕ) → c ≡ number_of true (step_bits v HalfPair Kanji + cost (place_after HalfPair Kanji)) Kanji
+pub half_choice : (v : ℕ) (r : Rule) (x : ℕ) (pair : Bool) (cost : RunState → ℕ) (c : ℕ) → c ≡ number_of true (byte_cost v HalfPair Kanji + cost (state_after HalfPair Kanji)) Kanji
     → IsChoice v r HalfPair x pair cost (ranked (c % 4)) (c / 4)
-unfolding may_take step_bits place_after
+unfolding may_take byte_cost state_after
 half_choice v r x pair cost c is =
     let bits : c / 4 ≡ cost WholePair = omega arith in
     rw (ranked-number c (cost WholePair) Kanji (omega arith), bits)
@@ -110,20 +110,20 @@ half_choice v r x pair cost c is =
     })
 
 -- after a byte in byte mode the state is `InBytes`
-place_after-byte : (p : Place) → place_after p Byte ≡ InBytes
-unfolding place_after
-place_after-byte _ = refl
+state_after-byte : (p : RunState) → state_after p Byte ≡ InBytes
+unfolding state_after
+state_after-byte _ = refl
 
 -- the least number is that of the mode of lowest rank among those that lead to the fewest bits
-pub least_choice : (v : ℕ) (r : Rule) (p : Place) (x : ℕ) (pair : Bool) (cost : Place → ℕ) (c : ℕ) → may_end p ≡ true → cost InBytes < 10000000
-    → c ≡ least_of (may_begin r x pair) (λ k. step_bits v p k + cost (place_after p k))
+pub least_choice : (v : ℕ) (r : Rule) (p : RunState) (x : ℕ) (pair : Bool) (cost : RunState → ℕ) (c : ℕ) → may_end p ≡ true → cost InBytes < 10000000
+    → c ≡ least_of (may_begin r x pair) (λ k. byte_cost v p k + cost (state_after p k))
     → IsChoice v r p x pair cost (ranked (c % 4)) (c / 4)
 unfolding may_begin
 least_choice v r p x pair cost c e small is =
-    let total : Mode → ℕ = λ k. step_bits v p k + cost (place_after p k) in
+    let total : Mode → ℕ = λ k. byte_cost v p k + cost (state_after p k) in
     let take : (k : Mode) → may_take r p x pair k ≡ may_begin r x pair k = λ k. take_begin r p x pair k e in
     let under : (k : Mode) → may_take r p x pair k ≡ true → c ≤ 4 * total k + rank k = λ k h. rw is (least_under (may_begin r x pair) total k (sym (take k) ∙ h)) in
-    let few : c < 4294967295 = omega (arith, under Byte (take Byte ∙ byte_used r), step_bits_bound v p Byte, ap cost (place_after-byte p)) in
+    let few : c < 4294967295 = omega (arith, under Byte (take Byte ∙ byte_used r), byte_cost_bound v p Byte, ap cost (state_after-byte p)) in
     let taken : IsTaken (may_begin r x pair) total c = rw is (taken_least (may_begin r x pair) total (rw is at few)) in
     let m = taken.0 in
     let bits : c / 4 ≡ total m = omega (arith, taken.2, rank_below m) in
@@ -161,14 +161,14 @@ pub own_last : (o n a b k : ℕ) → o ≤ k → min o (min n (min a (min b k)))
 own_last o n a b k h = omega arith
 
 -- a byte in kanji mode begins a pair if no half pair is open
-pub place_after-whole : (p : Place) → may_end p ≡ true → place_after p Kanji ≡ HalfPair
-unfolding may_end place_after
-place_after-whole HalfPair e = absurd (false≢true e)
-place_after-whole _ e = refl
+pub state_after-whole : (p : RunState) → may_end p ≡ true → state_after p Kanji ≡ HalfPair
+unfolding may_end state_after
+state_after-whole HalfPair e = absurd (false≢true e)
+state_after-whole _ e = refl
 
 -- the state after one more byte in the mode of the last one
-pub on_after : (p : Place) (m : Mode) → place_on (place_after p m) ≡ place_after (place_after p m) m
-unfolding place_on place_after
+pub on_after : (p : RunState) (m : Mode) → state_on (state_after p m) ≡ state_after (state_after p m) m
+unfolding state_on state_after
 on_after Digit1 Numeric = refl
 on_after Digit2 Numeric = refl
 on_after _ Numeric = refl

@@ -10,7 +10,7 @@ use Rattle.qr_layout.proofs.Facts.{below, below-at}
 use Rattle.qr_bits.specs.declared.modes.Mode.{Mode}
 use Rattle.qr_bits.specs.declared.modes.Mode.TheVariants.{Numeric, Alphanumeric, Byte, Kanji}
 use Rattle.qr_bits.specs.declared.modes.Rule.{Rule}
-use Rattle.qr_bits.specs.declared.segmentation.Segment.{Segment}
+use Rattle.qr_bits.specs.declared.segment.Segment.{Segment}
 use Rattle.qr_bits.specs.Modes.{character_count, count_width, payload_bits}
 use Rattle.qr_bits.specs.Segmentation.{segment_bits, bits, runs_of, HasFit}
 use Rattle.qr_bits.specs.Stream.{CountsFit}

@@ -6,7 +6,7 @@ use Rattle.std.proofs.lemmas.Bool.{and_from}
 use Rattle.qr_bits.specs.declared.modes.Mode.{Mode}
 use Rattle.qr_bits.specs.declared.modes.Mode.TheVariants.{Numeric, Alphanumeric, Byte, Kanji}
 use Rattle.qr_bits.specs.declared.modes.Rule.{Rule}
-use Rattle.qr_bits.specs.declared.segmentation.Segment.{Segment}
+use Rattle.qr_bits.specs.declared.segment.Segment.{Segment}
 use Rattle.qr_bits.specs.Modes.{suits, may_use, count_width, payload_bits}
 use Rattle.qr_bits.proofs.CoverLemmas.{CoversInTurn, in_turn, from_turn}
 use Rattle.qr_bits.specs.Segmentation.{bits, prepend_mode, runs_of, Covers, IsNotAfter, IsLeastSegmentation}

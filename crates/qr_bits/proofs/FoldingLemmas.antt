@@ -6,18 +6,18 @@ use Rattle.qr_bits.specs.declared.modes.Rule.{Rule}
 use Rattle.qr_bits.specs.declared.modes.Rule.TheVariants.{Auto, BytesOnly, WithKanji}
 use Rattle.qr_bits.specs.Modes.{is_kanji_pair}
 use Rattle.qr_bits.specs.Folding.{capital, folded, folded_around_pairs}
-use Rattle.qr_bits.specs.Steps.Place.{begins}
+use Rattle.qr_bits.specs.Steps.RunState.{begins_with_pair}
 
 -- a pair stays
-pub folded_pair : (xs : List ℕ) → begins WithKanji is_kanji_pair xs ≡ true → folded_around_pairs xs ≡ take 2 xs ++ folded_around_pairs (drop 2 xs)
-unfolding folded_around_pairs begins
+pub folded_pair : (xs : List ℕ) → begins_with_pair WithKanji is_kanji_pair xs ≡ true → folded_around_pairs xs ≡ take 2 xs ++ folded_around_pairs (drop 2 xs)
+unfolding folded_around_pairs begins_with_pair
 folded_pair [] h = absurd (false≢true h)
 folded_pair (x ∷ []) h = absurd (false≢true h)
 folded_pair (x ∷ y ∷ xs) h = rw h refl
 
 -- if no pair begins here, the first byte becomes its capital
-pub folded_one : (xs : List ℕ) → begins WithKanji is_kanji_pair xs ≡ false → 0 < length xs → folded_around_pairs xs ≡ capital (get_or xs 0 0) ∷ folded_around_pairs (drop 1 xs)
-unfolding folded_around_pairs begins
+pub folded_one : (xs : List ℕ) → begins_with_pair WithKanji is_kanji_pair xs ≡ false → 0 < length xs → folded_around_pairs xs ≡ capital (get_or xs 0 0) ∷ folded_around_pairs (drop 1 xs)
+unfolding folded_around_pairs begins_with_pair
 folded_one [] h n = absurd (omega arith)
 folded_one (x ∷ []) h n = refl
 folded_one (x ∷ y ∷ xs) h n = rw h refl
@@ -50,8 +50,8 @@ pub more_folded : (front part rest next whole : List ℕ) → rest ≡ part ++ n
 more_folded front part rest next whole e h = append_assoc front part next ∙ ap (λ (t : List ℕ). front ++ t) (sym e) ∙ h
 
 -- if a pair begins here, there are two bytes
-pub begun_with_pair : (xs : List ℕ) → begins WithKanji is_kanji_pair xs ≡ true → 2 ≤ length xs
-unfolding begins
+pub begun_with_pair : (xs : List ℕ) → begins_with_pair WithKanji is_kanji_pair xs ≡ true → 2 ≤ length xs
+unfolding begins_with_pair
 begun_with_pair [] h = absurd (false≢true h)
 begun_with_pair (x ∷ []) h = absurd (false≢true h)
 begun_with_pair (x ∷ y ∷ xs) h = omega arith

@@ -8,20 +8,20 @@ use Rattle.std.proofs.lemmas.List.Folds.{list_all-append}
 use Rattle.qr_bits.specs.declared.modes.Mode.{Mode}
 use Rattle.qr_bits.specs.declared.modes.Mode.TheVariants.{Numeric, Alphanumeric, Byte, Kanji}
 use Rattle.qr_bits.specs.declared.modes.Rule.{Rule}
-use Rattle.qr_bits.specs.declared.segmentation.Segment.{Segment}
-use Rattle.qr_bits.specs.declared.place.Place.{Place}
-use Rattle.qr_bits.specs.declared.place.Place.TheVariants.{Start}
+use Rattle.qr_bits.specs.declared.segment.Segment.{Segment}
+use Rattle.qr_bits.specs.declared.run_state.RunState.{RunState}
+use Rattle.qr_bits.specs.declared.run_state.RunState.TheVariants.{Start}
 use Rattle.qr_bits.specs.Segmentation.{rank, bits, prepend_mode, runs_of, HasFit}
 use Rattle.qr_bits.specs.Modes.{in_twos, is_kanji_pair, is_digit, is_alphanumeric, may_use}
 use Rattle.qr_bits.specs.Steps.Segmentation.{append_mode}
-use Rattle.qr_bits.specs.Steps.Place.{turned, begins, may_end}
+use Rattle.qr_bits.specs.Steps.RunState.{swapped, begins_with_pair, may_end}
 use Rattle.qr_bits.proofs.BestLemmas.{BestBelow, same_rank}
 use Rattle.qr_bits.proofs.BackLemmas.{runs_of-push, append_mode-last}
 use Rattle.qr_bits.proofs.CostLemmas.{bits-runs_of}
 use Rattle.qr_bits.proofs.CoverLemmas.{CoversInTurn, from_turn}
 use Rattle.qr_bits.proofs.AssignmentLemmas.{suits_by, CoversBy, IsAssignmentBy, covers_by, by_covers, can_take, is_assignment}
 use Rattle.qr_bits.proofs.TableLemmas.{bytes_rest, best_more}
-use Rattle.qr_bits.specs.declared.place.ByPlace.{ByPlace}
+use Rattle.qr_bits.specs.declared.run_state.PerState.{PerState}
 use Rattle.qr_bits.specs.Steps.Table.{bits_at, follow, IsRow}
 
 -- if all elements of a list pass a test, all elements of its reverse pass it
@@ -38,15 +38,15 @@ in_twos-push test (a ∷ []) x y h t = absurd (false≢true h)
 in_twos-push test (a ∷ b ∷ xs) x y h t = let parts = and_parts (test a b) _ h in and_from (test a b) _ parts.0 (in_twos-push test xs x y parts.1 t)
 
 -- bytes that pass a test two by two pass it reversed, with the arguments of the test exchanged
-in_twos-reverse : (test : ℕ → ℕ → Bool) (xs : List ℕ) → in_twos test xs ≡ true → in_twos (turned test) (reverse xs) ≡ true
+in_twos-reverse : (test : ℕ → ℕ → Bool) (xs : List ℕ) → in_twos test xs ≡ true → in_twos (swapped test) (reverse xs) ≡ true
 in_twos-reverse test [] h = refl
 in_twos-reverse test (x ∷ []) h = absurd (false≢true h)
 in_twos-reverse test (x ∷ y ∷ xs) h =
     let parts = and_parts (test x y) _ h in
-    rw (reverse-append (x ∷ y ∷ []) xs) (in_twos-push (turned test) (reverse xs) y x (in_twos-reverse test xs parts.1) parts.0)
+    rw (reverse-append (x ∷ y ∷ []) xs) (in_twos-push (swapped test) (reverse xs) y x (in_twos-reverse test xs parts.1) parts.0)
 
 -- bytes that can be written in a mode can be written in it reversed
-suits-reverse : (test : ℕ → ℕ → Bool) (m : Mode) (xs : List ℕ) → suits_by test m xs ≡ true → suits_by (turned test) m (reverse xs) ≡ true
+suits-reverse : (test : ℕ → ℕ → Bool) (m : Mode) (xs : List ℕ) → suits_by test m xs ≡ true → suits_by (swapped test) m (reverse xs) ≡ true
 suits-reverse test Numeric xs h = list_all-reverse is_digit xs h
 suits-reverse test Alphanumeric xs h = list_all-reverse is_alphanumeric xs h
 suits-reverse test Byte xs h = refl
@@ -60,14 +60,14 @@ covers-push test xs ys (t ∷ ss) s a n h c =
     (c.0, omega (arith, length-append xs ys, c.1), rw (take-append-le t.len xs ys c.1) c.2, rw (drop-append-le t.len xs ys c.1) (covers-push test (drop t.len xs) ys ss s a n h c.3))
 
 -- reversed segments cover the reversed bytes, with the arguments of the test exchanged
-covers-reverse : (test : ℕ → ℕ → Bool) (xs : List ℕ) (ss : List Segment) → CoversBy test xs ss → CoversBy (turned test) (reverse xs) (reverse ss)
+covers-reverse : (test : ℕ → ℕ → Bool) (xs : List ℕ) (ss : List Segment) → CoversBy test xs ss → CoversBy (swapped test) (reverse xs) (reverse ss)
 unfolding CoversBy
 covers-reverse test xs [] c = ap reverse c
 covers-reverse test xs (s ∷ ss) c =
     let whole : reverse xs ≡ reverse (drop s.len xs) ++ reverse (take s.len xs) = ap reverse (sym (take-append-drop s.len xs)) ∙ reverse-append (take s.len xs) (drop s.len xs) in
     let n : length (reverse (take s.len xs)) ≡ s.len = length-reverse (take s.len xs) ∙ length-take-le s.len xs c.1 in
-    let all = covers-push (turned test) (reverse (drop s.len xs)) (reverse (take s.len xs)) (reverse ss) s c.0 n (suits-reverse test s.mode (take s.len xs) c.2) (covers-reverse test (drop s.len xs) ss c.3) in
-    rw (reverse-append (s ∷ []) ss) (subst (λ (ys : List ℕ). CoversBy (turned test) ys (reverse ss ++ s ∷ [])) (sym whole) all)
+    let all = covers-push (swapped test) (reverse (drop s.len xs)) (reverse (take s.len xs)) (reverse ss) s c.0 n (suits-reverse test s.mode (take s.len xs) c.2) (covers-reverse test (drop s.len xs) ss c.3) in
+    rw (reverse-append (s ∷ []) ss) (subst (λ (ys : List ℕ). CoversBy (swapped test) ys (reverse ss ++ s ∷ [])) (sym whole) all)
 
 -- a mode added before segments is added after the reversed segments
 prepend_mode-reverse : (m : Mode) (ss : List Segment) → append_mode (reverse ss) m ≡ reverse (prepend_mode m ss)
@@ -104,28 +104,28 @@ bits-reverse v (s ∷ ss) = rw (reverse-append (s ∷ []) ss) (omega (arith, bit
 
 -- If an assignment is valid for some bytes, its reverse is valid for the reversed bytes, and has the same number of bits.
 mirror : (v : ℕ) (test : ℕ → ℕ → Bool) (r : Rule) (xs : List ℕ) (ms : List Mode) → IsAssignmentBy test r xs ms
-    → IsAssignmentBy (turned test) r (reverse xs) (reverse ms) × (bits v (runs_of (reverse ms)) ≡ bits v (runs_of ms))
+    → IsAssignmentBy (swapped test) r (reverse xs) (reverse ms) × (bits v (runs_of (reverse ms)) ≡ bits v (runs_of ms))
 mirror v test r xs ms h = (
   (list_all-reverse (may_use r) ms h.0, rw (runs_of-reverse ms) (covers-reverse test xs (runs_of ms) h.1)),
   ap (bits v) (runs_of-reverse ms) ∙ bits-reverse v (runs_of ms),
 )
 
 -- if the best rest of a reversed prefix has at most n bits, the prefix fits n bits
-pub front_fits : (v : ℕ) (r : Rule) (xs : List ℕ) (f : Place → List Mode) (cost : Place → ℕ) (n : ℕ) → BestBelow v r (turned is_kanji_pair) (reverse xs) f cost → cost Start ≤ n → HasFit v r xs n
+pub front_fits : (v : ℕ) (r : Rule) (xs : List ℕ) (f : RunState → List Mode) (cost : RunState → ℕ) (n : ℕ) → BestBelow v r (swapped is_kanji_pair) (reverse xs) f cost → cost Start ≤ n → HasFit v r xs n
 unfolding may_end
 front_fits v r xs f cost n below small =
-    let best = below Start _ (bytes_rest r (turned is_kanji_pair) Start (reverse xs) refl) in
-    let back = mirror v (turned is_kanji_pair) r (reverse xs) (f Start) (is_assignment (turned is_kanji_pair) r (reverse xs) (f Start) Start refl best.is_allowed) in
+    let best = below Start _ (bytes_rest r (swapped is_kanji_pair) Start (reverse xs) refl) in
+    let back = mirror v (swapped is_kanji_pair) r (reverse xs) (f Start) (is_assignment (swapped is_kanji_pair) r (reverse xs) (f Start) Start refl best.is_allowed) in
     let again : CoversBy is_kanji_pair (reverse (reverse xs)) (runs_of (reverse (f Start))) = back.0.1 in
     (reverse (f Start), (back.0.0, by_covers xs _ (rw (reverse-reverse xs) at again)), omega (arith, back.1, small, bits-runs_of v (f Start), best.has_bits))
 
 -- if a prefix fits n bits, the best rest of the reversed prefix has at most n bits
-pub front_least : (v : ℕ) (r : Rule) (xs : List ℕ) (f : Place → List Mode) (cost : Place → ℕ) (n : ℕ) → BestBelow v r (turned is_kanji_pair) (reverse xs) f cost → HasFit v r xs n → cost Start ≤ n
+pub front_least : (v : ℕ) (r : Rule) (xs : List ℕ) (f : RunState → List Mode) (cost : RunState → ℕ) (n : ℕ) → BestBelow v r (swapped is_kanji_pair) (reverse xs) f cost → HasFit v r xs n → cost Start ≤ n
 unfolding may_end
 front_least v r xs f cost n below fit =
     let ms = fit.0 in
     let back = mirror v is_kanji_pair r xs ms (fit.1.0, covers_by xs _ fit.1.1) in
-    let taken = can_take (turned is_kanji_pair) r (reverse xs) (reverse ms) back.0 Start refl in
+    let taken = can_take (swapped is_kanji_pair) r (reverse xs) (reverse ms) back.0 Start refl in
     let best = below Start (reverse ms) taken in
     omega (arith, best.least (reverse ms) taken, bits-runs_of v (reverse ms), back.1, fit.2)
 
@@ -135,43 +135,43 @@ unfolding CoversInTurn runs_of
 empty_fits v r n = ([], (refl, from_turn [] [] refl), omega arith)
 
 -- the test of the first two bytes
-begins_at : (r : Rule) (test : ℕ → ℕ → Bool) (xs : List ℕ) → 2 ≤ length xs → begins r test xs ≡ (may_use r Kanji && test (get_or xs 0 0) (get_or xs 1 0))
-unfolding begins
+begins_at : (r : Rule) (test : ℕ → ℕ → Bool) (xs : List ℕ) → 2 ≤ length xs → begins_with_pair r test xs ≡ (may_use r Kanji && test (get_or xs 0 0) (get_or xs 1 0))
+unfolding begins_with_pair
 begins_at r test [] h = absurd (omega arith)
 begins_at r test (x ∷ []) h = absurd (omega arith)
 begins_at r test (x ∷ y ∷ xs) h = refl
 
 -- the last two bytes are the first two of the reversed bytes
-pub ends_at : (r : Rule) (xs : List ℕ) → 2 ≤ length xs → begins r (turned is_kanji_pair) (reverse xs) ≡ (may_use r Kanji && is_kanji_pair (get_or xs (length xs - 2) 0) (get_or xs (length xs - 1) 0))
+pub ends_at : (r : Rule) (xs : List ℕ) → 2 ≤ length xs → begins_with_pair r (swapped is_kanji_pair) (reverse xs) ≡ (may_use r Kanji && is_kanji_pair (get_or xs (length xs - 2) 0) (get_or xs (length xs - 1) 0))
 ends_at r xs h =
-    let two = begins_at r (turned is_kanji_pair) (reverse xs) (omega (arith, length-reverse xs)) in
+    let two = begins_at r (swapped is_kanji_pair) (reverse xs) (omega (arith, length-reverse xs)) in
     let last : get_or (reverse xs) 0 0 ≡ get_or xs (length xs - 1) 0 = get_or-reverse xs 0 0 (omega arith) ∙ ap (λ (i : ℕ). get_or xs i 0) (omega arith) in
     let before : get_or (reverse xs) 1 0 ≡ get_or xs (length xs - 2) 0 = get_or-reverse xs 1 0 (omega arith) ∙ ap (λ (i : ℕ). get_or xs i 0) (omega arith) in
     two ∙ ap (λ (y : ℕ). may_use r Kanji && is_kanji_pair (get_or (reverse xs) 1 0) y) last ∙ ap (λ (x : ℕ). may_use r Kanji && is_kanji_pair x (get_or xs (length xs - 1) 0)) before
 
 -- fewer than two bytes do not begin with two
-begins_short : (r : Rule) (test : ℕ → ℕ → Bool) (xs : List ℕ) → length xs < 2 → begins r test xs ≡ false
-unfolding begins
+begins_short : (r : Rule) (test : ℕ → ℕ → Bool) (xs : List ℕ) → length xs < 2 → begins_with_pair r test xs ≡ false
+unfolding begins_with_pair
 begins_short r test [] h = refl
 begins_short r test (x ∷ []) h = refl
 begins_short r test (x ∷ y ∷ xs) h = absurd (omega arith)
 
 -- fewer than two bytes do not end in two
-pub ends_short : (r : Rule) (xs : List ℕ) → length xs < 2 → begins r (turned is_kanji_pair) (reverse xs) ≡ false
-ends_short r xs h = begins_short r (turned is_kanji_pair) (reverse xs) (omega (arith, length-reverse xs))
+pub ends_short : (r : Rule) (xs : List ℕ) → length xs < 2 → begins_with_pair r (swapped is_kanji_pair) (reverse xs) ≡ false
+ends_short r xs h = begins_short r (swapped is_kanji_pair) (reverse xs) (omega (arith, length-reverse xs))
 
 -- a reversed prefix with one more byte
 pub front_next : (xs : List ℕ) (i : ℕ) → i < length xs → reverse (take (i + 1) xs) ≡ get_or xs i 0 ∷ reverse (take i xs)
 front_next xs i h = ap reverse (take_more xs i 0 h) ∙ reverse-append (take i xs) (get_or xs i 0 ∷ [])
 
 -- the table for a reversed prefix with one more byte
-pub front_more : (v : ℕ) (r : Rule) (xs : List ℕ) (i : ℕ) (pair : Bool) (rows : List ℕ) (row : ℕ) (rest numbers : ByPlace ℕ) → i < length xs
-    → pair ≡ begins r (turned is_kanji_pair) (reverse (take (i + 1) xs))
-    → BestBelow v r (turned is_kanji_pair) (reverse (take i xs)) (λ p. follow p rows) (bits_at rest)
+pub front_more : (v : ℕ) (r : Rule) (xs : List ℕ) (i : ℕ) (pair : Bool) (rows : List ℕ) (row : ℕ) (rest numbers : PerState ℕ) → i < length xs
+    → pair ≡ begins_with_pair r (swapped is_kanji_pair) (reverse (take (i + 1) xs))
+    → BestBelow v r (swapped is_kanji_pair) (reverse (take i xs)) (λ p. follow p rows) (bits_at rest)
     → IsRow v r (get_or xs i 0) pair rest row numbers
-    → BestBelow v r (turned is_kanji_pair) (reverse (take (i + 1) xs)) (λ p. follow p (row ∷ rows)) (bits_at numbers)
+    → BestBelow v r (swapped is_kanji_pair) (reverse (take (i + 1) xs)) (λ p. follow p (row ∷ rows)) (bits_at numbers)
 front_more v r xs i pair rows row rest numbers h e below choice =
     let x = get_or xs i 0 in
     let front = front_next xs i h in
-    let flag : pair ≡ begins r (turned is_kanji_pair) (x ∷ reverse (take i xs)) = e ∙ ap (begins r (turned is_kanji_pair)) front in
-    rw front (best_more v r (turned is_kanji_pair) x (reverse (take i xs)) rows row rest numbers below (subst (λ (b : Bool). IsRow v r x b rest row numbers) flag choice))
+    let flag : pair ≡ begins_with_pair r (swapped is_kanji_pair) (x ∷ reverse (take i xs)) = e ∙ ap (begins_with_pair r (swapped is_kanji_pair)) front in
+    rw front (best_more v r (swapped is_kanji_pair) x (reverse (take i xs)) rows row rest numbers below (subst (λ (b : Bool). IsRow v r x b rest row numbers) flag choice))

@@ -5,17 +5,17 @@ use Rattle.std.proofs.lemmas.Bool.{and_parts, and_from, false≢true}
 use Rattle.qr_bits.specs.declared.modes.Mode.{Mode}
 use Rattle.qr_bits.specs.declared.modes.Mode.TheVariants.{Numeric, Alphanumeric, Byte, Kanji}
 use Rattle.qr_bits.specs.declared.modes.Rule.{Rule}
-use Rattle.qr_bits.specs.declared.place.Place.{Place}
-use Rattle.qr_bits.specs.declared.place.Place.TheVariants.{Start, Digit1, Digit2, Digit3, Character1, Character2, InBytes, HalfPair, WholePair}
+use Rattle.qr_bits.specs.declared.run_state.RunState.{RunState}
+use Rattle.qr_bits.specs.declared.run_state.RunState.TheVariants.{Start, Digit1, Digit2, Digit3, Character1, Character2, InBytes, HalfPair, WholePair}
 use Rattle.qr_bits.specs.Segmentation.{rank, bits, runs_of, IsAssignment, HasFit}
 use Rattle.qr_bits.specs.Modes.{may_use, is_kanji_pair}
-use Rattle.qr_bits.specs.Steps.Place.{place_after, step_bits, begins, may_take, may_end, allowed, walk}
+use Rattle.qr_bits.specs.Steps.RunState.{state_after, byte_cost, begins_with_pair, may_take, may_end, allowed, cost_of}
 use Rattle.qr_bits.proofs.CostLemmas.{bits-runs_of}
 use Rattle.qr_bits.proofs.AssignmentLemmas.{may_end-after, take_one, one_taken, can_take, is_assignment, covers_by, by_covers}
 use Rattle.qr_bits.proofs.ChoiceLemmas.{take_begin}
 
 -- the state of a run after one more byte
-abbrev ahead : Place → Place
+abbrev ahead : RunState → RunState
 ahead Digit1 = Digit2
 ahead Digit2 = Digit3
 ahead Digit3 = Digit1
@@ -24,13 +24,13 @@ ahead Character2 = Character1
 ahead p = p
 
 -- how many more bits a rest can take if it begins one byte later in a run
-abbrev lag : Place → ℕ
+abbrev lag : RunState → ℕ
 lag Digit3 = 1
 lag Character2 = 1
 lag _ = 0
 
-ahead_byte : (v : ℕ) (p : Place) → step_bits v p Byte ≡ step_bits v (ahead p) Byte
-unfolding step_bits
+ahead_byte : (v : ℕ) (p : RunState) → byte_cost v p Byte ≡ byte_cost v (ahead p) Byte
+unfolding byte_cost
 ahead_byte v Start = refl
 ahead_byte v Digit1 = refl
 ahead_byte v Digit2 = refl
@@ -41,8 +41,8 @@ ahead_byte v InBytes = refl
 ahead_byte v HalfPair = refl
 ahead_byte v WholePair = refl
 
-ahead_kanji : (v : ℕ) (p : Place) → (step_bits v p Kanji ≡ step_bits v (ahead p) Kanji) × (place_after p Kanji ≡ place_after (ahead p) Kanji)
-unfolding step_bits place_after
+ahead_kanji : (v : ℕ) (p : RunState) → (byte_cost v p Kanji ≡ byte_cost v (ahead p) Kanji) × (state_after p Kanji ≡ state_after (ahead p) Kanji)
+unfolding byte_cost state_after
 ahead_kanji v Start = (refl, refl)
 ahead_kanji v Digit1 = (refl, refl)
 ahead_kanji v Digit2 = (refl, refl)
@@ -53,8 +53,8 @@ ahead_kanji v InBytes = (refl, refl)
 ahead_kanji v HalfPair = (refl, refl)
 ahead_kanji v WholePair = (refl, refl)
 
-behind_ahead : (v : ℕ) (p : Place) (ms : List Mode) → walk v p ms ≤ walk v (ahead p) ms + lag p
-unfolding walk step_bits place_after
+behind_ahead : (v : ℕ) (p : RunState) (ms : List Mode) → cost_of v p ms ≤ cost_of v (ahead p) ms + lag p
+unfolding cost_of byte_cost state_after
 behind_ahead v p [] = omega arith
 behind_ahead v Digit1 (Numeric ∷ ms) = omega (arith, behind_ahead v Digit2 ms)
 behind_ahead v Digit2 (Numeric ∷ ms) = omega (arith, behind_ahead v Digit3 ms)
@@ -64,11 +64,11 @@ behind_ahead v Character2 (Alphanumeric ∷ ms) = omega (arith, behind_ahead v C
 behind_ahead v _ (Numeric ∷ ms) = omega arith
 behind_ahead v _ (Alphanumeric ∷ ms) = omega arith
 behind_ahead v p (Byte ∷ ms) = omega (arith, ahead_byte v p)
-behind_ahead v p (Kanji ∷ ms) = let e = ahead_kanji v p in omega (arith, e.0, ap (λ (q : Place). walk v q ms) e.1)
+behind_ahead v p (Kanji ∷ ms) = let e = ahead_kanji v p in omega (arith, e.0, ap (λ (q : RunState). cost_of v q ms) e.1)
 
 -- without the first mode an assignment takes no more bits
-without_first : (v : ℕ) (m : Mode) (ms : List Mode) → rank m < 3 → walk v Start ms ≤ walk v Start (m ∷ ms)
-unfolding walk step_bits place_after
+without_first : (v : ℕ) (m : Mode) (ms : List Mode) → rank m < 3 → cost_of v Start ms ≤ cost_of v Start (m ∷ ms)
+unfolding cost_of byte_cost state_after
 without_first v m [] h = omega arith
 without_first v Numeric (Numeric ∷ ms) h = omega (arith, behind_ahead v Digit1 ms)
 without_first v Alphanumeric (Alphanumeric ∷ ms) h = omega (arith, behind_ahead v Character1 ms)
@@ -91,29 +91,29 @@ plain r Kanji p h = absurd (false≢true (sym p ∙ h))
 abbrev CanUse : Rule → List Mode → Type 0
 CanUse r ms = list_all (may_use r) ms ≡ true
 
-front : (v : ℕ) (r : Rule) (p : Place) (xs ys : List ℕ) (ms : List Mode) → IsPlain r → CanUse r ms → may_end p ≡ true → allowed r is_kanji_pair p (xs ++ ys) ms ≡ true
-    → (ks : List Mode) × CanUse r ks × (allowed r is_kanji_pair p xs ks ≡ true) × (walk v p ks ≤ walk v p ms)
-unfolding allowed walk
+front : (v : ℕ) (r : Rule) (p : RunState) (xs ys : List ℕ) (ms : List Mode) → IsPlain r → CanUse r ms → may_end p ≡ true → allowed r is_kanji_pair p (xs ++ ys) ms ≡ true
+    → (ks : List Mode) × CanUse r ks × (allowed r is_kanji_pair p xs ks ≡ true) × (cost_of v p ks ≤ cost_of v p ms)
+unfolding allowed cost_of
 front v r p [] ys ms n u e h = ([], refl, e, omega arith)
 front v r p (x ∷ xs) ys [] n u e h = absurd (false≢true h)
 front v r p (x ∷ xs) ys (m ∷ ms) n u e h =
     let use_ = and_parts (may_use r m) (list_all (may_use r) ms) u in
     let low = plain r m n use_.0 in
-    let parts = and_parts (may_take r p x (begins r is_kanji_pair (x ∷ (xs ++ ys))) m) _ h in
-    let taken = take_one is_kanji_pair r m x (begins r is_kanji_pair (x ∷ (xs ++ ys))) low (sym (take_begin r p x (begins r is_kanji_pair (x ∷ (xs ++ ys))) m e) ∙ parts.0) in
-    let rest = front v r (place_after p m) xs ys ms n use_.1 (may_end-after p m low) parts.1 in
-    (m ∷ rest.0, and_from _ _ use_.0 rest.1, and_from _ _ (take_begin r p x (begins r is_kanji_pair (x ∷ xs)) m e ∙ one_taken is_kanji_pair r m x (begins r is_kanji_pair (x ∷ xs)) low taken.0 taken.1) rest.2, omega (arith, rest.3))
+    let parts = and_parts (may_take r p x (begins_with_pair r is_kanji_pair (x ∷ (xs ++ ys))) m) _ h in
+    let taken = take_one is_kanji_pair r m x (begins_with_pair r is_kanji_pair (x ∷ (xs ++ ys))) low (sym (take_begin r p x (begins_with_pair r is_kanji_pair (x ∷ (xs ++ ys))) m e) ∙ parts.0) in
+    let rest = front v r (state_after p m) xs ys ms n use_.1 (may_end-after p m low) parts.1 in
+    (m ∷ rest.0, and_from _ _ use_.0 rest.1, and_from _ _ (take_begin r p x (begins_with_pair r is_kanji_pair (x ∷ xs)) m e ∙ one_taken is_kanji_pair r m x (begins_with_pair r is_kanji_pair (x ∷ xs)) low taken.0 taken.1) rest.2, omega (arith, rest.3))
 
 back : (v : ℕ) (r : Rule) (xs ys : List ℕ) (ms : List Mode) → IsPlain r → CanUse r ms → allowed r is_kanji_pair Start (xs ++ ys) ms ≡ true
-    → (ks : List Mode) × CanUse r ks × (allowed r is_kanji_pair Start ys ks ≡ true) × (walk v Start ks ≤ walk v Start ms)
+    → (ks : List Mode) × CanUse r ks × (allowed r is_kanji_pair Start ys ks ≡ true) × (cost_of v Start ks ≤ cost_of v Start ms)
 unfolding allowed may_end
 back v r [] ys ms n u h = (ms, u, h, omega arith)
 back v r (x ∷ xs) ys [] n u h = absurd (false≢true h)
 back v r (x ∷ xs) ys (m ∷ ms) n u h =
     let use_ = and_parts (may_use r m) (list_all (may_use r) ms) u in
     let low = plain r m n use_.0 in
-    let parts = and_parts (may_take r Start x (begins r is_kanji_pair (x ∷ (xs ++ ys))) m) _ h in
-    let again = can_take is_kanji_pair r (xs ++ ys) ms (is_assignment is_kanji_pair r (xs ++ ys) ms (place_after Start m) (may_end-after Start m low) parts.1) Start refl in
+    let parts = and_parts (may_take r Start x (begins_with_pair r is_kanji_pair (x ∷ (xs ++ ys))) m) _ h in
+    let again = can_take is_kanji_pair r (xs ++ ys) ms (is_assignment is_kanji_pair r (xs ++ ys) ms (state_after Start m) (may_end-after Start m low) parts.1) Start refl in
     let rest = back v r xs ys ms n use_.1 again in
     (rest.0, rest.1, rest.2, omega (arith, rest.3, without_first v m ms low))
 

@@ -10,7 +10,7 @@ use Rattle.std.proofs.Math.Seq.{drop-cons}
 use Rattle.qr_bits.specs.declared.modes.Mode.{Mode}
 use Rattle.qr_bits.specs.declared.modes.Mode.TheVariants.{Numeric, Alphanumeric, Byte, Kanji}
 use Rattle.qr_bits.specs.declared.modes.Rule.{Rule}
-use Rattle.qr_bits.specs.declared.segmentation.Segment.{Segment}
+use Rattle.qr_bits.specs.declared.segment.Segment.{Segment}
 use Rattle.qr_bits.specs.Modes.{count_width, payload_bits, suits}
 use Rattle.qr_bits.specs.Segmentation.{segment_bits, bits, rank, Covers, runs_of, IsNotAfter, IsLeastSegmentation, HasFit}
 use Rattle.qr_bits.specs.Stream.{Suits}

@@ -2,7 +2,7 @@
 use Rattle.std.specs.Prelude.{ℕ, List, [], ◌∷◌}
 use Rattle.qr_bits.specs.declared.modes.Mode.{Mode}
 use Rattle.qr_bits.specs.declared.modes.Mode.TheVariants.{Numeric, Alphanumeric, Byte, Kanji}
-use Rattle.qr_bits.specs.declared.segmentation.Segment.{Segment}
+use Rattle.qr_bits.specs.declared.segment.Segment.{Segment}
 use Rattle.qr_bits.specs.declared.header.Header.{Header}
 use Rattle.qr_bits.specs.declared.fault.ParseFault.{ParseFault}
 use Rattle.qr_bits.specs.declared.fault.ParseFault.TheVariants.{BadMode, Cut, BadValue}

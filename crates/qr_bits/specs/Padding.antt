@@ -1,6 +1,6 @@
 -- The data codewords of a symbol: the stream, the terminator and the padding.
 use Rattle.std.specs.Prelude.{◌≡◌, ℕ, ◌*◌, ◌/◌, ◌%◌, ◌<◌, ◌≤◌, Bool, false, List, [], ◌∷◌, length, ◌-◌, ◌++◌, All, Option, zero, suc, min, replicate}
-use Rattle.qr_bits.specs.declared.segmentation.Segment.{Segment}
+use Rattle.qr_bits.specs.declared.segment.Segment.{Segment}
 use Rattle.qr_bits.specs.declared.header.Header.{Header}
 use Rattle.qr_bits.specs.Bits.{bits_of}
 use Rattle.qr_layout.specs.declared.level.Level.{Level}

@@ -4,7 +4,7 @@ use Rattle.std.specs.List.{list_all, sum_by}
 use Rattle.qr_bits.specs.declared.modes.Mode.{Mode}
 use Rattle.qr_bits.specs.declared.modes.Mode.TheVariants.{Numeric, Alphanumeric, Byte, Kanji}
 use Rattle.qr_bits.specs.declared.modes.Rule.{Rule}
-use Rattle.qr_bits.specs.declared.segmentation.Segment.{Segment}
+use Rattle.qr_bits.specs.declared.segment.Segment.{Segment}
 use Rattle.qr_bits.specs.Modes.{count_width, is_digit, payload_bits, may_use}
 use Rattle.qr_bits.specs.Stream.{Suits}
 
@@ -70,12 +70,12 @@ HasFit v r xs n = (ms : List Mode) × IsAssignment r xs ms × (bits v (runs_of m
 
 -- A lower bound on the number of bits that a byte takes, in sixths of a bit: three digits take 10 bits, two characters 11
 -- and a kanji pair 13, and no character comes after `Z` (ISO/IEC 18004:2015, 7.4.3 to 7.4.6)
-abbrev pub sixths_of : ℕ → ℕ
-sixths_of b = if is_digit b then 20 else (if nat_le b 90 then 33 else 39)
+abbrev pub least_sixths : ℕ → ℕ
+least_sixths b = if is_digit b then 20 else (if nat_le b 90 then 33 else 39)
 
 -- A lower bound on the number of bits that bytes take in any segments (ISO/IEC 18004:2015, 7.4.3 to 7.4.6)
 unfoldable pub least_bits : List ℕ → ℕ
-least_bits xs = sum_by sixths_of xs / 6
+least_bits xs = sum_by least_sixths xs / 6
 
 -- `IsLongestFit v r xs room n` holds if the prefix of n bytes is the longest of all prefixes of xs that fit. A prefix fits
 -- if some valid assignment of modes to it takes at most `room` bits [own].

@@ -5,7 +5,7 @@ ghost use Rattle.std.specs.Prelude.{◌≡◌, ◌↔◌, IsTrue, IfOk};
 use crate::fault::{BitFault, ParseFault};
 use crate::header::Header;
 use crate::modes::{Mode, Rule};
-use crate::segmentation::Segment;
+use crate::segment::Segment;
 use std::alloc::AllocError;
 
 /// Modes are equal exactly if they are the same.

@@ -10,7 +10,7 @@ use crate::bits::BitWriter;
 use crate::fault::BitFault;
 use crate::header::{Header, header_bits};
 use crate::modes::INPUT_MAX;
-use crate::segmentation::{Segment, bit_len};
+use crate::segment::{Segment, bit_len};
 use crate::stream::{put_header, put_segments};
 use qr_layout::{Level, Version};
 use std::alloc::{AllocError, Global};
@@ -82,7 +82,7 @@ mod tests {
     use super::*;
     use crate::modes::Mode;
     use crate::parsing::parse;
-    use crate::segmentation::covers;
+    use crate::segment::covers;
     use std::test::Fail;
 
     fn encode(

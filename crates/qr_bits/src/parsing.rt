@@ -9,7 +9,7 @@ use crate::bits::BitReader;
 use crate::fault::ParseFault;
 use crate::header::Header;
 use crate::modes::{CHARACTERS, Mode, byte_count, count_width, mode_of, payload_bits};
-use crate::segmentation::Segment;
+use crate::segment::Segment;
 use qr_layout::Version;
 use std::alloc::Global;
 use std::marker::Model;

@@ -14,7 +14,7 @@ use crate::header::Header;
 use crate::modes::{
     Mode, STRUCTURED_APPEND, character_count, character_value, count_width, indicator, kanji_value,
 };
-use crate::segmentation::Segment;
+use crate::segment::Segment;
 use qr_layout::Version;
 use std::alloc::AllocError;
 

@@ -1,6 +1,6 @@
 //! Finds the best mode for each byte: a table that is filled from the last byte to the first.
 //!
-//! The bits that the remaining bytes add depend only on the state before them, a `Place`. So for each
+//! The bits that the remaining bytes add depend only on the state before them, a `RunState`. So for each
 //! state the best mode is the mode with the fewest bits for the next byte and the best rest after it.
 //! A choice is one number: four times its bits plus the rank of its mode. So the least number is the
 //! choice with the fewest bits, and of choices with equally many bits the one with the lowest rank. A
@@ -8,15 +8,15 @@
 
 ghost use Rattle.std.specs.Prelude.{◌≡◌, ◌+◌, ◌*◌, ◌/◌, ◌%◌, ◌<◌, ◌≤◌, ℕ, Bool, true, false, length, reverse, IfOk, vec_len};
 ghost use Rattle.qr_bits.specs.declared.modes.Mode.{Mode};
-ghost use Rattle.qr_bits.specs.declared.place.Place.{Place};
+ghost use Rattle.qr_bits.specs.declared.run_state.RunState.{RunState};
 ghost use Rattle.qr_bits.specs.Modes.{is_kanji_pair};
 ghost use Rattle.qr_bits.specs.Segmentation.{rank};
 ghost use Rattle.qr_bits.specs.declared.modes.Rule.{Rule};
-ghost use Rattle.qr_bits.specs.Steps.Place.{begins, may_begin, number_of, ranked};
-ghost use Rattle.qr_bits.specs.Steps.Table.{at_place, mode_at, IsBestTable, IsRow, IsSmall, shift_of};
+ghost use Rattle.qr_bits.specs.Steps.RunState.{begins_with_pair, may_begin, number_of, ranked};
+ghost use Rattle.qr_bits.specs.Steps.Table.{in_state, mode_at, IsBestTable, IsRow, IsSmall, shift_of};
 
 use crate::modes::{INPUT_MAX, Mode, Rule, is_alphanumeric, is_digit, is_kanji_pair, may_use};
-use crate::place::{ByPlace, Heads, NO_BITS, Place, number};
+use crate::run_state::{FirstChoices, NO_BITS, PerState, RunState, number};
 use qr_layout::Version;
 use std::alloc::{AllocError, Global};
 
@@ -37,7 +37,7 @@ fn ranked(rank: u32) -> Mode
 }
 
 // Returns whether `mode`, which is not kanji mode, may be used for `byte`, if `byte` is not the second of a kanji pair.
-#[tactic(auto, unfolding(crate::specs::Steps::Place::may_begin))]
+#[tactic(auto, unfolding(crate::specs::Steps::RunState::may_begin))]
 #[inline(always)]
 fn may_begin(rule: Rule, byte: u8, mode: Mode) -> bool
     requires { rank mode < 3 }
@@ -64,8 +64,8 @@ fn number_if(may: bool, first: u32, rest: u32) -> u32
 
 // Returns a row of the table: for each state, the mode of the choice that has this number.
 #[inline(always)]
-fn modes_of(numbers: &ByPlace<u32>) -> u32
-    ensures { (p : Place) → mode_at result p ≡ ranked (at_place numbers.now p % 4) }
+fn modes_of(numbers: &PerState<u32>) -> u32
+    ensures { (p : RunState) → mode_at result p ≡ ranked (in_state numbers.now p % 4) }
 {
     let last = numbers.half_pair % 4 + 4 * (numbers.whole_pair % 4);
     let last = numbers.character2 % 4 + 4 * (numbers.in_bytes % 4 + 4 * last);
@@ -80,21 +80,21 @@ fn modes_of(numbers: &ByPlace<u32>) -> u32
 // the rank of its mode.
 #[inline(always)]
 fn choices(
-    heads: &Heads,
+    first_choices: &FirstChoices,
     digit: bool,
     character: bool,
     pair: bool,
-    rest: &ByPlace<u32>,
-) -> (u32, ByPlace<u32>)
+    rest: &PerState<u32>,
+) -> (u32, PerState<u32>)
     requires { IsSmall rest.now }
     ensures { (r : Rule) (x : ℕ) → digit ≡ may_begin r x pair Mode.Numeric
         → character ≡ may_begin r x pair Mode.Alphanumeric
-        → IsRow heads.now.version r x pair rest.now result.0 result.1 }
+        → IsRow first_choices.now.version r x pair rest.now result.0 result.1 }
 {
-    let digits = number_if(digit, heads.numeric, rest.digit1);
-    let characters = number_if(character, heads.alphanumeric, rest.character1);
-    let bytes = number_if(true, heads.byte, rest.in_bytes);
-    let pairs = number_if(pair, heads.kanji, rest.half_pair);
+    let digits = number_if(digit, first_choices.numeric, rest.digit1);
+    let characters = number_if(character, first_choices.alphanumeric, rest.character1);
+    let bytes = number_if(true, first_choices.byte, rest.in_bytes);
+    let pairs = number_if(pair, first_choices.kanji, rest.half_pair);
     let others = bytes.min(pairs);
     let no_digits = characters.min(others);
     let no_characters = digits.min(others);
@@ -109,7 +109,7 @@ fn choices(
     let in_bytes = number_if(true, number(8, Mode::Byte), rest.in_bytes);
     let whole_pair = number_if(true, number(0, Mode::Kanji), rest.whole_pair);
     let half_pair = number_if(pair, number(13, Mode::Kanji), rest.half_pair);
-    let numbers = ByPlace {
+    let numbers = PerState {
         start,
         digit1: digit2.min(no_digits),
         digit2: digit3.min(no_digits),
@@ -126,36 +126,36 @@ fn choices(
 /// Returns, for each state before this byte, the mode of the best choice, as a row of the table, and the number of that
 /// choice. `pair` says whether the byte may begin a kanji pair. After the first byte of a pair only kanji mode is possible,
 /// and the second byte adds no bits.
-#[tactic(auto, unfolding(crate::specs::Steps::Place::may_begin))]
+#[tactic(auto, unfolding(crate::specs::Steps::RunState::may_begin))]
 #[inline(always)]
-pub(crate) fn row(
-    heads: &Heads,
+pub(crate) fn best_choices(
+    first_choices: &FirstChoices,
     rule: Rule,
     byte: u8,
     pair: bool,
-    rest: &ByPlace<u32>,
-) -> (u32, ByPlace<u32>)
+    rest: &PerState<u32>,
+) -> (u32, PerState<u32>)
     requires { IsSmall rest.now }
-    ensures { IsRow heads.now.version rule byte pair rest.now result.0 result.1 }
+    ensures { IsRow first_choices.now.version rule byte pair rest.now result.0 result.1 }
 {
     // Flags that are constant let the compiler drop the cases that they rule out. Every digit is also a character.
     if pair {
         let digit = may_begin(rule, byte, Mode::Numeric);
         let character = may_begin(rule, byte, Mode::Alphanumeric);
-        choices(heads, digit, character, true, rest)
+        choices(first_choices, digit, character, true, rest)
     } else if may_begin(rule, byte, Mode::Numeric) {
-        choices(heads, true, true, false, rest)
+        choices(first_choices, true, true, false, rest)
     } else if may_begin(rule, byte, Mode::Alphanumeric) {
-        choices(heads, false, true, false, rest)
+        choices(first_choices, false, true, false, rest)
     } else {
-        choices(heads, false, false, false, rest)
+        choices(first_choices, false, false, false, rest)
     }
 }
 
 // Returns whether the rule allows kanji mode and the bytes begin with a kanji pair.
-#[tactic(auto, unfolding(crate::specs::Steps::Place::begins))]
+#[tactic(auto, unfolding(crate::specs::Steps::RunState::begins_with_pair))]
 pub(crate) fn begins_with_pair(rule: Rule, bytes: &[u8]) -> bool
-    ensures { result ≡ begins rule is_kanji_pair bytes.now }
+    ensures { result ≡ begins_with_pair rule is_kanji_pair bytes.now }
 {
     match bytes {
         [high, low, ..] => may_use(rule, Mode::Kanji) && is_kanji_pair(*high, *low),
@@ -174,42 +174,42 @@ pub(crate) fn best_modes(
     ensures len { IfOk result (λ t. vec_len t ≡ length input.now) }
     ensures best { IfOk result (λ t. IsBestTable version rule is_kanji_pair input.now (reverse t.items)) }
 {
-    let heads = Heads::of(version);
+    let first_choices = FirstChoices::of(version);
     let mut table = Vec::with_capacity(alloc, input.len())?;
     let mut rest = NO_BITS;
     for i in (0..input.len()).rev() {
         let pair = begins_with_pair(rule, &input[i..]);
-        let (modes, numbers) = row(&heads, rule, input[i], pair, &rest);
+        let (modes, numbers) = best_choices(&first_choices, rule, input[i], pair, &rest);
         table.push(modes)?;
         rest = numbers;
     }
     Ok(table)
 }
 
-// Returns at which bit of a row of the table the mode for `place` begins.
+// Returns at which bit of a row of the table the mode for `state` begins.
 #[inline(always)]
-fn shift_of(place: Place) -> u32
-    ensures value { result ≡ shift_of place }
+fn shift_of(state: RunState) -> u32
+    ensures value { result ≡ shift_of state }
     ensures most { result ≤ 16 }
 {
-    match place {
-        Place::Start => 0,
-        Place::Digit1 => 2,
-        Place::Digit2 => 4,
-        Place::Digit3 => 6,
-        Place::Character1 => 8,
-        Place::Character2 => 10,
-        Place::InBytes => 12,
-        Place::HalfPair => 14,
-        Place::WholePair => 16,
+    match state {
+        RunState::Start => 0,
+        RunState::Digit1 => 2,
+        RunState::Digit2 => 4,
+        RunState::Digit3 => 6,
+        RunState::Character1 => 8,
+        RunState::Character2 => 10,
+        RunState::InBytes => 12,
+        RunState::HalfPair => 14,
+        RunState::WholePair => 16,
     }
 }
 
-/// Returns the mode for `place` in a row of the table.
+/// Returns the mode for `state` in a row of the table.
 #[tactic(auto, unfolding(crate::specs::Steps::Table::mode_at))]
 #[inline(always)]
-pub(crate) fn mode_at(row: u32, place: Place) -> Mode
-    ensures { result ≡ mode_at row place }
+pub(crate) fn mode_at(row: u32, state: RunState) -> Mode
+    ensures { result ≡ mode_at row state }
 {
-    ranked((row >> shift_of(place)) % 4)
+    ranked((row >> shift_of(state)) % 4)
 }

@@ -8,7 +8,7 @@ use Rattle.qr_layout.specs.declared.level.Level.{Level}
 use Rattle.qr_bits.specs.declared.modes.Mode.{Mode}
 use Rattle.qr_bits.specs.declared.modes.Mode.TheVariants.{Numeric, Alphanumeric, Byte, Kanji}
 use Rattle.qr_bits.specs.declared.modes.Rule.{Rule}
-use Rattle.qr_bits.specs.declared.segmentation.Segment.{Segment}
+use Rattle.qr_bits.specs.declared.segment.Segment.{Segment}
 use Rattle.qr_bits.specs.Modes.{may_use, suits}
 use Rattle.qr_bits.specs.Segmentation.{bits, rank, prepend_mode, runs_of, Covers, IsAssignment, HasFit, IsLongestFit}
 use Rattle.qr_bits.specs.Padding.{room_of}

@@ -10,7 +10,7 @@ use Rattle.qr_layout.specs.Format.{format_word_of}
 use Rattle.qr_layout.specs.Order.{IsOrder}
 use Rattle.qr_layout.specs.Role.{first_place}
 use Rattle.qr_bits.specs.declared.modes.Rule.{Rule}
-use Rattle.qr_bits.specs.declared.segmentation.Segment.{Segment}
+use Rattle.qr_bits.specs.declared.segment.Segment.{Segment}
 use Rattle.qr_bits.specs.Segmentation.{IsLeastSegmentation}
 use Rattle.qr_bits.specs.Bits.{bits_of}
 use Rattle.qr_bits.specs.Parsing.{Content, parse}

@@ -11,13 +11,13 @@ use thiserror::Error;
 #[derive(Clone, Copy, Debug, PartialEq, Eq, Error)]
 pub enum EncodeFault {
     /// The input has no byte.
-    #[error("the input is empty")]
+    #[error("input is empty")]
     Empty = 1,
     /// The input fits no version that the caller allows.
-    #[error("the input does not fit")]
+    #[error("input does not fit")]
     TooLong = 2,
     /// The input needs more than 16 symbols.
-    #[error("the input takes more than 16 symbols")]
+    #[error("more than 16 symbols")]
     TooMany = 3,
     /// An allocation was refused.
     #[error("out of memory")]
@@ -67,7 +67,7 @@ pub enum ReadFault {
     #[error("out of memory")]
     Memory,
     /// No version has this side.
-    #[error("the side is that of no version")]
+    #[error("no version has this side")]
     Side,
     /// The format information beside the top left finder pattern belongs to no level and mask.
     #[error("the format information is damaged")]
@@ -79,7 +79,7 @@ pub enum ReadFault {
     #[error("the data codewords cannot be parsed: {0}")]
     Segments(ParseFault),
     /// The symbols do not form a series.
-    #[error("the symbols are no series")]
+    #[error("the symbols do not form a series")]
     Series,
 }
 

@@ -18,9 +18,11 @@ use Rattle.qrencode_cli.specs.Arguments.{faults_for, rows_for}
 use Rattle.qr_drawing.specs.Drawing.{drawn}
 use Rattle.qrencode_cli.specs.Settings.{Reason, SettingsView, checked_series, drawing_named, level_named, needs_version, number_or, refused_by_clap, rule_for, settings_for, settings_of, settings_with, unknown_level, unknown_type}
 use Rattle.qr_drawing.specs.declared.drawing.Drawing.{Drawing}
-use Rattle.qrencode_cli.specs.declared.fault.Refusal.{Refusal}
+use Rattle.qr_symbol.specs.declared.fault.EncodeFault.TheVariants as encode
+use Rattle.qrencode_cli.specs.declared.fault.Fault.{Fault}
+use Rattle.qrencode_cli.specs.declared.fault.Fault.TheVariants as fault
 use Rattle.qrencode_cli.specs.Picture.{AreSquares, AreSymbols, IsTooLong, IsTooMany, smallest_of}
-use Rattle.qrencode_cli.specs.declared.fault.Refusal.TheVariants as refusal
+use Rattle.qrencode_cli.specs.declared.settings.UsageFault.TheVariants as usage
 
 -- a command line has at most one list of settings
 settings-one : (words : List Text) (s t : SettingsView) → settings_for words ≡ Ok s → settings_for words ≡ Ok t → s ≡ t
@@ -63,22 +65,22 @@ not-too-many s input squares h many =
 
 -- a command line and an input that have a drawing are not refused
 pub refusals-exclude : RefusalsExcludeDrawings
-refusals-exclude words given d refusal.Empty a h =
+refusals-exclude words given d (fault.Encode encode.Empty) a h =
     let same = settings-one words h.settings a.settings h.taken a.taken in
     let none : held a.settings (input_for a.settings given) ≡ [] = subst (λ (s : SettingsView). held s (input_for s given) ≡ []) same h.holds in
     let some = a.holds.some in
     let len = ap length none in
     omega arith
-refusals-exclude words given d refusal.TooLong a h =
+refusals-exclude words given d (fault.Encode encode.TooLong) a h =
     let same = settings-one words h.settings a.settings h.taken a.taken in
     not-too-long a.settings (held a.settings (input_for a.settings given)) a.holds.squares a.holds.symbols (subst (λ (s : SettingsView). IsTooLong s (held s (input_for s given))) same h.holds)
-refusals-exclude words given d refusal.TooMany a h =
+refusals-exclude words given d (fault.Encode encode.TooMany) a h =
     let same = settings-one words h.settings a.settings h.taken a.taken in
     not-too-many a.settings (held a.settings (input_for a.settings given)) a.holds.squares a.holds.symbols (subst (λ (s : SettingsView). IsTooMany s (held s (input_for s given))) same h.holds)
-refusals-exclude words given d (refusal.Words text) a h = let e : Ok a.settings ≡ Err _ = sym a.taken ∙ h in cc
-refusals-exclude words given d refusal.Level a h = let e : Ok a.settings ≡ Err _ = sym a.taken ∙ h in cc
-refusals-exclude words given d refusal.Kind a h = let e : Ok a.settings ≡ Err _ = sym a.taken ∙ h in cc
-refusals-exclude words given d refusal.NeedsVersion a h = let e : Ok a.settings ≡ Err _ = sym a.taken ∙ h in cc
+refusals-exclude words given d (fault.Usage (usage.Words text)) a h = let e : Ok a.settings ≡ Err _ = sym a.taken ∙ h in cc
+refusals-exclude words given d (fault.Usage usage.Level) a h = let e : Ok a.settings ≡ Err _ = sym a.taken ∙ h in cc
+refusals-exclude words given d (fault.Usage usage.Kind) a h = let e : Ok a.settings ≡ Err _ = sym a.taken ∙ h in cc
+refusals-exclude words given d (fault.Usage usage.NeedsVersion) a h = let e : Ok a.settings ≡ Err _ = sym a.taken ∙ h in cc
 
 -- ---- one reason
 
@@ -141,23 +143,23 @@ class_of (Err unknown_type) = 3
 class_of (Err needs_version) = 4
 
 -- the number of the reason that a refusal names, or 0 if it is about the input
-class_told : Refusal → ℕ
-class_told (refusal.Words text) = 1
-class_told refusal.Level = 2
-class_told refusal.Kind = 3
-class_told refusal.NeedsVersion = 4
+class_told : Fault → ℕ
+class_told (fault.Usage (usage.Words text)) = 1
+class_told (fault.Usage usage.Level) = 2
+class_told (fault.Usage usage.Kind) = 3
+class_told (fault.Usage usage.NeedsVersion) = 4
 class_told _ = 0
 
 -- a correct refusal names the reason why the command line has no settings
-class-is : (words : List Text) (given : List ℕ) (r : Refusal) → IsRefusal words given r → class_of (settings_for words) ≡ class_told r
+class-is : (words : List Text) (given : List ℕ) (r : Fault) → IsRefusal words given r → class_of (settings_for words) ≡ class_told r
 unfolding class_of class_told
-class-is words given (refusal.Words text) h = ap class_of h
-class-is words given refusal.Level h = ap class_of h
-class-is words given refusal.Kind h = ap class_of h
-class-is words given refusal.NeedsVersion h = ap class_of h
-class-is words given refusal.Empty h = ap class_of h.taken
-class-is words given refusal.TooLong h = ap class_of h.taken
-class-is words given refusal.TooMany h = ap class_of h.taken
+class-is words given (fault.Usage (usage.Words text)) h = ap class_of h
+class-is words given (fault.Usage usage.Level) h = ap class_of h
+class-is words given (fault.Usage usage.Kind) h = ap class_of h
+class-is words given (fault.Usage usage.NeedsVersion) h = ap class_of h
+class-is words given (fault.Encode encode.Empty) h = ap class_of h.taken
+class-is words given (fault.Encode encode.TooLong) h = ap class_of h.taken
+class-is words given (fault.Encode encode.TooMany) h = ap class_of h.taken
 
 -- two refusals of an input are about the same settings
 because-one : (words : List Text) (given : List ℕ) (P Q : SettingsView → List ℕ → Type 0) → HasRefusal words given P → HasRefusal words given Q
@@ -168,17 +170,17 @@ because-one words given P Q h k =
 -- for a command line and an input at most one refusal is correct
 pub refusals-one : RefusalsAreOne
 unfolding class_told
-refusals-one words given (refusal.Words text) (refusal.Words other) h k = tt
-refusals-one words given refusal.Level refusal.Level h k = refl
-refusals-one words given refusal.Kind refusal.Kind h k = refl
-refusals-one words given refusal.NeedsVersion refusal.NeedsVersion h k = refl
-refusals-one words given refusal.Empty refusal.Empty h k = refl
-refusals-one words given refusal.TooLong refusal.TooLong h k = refl
-refusals-one words given refusal.TooMany refusal.TooMany h k = refl
-refusals-one words given refusal.Empty refusal.TooLong h k = let w = because-one words given (λ s x. x ≡ []) IsTooLong h k in absurd (empty-not-long words w.0 _ w.1 w.2 w.3)
-refusals-one words given refusal.TooLong refusal.Empty h k = let w = because-one words given IsTooLong (λ s x. x ≡ []) h k in absurd (empty-not-long words w.0 _ w.1 w.3 w.2)
-refusals-one words given refusal.Empty refusal.TooMany h k = let w = because-one words given (λ s x. x ≡ []) IsTooMany h k in absurd (empty-not-many w.0 _ w.2 w.3)
-refusals-one words given refusal.TooMany refusal.Empty h k = let w = because-one words given IsTooMany (λ s x. x ≡ []) h k in absurd (empty-not-many w.0 _ w.3 w.2)
-refusals-one words given refusal.TooLong refusal.TooMany h k = let w = because-one words given IsTooLong IsTooMany h k in absurd (long-not-many w.0 _ _ w.2 w.3)
-refusals-one words given refusal.TooMany refusal.TooLong h k = let w = because-one words given IsTooMany IsTooLong h k in absurd (long-not-many w.0 _ _ w.3 w.2)
+refusals-one words given (fault.Usage (usage.Words text)) (fault.Usage (usage.Words other)) h k = tt
+refusals-one words given (fault.Usage usage.Level) (fault.Usage usage.Level) h k = refl
+refusals-one words given (fault.Usage usage.Kind) (fault.Usage usage.Kind) h k = refl
+refusals-one words given (fault.Usage usage.NeedsVersion) (fault.Usage usage.NeedsVersion) h k = refl
+refusals-one words given (fault.Encode encode.Empty) (fault.Encode encode.Empty) h k = refl
+refusals-one words given (fault.Encode encode.TooLong) (fault.Encode encode.TooLong) h k = refl
+refusals-one words given (fault.Encode encode.TooMany) (fault.Encode encode.TooMany) h k = refl
+refusals-one words given (fault.Encode encode.Empty) (fault.Encode encode.TooLong) h k = let w = because-one words given (λ s x. x ≡ []) IsTooLong h k in absurd (empty-not-long words w.0 _ w.1 w.2 w.3)
+refusals-one words given (fault.Encode encode.TooLong) (fault.Encode encode.Empty) h k = let w = because-one words given IsTooLong (λ s x. x ≡ []) h k in absurd (empty-not-long words w.0 _ w.1 w.3 w.2)
+refusals-one words given (fault.Encode encode.Empty) (fault.Encode encode.TooMany) h k = let w = because-one words given (λ s x. x ≡ []) IsTooMany h k in absurd (empty-not-many w.0 _ w.2 w.3)
+refusals-one words given (fault.Encode encode.TooMany) (fault.Encode encode.Empty) h k = let w = because-one words given IsTooMany (λ s x. x ≡ []) h k in absurd (empty-not-many w.0 _ w.3 w.2)
+refusals-one words given (fault.Encode encode.TooLong) (fault.Encode encode.TooMany) h k = let w = because-one words given IsTooLong IsTooMany h k in absurd (long-not-many w.0 _ _ w.2 w.3)
+refusals-one words given (fault.Encode encode.TooMany) (fault.Encode encode.TooLong) h k = let w = because-one words given IsTooMany IsTooLong h k in absurd (long-not-many w.0 _ _ w.3 w.2)
 refusals-one words given r q h k = let e : class_told r ≡ class_told q = sym (class-is words given r h) ∙ class-is words given q k in absurd (omega (arith, e))

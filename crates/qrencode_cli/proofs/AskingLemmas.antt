@@ -31,8 +31,6 @@ use Rattle.std.proofs.lemmas.Grind.{common_steps}
 use Rattle.qrencode_cli.specs.Picture.{AreSquares, IsSquareOf, smallest_of}
 use Rattle.qrencode_cli.specs.declared.fault.Fault.{Fault}
 use Rattle.qrencode_cli.specs.declared.fault.Fault.TheVariants as fault
-use Rattle.qrencode_cli.specs.declared.fault.Refusal.{Refusal}
-use Rattle.qrencode_cli.specs.declared.fault.Refusal.TheVariants as refusal
 use Rattle.qrencode_cli.specs.declared.picture.Picture.{Picture}
 use Rattle.qrencode_cli.specs.declared.settings.UsageFault.{UsageFault}
 use Rattle.qrencode_cli.specs.declared.settings.UsageFault.TheVariants as usage
@@ -133,10 +131,10 @@ reads-nothing (Ok s) in0 given = nothing s.string
     nothing (Some t) = refl
 
 -- a command line without settings is refused
-refused : (words : List Text) (in0 : Reader) (why : Reason) (r : Refusal) → settings_for words ≡ Err why
-    → (settings_for words ≡ Err why → IsFault words (any_input in0.remaining).0 (fault.Refused r))
-    → Prepares words in0 in0 (Err (fault.Refused r))
-refused words in0 why r e is = let i = any_input in0.remaining in record {
+refused : (words : List Text) (in0 : Reader) (why : Reason) (u : UsageFault) → settings_for words ≡ Err why
+    → (settings_for words ≡ Err why → IsFault words (any_input in0.remaining).0 (fault.Usage u))
+    → Prepares words in0 in0 (Err (fault.Usage u))
+refused words in0 why u e is = let i = any_input in0.remaining in record {
   given = i.0;
   is_input = i.1;
   reads = rw e refl;
@@ -146,10 +144,10 @@ refused words in0 why r e is = let i = any_input in0.remaining in record {
 -- every fault of the command line is a correct result
 pub prepares-usage : (words : List Text) (in0 : Reader) (u : UsageFault) → IsUsageFault (settings_for words) u
     → Prepares words in0 in0 (Err (fault_of_words u))
-prepares-usage words in0 (usage.Words text) h = refused words in0 _ (refusal.Words text) h (λ e. e)
-prepares-usage words in0 usage.Level h = refused words in0 _ refusal.Level h (λ e. e)
-prepares-usage words in0 usage.Kind h = refused words in0 _ refusal.Kind h (λ e. e)
-prepares-usage words in0 usage.NeedsVersion h = refused words in0 _ refusal.NeedsVersion h (λ e. e)
+prepares-usage words in0 (usage.Words text) h = refused words in0 _ (usage.Words text) h (λ e. e)
+prepares-usage words in0 usage.Level h = refused words in0 _ usage.Level h (λ e. e)
+prepares-usage words in0 usage.Kind h = refused words in0 _ usage.Kind h (λ e. e)
+prepares-usage words in0 usage.NeedsVersion h = refused words in0 _ usage.NeedsVersion h (λ e. e)
 prepares-usage words in0 usage.Memory h = let i = any_input in0.remaining in record {
   given = i.0;
   is_input = i.1;
@@ -163,9 +161,9 @@ module _ (words : List Text) (s : SettingsView) (taken : settings_for words ≡ 
       → MatchResult r (λ p. IsDrawing s (held s input) (drawing_of p)) (IsInputFault s (held s input))
       → MatchResult r (λ p. HasDrawing words given (drawing_of p)) (λ f. IsFault words given f × IsEarly f)
   answer-for given input (Ok p) e h = record { settings = s; taken = taken; holds = rw e h }
-  answer-for given input (Err (fault.Refused refusal.Empty)) e h = (record { settings = s; taken = taken; holds = rw e h }, tt)
-  answer-for given input (Err (fault.Refused refusal.TooLong)) e h = (record { settings = s; taken = taken; holds = rw e h }, tt)
-  answer-for given input (Err (fault.Refused refusal.TooMany)) e h = (record { settings = s; taken = taken; holds = rw e h }, tt)
+  answer-for given input (Err (fault.Encode encode.Empty)) e h = (record { settings = s; taken = taken; holds = rw e h }, tt)
+  answer-for given input (Err (fault.Encode encode.TooLong)) e h = (record { settings = s; taken = taken; holds = rw e h }, tt)
+  answer-for given input (Err (fault.Encode encode.TooMany)) e h = (record { settings = s; taken = taken; holds = rw e h }, tt)
   answer-for given input (Err fault.Memory) e h = (tt, tt)
   answer-for given input (Err _) e h = absurd h
 
@@ -218,5 +216,6 @@ module _ (words : List Text) (s : SettingsView) (taken : settings_for words ≡ 
     reads = reads-taken in0 in1 i.0 (Err fault.Memory) (rw string tt);
     answer = (tt, tt);
   }
-  prepares-unread in0 in1 (fault.Refused r) string only = absurd (elim only [ inl e ↦ cc | inr e ↦ cc ])
+  prepares-unread in0 in1 (fault.Usage u) string only = absurd (elim only [ inl e ↦ cc | inr e ↦ cc ])
+  prepares-unread in0 in1 (fault.Encode e) string only = absurd (elim only [ inl e ↦ cc | inr e ↦ cc ])
   prepares-unread in0 in1 fault.Write string only = absurd (elim only [ inl e ↦ cc | inr e ↦ cc ])

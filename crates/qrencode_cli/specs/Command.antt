@@ -12,12 +12,12 @@ use Rattle.qr_devices.specs.Device.{AppendsBeginning, IsWrittenWithin, Reader, W
 use Rattle.qr_drawing.specs.Drawing.{drawn}
 use Rattle.qrencode_cli.specs.Fault.{fault_line}
 use Rattle.qrencode_cli.specs.Input.{IsInputOf, IsReadWithin}
-use Rattle.qrencode_cli.specs.Settings.{Reason, SettingsView, needs_version, refused_by_clap, rule_for, settings_for, unknown_level, unknown_type}
+use Rattle.qrencode_cli.specs.Settings.{IsUsageFault, Reason, SettingsView, rule_for, settings_for}
 use Rattle.qrencode_cli.specs.Picture.{AreSymbols, IsTooLong, IsTooMany}
 use Rattle.qrencode_cli.specs.declared.fault.Fault.{Fault}
 use Rattle.qrencode_cli.specs.declared.fault.Fault.TheVariants as fault
-use Rattle.qrencode_cli.specs.declared.fault.Refusal.{Refusal}
-use Rattle.qrencode_cli.specs.declared.fault.Refusal.TheVariants as refusal
+use Rattle.qrencode_cli.specs.declared.settings.UsageFault.TheVariants as usage
+use Rattle.qr_symbol.specs.declared.fault.EncodeFault.TheVariants as encode
 
 -- `input_for s given` is the input that is encoded: the string among the arguments, cut after `INPUT_MAX` bytes, or the
 -- bytes `given` by the reader if there is no string [own]
@@ -55,25 +55,24 @@ HasDrawing words given drawing = HasSettingsWith words (λ s. IsDrawing s (held 
 abbrev pub HasRefusal : List Text → List ℕ → (SettingsView → List ℕ → Type 0) → Type 0
 HasRefusal words given why = HasSettingsWith words (λ s. why s (held s (input_for s given)))
 
--- `IsRefusal words given r` holds if `r` is a correct reason to refuse the command line `words` or its input, where
--- `given` are the bytes of the reader [own]
-abbrev pub IsRefusal : List Text → List ℕ → Refusal → Type 0
-IsRefusal words given (refusal.Words text) = settings_for words ≡ Err refused_by_clap
-IsRefusal words given refusal.Level = settings_for words ≡ Err unknown_level
-IsRefusal words given refusal.Kind = settings_for words ≡ Err unknown_type
-IsRefusal words given refusal.NeedsVersion = settings_for words ≡ Err needs_version
-IsRefusal words given refusal.Empty = HasRefusal words given (λ s input. input ≡ [])
-IsRefusal words given refusal.TooLong = HasRefusal words given IsTooLong
-IsRefusal words given refusal.TooMany = HasRefusal words given IsTooMany
+-- `IsRefusal words given f` holds if the fault `f` is a correct reason to refuse the command line `words` or its input,
+-- where `given` are the bytes of the reader. A fault of a device and lack of memory are no refusals [own]
+abbrev pub IsRefusal : List Text → List ℕ → Fault → Type 0
+IsRefusal words given (fault.Usage usage.Memory) = ⊥
+IsRefusal words given (fault.Usage f) = IsUsageFault (settings_for words) f
+IsRefusal words given (fault.Encode encode.Empty) = HasRefusal words given (λ s input. input ≡ [])
+IsRefusal words given (fault.Encode encode.TooLong) = HasRefusal words given IsTooLong
+IsRefusal words given (fault.Encode encode.TooMany) = HasRefusal words given IsTooMany
+IsRefusal words given _ = ⊥
 
 -- `IsFault words given f` holds if the fault `f` can occur for the command line `words` and the bytes `given`: a
 -- refusal if it is correct, a read fault if the arguments have no string, a write fault if there is a drawing, and lack
 -- of memory always [own]
 abbrev pub IsFault : List Text → List ℕ → Fault → Type 0
-IsFault words given (fault.Refused r) = IsRefusal words given r
 IsFault words given fault.Read = HasSettingsWith words (λ s. s.string ≡ None)
 IsFault words given fault.Memory = Unit {0}
 IsFault words given fault.Write = (drawing : List ℕ) × HasDrawing words given drawing
+IsFault words given refusal = IsRefusal words given refusal
 
 -- `DrawnWhole old new drawing` holds if the writer took the whole drawing, and was flushed once, after its last byte [own]
 pub record DrawnWhole (old new : Writer) (drawing : List ℕ) : Type 0 where

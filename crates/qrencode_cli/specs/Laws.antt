@@ -12,8 +12,7 @@ use Rattle.qrencode_cli.specs.Settings.{Reason, SettingsView, needs_version, ref
 use Rattle.qr_drawing.specs.declared.drawing.Drawing.TheVariants.{Ascii, AsciiInverse, Svg, Utf8}
 use Rattle.qrencode_cli.specs.declared.fault.Fault.{Fault}
 use Rattle.qrencode_cli.specs.declared.fault.Fault.TheVariants as fault
-use Rattle.qrencode_cli.specs.declared.fault.Refusal.{Refusal}
-use Rattle.qrencode_cli.specs.declared.fault.Refusal.TheVariants as refusal
+use Rattle.qr_symbol.specs.declared.fault.EncodeFault.TheVariants as encode
 use Rattle.qrencode_cli.specs.declared.settings.UsageFault.TheVariants as usage
 
 -- `by_default` is the settings of the command line `-t ASCII`: every other setting has its default [own]
@@ -103,16 +102,16 @@ AnswersAreOne = (words : List Text) (given d e : List ℕ) → HasDrawing words 
 
 -- A command line and an input that have a drawing are not refused [own].
 abbrev pub RefusalsExcludeDrawings : Type 0
-RefusalsExcludeDrawings = (words : List Text) (given d : List ℕ) (r : Refusal) → HasDrawing words given d → IsRefusal words given r → ⊥
+RefusalsExcludeDrawings = (words : List Text) (given d : List ℕ) (f : Fault) → HasDrawing words given d → IsRefusal words given f → ⊥
 
--- `AreAlike r q` holds if the two refusals are equal. The texts of `clap` are not compared [own]
-abbrev pub AreAlike : Refusal → Refusal → Type 0
-AreAlike (refusal.Words text) (refusal.Words other) = Unit {0}
+-- `AreAlike r q` holds if the two faults are equal. The texts of `clap` are not compared [own]
+abbrev pub AreAlike : Fault → Fault → Type 0
+AreAlike (fault.Usage (usage.Words text)) (fault.Usage (usage.Words other)) = Unit {0}
 AreAlike r q = r ≡ q
 
 -- For a command line and an input at most one refusal is correct [own].
 abbrev pub RefusalsAreOne : Type 0
-RefusalsAreOne = (words : List Text) (given : List ℕ) (r q : Refusal) → IsRefusal words given r → IsRefusal words given q → AreAlike r q
+RefusalsAreOne = (words : List Text) (given : List ℕ) (r q : Fault) → IsRefusal words given r → IsRefusal words given q → AreAlike r q
 
 -- -8 allows byte mode only, also beside -k. Without -8, -k allows kanji mode too [own]
 pub record RulesOfModes : Type 0 where
@@ -135,12 +134,12 @@ StatusesAreTwo = (words : List Text) (in0 in1 : Reader) (out0 out1 err0 err1 : W
 
 -- The line of each fault, except for arguments that `clap` refuses [own].
 pub record LinesOfFaults : Type 0 where
-  pub level : fault_line (fault.Refused refusal.Level) ≡ codes "qrencode: unknown level\n"
-  pub type : fault_line (fault.Refused refusal.Kind) ≡ codes "qrencode: unknown type\n"
-  pub version : fault_line (fault.Refused refusal.NeedsVersion) ≡ codes "qrencode: -S needs -v\n"
-  pub empty : fault_line (fault.Refused refusal.Empty) ≡ codes "qrencode: input is empty\n"
-  pub too_long : fault_line (fault.Refused refusal.TooLong) ≡ codes "qrencode: input does not fit\n"
-  pub too_many : fault_line (fault.Refused refusal.TooMany) ≡ codes "qrencode: more than 16 symbols\n"
+  pub level : fault_line (fault.Usage usage.Level) ≡ codes "qrencode: unknown level\n"
+  pub type : fault_line (fault.Usage usage.Kind) ≡ codes "qrencode: unknown type\n"
+  pub version : fault_line (fault.Usage usage.NeedsVersion) ≡ codes "qrencode: -S needs -v\n"
+  pub empty : fault_line (fault.Encode encode.Empty) ≡ codes "qrencode: input is empty\n"
+  pub too_long : fault_line (fault.Encode encode.TooLong) ≡ codes "qrencode: input does not fit\n"
+  pub too_many : fault_line (fault.Encode encode.TooMany) ≡ codes "qrencode: more than 16 symbols\n"
   pub read : fault_line fault.Read ≡ codes "qrencode: read error\n"
   pub memory : fault_line fault.Memory ≡ codes "qrencode: out of memory\n"
   pub write : fault_line fault.Write ≡ codes "qrencode: write error\n"

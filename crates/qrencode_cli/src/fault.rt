@@ -1,60 +1,41 @@
 //! The faults of the command, and the line that each fault writes to standard error.
 
 ghost use Rattle.std.specs.Prelude.{◌≡◌};
-ghost use Rattle.qrencode_cli.specs.Fault.{fault_line, refusal_line};
+ghost use Rattle.qrencode_cli.specs.Fault.{fault_line};
 
 use crate::settings::UsageFault;
 use qr_drawing::DrawFault;
 use qr_symbol::EncodeFault;
 use std::alloc::{AllocError, AllocFailed};
 
-/// Why the arguments or the input are refused.
-#[derive(Debug, Drop)]
-pub(crate) enum Refusal {
-    Words(String),
-    Level,
-    Kind,
-    NeedsVersion,
-    Empty,
-    TooLong,
-    TooMany,
-}
-
-/// Why the command draws nothing, or only a part of the drawing.
+/// Why the command draws nothing, or only a part of the drawing. Lack of memory is always `Memory`.
 #[derive(Debug, Drop)]
 pub(crate) enum Fault {
-    Refused(Refusal),
+    Usage(UsageFault),
+    Encode(EncodeFault),
     Read,
     Memory,
     Write,
 }
 
-impl Refusal {
-    // Returns the line of the refusal. For arguments that `clap` refuses, it is the text of `clap`.
-    fn line(&self) -> &[u8]
-        ensures { result.now ≡ refusal_line self.now }
-    {
-        match self {
-            Refusal::Words(text) => text.as_bytes(),
-            Refusal::Level => b"qrencode: unknown level\n",
-            Refusal::Kind => b"qrencode: unknown type\n",
-            Refusal::NeedsVersion => b"qrencode: -S needs -v\n",
-            Refusal::Empty => b"qrencode: input is empty\n",
-            Refusal::TooLong => b"qrencode: input does not fit\n",
-            Refusal::TooMany => b"qrencode: more than 16 symbols\n",
-        }
-    }
-}
-
 impl Fault {
-    /// Returns the line that is written to standard error for this fault.
+    /// Returns the line that is written to standard error for this fault. For arguments that `clap` refuses, it is the
+    /// text of `clap`.
     pub(crate) fn line(&self) -> &[u8]
         ensures { result.now ≡ fault_line self.now }
     {
         match self {
-            Fault::Refused(refusal) => refusal.line(),
+            Fault::Usage(UsageFault::Words(text)) => text.as_bytes(),
+            Fault::Usage(UsageFault::Level) => b"qrencode: unknown level\n",
+            Fault::Usage(UsageFault::Kind) => b"qrencode: unknown type\n",
+            Fault::Usage(UsageFault::NeedsVersion) => b"qrencode: -S needs -v\n",
+            Fault::Encode(EncodeFault::Empty) => b"qrencode: input is empty\n",
+            Fault::Encode(EncodeFault::TooLong) => b"qrencode: input does not fit\n",
+            Fault::Encode(EncodeFault::TooMany) => b"qrencode: more than 16 symbols\n",
             Fault::Read => b"qrencode: read error\n",
-            Fault::Memory => b"qrencode: out of memory\n",
+            Fault::Usage(UsageFault::Memory) | Fault::Encode(EncodeFault::Memory) | Fault::Memory => {
+                b"qrencode: out of memory\n"
+            }
             Fault::Write => b"qrencode: write error\n",
         }
     }
@@ -68,11 +49,8 @@ impl From<UsageFault> for Fault {
 
     fn from(fault: UsageFault) -> Self {
         match fault {
-            UsageFault::Words(text) => Fault::Refused(Refusal::Words(text)),
-            UsageFault::Level => Fault::Refused(Refusal::Level),
-            UsageFault::Kind => Fault::Refused(Refusal::Kind),
-            UsageFault::NeedsVersion => Fault::Refused(Refusal::NeedsVersion),
             UsageFault::Memory => Fault::Memory,
+            other => Fault::Usage(other),
         }
     }
 }
@@ -85,10 +63,8 @@ impl From<EncodeFault> for Fault {
 
     fn from(fault: EncodeFault) -> Self {
         match fault {
-            EncodeFault::Empty => Fault::Refused(Refusal::Empty),
-            EncodeFault::TooLong => Fault::Refused(Refusal::TooLong),
-            EncodeFault::TooMany => Fault::Refused(Refusal::TooMany),
             EncodeFault::Memory => Fault::Memory,
+            other => Fault::Encode(other),
         }
     }
 }
@@ -129,31 +105,34 @@ impl<T: Drop> From<AllocFailed<T>> for Fault {
 #[cfg(test)]
 mod tests {
     use super::*;
+    use std::test::Fail;
 
+    // The lines are those of the command's profile, and each message of a fault has the words of its line.
     #[test]
-    fn lines(rt: HostRuntime) {
+    fn lines(rt: HostRuntime) -> Result<(), Fail> {
         let rows = [
-            (Fault::Refused(Refusal::Level), "qrencode: unknown level\n"),
-            (Fault::Refused(Refusal::Kind), "qrencode: unknown type\n"),
-            (
-                Fault::Refused(Refusal::NeedsVersion),
-                "qrencode: -S needs -v\n",
-            ),
-            (Fault::Refused(Refusal::Empty), "qrencode: input is empty\n"),
-            (
-                Fault::Refused(Refusal::TooLong),
-                "qrencode: input does not fit\n",
-            ),
-            (
-                Fault::Refused(Refusal::TooMany),
-                "qrencode: more than 16 symbols\n",
-            ),
-            (Fault::Read, "qrencode: read error\n"),
-            (Fault::Memory, "qrencode: out of memory\n"),
-            (Fault::Write, "qrencode: write error\n"),
+            (Fault::Usage(UsageFault::Level), "unknown level"),
+            (Fault::Usage(UsageFault::Kind), "unknown type"),
+            (Fault::Usage(UsageFault::NeedsVersion), "-S needs -v"),
+            (Fault::Usage(UsageFault::Memory), "out of memory"),
+            (Fault::Encode(EncodeFault::Empty), "input is empty"),
+            (Fault::Encode(EncodeFault::TooLong), "input does not fit"),
+            (Fault::Encode(EncodeFault::TooMany), "more than 16 symbols"),
+            (Fault::Encode(EncodeFault::Memory), "out of memory"),
+            (Fault::Read, "read error"),
+            (Fault::Memory, "out of memory"),
+            (Fault::Write, "write error"),
         ];
-        for (fault, line) in &rows {
+        for (fault, words) in &rows {
+            let line = format!(in rt.alloc(); "qrencode: {words}\n")?;
             assert_eq!(rt; fault.line(), line.as_bytes());
+            let message = match fault {
+                Fault::Usage(usage) => format!(in rt.alloc(); "{usage}")?,
+                Fault::Encode(encode) => format!(in rt.alloc(); "{encode}")?,
+                _ => continue,
+            };
+            assert_eq!(rt; message.as_str(), *words);
         }
+        Ok(())
     }
 }

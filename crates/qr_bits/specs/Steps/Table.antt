@@ -2,35 +2,35 @@
 use Rattle.std.specs.Prelude.{ℕ, ◌<◌, ◌/◌, ◌%◌, ◌^◌, Bool, List, [], ◌∷◌, IsTrue}
 use Rattle.qr_bits.specs.declared.modes.Mode.{Mode}
 use Rattle.qr_bits.specs.declared.modes.Rule.{Rule}
-use Rattle.qr_bits.specs.declared.place.Place.{Place}
-use Rattle.qr_bits.specs.declared.place.Place.TheVariants.{Start, Digit1, Digit2, Digit3, Character1, Character2, InBytes, HalfPair, WholePair}
-use Rattle.qr_bits.specs.declared.place.ByPlace.{ByPlace}
-use Rattle.qr_bits.specs.Steps.Place.{place_after, allowed, ranked, IsBestRest, IsChoice}
+use Rattle.qr_bits.specs.declared.run_state.RunState.{RunState}
+use Rattle.qr_bits.specs.declared.run_state.RunState.TheVariants.{Start, Digit1, Digit2, Digit3, Character1, Character2, InBytes, HalfPair, WholePair}
+use Rattle.qr_bits.specs.declared.run_state.PerState.{PerState}
+use Rattle.qr_bits.specs.Steps.RunState.{state_after, allowed, ranked, IsBestRest, IsChoice}
 
 -- The value for a state
-unfoldable pub at_place : {T : Type 0} → ByPlace T → Place → T
-at_place b Start = b.start
-at_place b Digit1 = b.digit1
-at_place b Digit2 = b.digit2
-at_place b Digit3 = b.digit3
-at_place b Character1 = b.character1
-at_place b Character2 = b.character2
-at_place b InBytes = b.in_bytes
-at_place b HalfPair = b.half_pair
-at_place b WholePair = b.whole_pair
+unfoldable pub in_state : {T : Type 0} → PerState T → RunState → T
+in_state b Start = b.start
+in_state b Digit1 = b.digit1
+in_state b Digit2 = b.digit2
+in_state b Digit3 = b.digit3
+in_state b Character1 = b.character1
+in_state b Character2 = b.character2
+in_state b InBytes = b.in_bytes
+in_state b HalfPair = b.half_pair
+in_state b WholePair = b.whole_pair
 
 -- The number of bits of the choice for state p, from the number of the choice
-abbrev pub bits_at : ByPlace ℕ → Place → ℕ
-bits_at numbers p = at_place numbers p / 4
+abbrev pub bits_at : PerState ℕ → RunState → ℕ
+bits_at numbers p = in_state numbers p / 4
 
 -- `IsSmall n` holds if the number for each state is below 40,000,000, as it is for the rest of any input
-abbrev pub IsSmall : ByPlace ℕ → Type 0
+abbrev pub IsSmall : PerState ℕ → Type 0
 IsSmall n =
     (n.start < 40000000) × (n.digit1 < 40000000) × (n.digit2 < 40000000) × (n.digit3 < 40000000) × (n.character1 < 40000000)
     × (n.character2 < 40000000) × (n.in_bytes < 40000000) × (n.half_pair < 40000000) × (n.whole_pair < 40000000)
 
 -- The bit of a row of the table at which the mode for a state begins
-abbrev pub shift_of : Place → ℕ
+abbrev pub shift_of : RunState → ℕ
 shift_of Start = 0
 shift_of Digit1 = 2
 shift_of Digit2 = 4
@@ -42,19 +42,19 @@ shift_of HalfPair = 14
 shift_of WholePair = 16
 
 -- The mode for state p in a row of the table
-unfoldable pub mode_at : ℕ → Place → Mode
+unfoldable pub mode_at : ℕ → RunState → Mode
 mode_at row p = ranked (row / 2 ^ shift_of p % 4)
 
 -- `IsRow v r x pair rest row numbers` holds if, for each state before the byte x, `row` contains the mode of the best choice
 -- and `numbers` its number. `rest` contains the numbers for the bytes after x.
-abbrev pub IsRow : ℕ → Rule → ℕ → Bool → ByPlace ℕ → ℕ → ByPlace ℕ → Type 0
-IsRow v r x pair rest row numbers = (p : Place) → IsChoice v r p x pair (bits_at rest) (mode_at row p) (bits_at numbers p)
+abbrev pub IsRow : ℕ → Rule → ℕ → Bool → PerState ℕ → ℕ → PerState ℕ → Type 0
+IsRow v r x pair rest row numbers = (p : RunState) → IsChoice v r p x pair (bits_at rest) (mode_at row p) (bits_at numbers p)
 
 -- `follow p rows` is the modes to which a table leads from state p, one row for each byte
-unfoldable pub follow : Place → List ℕ → List Mode
+unfoldable pub follow : RunState → List ℕ → List Mode
 follow p [] = []
-follow p (row ∷ rows) = mode_at row p ∷ follow (place_after p (mode_at row p)) rows
+follow p (row ∷ rows) = mode_at row p ∷ follow (state_after p (mode_at row p)) rows
 
 -- `IsBestTable v r test xs rows` holds if the table leads to the best rest from each state from which some rest is allowed.
 abbrev pub IsBestTable : ℕ → Rule → (ℕ → ℕ → Bool) → List ℕ → List ℕ → Type 0
-IsBestTable v r test xs rows = (p : Place) (ks : List Mode) → IsTrue (allowed r test p xs ks) → (n : ℕ) × IsBestRest v r test p xs (follow p rows) n
+IsBestTable v r test xs rows = (p : RunState) (ks : List Mode) → IsTrue (allowed r test p xs ks) → (n : ℕ) × IsBestRest v r test p xs (follow p rows) n

@@ -12,8 +12,8 @@ use Rattle.qrencode_cli.specs.Input.{IsInputOf}
 use Rattle.qrencode_cli.specs.Settings.{SettingsView, settings_for}
 use Rattle.qrencode_cli.specs.Picture.{AreSymbols, IsTooLong, IsTooMany}
 use Rattle.qrencode_cli.specs.declared.fault.Fault.{Fault}
-use Rattle.qrencode_cli.specs.declared.fault.Fault.TheVariants.{Refused, Memory, Write}
-use Rattle.qrencode_cli.specs.declared.fault.Refusal.TheVariants.{Empty, TooLong, TooMany}
+use Rattle.qrencode_cli.specs.declared.fault.Fault.TheVariants.{Encode, Memory, Write}
+use Rattle.qr_symbol.specs.declared.fault.EncodeFault.TheVariants.{Empty, TooLong, TooMany}
 use Rattle.qrencode_cli.specs.declared.picture.Picture.{Picture}
 
 -- `drawing_of p` is the drawing of the picture `p`
@@ -32,9 +32,9 @@ pub record AreDrawnFor (s : SettingsView) (input : List ℕ) (symbols : List Sym
 
 -- `IsInputFault s input f` holds if the fault `f` is a correct reason why the input has no drawing, or lack of memory
 abbrev pub IsInputFault : SettingsView → List ℕ → Fault → Type 0
-IsInputFault s input (Refused Empty) = input ≡ []
-IsInputFault s input (Refused TooLong) = IsTooLong s input
-IsInputFault s input (Refused TooMany) = IsTooMany s input
+IsInputFault s input (Encode Empty) = input ≡ []
+IsInputFault s input (Encode TooLong) = IsTooLong s input
+IsInputFault s input (Encode TooMany) = IsTooMany s input
 IsInputFault s input Memory = Unit {0}
 IsInputFault s input _ = ⊥
 

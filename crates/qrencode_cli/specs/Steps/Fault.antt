@@ -3,21 +3,15 @@ use Rattle.qr_symbol.specs.declared.fault.EncodeFault.{EncodeFault}
 use Rattle.qr_symbol.specs.declared.fault.EncodeFault.TheVariants as encode
 use Rattle.qrencode_cli.specs.declared.fault.Fault.{Fault}
 use Rattle.qrencode_cli.specs.declared.fault.Fault.TheVariants as fault
-use Rattle.qrencode_cli.specs.declared.fault.Refusal.TheVariants as refusal
 use Rattle.qrencode_cli.specs.declared.settings.UsageFault.{UsageFault}
 use Rattle.qrencode_cli.specs.declared.settings.UsageFault.TheVariants as usage
 
 -- `fault_of_words f` is the command's fault for the fault `f` of the command line
 abbrev pub fault_of_words : UsageFault → Fault
-fault_of_words (usage.Words text) = fault.Refused (refusal.Words text)
-fault_of_words usage.Level = fault.Refused refusal.Level
-fault_of_words usage.Kind = fault.Refused refusal.Kind
-fault_of_words usage.NeedsVersion = fault.Refused refusal.NeedsVersion
 fault_of_words usage.Memory = fault.Memory
+fault_of_words f = fault.Usage f
 
 -- `fault_of_input f` is the command's fault for the fault `f` of encoding
 abbrev pub fault_of_input : EncodeFault → Fault
-fault_of_input encode.Empty = fault.Refused refusal.Empty
-fault_of_input encode.TooLong = fault.Refused refusal.TooLong
-fault_of_input encode.TooMany = fault.Refused refusal.TooMany
 fault_of_input encode.Memory = fault.Memory
+fault_of_input f = fault.Encode f

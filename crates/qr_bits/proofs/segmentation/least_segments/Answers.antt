@@ -3,10 +3,10 @@ use denote.Enum.Bare.{sameb, same_true}
 use Rattle.qr_bits.specs.contracts.modes.Mode.{the_type}
 use Rattle.std.proofs.lemmas.Bool.{false≢true}
 use Rattle.qr_bits.specs.declared.modes.Mode.{Mode}
-use Rattle.qr_bits.specs.declared.segmentation.Segment.{Segment}
-use Rattle.qr_bits.specs.declared.place.Place.TheVariants.{Start}
+use Rattle.qr_bits.specs.declared.segment.Segment.{Segment}
+use Rattle.qr_bits.specs.declared.run_state.RunState.TheVariants.{Start}
 use Rattle.qr_bits.specs.Segmentation.{runs_of}
-use Rattle.qr_bits.specs.Steps.Place.{place_after, place_on}
+use Rattle.qr_bits.specs.Steps.RunState.{state_after, state_on}
 use Rattle.qr_bits.specs.Steps.Segmentation.{one_segment, append_mode}
 use Rattle.qr_bits.specs.Steps.Table.{follow}
 use Rattle.qr_bits.proofs.BackLemmas.{run_same, run_other, runs_of-push, sameb_self}
@@ -16,7 +16,7 @@ use Rattle.qr_bits.proofs.TableLemmas.{follow-nil, led_on, assignment_from_table
 use Rattle.qr_bits.proofs.segmentation.least_segments.Goals as goal
 
 pub loop-modes-init : goal.loop-modes-init
-unfolding runs_of place_on place_after
+unfolding runs_of state_on state_after
 loop-modes-init c = ([], append-nil _ ∙ c.new-found.ensures.items, refl, omega arith, λ _. c.new-found.ensures.items, refl)
 
 pub loop-modes-preserved-then-eq : goal.loop-modes-preserved-then-eq
@@ -24,13 +24,13 @@ loop-modes-preserved-then-eq c =
     let l = c.loop-modes in
     let i = l.invariant in
     let same : c.mode_at-next.result ≡ l.mode = same_true the_type (search rules) _ _ (sym c.if-eq.ensures) in
-    let place : c.place_on-place.result ≡ place_after l.place l.mode = c.place_on-place.ensures ∙ i.5 in (
+    let state : c.state_on-state.result ≡ state_after l.state l.mode = c.state_on-state.ensures ∙ i.5 in (
       i.0 ++ l.mode ∷ [],
       sym (run_same l.found.items l.mode l.len i.4) ∙ ap (λ (r : List Segment). append_mode r l.mode) i.1 ∙ sym (runs_of-push i.0 l.mode),
-      rw place (led_on l.place l.table.items _ c.in-Some.modes i.0 _ l.mode c.in-Some.ensures.items (sym same ∙ c.mode_at-next.ensures) i.2),
+      rw state (led_on l.state l.table.items _ c.in-Some.modes i.0 _ l.mode c.in-Some.ensures.items (sym same ∙ c.mode_at-next.ensures) i.2),
       omega (arith, i.3, c.in-Some.ensures.len),
       λ z. absurd (omega arith),
-      rw place (on_after l.place l.mode),
+      rw state (on_after l.state l.mode),
     )
 
 pub loop-modes-preserved : goal.loop-modes-preserved
@@ -42,10 +42,10 @@ loop-modes-preserved c =
       i.0 ++ mode ∷ [],
       ap (λ (r : List Segment). r ++ one_segment mode 1) c.in_ok-push_segment.ensures ∙ sym (run_other l.found.items l.mode mode l.len i.4 other)
           ∙ ap (λ (r : List Segment). append_mode r mode) i.1 ∙ sym (runs_of-push i.0 mode),
-      rw c.after-place.ensures (led_on l.place l.table.items _ c.in-Some.modes i.0 _ mode c.in-Some.ensures.items c.mode_at-next.ensures i.2),
+      rw c.next_state-state.ensures (led_on l.state l.table.items _ c.in-Some.modes i.0 _ mode c.in-Some.ensures.items c.mode_at-next.ensures i.2),
       omega (arith, i.3, c.in-Some.ensures.len),
       λ z. absurd (omega arith),
-      rw c.after-place.ensures (on_after l.place mode),
+      rw c.next_state-state.ensures (on_after l.state mode),
     )
 
 pub returns-clause-ok : goal.returns-clause-ok
@@ -53,6 +53,6 @@ returns-clause-ok c =
     let i = c.loop-modes.invariant in
     let none : c.loop-modes.table.items ≡ [] = nil_from_length _ (omega (arith, c.in_default.ensures.cases.0, c.loop-modes.table.ok.0)) in
     let end : i.0 ++ [] ≡ follow Start (reverse c.in_ok-table.table.items) =
-    ap (λ (t : List Mode). i.0 ++ t) (sym (follow-nil c.loop-modes.place) ∙ ap (λ (t : List ℕ). follow c.loop-modes.place (reverse t)) (sym none)) ∙ i.2 in
+    ap (λ (t : List Mode). i.0 ++ t) (sym (follow-nil c.loop-modes.state) ∙ ap (λ (t : List ℕ). follow c.loop-modes.state (reverse t)) (sym none)) ∙ i.2 in
     let whole : i.0 ≡ follow Start (reverse c.in_ok-table.table.items) = sym (append-nil i.0) ∙ end in
     (i.0, rw whole (assignment_from_table c.args.version c.args.rule c.args.input.now (reverse c.in_ok-table.table.items) c.in_ok-table.ensures.best), c.in_ok-push_segment-2.ensures ∙ i.1)

@@ -1,11 +1,11 @@
 use Rattle.std.proofs.Common.{ℕ, ◌*◌, ◌≤◌, List, reverse, take}
-use Rattle.qr_bits.specs.declared.place.Place.{Place}
+use Rattle.qr_bits.specs.declared.run_state.RunState.{RunState}
 use Rattle.qr_bits.specs.Segmentation.{HasFit}
 use Rattle.qr_bits.specs.Modes.{is_kanji_pair}
-use Rattle.qr_bits.specs.Steps.Place.{turned}
+use Rattle.qr_bits.specs.Steps.RunState.{swapped}
 use Rattle.qr_bits.specs.Steps.Table.{bits_at, follow}
 use Rattle.qr_bits.proofs.BestLemmas.{BestBelow}
-use Rattle.qr_bits.proofs.segmentation.longest_by_rows.Given as goal
+use Rattle.qr_bits.proofs.longest_prefix.longest_by_rows.Given as goal
 
 -- the longest so far, and the best rests of the prefix that was looked at, read backwards
 abbrev pub invariant-loop-i : goal.invariant-loop-i
@@ -13,6 +13,6 @@ invariant-loop-i l = record {
   inside : l.longest ≤ l.i;
   fits : HasFit l.fn.version l.rule (take l.longest l.input) l.room;
   longest : (k : ℕ) → k ≤ l.i → HasFit l.fn.version l.rule (take k l.input) l.room → k ≤ l.longest;
-  small : (p : Place) → bits_at l.rest p ≤ 33 * l.i;
-  best : (rows : List ℕ) × BestBelow l.fn.version l.rule (turned is_kanji_pair) (reverse (take l.i l.input)) (λ p. follow p rows) (bits_at l.rest);
+  small : (p : RunState) → bits_at l.rest p ≤ 33 * l.i;
+  best : (rows : List ℕ) × BestBelow l.fn.version l.rule (swapped is_kanji_pair) (reverse (take l.i l.input)) (λ p. follow p rows) (bits_at l.rest);
 }

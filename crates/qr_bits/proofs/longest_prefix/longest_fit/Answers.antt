@@ -1,6 +1,6 @@
 use Rattle.std.proofs.Common.{◌-◌}
 use Rattle.qr_bits.proofs.BytesOnlyLemmas.{bytes_longest}
-use Rattle.qr_bits.proofs.segmentation.longest_fit.Goals as goal
+use Rattle.qr_bits.proofs.longest_prefix.longest_fit.Goals as goal
 
 pub returns-in-BytesOnly : goal.returns-in-BytesOnly
 returns-in-BytesOnly c =

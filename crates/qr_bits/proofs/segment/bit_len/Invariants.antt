@@ -1,6 +1,6 @@
 use Rattle.std.proofs.Common.{◌≡◌, ◌+◌, drop}
 use Rattle.qr_bits.specs.Segmentation.{bits}
-use Rattle.qr_bits.proofs.segmentation.bit_len.Given as goal
+use Rattle.qr_bits.proofs.segment.bit_len.Given as goal
 
 -- the bits so far and those of the rest
 abbrev pub invariant-loop-segment : goal.invariant-loop-segment

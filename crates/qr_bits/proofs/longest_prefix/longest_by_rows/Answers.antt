@@ -2,12 +2,12 @@ use Rattle.std.proofs.Common.{◌≡◌, ◌+◌, ◌≤◌, ◌<◌, ℕ, [], �
 use Rattle.std.proofs.lemmas.Bool.{cases_lt}
 use Rattle.qr_bits.specs.Segmentation.{HasFit}
 use Rattle.qr_bits.specs.Modes.{is_kanji_pair}
-use Rattle.qr_bits.specs.Steps.Place.{turned}
-use Rattle.qr_bits.specs.Steps.Table.{at_place, bits_at, IsRow}
+use Rattle.qr_bits.specs.Steps.RunState.{swapped}
+use Rattle.qr_bits.specs.Steps.Table.{in_state, bits_at, IsRow}
 use Rattle.qr_bits.proofs.TableLemmas.{best_none, small_more, small_row, zeros}
 use Rattle.qr_bits.proofs.MirrorLemmas.{empty_fits, front_more, front_fits, front_least}
-use Rattle.qr_bits.proofs.segmentation.longest_by_rows.Goals as goal
-use Rattle.qr_bits.proofs.segmentation.longest_by_rows.Goals.{then-from-room, else-from-room}
+use Rattle.qr_bits.proofs.longest_prefix.longest_by_rows.Goals as goal
+use Rattle.qr_bits.proofs.longest_prefix.longest_by_rows.Goals.{then-from-room, else-from-room}
 
 pub loop-i-init : goal.loop-i-init
 loop-i-init c = record {
@@ -15,32 +15,32 @@ loop-i-init c = record {
   fits = empty_fits c.args.version c.args.rule _;
   longest = λ k h fit. h;
   small = λ p. omega (arith, zeros p);
-  best = ([], best_none c.args.version c.args.rule (turned is_kanji_pair) _ zeros);
+  best = ([], best_none c.args.version c.args.rule (swapped is_kanji_pair) _ zeros);
 }
 
-pub row-requires : goal.row-requires
-row-requires c = small_row c.loop-i.rest c.loop-i.i (omega arith) c.loop-i.invariant.small
+pub best_choices-requires : goal.best_choices-requires
+best_choices-requires c = small_row c.loop-i.rest c.loop-i.i (omega arith) c.loop-i.invariant.small
 
 pub loop-i-preserved : goal.loop-i-preserved
-unfolding at_place
+unfolding in_state
 loop-i-preserved c =
     let v = c.args.version in
     let r = c.args.rule in
     let xs = c.args.input.now in
     let i = c.loop-i.i in
     let inv = c.loop-i.invariant in
-    let chosen : IsRow v r (get_or xs i 0) c.ends_with_pair-pair.result c.loop-i.rest c.row.result.0 c.row.result.1 = rw c.of-heads.ensures at c.row.ensures in
-    let below = front_more v r xs i c.ends_with_pair-pair.result inv.best.0 c.row.result.0 c.loop-i.rest c.row.result.1 (omega arith) c.ends_with_pair-pair.ensures inv.best.1 chosen in
+    let chosen : IsRow v r (get_or xs i 0) c.ends_with_pair-pair.result c.loop-i.rest c.best_choices.result.0 c.best_choices.result.1 = rw c.of-first_choices.ensures at c.best_choices.ensures in
+    let below = front_more v r xs i c.ends_with_pair-pair.result inv.best.0 c.best_choices.result.0 c.loop-i.rest c.best_choices.result.1 (omega arith) c.ends_with_pair-pair.ensures inv.best.1 chosen in
     let room = c.args.room in
     elim c.if-from-room.branch [
       | then-from-room w ↦
-          let fit : HasFit v r (take (i + 1) xs) room = front_fits v r (take (i + 1) xs) _ (bits_at c.row.result.1) room below (omega (arith, w.if-from-room.true, c.from.ensures)) in
+          let fit : HasFit v r (take (i + 1) xs) room = front_fits v r (take (i + 1) xs) _ (bits_at c.best_choices.result.1) room below (omega (arith, w.if-from-room.true, c.from.ensures)) in
           rw w.longest-is (record {
             inside = omega arith;
             fits = fit;
             longest = λ k h _. h;
-            small = small_more v r _ _ c.row.result.0 c.loop-i.rest c.row.result.1 i inv.small chosen;
-            best = (c.row.result.0 ∷ inv.best.0, below);
+            small = small_more v r _ _ c.best_choices.result.0 c.loop-i.rest c.best_choices.result.1 i inv.small chosen;
+            best = (c.best_choices.result.0 ∷ inv.best.0, below);
           })
       | else-from-room w ↦
           rw w.longest-is (record {
@@ -50,11 +50,11 @@ loop-i-preserved c =
                 (λ (l : i < k).
                 let e : k ≡ i + 1 = omega arith in
                 let q : HasFit v r (take (i + 1) xs) room = subst (λ (n : ℕ). HasFit v r (take n xs) room) e fit in
-                absurd (omega (arith, front_least v r (take (i + 1) xs) _ (bits_at c.row.result.1) room below q, w.if-from-room.false, c.from.ensures)))
+                absurd (omega (arith, front_least v r (take (i + 1) xs) _ (bits_at c.best_choices.result.1) room below q, w.if-from-room.false, c.from.ensures)))
                 (λ (l : k ≤ i). inv.longest k l fit)
                 (cases_lt i k);
-            small = small_more v r _ _ c.row.result.0 c.loop-i.rest c.row.result.1 i inv.small chosen;
-            best = (c.row.result.0 ∷ inv.best.0, below);
+            small = small_more v r _ _ c.best_choices.result.0 c.loop-i.rest c.best_choices.result.1 i inv.small chosen;
+            best = (c.best_choices.result.0 ∷ inv.best.0, below);
           })
     ]
 

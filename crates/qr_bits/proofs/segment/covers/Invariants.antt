@@ -1,6 +1,6 @@
 use Rattle.std.proofs.Common.{drop}
 use Rattle.qr_bits.specs.Segmentation.{Covers}
-use Rattle.qr_bits.proofs.segmentation.covers.Given as goal
+use Rattle.qr_bits.proofs.segment.covers.Given as goal
 
 -- the segments so far cover what is no more in the rest
 abbrev pub invariant-loop-segment : goal.invariant-loop-segment

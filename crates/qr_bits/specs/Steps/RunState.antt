@@ -1,0 +1,114 @@
+-- The state of an assignment in progress, which is a `RunState`, and what the next byte adds in each mode.
+use Rattle.std.specs.Prelude.{◌≡◌, ℕ, ◌+◌, ◌*◌, ◌≤◌, Bool, true, false, ◌&&◌, ◌==◌, if◌then◌else◌, List, [], ◌∷◌, IsTrue}
+use Rattle.qr_bits.specs.declared.modes.Mode.{Mode}
+use Rattle.qr_bits.specs.declared.modes.Mode.TheVariants.{Numeric, Alphanumeric, Byte, Kanji}
+use Rattle.qr_bits.specs.declared.modes.Rule.{Rule}
+use Rattle.qr_bits.specs.declared.run_state.RunState.{RunState}
+use Rattle.qr_bits.specs.declared.run_state.RunState.TheVariants.{Start, Digit1, Digit2, Digit3, Character1, Character2, InBytes, HalfPair, WholePair}
+use Rattle.qr_bits.specs.Modes.{count_width, is_digit, is_alphanumeric, may_use}
+use Rattle.qr_bits.specs.Segmentation.{rank, IsNotAfter}
+
+-- The state after one more byte in a mode
+unfoldable pub state_after : RunState → Mode → RunState
+state_after Digit1 Numeric = Digit2
+state_after Digit2 Numeric = Digit3
+state_after _ Numeric = Digit1
+state_after Character1 Alphanumeric = Character2
+state_after _ Alphanumeric = Character1
+state_after _ Byte = InBytes
+state_after HalfPair Kanji = WholePair
+state_after _ Kanji = HalfPair
+
+-- The state after one more byte in the mode of the last byte; at the start that is byte mode
+unfoldable pub state_on : RunState → RunState
+state_on Start = InBytes
+state_on Digit1 = Digit2
+state_on Digit2 = Digit3
+state_on Digit3 = Digit1
+state_on Character1 = Character2
+state_on Character2 = Character1
+state_on InBytes = InBytes
+state_on HalfPair = WholePair
+state_on WholePair = HalfPair
+
+-- `byte_cost v p m` is the number of bits that the next byte adds in mode m after state p. The first byte of a kanji pair
+-- adds all bits of the pair.
+unfoldable pub byte_cost : ℕ → RunState → Mode → ℕ
+byte_cost v Digit1 Numeric = 3
+byte_cost v Digit2 Numeric = 3
+byte_cost v Digit3 Numeric = 4
+byte_cost v _ Numeric = 4 + count_width v Numeric + 4
+byte_cost v Character1 Alphanumeric = 5
+byte_cost v Character2 Alphanumeric = 6
+byte_cost v _ Alphanumeric = 4 + count_width v Alphanumeric + 6
+byte_cost v InBytes Byte = 8
+byte_cost v _ Byte = 4 + count_width v Byte + 8
+byte_cost v HalfPair Kanji = 0
+byte_cost v WholePair Kanji = 13
+byte_cost v _ Kanji = 4 + count_width v Kanji + 13
+
+-- `swapped test` is the test with its two arguments exchanged
+abbrev pub swapped : (ℕ → ℕ → Bool) → ℕ → ℕ → Bool
+swapped test x y = test y x
+
+-- `begins_with_pair r test xs` holds if the rule r allows kanji mode and the first two of the bytes xs pass the test
+unfoldable pub begins_with_pair : Rule → (ℕ → ℕ → Bool) → List ℕ → Bool
+begins_with_pair r test [] = false
+begins_with_pair r test (x ∷ []) = false
+begins_with_pair r test (x ∷ y ∷ xs) = may_use r Kanji && test x y
+
+-- `may_begin r x pair m` holds if the byte x may have the mode m when it is not the second byte of a kanji pair. The
+-- flag `pair` says whether x may begin a pair.
+unfoldable pub may_begin : Rule → ℕ → Bool → Mode → Bool
+may_begin r x pair Numeric = may_use r Numeric && is_digit x
+may_begin r x pair Alphanumeric = may_use r Alphanumeric && is_alphanumeric x
+may_begin r x pair Byte = may_use r Byte
+may_begin r x pair Kanji = pair
+
+-- `may_take r p x pair m` holds if the byte x may have the mode m after state p. After half a pair only kanji mode is
+-- possible.
+unfoldable pub may_take : Rule → RunState → ℕ → Bool → Mode → Bool
+may_take r HalfPair x pair m = rank m == rank Kanji
+may_take r _ x pair m = may_begin r x pair m
+
+-- `may_end p` holds if no half pair is open in state p
+unfoldable pub may_end : RunState → Bool
+may_end HalfPair = false
+may_end _ = true
+
+-- `allowed r test p xs ms` holds if, one after the other, the bytes xs may have the modes ms after state p. Two bytes are a
+-- pair if they pass the test.
+unfoldable pub allowed : Rule → (ℕ → ℕ → Bool) → RunState → List ℕ → List Mode → Bool
+allowed r test p [] [] = may_end p
+allowed r test p [] (m ∷ ms) = false
+allowed r test p (x ∷ xs) [] = false
+allowed r test p (x ∷ xs) (m ∷ ms) = may_take r p x (begins_with_pair r test (x ∷ xs)) m && allowed r test (state_after p m) xs ms
+
+-- `cost_of v p ms` is the number of bits that the modes ms add after state p
+unfoldable pub cost_of : ℕ → RunState → List Mode → ℕ
+cost_of v p [] = 0
+cost_of v p (m ∷ ms) = byte_cost v p m + cost_of v (state_after p m) ms
+
+-- `IsBestRest v r test p xs ms n` holds if ms is the best assignment of modes to the rest xs after state p, and adds n bits.
+pub record IsBestRest (v : ℕ) (r : Rule) (test : ℕ → ℕ → Bool) (p : RunState) (xs : List ℕ) (ms : List Mode) (n : ℕ) : Type 0 where
+  pub is_allowed : IsTrue (allowed r test p xs ms)
+  pub has_bits : cost_of v p ms ≡ n
+  pub least : (ks : List Mode) → IsTrue (allowed r test p xs ks) → n ≤ cost_of v p ks
+  pub first : (ks : List Mode) → IsTrue (allowed r test p xs ks) → cost_of v p ks ≡ n → IsNotAfter ms ks
+
+-- `IsChoice v r p x pair cost m n` holds if the mode m for the byte x leads to the fewest bits after state p, and has the
+-- lowest rank of all modes that do. These bits are n, where `cost` contains the bits of the rest after each state.
+pub record IsChoice (v : ℕ) (r : Rule) (p : RunState) (x : ℕ) (pair : Bool) (cost : RunState → ℕ) (m : Mode) (n : ℕ) : Type 0 where
+  pub is_allowed : IsTrue (may_take r p x pair m)
+  pub has_bits : n ≡ byte_cost v p m + cost (state_after p m)
+  pub least : (k : Mode) → IsTrue (may_take r p x pair k) → n ≤ byte_cost v p k + cost (state_after p k)
+  pub first : (k : Mode) → IsTrue (may_take r p x pair k) → byte_cost v p k + cost (state_after p k) ≡ n → rank m ≤ rank k
+
+-- `number_of may bits m` is the number of a choice: four times its bits plus the rank of its mode. If the mode may not be
+-- used, it is greater than the number of any choice.
+abbrev pub number_of : Bool → ℕ → Mode → ℕ
+number_of may bits m = if may then 4 * bits + rank m else 4294967295
+
+-- The mode that has a rank
+abbrev pub ranked : ℕ → Mode
+ranked n = if n == 0 then Numeric else (if n == 1 then Alphanumeric else (if n == 2 then Byte else Kanji))

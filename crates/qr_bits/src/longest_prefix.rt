@@ -1,0 +1,125 @@
+//! Finds the longest prefix of an input that fits a symbol of a series.
+
+ghost use Rattle.std.specs.Prelude.{IsOkAnd, length, reverse, ℕ, ◌+◌, ◌*◌, ◌<◌, ◌≡◌, ◌≤◌};
+ghost use Rattle.qr_bits.specs.declared.modes.Mode.{Mode};
+ghost use Rattle.qr_bits.specs.Modes.{count_width, is_kanji_pair};
+ghost use Rattle.qr_bits.specs.Segmentation.{IsLongestFit};
+ghost use Rattle.qr_bits.specs.Steps.RunState.{begins_with_pair, swapped};
+ghost use Rattle.qr_bits.specs.Padding.{room_of};
+
+use crate::fault::BitFault;
+use crate::header::HEADER_BITS;
+use crate::modes::{INPUT_MAX, Mode, Rule, count_width, is_kanji_pair, may_use};
+use crate::padding::capacity;
+use crate::run_state::{FirstChoices, NO_BITS};
+use crate::table::best_choices;
+use qr_layout::{Level, Version};
+use std::alloc::Global;
+
+// Returns whether the rule allows kanji mode and the bytes end with a kanji pair.
+fn ends_with_pair(rule: Rule, bytes: &[u8]) -> bool
+    ensures { result ≡ begins_with_pair rule (swapped is_kanji_pair) (reverse bytes.now) }
+{
+    let len = bytes.len();
+    if len < 2 {
+        return false;
+    }
+    may_use(rule, Mode::Kanji) && is_kanji_pair(bytes[len - 2], bytes[len - 1])
+}
+
+// Returns the greatest length of a byte segment that has at most `room` bits (7.4.5).
+fn bytes_in(room: u64, version: Version) -> usize
+    requires { 20 ≤ room }
+    ensures fits { 4 + count_width version Mode.Byte + 8 * result ≤ room }
+    ensures most { room < 4 + count_width version Mode.Byte + 8 * (result + 1) }
+{
+    let head = 4 + u64::from(count_width(version, Mode::Byte));
+    ((room - head) / 8) as usize
+}
+
+// Returns the length of the longest prefix whose segments with the fewest bits have at most `room`
+// bits.
+//
+// A prefix takes as many bits as the same bytes in reverse, in which a kanji pair begins with its
+// second byte. When the prefix grows at its end, its reverse grows at its beginning. So after each
+// row, `rest.start / 4` is the least number of bits of the prefix that ends with this byte.
+fn longest_by_rows(input: &[u8], version: Version, rule: Rule, room: u64) -> usize
+    requires { length input.now ≤ INPUT_MAX }
+    ensures { IsLongestFit version rule input.now room result }
+{
+    let first_choices = FirstChoices::of(version);
+    let mut longest = 0;
+    let mut rest = NO_BITS;
+    for i in 0..input.len() {
+        let pair = ends_with_pair(rule, &input[..i + 1]);
+        let (_, numbers) = best_choices(&first_choices, rule, input[i], pair, &rest);
+        rest = numbers;
+        if u64::from(rest.start / 4) <= room {
+            longest = i + 1;
+        }
+    }
+    longest
+}
+
+/// Returns the length of the longest prefix of the input that fits a symbol after a header, in the
+/// segments with the fewest bits. A shorter prefix may not fit even though this prefix does.
+///
+/// Never allocates and never fails. `_alloc` and `Result` are kept so that all calls look alike.
+pub fn longest_fit(
+    _alloc: Global,
+    input: &[u8],
+    version: Version,
+    level: Level,
+    rule: Rule,
+) -> Result<usize, BitFault>
+    requires { length input.now ≤ INPUT_MAX }
+    ensures { IsOkAnd result (λ n.
+        IsLongestFit version rule input.now (room_of version level) n) }
+{
+    let room = capacity(version, level) - HEADER_BITS;
+    match rule {
+        Rule::BytesOnly => Ok(input.len().min(bytes_in(room, version))),
+        Rule::Auto | Rule::WithKanji => Ok(longest_by_rows(input, version, rule, room)),
+    }
+}
+
+#[cfg(test)]
+mod tests {
+    use super::*;
+    use std::test::Fail;
+
+    fn fit(rt: &HostRuntime, input: &[u8], rule: Rule) -> Result<usize, Fail>
+        requires { length input.now ≤ INPUT_MAX }
+    {
+        let version = Version::FIRST;
+        Ok(longest_fit(rt.alloc(), input, version, Level::H, rule)?)
+    }
+
+    #[test]
+    fn prefixes_at_1_h(rt: HostRuntime) -> Result<(), Fail> {
+        assert_eq!(rt; fit(&rt, b"abcdefgh", Rule::BytesOnly)?, 5, "eight letters");
+        assert_eq!(rt; fit(&rt, b"012345678901", Rule::Auto)?, 11, "twelve digits");
+        assert_eq!(rt; fit(&rt, b"", Rule::Auto)?, 0, "no byte");
+        assert_eq!(rt;
+            fit(&rt, &[b'7'; INPUT_MAX], Rule::Auto)?,
+            11,
+            "the longest input"
+        );
+        Ok(())
+    }
+
+    // The room at 1-M after a header is 108 bits. Seven kanji pairs take 103 bits; six pairs and half a pair take 110.
+    #[test]
+    fn pairs_at_1_m(rt: HostRuntime) -> Result<(), Fail> {
+        let pairs = b"\x93\x5F\x93\x5F\x93\x5F\x93\x5F\x93\x5F\x93\x5F\x93\x5F\x93\x5F";
+        let (version, rule) = (Version::FIRST, Rule::WithKanji);
+        let room = capacity(version, Level::M) - HEADER_BITS;
+        assert_eq!(rt; room, 108, "128 bits less a header's 20");
+        assert_eq!(rt;
+            longest_fit(rt.alloc(), pairs, version, Level::M, rule)?,
+            14,
+            "seven pairs"
+        );
+        Ok(())
+    }
+}
