@@ -2,7 +2,7 @@
 use Rattle.std.specs.Prelude.{ℕ, ◌-◌, min, max, nat_lt, nat_le, List, length, drop, Result, Ok, Err, if◌then◌else◌}
 use Rattle.qr_devices.specs.declared.device.Trouble.{Trouble}
 use Rattle.qr_devices.specs.declared.device.Trouble.TheVariants.{Interrupted, Failed}
-use Rattle.qr_devices.specs.declared.trial.Manner.{Manner}
+use Rattle.qr_devices.specs.declared.trial.Faults.{Faults}
 use Rattle.qr_devices.specs.declared.trial.Trial.{Trial}
 
 -- `bytes_left t` is the bytes that are still to be read from the device [own]
@@ -16,7 +16,7 @@ bytes_held t = t.bytes.items
 -- `moved m call there` is what the call numbered `call` returns if `there` bytes could be moved. The first
 -- `interruptions` calls are interrupted. After these, the call numbered `fails_from` and all later calls fail. Every
 -- other call moves as many bytes as `at_most` allows, and at least one byte if there is one [own]
-abbrev pub moved : Manner → ℕ → ℕ → Result ℕ Trouble
+abbrev pub moved : Faults → ℕ → ℕ → Result ℕ Trouble
 moved m call there =
     if nat_lt call m.interruptions then Err Interrupted else
     (if nat_le m.fails_from call then Err Failed else Ok (min there (max m.at_most 1)))
@@ -24,4 +24,4 @@ moved m call there =
 -- `free_of t` is the number of bytes for which the device still has room, or 0 from the call numbered `stops_from` on
 -- [own]
 abbrev pub free_of : Trial → ℕ
-free_of t = if nat_lt t.writes.calls t.manner.stops_from then t.room - length t.bytes.items else 0
+free_of t = if nat_lt t.writes.calls t.faults.stops_from then t.room - length t.bytes.items else 0

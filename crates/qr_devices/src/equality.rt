@@ -3,7 +3,7 @@
 ghost use Rattle.std.specs.Prelude.{◌≡◌, ◌↔◌, IsTrue, IfOk};
 
 use crate::device::{ReadCounts, Trouble, WriteCounts};
-use crate::trial::Manner;
+use crate::trial::Faults;
 use std::alloc::AllocError;
 
 /// Two troubles of a device compare as equal exactly if they are the same.
@@ -28,7 +28,7 @@ pub fn write_counts_are_equal(a: WriteCounts, b: WriteCounts) -> bool
 }
 
 /// Two manners of a device compare as equal exactly if they are the same.
-pub fn manners_are_equal(a: Manner, b: Manner) -> bool
+pub fn device_faults_are_equal(a: Faults, b: Faults) -> bool
     ensures { IsTrue result ↔ (a ≡ b) }
 {
     a == b
@@ -55,8 +55,8 @@ pub fn write_counts_clones(a: WriteCounts) -> Result<WriteCounts, AllocError>
     a.clone()
 }
 
-/// A clone of a manner is the same manner.
-pub fn manner_clones(a: Manner) -> Result<Manner, AllocError>
+/// A clone of these faults is the same value.
+pub fn device_faults_clone(a: Faults) -> Result<Faults, AllocError>
     ensures { IfOk result (λ b. b ≡ a) }
 {
     a.clone()
@@ -80,10 +80,10 @@ mod tests {
         assert!(rt; write_counts_are_equal(written, WriteCounts::NONE));
         written.settled = true;
         assert!(rt; !write_counts_are_equal(written, WriteCounts::NONE));
-        let mut manner = Manner::WELL;
-        assert!(rt; manners_are_equal(manner, Manner::WELL));
-        manner.flush_fails = true;
-        assert!(rt; !manners_are_equal(manner, Manner::WELL));
+        let mut faults = Faults::NONE;
+        assert!(rt; device_faults_are_equal(faults, Faults::NONE));
+        faults.flush_fails = true;
+        assert!(rt; !device_faults_are_equal(faults, Faults::NONE));
         Ok(())
     }
 
@@ -92,7 +92,7 @@ mod tests {
         assert_eq!(rt; trouble_clones(Trouble::Failed)?, Trouble::Failed);
         assert_eq!(rt; read_counts_clones(ReadCounts::NONE)?, ReadCounts::NONE);
         assert_eq!(rt; write_counts_clones(WriteCounts::NONE)?, WriteCounts::NONE);
-        assert_eq!(rt; manner_clones(Manner::WELL)?, Manner::WELL);
+        assert_eq!(rt; device_faults_clone(Faults::NONE)?, Faults::NONE);
         Ok(())
     }
 }

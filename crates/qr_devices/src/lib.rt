@@ -10,4 +10,4 @@ mod trial;
 
 pub use counted::Counted;
 pub use device::{INTERRUPTIONS_MAX, ReadCounts, Sink, Source, Trouble, WriteCounts};
-pub use trial::{Manner, Trial};
+pub use trial::{Faults, Trial};

@@ -8,7 +8,7 @@ use std::alloc::{AllocError, Global};
 
 /// How a device misbehaves. Calls are numbered from 0; reads are numbered apart from writes and flushes.
 #[derive(Clone, Copy, Debug, PartialEq, Eq)]
-pub struct Manner {
+pub struct Faults {
     /// The greatest number of bytes that one call moves; 0 counts as 1.
     pub at_most: usize,
     /// The number of calls that are interrupted, before the first call that is not.
@@ -21,9 +21,9 @@ pub struct Manner {
     pub flush_fails: bool,
 }
 
-impl Manner {
+impl Faults {
     /// A device without faults.
-    pub const WELL: Manner = Manner {
+    pub const NONE: Faults = Faults {
         at_most: usize::MAX,
         interruptions: 0,
         fails_from: u64::MAX,
@@ -38,7 +38,7 @@ pub struct Trial {
     bytes: Vec<u8>,
     position: usize,
     room: usize,
-    manner: Manner,
+    faults: Faults,
     reads: ReadCounts,
     writes: WriteCounts,
     ghost within: { position ≤ vec_len bytes },
@@ -50,33 +50,33 @@ impl Trial {
     ghost use Rattle.qr_devices.specs.Trial.{bytes_held, bytes_left, moved};
 
     /// Returns a device from which `bytes` can be read.
-    pub fn reader(alloc: Global, bytes: &[u8], manner: Manner) -> Result<Trial, AllocError>
+    pub fn reader(alloc: Global, bytes: &[u8], faults: Faults) -> Result<Trial, AllocError>
         ensures left { IfOk result (λ t. bytes_left t ≡ bytes.now) }
         ensures unread { IfOk result (λ t. t.reads ≡ no_reads) }
-        ensures manner { IfOk result (λ t. t.manner ≡ manner) }
+        ensures faults { IfOk result (λ t. t.faults ≡ faults) }
     {
         Ok(Trial {
             bytes: Vec::from_slice(alloc, bytes)?,
             position: 0,
             room: 0,
-            manner,
+            faults,
             reads: ReadCounts::NONE,
             writes: WriteCounts::NONE,
         })
     }
 
     /// Returns a device that takes up to `room` bytes. The memory for them is allocated here.
-    pub fn writer(alloc: Global, room: usize, manner: Manner) -> Result<Trial, AllocError>
+    pub fn writer(alloc: Global, room: usize, faults: Faults) -> Result<Trial, AllocError>
         ensures held { IfOk result (λ t. bytes_held t ≡ []) }
         ensures unwritten { IfOk result (λ t. t.writes ≡ no_writes) }
-        ensures manner { IfOk result (λ t. t.manner ≡ manner) }
+        ensures faults { IfOk result (λ t. t.faults ≡ faults) }
         ensures room { IfOk result (λ t. t.room ≡ room) }
     {
         Ok(Trial {
             bytes: Vec::with_capacity(alloc, room)?,
             position: 0,
             room,
-            manner,
+            faults,
             reads: ReadCounts::NONE,
             writes: WriteCounts::NONE,
         })
@@ -111,7 +111,7 @@ impl Trial {
         ensures position { self.new.position ≡ self.old.position + n }
         ensures bytes { self.new.bytes ≡ self.old.bytes }
         ensures reads { self.new.reads ≡ self.old.reads }
-        ensures manner { self.new.manner ≡ self.old.manner }
+        ensures faults { self.new.faults ≡ self.old.faults }
     {
         let end = self.position + n;
         buf[..n].copy_from_slice(&self.bytes.as_slice()[self.position..end]);
@@ -120,16 +120,16 @@ impl Trial {
 
     // Returns how many of `there` bytes the call numbered `call` moves, or how it fails.
     fn moved(&self, call: u64, there: usize) -> Result<usize, Trouble>
-        ensures value { result ≡ moved self.now.manner call there }
+        ensures value { result ≡ moved self.now.faults call there }
         ensures bound { IfOk result (λ n. n ≤ there) }
         ensures some { IfOk result (λ n. 0 < there → 0 < n) }
     {
-        if call < self.manner.interruptions {
+        if call < self.faults.interruptions {
             Err(Trouble::Interrupted)
-        } else if call >= self.manner.fails_from {
+        } else if call >= self.faults.fails_from {
             Err(Trouble::Failed)
         } else {
-            Ok(there.min(self.manner.at_most.max(1)))
+            Ok(there.min(self.faults.at_most.max(1)))
         }
     }
 }
@@ -146,8 +146,8 @@ impl Source for Trial {
         ensures bound { IfOk result (λ n. n ≤ length buf.new) }
         ensures bytes { ReadConsumes (Some (bytes_left self.old)) (Some (bytes_left self.new)) result buf.new }
         ensures counted { self.new.reads ≡ read_counted (length buf.new) result self.old.reads }
-        ensures answer { result ≡ moved self.old.manner self.old.reads.calls (min (length (bytes_left self.old)) (length buf.old)) }
-        ensures manner { self.new.manner ≡ self.old.manner }
+        ensures answer { result ≡ moved self.old.faults self.old.reads.calls (min (length (bytes_left self.old)) (length buf.old)) }
+        ensures faults { self.new.faults ≡ self.old.faults }
     {
         let left = self.bytes.len() - self.position;
         let answer = match self.moved(self.reads.calls, left.min(buf.len())) {
@@ -174,11 +174,11 @@ impl Sink for Trial {
         ensures bound { IfOk result (λ n. n ≤ length buf.now) }
         ensures bytes { WriteAppends (Some (bytes_held self.old)) (Some (bytes_held self.new)) result buf.now }
         ensures counted { self.new.writes ≡ write_counted (length buf.now) result self.old.writes }
-        ensures answer { result ≡ moved self.old.manner self.old.writes.calls (min (free_of self.old) (length buf.now)) }
-        ensures manner { self.new.manner ≡ self.old.manner }
+        ensures answer { result ≡ moved self.old.faults self.old.writes.calls (min (free_of self.old) (length buf.now)) }
+        ensures faults { self.new.faults ≡ self.old.faults }
         ensures room { self.new.room ≡ self.old.room }
     {
-        let free = if self.writes.calls < self.manner.stops_from {
+        let free = if self.writes.calls < self.faults.stops_from {
             self.room.saturating_sub(self.bytes.len())
         } else {
             0
@@ -200,11 +200,11 @@ impl Sink for Trial {
     fn flush(&mut self) -> Result<(), Trouble>
         ensures bytes { Keeps (Some (bytes_held self.old)) (Some (bytes_held self.new)) }
         ensures counted { self.new.writes ≡ flush_counted result self.old.writes }
-        ensures answer { result ≡ (if self.old.manner.flush_fails then Err Trouble.Failed else Ok tt) }
-        ensures manner { self.new.manner ≡ self.old.manner }
+        ensures answer { result ≡ (if self.old.faults.flush_fails then Err Trouble.Failed else Ok tt) }
+        ensures faults { self.new.faults ≡ self.old.faults }
         ensures room { self.new.room ≡ self.old.room }
     {
-        let answer = if self.manner.flush_fails {
+        let answer = if self.faults.flush_fails {
             Err(Trouble::Failed)
         } else {
             Ok(())

@@ -5,7 +5,7 @@ ghost use Rattle.std.specs.Prelude.{◌≡◌, IfOk};
 use crate::runs::{Devices, run_with};
 use qr_layout::{Level, Version};
 use qr_symbol::{Symbol, build_masked};
-use qrencode_cli::{Drawing, Manner, Trial, draw};
+use qrencode_cli::{Drawing, Faults, Trial, draw};
 use std::alloc::Global;
 use std::test::Fail;
 
@@ -29,7 +29,7 @@ fn symbol(alloc: Global) -> Result<Symbol, Fail>
 // Returns the drawing of that symbol.
 fn one(alloc: Global, kind: Drawing, margin: u8) -> Result<Trial, Fail> {
     let symbols = [symbol(alloc)?];
-    let mut out = Trial::writer(alloc, 8000, Manner::WELL)?;
+    let mut out = Trial::writer(alloc, 8000, Faults::NONE)?;
     draw(&symbols, kind, margin, &mut out)?;
     Ok(out)
 }
@@ -125,7 +125,7 @@ fn svg(rt: HostRuntime) -> Result<(), Fail> {
 #[test]
 fn svg_of_two_symbols(rt: HostRuntime) -> Result<(), Fail> {
     let symbols = [symbol(rt.alloc())?, symbol(rt.alloc())?];
-    let mut out = Trial::writer(rt.alloc(), 8000, Manner::WELL)?;
+    let mut out = Trial::writer(rt.alloc(), 8000, Faults::NONE)?;
     draw(&symbols, Drawing::Svg, 0, &mut out)?;
     let text = out.bytes();
     assert_eq!(rt; line_count(text), 5);
@@ -191,7 +191,7 @@ fn by_words(rt: HostRuntime) -> Result<(), Fail> {
     for (words, name, lines) in rows {
         let devices = Devices {
             out_room: 100_000,
-            ..Devices::WELL
+            ..Devices::WITHOUT_FAULTS
         };
         let r = run_with(rt.alloc(), words, b"", devices)?;
         assert_eq!(rt; r.status, 0, "{name}");
@@ -215,12 +215,12 @@ fn writers_fail_in_turn(rt: HostRuntime) -> Result<(), Fail> {
         let whole = one(rt.alloc(), kind, 4)?;
         let mut last = false;
         for call in 0..80u64 {
-            let manner = Manner {
+            let faults = Faults {
                 at_most: 100,
                 fails_from: call,
-                ..Manner::WELL
+                ..Faults::NONE
             };
-            let mut out = Trial::writer(rt.alloc(), 8000, manner)?;
+            let mut out = Trial::writer(rt.alloc(), 8000, faults)?;
             let drawn = draw(&symbols, kind, 4, &mut out);
             assert!(rt;
                 whole.bytes().starts_with(out.bytes()),
@@ -233,7 +233,7 @@ fn writers_fail_in_turn(rt: HostRuntime) -> Result<(), Fail> {
             );
             last = drawn.is_ok();
         }
-        assert!(rt; last, "{kind:?}: the last call is well");
+        assert!(rt; last, "{kind:?}: the last call succeeds");
     }
     Ok(())
 }

@@ -1,7 +1,7 @@
 //! The line and the status of each fault of the arguments and the input.
 
 use crate::runs::{DRAW, Devices, run_with};
-use qrencode_cli::Manner;
+use qrencode_cli::Faults;
 use std::test::Fail;
 
 #[test]
@@ -50,7 +50,7 @@ fn of_words_and_input(rt: HostRuntime) -> Result<(), Fail> {
         ),
     ];
     for (name, words, line) in rows {
-        let r = run_with(rt.alloc(), words, b"", Devices::WELL)?;
+        let r = run_with(rt.alloc(), words, b"", Devices::WITHOUT_FAULTS)?;
         assert_eq!(rt; r.status, 1, "{name}");
         assert_eq!(rt; r.err.bytes(), line.as_bytes(), "{name}");
         assert!(rt; r.out.bytes().is_empty());
@@ -60,7 +60,7 @@ fn of_words_and_input(rt: HostRuntime) -> Result<(), Fail> {
 
 // `clap` refuses the arguments, and its text is written; no input is read.
 #[test]
-fn of_words_alone(rt: HostRuntime) -> Result<(), Fail> {
+fn faults_of_arguments(rt: HostRuntime) -> Result<(), Fail> {
     let rows = [
         ("no type", ["-8"].as_slice(), "required"),
         (
@@ -112,7 +112,7 @@ fn of_words_alone(rt: HostRuntime) -> Result<(), Fail> {
         ),
     ];
     for (name, words, part) in rows {
-        let r = run_with(rt.alloc(), words, b"A", Devices::WELL)?;
+        let r = run_with(rt.alloc(), words, b"A", Devices::WITHOUT_FAULTS)?;
         assert_eq!(rt; r.status, 1, "{name}");
         let text = str::from_utf8(r.err.bytes()).ok().ok_or("text")?;
         assert!(rt; text.contains(part), "{name}: {text}");
@@ -133,7 +133,7 @@ fn of_length(rt: HostRuntime) -> Result<(), Fail> {
         let words = ["-m", "0", "-l", level, "-t", "ASCII"];
         let devices = Devices {
             out_room: 70_000,
-            ..Devices::WELL
+            ..Devices::WITHOUT_FAULTS
         };
         let r = run_with(rt.alloc(), &words, &digits[..most], devices)?;
         assert_eq!(rt; r.status, 0, "{level}");
@@ -157,7 +157,7 @@ fn of_length_in_other_modes(rt: HostRuntime) -> Result<(), Fail> {
         let words = ["-m", "0", "-t", "ASCII"];
         let devices = Devices {
             out_room: 70_000,
-            ..Devices::WELL
+            ..Devices::WITHOUT_FAULTS
         };
         let r = run_with(rt.alloc(), &words, &input[..most], devices)?;
         assert_eq!(rt; r.status, 0, "{most}");
@@ -178,7 +178,7 @@ fn of_a_long_input(rt: HostRuntime) -> Result<(), Fail> {
         rt.alloc(),
         &["-t", "ASCII"],
         input.as_slice(),
-        Devices::WELL,
+        Devices::WITHOUT_FAULTS,
     )?;
     assert_eq!(rt; r.status, 1);
     assert_eq!(rt; r.err.bytes(), b"qrencode: input does not fit\n".as_slice());
@@ -189,20 +189,20 @@ fn of_a_long_input(rt: HostRuntime) -> Result<(), Fail> {
 
 // If standard error has no room for the whole line, it receives a prefix of the line.
 #[test]
-fn told_to_a_full_device(rt: HostRuntime) -> Result<(), Fail> {
+fn fault_line_on_a_full_device(rt: HostRuntime) -> Result<(), Fail> {
     let devices = Devices {
         err_room: 10,
-        ..Devices::WELL
+        ..Devices::WITHOUT_FAULTS
     };
     let r = run_with(rt.alloc(), &DRAW, b"", devices)?;
     assert_eq!(rt; r.status, 1);
     assert_eq!(rt; r.err.bytes(), b"qrencode: ".as_slice());
     let devices = Devices {
-        err: Manner {
+        err: Faults {
             fails_from: 0,
-            ..Manner::WELL
+            ..Faults::NONE
         },
-        ..Devices::WELL
+        ..Devices::WITHOUT_FAULTS
     };
     let r = run_with(rt.alloc(), &DRAW, b"", devices)?;
     assert_eq!(rt; r.status, 1);
@@ -212,14 +212,14 @@ fn told_to_a_full_device(rt: HostRuntime) -> Result<(), Fail> {
 
 // The line of a fault is written after 999 interruptions, and is not written after 1,000.
 #[test]
-fn told_to_an_interrupted_device(rt: HostRuntime) -> Result<(), Fail> {
+fn fault_line_on_an_interrupted_device(rt: HostRuntime) -> Result<(), Fail> {
     for (interruptions, line) in [(999, "qrencode: input is empty\n"), (1000, "")] {
         let devices = Devices {
-            err: Manner {
+            err: Faults {
                 interruptions,
-                ..Manner::WELL
+                ..Faults::NONE
             },
-            ..Devices::WELL
+            ..Devices::WITHOUT_FAULTS
         };
         let r = run_with(rt.alloc(), &DRAW, b"", devices)?;
         assert_eq!(rt; r.status, 1);
@@ -234,13 +234,13 @@ fn told_to_an_interrupted_device(rt: HostRuntime) -> Result<(), Fail> {
 
 // The reader is not called if the arguments are refused or contain the input.
 #[test]
-fn beside_a_failing_reader(rt: HostRuntime) -> Result<(), Fail> {
+fn string_beside_a_failing_reader(rt: HostRuntime) -> Result<(), Fail> {
     let devices = Devices {
-        input: Manner {
+        input: Faults {
             fails_from: 0,
-            ..Manner::WELL
+            ..Faults::NONE
         },
-        ..Devices::WELL
+        ..Devices::WITHOUT_FAULTS
     };
     let r = run_with(rt.alloc(), &["-S", "-t", "ASCII"], b"A", devices)?;
     assert_eq!(rt; r.status, 1);

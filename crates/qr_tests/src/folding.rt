@@ -13,8 +13,8 @@ fn draw_alike(
     others: &[&str],
     input: &[u8],
 ) -> Result<bool, Fail> {
-    let a = run_with(rt.alloc(), words, input, Devices::WELL)?;
-    let b = run_with(rt.alloc(), others, input, Devices::WELL)?;
+    let a = run_with(rt.alloc(), words, input, Devices::WITHOUT_FAULTS)?;
+    let b = run_with(rt.alloc(), others, input, Devices::WITHOUT_FAULTS)?;
     Ok(a.status == 0 && b.status == 0 && a.out.bytes() == b.out.bytes())
 }
 
@@ -47,8 +47,8 @@ fn kanji_by_an_option(rt: HostRuntime) -> Result<(), Fail> {
     // The second byte of the pair is the code of the letter a. A letter a follows the pair.
     let (small, large) = (b"\x93\x61a", b"\x93\x61A");
     for words in [&kanji[..], &folded[..]] {
-        let a = run_with(rt.alloc(), &folded, small, Devices::WELL)?;
-        let b = run_with(rt.alloc(), words, large, Devices::WELL)?;
+        let a = run_with(rt.alloc(), &folded, small, Devices::WITHOUT_FAULTS)?;
+        let b = run_with(rt.alloc(), words, large, Devices::WITHOUT_FAULTS)?;
         assert!(rt;
             a.status == 0 && a.out.bytes() == b.out.bytes(),
             "a pair and a letter"

@@ -2,20 +2,20 @@
 #![tactic(auto)]
 
 #[cfg(test)]
-mod counting;
+mod counted;
+#[cfg(test)]
+mod device_faults;
 #[cfg(test)]
 mod drawings;
 #[cfg(test)]
 mod faults;
 #[cfg(test)]
-mod first_symbol;
-#[cfg(test)]
 mod folding;
 #[cfg(test)]
-mod rows;
+mod letter_a;
+#[cfg(test)]
+mod lower_crates;
 #[cfg(test)]
 mod runs;
 #[cfg(test)]
 mod series;
-#[cfg(test)]
-mod troubles;

@@ -1,6 +1,6 @@
 //! Runs of the command over devices in memory.
 
-use qrencode_cli::{Manner, Trial, run};
+use qrencode_cli::{Faults, Trial, run};
 use std::alloc::{AllocError, Global};
 
 /// The arguments that draw one symbol of version 1, without the program's name.
@@ -18,20 +18,20 @@ pub struct Run {
 /// How the three devices of a run behave, and how many bytes each of the two writers takes.
 #[derive(Clone, Copy)]
 pub struct Devices {
-    pub input: Manner,
-    pub out: Manner,
+    pub input: Faults,
+    pub out: Faults,
     pub out_room: usize,
-    pub err: Manner,
+    pub err: Faults,
     pub err_room: usize,
 }
 
 impl Devices {
     /// Devices without faults, with room enough.
-    pub const WELL: Devices = Devices {
-        input: Manner::WELL,
-        out: Manner::WELL,
+    pub const WITHOUT_FAULTS: Devices = Devices {
+        input: Faults::NONE,
+        out: Faults::NONE,
         out_room: 4000,
-        err: Manner::WELL,
+        err: Faults::NONE,
         err_room: 4000,
     };
 }

@@ -14,7 +14,7 @@ fn of_version_1_h(rt: HostRuntime) -> Result<(), Fail> {
     let words = ["-S", "-8", "-v", "1", "-l", "H", "-t", "ASCII"];
     let devices = Devices {
         out_room: 30_000,
-        ..Devices::WELL
+        ..Devices::WITHOUT_FAULTS
     };
     let letters = [b'a'; 81];
     for (len, symbols) in [(7usize, 1usize), (8, 2), (80, 16)] {

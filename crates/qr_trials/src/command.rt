@@ -1,7 +1,7 @@
 //! The calls of `qrencode_cli`, with devices in memory.
 
 use crate::answer::Answer;
-use qrencode_cli::{Manner, Trial, UsageFault, options, run};
+use qrencode_cli::{Faults, Trial, UsageFault, options, run};
 use std::alloc::{AllocError, Global};
 
 // The line that is written if memory is refused.
@@ -47,9 +47,9 @@ fn ran(
     part: &str,
 ) -> Result<Answer, AllocError> {
     let list = line(alloc, words)?;
-    let mut input = Trial::reader(alloc, input, Manner::WELL)?;
-    let mut out = Trial::writer(alloc, 10_000, Manner::WELL)?;
-    let mut err = Trial::writer(alloc, 4000, Manner::WELL)?;
+    let mut input = Trial::reader(alloc, input, Faults::NONE)?;
+    let mut out = Trial::writer(alloc, 10_000, Faults::NONE)?;
+    let mut err = Trial::writer(alloc, 4000, Faults::NONE)?;
     let ended = run(alloc, &list, &mut input, &mut out, &mut err);
     let answer = if err.bytes() == OUT_OF_MEMORY.as_bytes() {
         if ended == 1 && out.bytes().is_empty() {

@@ -39,7 +39,7 @@ abbrev pub IsRefused : List Text → Reason → Type 0
 IsRefused words why = settings_for (codes "qrencode" ∷ words) ≡ Err why
 
 -- Some command lines have these settings, or are refused for these reasons [own]
-pub record RowsOfWords : Type 0 where
+pub record CommandLines : Type 0 where
   pub plain : IsTaken (codes "-t" ∷ codes "ASCII" ∷ []) by_default
   pub in_bytes : IsTaken (codes "-8" ∷ codes "-v" ∷ codes "1" ∷ codes "-t" ∷ codes "ascii" ∷ [])
       (record by_default { smallest = Some 1; bytes_only = true })

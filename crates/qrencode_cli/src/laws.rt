@@ -4,11 +4,11 @@ ghost use Rattle.std.specs.Prelude.{◌≡◌};
 ghost use Rattle.qr_bits.specs.declared.modes.TheConstants.{INPUT_MAX};
 ghost use Rattle.qr_devices.specs.declared.device.TheConstants.{INTERRUPTIONS_MAX};
 ghost use Rattle.qr_drawing.specs.declared.pen.TheConstants.{WRITE_MAX};
-ghost use Rattle.qrencode_cli.specs.Laws.{AnswersAreOne, FoldingFollowsTheRule, LinesOfFaults, NumbersOfUsageFaults, RefusalsAreOne, RefusalsExcludeDrawings, RowsOfWords, RulesOfModes, StatusesAreTwo};
+ghost use Rattle.qrencode_cli.specs.Laws.{AnswersAreOne, FoldingFollowsTheRule, LinesOfFaults, NumbersOfUsageFaults, RefusalsAreOne, RefusalsExcludeDrawings, CommandLines, RulesOfModes, StatusesAreTwo};
 
 /// Command lines, each with its settings or with the reason why it is refused.
-pub fn rows_of_words()
-    ensures { RowsOfWords }
+pub fn command_lines()
+    ensures { CommandLines }
 {}
 
 /// The limits that other contracts name: how many bytes of input are read at most, how many bytes one write offers at

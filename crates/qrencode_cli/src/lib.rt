@@ -11,6 +11,6 @@ mod picture;
 mod settings;
 
 pub use command::run;
-pub use qr_devices::{Counted, Manner, ReadCounts, Sink, Source, Trial, Trouble, WriteCounts};
+pub use qr_devices::{Counted, Faults, ReadCounts, Sink, Source, Trial, Trouble, WriteCounts};
 pub use qr_drawing::{DrawFault, Drawing, draw};
 pub use settings::{Settings, UsageFault, options};

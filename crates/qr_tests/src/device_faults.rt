@@ -1,22 +1,22 @@
 //! Readers and writers that are slow, interrupted, failing or full.
 
-use crate::first_symbol::drawing;
+use crate::letter_a::drawing;
 use crate::runs::{DRAW, Devices, run_with};
-use qrencode_cli::Manner;
+use qrencode_cli::Faults;
 use std::test::Fail;
 
 // Devices that move one byte in a call, after 999 interruptions, which are all tried again.
 #[test]
-fn slow_devices_do(rt: HostRuntime) -> Result<(), Fail> {
-    let slow = Manner {
+fn slow_devices_succeed(rt: HostRuntime) -> Result<(), Fail> {
+    let slow = Faults {
         at_most: 1,
         interruptions: 999,
-        ..Manner::WELL
+        ..Faults::NONE
     };
     let devices = Devices {
         input: slow,
         out: slow,
-        ..Devices::WELL
+        ..Devices::WITHOUT_FAULTS
     };
     let r = run_with(rt.alloc(), &DRAW, b"A", devices)?;
     assert_eq!(rt; r.status, 0);
@@ -30,13 +30,13 @@ fn slow_devices_do(rt: HostRuntime) -> Result<(), Fail> {
 // The 1,000th interruption is a fault of the reader or of the writer.
 #[test]
 fn interrupted_too_often(rt: HostRuntime) -> Result<(), Fail> {
-    let tired = Manner {
+    let tired = Faults {
         interruptions: 1000,
-        ..Manner::WELL
+        ..Faults::NONE
     };
     let reading = Devices {
         input: tired,
-        ..Devices::WELL
+        ..Devices::WITHOUT_FAULTS
     };
     let r = run_with(rt.alloc(), &DRAW, b"A", reading)?;
     assert_eq!(rt; r.status, 1);
@@ -44,7 +44,7 @@ fn interrupted_too_often(rt: HostRuntime) -> Result<(), Fail> {
     assert!(rt; r.out.bytes().is_empty());
     let writing = Devices {
         out: tired,
-        ..Devices::WELL
+        ..Devices::WITHOUT_FAULTS
     };
     let r = run_with(rt.alloc(), &DRAW, b"A", writing)?;
     assert_eq!(rt; r.status, 1);
@@ -59,12 +59,12 @@ fn interrupted_too_often(rt: HostRuntime) -> Result<(), Fail> {
 fn readers_fail_in_turn(rt: HostRuntime) -> Result<(), Fail> {
     for call in 0..3u64 {
         let devices = Devices {
-            input: Manner {
+            input: Faults {
                 at_most: 1,
                 fails_from: call,
-                ..Manner::WELL
+                ..Faults::NONE
             },
-            ..Devices::WELL
+            ..Devices::WITHOUT_FAULTS
         };
         let r = run_with(rt.alloc(), &DRAW, b"AB", devices)?;
         assert_eq!(rt; r.status, 1, "call {call}");
@@ -85,22 +85,22 @@ fn writers_fail_in_turn(rt: HostRuntime) -> Result<(), Fail> {
     let want = drawing(rt.alloc())?;
     let whole = 29 * 59u64;
     for call in 0..40u64 {
-        let well = Manner {
+        let none = Faults {
             at_most: 100,
-            ..Manner::WELL
+            ..Faults::NONE
         };
-        let failing = Manner {
+        let failing = Faults {
             fails_from: call,
-            ..well
+            ..none
         };
-        let stopping = Manner {
+        let stopping = Faults {
             stops_from: call,
-            ..well
+            ..none
         };
         for out in [failing, stopping] {
             let devices = Devices {
                 out,
-                ..Devices::WELL
+                ..Devices::WITHOUT_FAULTS
             };
             let r = run_with(rt.alloc(), &DRAW, b"A", devices)?;
             assert!(rt; want.as_slice().starts_with(r.out.bytes()), "call {call}");
@@ -118,11 +118,11 @@ fn writers_fail_in_turn(rt: HostRuntime) -> Result<(), Fail> {
 #[test]
 fn a_writer_that_takes_nothing(rt: HostRuntime) -> Result<(), Fail> {
     let devices = Devices {
-        out: Manner {
+        out: Faults {
             stops_from: 0,
-            ..Manner::WELL
+            ..Faults::NONE
         },
-        ..Devices::WELL
+        ..Devices::WITHOUT_FAULTS
     };
     let r = run_with(rt.alloc(), &DRAW, b"A", devices)?;
     assert_eq!(rt; r.status, 1);
@@ -136,7 +136,7 @@ fn a_writer_that_takes_nothing(rt: HostRuntime) -> Result<(), Fail> {
 fn no_room_for_all(rt: HostRuntime) -> Result<(), Fail> {
     let devices = Devices {
         out_room: 100,
-        ..Devices::WELL
+        ..Devices::WITHOUT_FAULTS
     };
     let r = run_with(rt.alloc(), &DRAW, b"A", devices)?;
     assert_eq!(rt; r.status, 1);
@@ -153,11 +153,11 @@ fn no_room_for_all(rt: HostRuntime) -> Result<(), Fail> {
 #[test]
 fn a_flush_that_fails(rt: HostRuntime) -> Result<(), Fail> {
     let devices = Devices {
-        out: Manner {
+        out: Faults {
             flush_fails: true,
-            ..Manner::WELL
+            ..Faults::NONE
         },
-        ..Devices::WELL
+        ..Devices::WITHOUT_FAULTS
     };
     let r = run_with(rt.alloc(), &DRAW, b"A", devices)?;
     assert_eq!(rt; r.status, 1);

@@ -1,7 +1,7 @@
 use Rattle.std.proofs.Common.{refl}
 use Rattle.clap.proofs.OnLiterals.{clap_on_literals}
 use Rattle.qrencode_cli.specs.Arguments.{command, faults_for, rows_for}
-use Rattle.qrencode_cli.proofs.laws.rows_of_words.Goals as goal
+use Rattle.qrencode_cli.proofs.laws.command_lines.Goals as goal
 
 pub returns : goal.returns
 unfolding clap_on_literals command faults_for rows_for

@@ -72,7 +72,7 @@ fn is_drawn(rt: HostRuntime) -> Result<(), Fail> {
         ),
     ];
     for (words, input) in spellings {
-        let r = run_with(rt.alloc(), words, input, Devices::WELL)?;
+        let r = run_with(rt.alloc(), words, input, Devices::WITHOUT_FAULTS)?;
         assert_eq!(rt; r.status, 0);
         assert_eq!(rt; r.out.bytes(), want.as_slice());
         assert!(rt; r.err.bytes().is_empty());
@@ -83,7 +83,7 @@ fn is_drawn(rt: HostRuntime) -> Result<(), Fail> {
 // The fifth line from below is the last row of the symbol, and ends like this.
 #[test]
 fn ends_in_three_lone_modules(rt: HostRuntime) -> Result<(), Fail> {
-    let r = run_with(rt.alloc(), &DRAW, b"A", Devices::WELL)?;
+    let r = run_with(rt.alloc(), &DRAW, b"A", Devices::WITHOUT_FAULTS)?;
     let text = r.out.bytes();
     assert!(rt; text.len() == 29 * 59);
     let end = 25 * 59;
