@@ -32,7 +32,9 @@ impl Manner {
     };
 }
 
-/// Bytes in memory that can be read, or room for bytes that are written. A write to a full device returns 0.
+/// Bytes in memory that can be read, or room for bytes that are written. A call moves as many bytes as the `Manner`,
+/// the length of the buffer and the bytes or the room left allow. It fails or is interrupted exactly if the `Manner`
+/// states so. A write to a full device returns 0.
 #[derive(Drop)]
 pub struct Trial {
     bytes: Vec<u8>,

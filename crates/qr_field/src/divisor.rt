@@ -80,7 +80,8 @@ impl Divisor {
         self.low[place & 0xF].plus(self.high[place >> 4])
     }
 
-    /// Returns the error correction codewords of the data codewords `message` of a block (ISO/IEC 18004:2015, 7.5.2).
+    /// Returns the error correction codewords of the data codewords `message` of a block: the one list that makes the
+    /// polynomial of the block a multiple of the generator polynomial (ISO/IEC 18004:2015, 7.5.2).
     pub fn correction(&self, message: &[u8]) -> ArrayVec<u8, 30>
         ensures definition { IsCorrection message.now self.now result.items }
         ensures only { (e : List ℕ) → IsCorrection message.now self.now e → e ≡ result.items }

@@ -13,9 +13,9 @@ use qr_layout::{Level, Version};
 use qr_symbol::{EncodeFault, Matrix, encode};
 use std::alloc::{AllocError, Global};
 
-/// Returns the label of some words: the rows of their symbol of this level as lines of text, in the least version from
-/// `smallest` on that the words fit, and then a line with the words. There is no quiet zone, so the paper around the
-/// label has to be light.
+/// Returns the label of some words: the rows of their symbol of this level as lines of text, with `#` for a dark
+/// module, in the least version from `smallest` on that the words fit, and then a line with the words. There is no
+/// quiet zone, so the paper around the label has to be light.
 ///
 /// # Errors
 ///

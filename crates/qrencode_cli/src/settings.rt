@@ -248,12 +248,13 @@ fn settings_in(alloc: Global, matches: &ArgMatches<'_>) -> Result<Settings, Usag
     })
 }
 
-/// Parses a command line, of which the first text is the program's name.
+/// Parses a command line, of which the first text is the program's name. The arguments mean what `clap` states of a
+/// simple command.
 ///
 /// # Errors
 ///
-/// Returns the first fault that applies: `Words` if `clap` refuses the arguments, then `Level`, `Kind` and
-/// `NeedsVersion`. Returns `Memory` if memory is refused before another fault is found.
+/// Returns the first fault that applies: `Words` only if `clap` states a fault for the arguments, then `Level`, `Kind`
+/// and `NeedsVersion`. Returns `Memory` if memory is refused before another fault is found.
 pub fn options(alloc: Global, words: &[String]) -> Result<Settings, UsageFault>
     ensures settings { MatchResult result (λ s. settings_for (map string_bytes words.now) ≡ Ok s)
         (IsUsageFault (settings_for (map string_bytes words.now))) }
