@@ -67,7 +67,11 @@ impl Trial {
         })
     }
 
-    /// Returns a device that takes up to `room` bytes. The memory for them is allocated here.
+    /// Returns a device that takes up to `room` bytes.
+    ///
+    /// # Notes
+    ///
+    /// The memory for these bytes is allocated here.
     pub fn writer(alloc: Global, room: usize, manner: Manner) -> Result<Trial, AllocError>
         ensures held { IfOk result (λ t. bytes_held t ≡ []) }
         ensures unwritten { IfOk result (λ t. t.writes ≡ no_writes) }

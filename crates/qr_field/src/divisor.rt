@@ -9,7 +9,8 @@ use crate::register::Register;
 use arrayvec::ArrayVec;
 use std::marker::Model;
 
-/// The generator polynomial for n error correction codewords, made once for many blocks. Its view is the number n.
+/// The generator polynomial for n error correction codewords, made once for many blocks. Contracts describe it by the
+/// number n.
 #[derive(Drop)]
 pub struct Divisor {
     count: usize,

@@ -91,8 +91,11 @@ impl Cursor {
     }
 }
 
-/// A walk over the encoding region. Its view is the list of the modules that are still to come. It stores a position and a
-/// direction.
+/// A walk over the encoding region. Contracts describe it by the list of the modules that are still to come.
+///
+/// # Notes
+///
+/// It stores a position and a direction.
 #[derive(Drop)]
 pub struct Steps {
     version: Version,

@@ -122,8 +122,8 @@ fn run_to_result<R: Source, W: Sink>(
 /// Runs the command: parses the arguments `words`, of which the first is the program's name, reads the input, and
 /// writes the drawing to `out`. After a fault it writes the fault's line to `err`. Returns the exit status, 0 or 1.
 ///
-/// All symbols are made before the first byte is written. Reads and writes that are interrupted are tried again: 999
-/// times for the input, 999 times for the drawing, and 999 times for the line of a fault.
+/// Reads and writes that are interrupted are tried again: 999 times for the input, 999 times for the drawing, and 999
+/// times for the line of a fault.
 ///
 /// On success `out` received the whole drawing of the input's symbol, or of its series, and was flushed once, after the
 /// last byte. `err` received nothing, and the status is 0.
@@ -159,6 +159,10 @@ fn run_to_result<R: Source, W: Sink>(
 /// The promises about bytes hold for readers and writers whose bytes a contract can know, such as those in memory. The
 /// promises about counts hold for devices whose counts start at 0. For the standard streams the counts are promised:
 /// how many bytes were read, that the end was reached, how many bytes were taken, and which faults occurred.
+///
+/// # Notes
+///
+/// All symbols are made before the first byte is written.
 pub fn run<R: Source, W: Sink, E: Sink>(
     alloc: Global,
     words: &[String],

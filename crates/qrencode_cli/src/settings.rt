@@ -22,7 +22,7 @@ use thiserror::Error;
 // The default margin in modules: the width of the quiet zone (ISO/IEC 18004:2015, 6.3.8).
 const QUIET_ZONE: u8 = 4;
 
-/// The parsed command line.
+/// The settings of a run: what the arguments of its command line mean.
 #[derive(Debug, Drop)]
 pub struct Settings {
     /// The level of error correction.
