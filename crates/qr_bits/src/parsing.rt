@@ -14,7 +14,7 @@ use qr_layout::Version;
 use std::alloc::Global;
 use std::marker::Model;
 
-// Upper limits of the numbers that groups of digits and characters are written as; each number is below its limit (7.4.3,
+// A group of digits or characters is written as one number. Each such number is below the limit for its group (7.4.3,
 // 7.4.4).
 const THREE_DIGITS: u16 = 1000;
 

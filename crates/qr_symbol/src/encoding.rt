@@ -21,7 +21,7 @@ use qr_bits::{Header, INPUT_MAX, Rule, Segment, codewords};
 use qr_layout::{Level, Version};
 use std::alloc::Global;
 
-// The most bytes that a symbol holds: 7,089 digits in version 40 and level L (7.4.10, Table 7).
+// The largest number of bytes that a symbol can contain: 7,089 digits in version 40 and level L (7.4.10, Table 7).
 pub(crate) const SYMBOL_BYTES_MAX: usize = 7089;
 
 /// Encodes the input as one symbol (ISO/IEC 18004:2015, 7.1), in the least version from `smallest` on that it fits.

@@ -187,8 +187,8 @@ mod tests {
         Ok(())
     }
 
-    // In a symbol of version 1, 15 modules hold the first format information and 208 modules hold codewords. All other
-    // modules are ignored.
+    // In a symbol of version 1, 15 modules contain the first format information and 208 modules contain codewords. All
+    // other modules are ignored.
     #[test]
     fn each_module_inverted(rt: HostRuntime) -> Result<(), Fail> {
         let version = Version::FIRST;
@@ -218,7 +218,7 @@ mod tests {
         Ok(())
     }
 
-    // Version 2 has 44 codewords; the seven modules after them hold its remainder bits.
+    // Version 2 has 44 codewords; the seven modules after them contain its remainder bits.
     #[test]
     fn remainder_bits_inverted(rt: HostRuntime) -> Result<(), Fail> {
         let version = Version::new(2).ok_or("version 2")?;

@@ -35,11 +35,12 @@ pub struct Settings {
     pub margin: u8,
     /// Whether the whole input is encoded in byte mode.
     pub bytes_only: bool,
-    /// Whether kanji mode may be used. Without effect if the whole input is encoded in byte mode.
+    /// Whether kanji mode may be used. This has no effect if the whole input is encoded in byte mode.
     pub kanji: bool,
-    /// Whether the letters a to z are encoded as capitals. Without effect if the whole input is encoded in byte mode.
+    /// Whether the letters a to z are encoded as capitals. This has no effect if the whole input is encoded in byte
+    /// mode.
     pub fold: bool,
-    /// Whether a series of symbols is drawn if one symbol does not hold the input.
+    /// Whether a series of symbols is drawn if the input does not fit one symbol.
     pub structured: bool,
     /// The input if it is an argument, or `None` if standard input is read.
     pub string: Option<String>,

@@ -319,8 +319,8 @@ mod tests {
         Ok(())
     }
 
-    // In version 1-M eight of the ten error correction codewords may be used. Five codewords that are not known take
-    // five of them, and one misread codeword takes two.
+    // In version 1-M eight of the ten error correction codewords may be used. Five unknown codewords need five of
+    // these, and one misread codeword needs two.
     #[test]
     fn modules_that_are_not_known(rt: HostRuntime) -> Result<(), Fail> {
         let drawn = eight_digits(&rt)?;
