@@ -80,7 +80,7 @@ mod tests {
         Ok(())
     }
 
-    // Version 40-L holds 2,953 bytes (Table 7).
+    // Version 40-L contains at most 2,953 bytes (Table 7).
     #[test]
     fn refusals(rt: HostRuntime) -> Result<(), Fail> {
         let fault = label(rt.alloc(), b"", Level::L, Version::FIRST);

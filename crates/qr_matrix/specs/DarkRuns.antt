@@ -6,8 +6,8 @@ use Rattle.qr_matrix.specs.Runs.{is_change}
 use Rattle.qr_matrix.specs.declared.dark_runs.DarkRuns.{DarkRuns}
 use Rattle.qr_matrix.specs.declared.dark_runs.Run.{Run}
 
--- `AreRunsFrom g row runs` holds if `runs` are the dark runs of a row of the square g from column `runs.col` on. They are
--- given by the columns in which the colour changes, where all columns before `runs.col` count as light [own]
+-- `AreRunsFrom g row runs` holds if `runs` are the dark runs of a row of the square g from column `runs.col` on. They
+-- are represented by the columns in which the colour changes, where all columns before `runs.col` count as light [own]
 pub record AreRunsFrom (g : Grid) (row : ℕ) (runs : DarkRuns) : Type 0 where
   pub few : g.side ≤ 177
   pub past : (c : ℕ) → g.side ≤ c → colour g row c ≡ false

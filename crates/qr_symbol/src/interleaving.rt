@@ -182,7 +182,7 @@ fn deinterleave_into(message: &mut Vec<u8>, cut: Cut, codewords: &[u8])
 }
 
 // Undoes the interleaving, and returns the data codewords. The fault is `Check` if the error correction codewords in
-// `codewords` are not theirs.
+// `codewords` do not belong to these data codewords.
 fn deinterleave_blocks(
     alloc: Global,
     blocks: Blocks,
