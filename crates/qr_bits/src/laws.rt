@@ -173,7 +173,11 @@ pub fn least_bits_compute()
         ≡ 10 ∷ 14 ∷ 11 ∷ 13 ∷ 15 ∷ [] }
 {}
 
-/// The discriminants of `BitFault` are those that are listed, and are stable.
+/// The discriminants of `BitFault` are those that are listed.
+///
+/// # Notes
+///
+/// The discriminants stay the same in later versions of this crate.
 pub fn bit_fault_numbers(fault: BitFault) -> u8
     ensures memory { fault ≡ BitFault.Memory → result ≡ 1 }
     ensures too_long { fault ≡ BitFault.TooLong → result ≡ 2 }
@@ -181,7 +185,11 @@ pub fn bit_fault_numbers(fault: BitFault) -> u8
     fault as u8
 }
 
-/// The discriminants of `ParseFault` are those that are listed, and are stable.
+/// The discriminants of `ParseFault` are those that are listed.
+///
+/// # Notes
+///
+/// The discriminants stay the same in later versions of this crate.
 pub fn parse_fault_numbers(fault: ParseFault) -> u8
     ensures memory { fault ≡ ParseFault.Memory → result ≡ 1 }
     ensures bad_mode { fault ≡ ParseFault.BadMode → result ≡ 2 }

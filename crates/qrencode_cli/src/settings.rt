@@ -104,7 +104,11 @@ pub enum UsageFault {
 impl UsageFault {
     ghost use Rattle.qrencode_cli.specs.Settings.{usage_fault_number};
 
-    /// Returns the number of the fault. The numbers are stable.
+    /// Returns the number of the fault.
+    ///
+    /// # Notes
+    ///
+    /// The number stays the same in later versions of this crate.
     pub fn number(&self) -> u8
         ensures { result ≡ usage_fault_number self.now }
     {
