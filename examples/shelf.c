@@ -37,7 +37,7 @@ int main(int argc, char **argv)
 		fprintf(stderr, "shelf: no label, status %d\n", status);
 		return 1;
 	}
-	/* The drawing is a document of its own: its first line, which says so, is left out, and the rest stands in ours. */
+	/* The drawing is a document of its own: its first line, which says so, is skipped, and the rest becomes a part of ours. */
 	const uint8_t *drawing = memchr(text, '\n', written);
 	if (!drawing++)
 		return 1;

@@ -1,5 +1,5 @@
 #!/usr/bin/env python3
-"""Writes the symbol of a text as an SVG file: svg.py TEXT FILE. The package stands in python/."""
+"""Writes the symbol of a text as an SVG file: svg.py TEXT FILE. The package is in python/."""
 import sys
 
 import qrproved

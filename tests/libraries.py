@@ -13,7 +13,7 @@ LONG = 7200  # seconds: what stands below the library is proved again if no earl
 MARGIN = 4
 LEVELS = "LMQH"
 STATUSES = ["DONE", "EMPTY", "TOO_LONG", "TOO_MANY", "MEMORY", "SETTINGS", "ROOM", "SIDE", "FORMAT", "CHECK", "SEGMENTS"]
-MARK = 7  # what stands in a buffer or a struct before a call
+MARK = 7  # what a buffer or a struct contains before a call
 
 counts = {"passed": 0, "failed": 0, "skipped": 0}
 
@@ -31,7 +31,7 @@ def total():
 
 
 def said(*words, given=b"", env=None):
-    """Returns what a program writes, or why there is nothing to look at."""
+    """Returns what a program writes, or why there is no output to check."""
     ran = subprocess.run(words, input=given, capture_output=True, timeout=300, env=env)
     return ran.stdout.decode(errors="replace") if ran.returncode == 0 else f"status {ran.returncode}: {ran.stderr[-300:]!r}"
 

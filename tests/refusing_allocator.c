@@ -1,6 +1,6 @@
-/* An allocator that refuses one growth of memory: the one whose number, counted from 1, stands in REFUSED_GROWTH. It is
-   loaded before a program (LD_PRELOAD) by tests/refused_growths, and linked into nothing. Where it refuses, it writes
-   one byte to the descriptor whose number stands in REFUSAL_TOLD_TO. */
+/* An allocator that refuses one growth of memory. The variable REFUSED_GROWTH has the number of this growth, counted
+   from 1. tests/refused_growths loads the allocator before a program (LD_PRELOAD); it is linked into nothing. When it
+   refuses, it writes one byte to the descriptor whose number the variable REFUSAL_TOLD_TO has. */
 #define _GNU_SOURCE
 #include <dlfcn.h>
 #include <errno.h>

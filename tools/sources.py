@@ -38,16 +38,25 @@ def read_definitions(crate, path, definitions):
             definitions[key] = {"rule": rule, "where": where, "file": file_shown, "cites": cites, "lines": lines}
 
 
+def doc_above(lines, i):
+    """Returns the lines of the doc comment above an item, which may have attributes between the two."""
+    first = i
+    while first > 0 and lines[first - 1].strip() and not lines[first - 1].endswith("{"):
+        first -= 1
+    return [line.strip()[3:].strip() for line in lines[first:i] if line.strip().startswith("///")]
+
+
 def read_functions(crate, path, functions):
     """Adds a file's functions, and its types with ghost members: what they cite, and what they promise by it."""
     text = path.read_text("utf-8").split("#[cfg(test)]")[0]
     names, lines, owner, ghost = imported(text), text.split("\n"), None, {}
 
-    def add(name, public, contract, body):
+    def add(name, public, contract, body, doc):
         kept = re.sub(r"\brequires\b.*?(?=\bensures\b|$)", "", contract, flags=re.S)
         hidden = 0 if public == "pub " else 1 if public else 2
         functions.append({"crate": crate, "path": path, "name": name, "hidden": hidden, "law": path.stem == "laws",
-                          "cites": cited(contract, names), "keeps": cited(kept, names), "body": body})
+                          "cites": cited(contract, names), "keeps": cited(kept, names), "body": body,
+                          "doc": doc, "ensures": bool(re.search(r"\b(ensures|ghost)\b", contract))})
 
     for i, line in enumerate(lines):
         owner = OWNER.match(line).group(1) if OWNER.match(line) else None if line == "}" else owner
@@ -60,9 +69,11 @@ def read_functions(crate, path, functions):
             opens = next(j for j in range(i, len(lines)) if re.search(rf"( {{}}?|;|^{indent}{{}}?)$", lines[j]))
             closes = lines.index(indent + "}", opens) if lines[opens].endswith("{") else opens
             contract, body = "\n".join(lines[i:opens]), "\n".join(lines[opens:closes])
-            add(f"{owner}::{name}" if owner else name, public, contract, body)
+            add(f"{owner}::{name}" if owner else name, public, contract, body, doc_above(lines, i))
     for name, members in ghost.items():
-        add(name, "pub " if f"pub struct {name}" in text else "", members, "")
+        at = [i for i, line in enumerate(lines) if re.match(rf"pub (struct|trait) {name}\b", line)]
+        public = "pub " if at else ""
+        add(name, public, members, "", doc_above(lines, at[0]) if at else [])
 
 
 def read_edits(crate, edits):

@@ -227,8 +227,8 @@ def read(modules: Bytes, side: int) -> Content:
 
     Raises SideError, RoomError if there are too few modules, FormatError, CheckError, SegmentsError, and OutOfMemoryError.
 
-    The finder, timing and alignment patterns and the version information are not looked at, so a symbol that is read here
-    may not scan. mend looks at each module.
+    The finder, timing and alignment patterns and the version information are not checked, so a symbol that is read here
+    may not scan. mend checks each module.
     """
     checked, given = _side(side), _copied(modules)
     data, content = (ctypes.c_uint8 * BYTES_MAX)(), _library.Content()

@@ -62,14 +62,16 @@ is_kanji_pair high low =
     let pair = 256 * high + low in
     (nat_le 0x8140 pair && nat_le pair 0x9FFC || nat_le 0xE040 pair && nat_le pair 0xEBBF) && (nat_le 0x40 low && nat_le low 0xFC)
 
--- `in_twos test xs` holds if the bytes are even in number and, taken two by two from the start, pass the test
+-- `in_twos test xs` holds if the number of bytes is even, and each pair of them, counted from the start, passes the
+-- test
 abbrev pub in_twos : (ℕ → ℕ → Bool) → List ℕ → Bool
 in_twos test [] = true
 in_twos test (x ∷ []) = false
 in_twos test (x ∷ y ∷ xs) = test x y && in_twos test xs
 
--- The value of a kanji pair: 8140 is subtracted from a pair up to 9FFC, and C140 from a greater pair. Of the difference, the
--- high byte is multiplied by C0, and the low byte is added (all hexadecimal) (ISO/IEC 18004:2015, 7.4.6)
+-- The value of a kanji pair: 8140 is subtracted from a pair up to 9FFC, and C140 from a greater pair. The high byte of
+-- the difference is multiplied by C0, and its low byte is added (all numbers are hexadecimal) (ISO/IEC 18004:2015,
+-- 7.4.6)
 unfoldable pub kanji_value : ℕ → ℕ → ℕ
 kanji_value high low =
     let pair = 256 * high + low in

@@ -7,10 +7,10 @@ use crate::modes::Rule;
 use crate::table::begins_with_pair;
 use std::alloc::{AllocError, Global};
 
-/// Returns the input with its letters `a` to `z` turned into capitals. The number of bytes stays the same.
+/// Returns the input with its letters `a` to `z` turned into capitals. The number of bytes is unchanged.
 ///
-/// Under `Rule::WithKanji` the input is read from the left, and kanji pairs stay as they are. Under
-/// `Rule::BytesOnly` all bytes stay as they are.
+/// Under `Rule::WithKanji` the input is read from the left, and kanji pairs are unchanged. Under `Rule::BytesOnly` all
+/// bytes are unchanged.
 pub fn fold(alloc: Global, input: &[u8], rule: Rule) -> Result<Vec<u8>, AllocError>
     ensures bytes { IfOk result (λ v. v.items ≡ folded rule input.now) }
     ensures len { IfOk result (λ v. vec_len v ≡ length input.now) }

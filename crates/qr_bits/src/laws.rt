@@ -85,12 +85,13 @@ pub fn bits_are_codeword_bits()
     ensures { BitsAreCodewordBits }
 {}
 
-/// The greatest length of an input in bytes, as a number.
+/// An input has at most 113,425 bytes.
 pub fn limits()
     ensures { INPUT_MAX ≡ 113425 }
 {}
 
-/// The widths of the character count indicators, in the first and the last version of each range (7.4.1, Table 3).
+/// The definition computes the widths of the character count indicators that Table 3 prints, in the first and the last
+/// version of each range (7.4.1, Table 3).
 pub fn widths_compute()
     ensures digits { map (λ v. count_width v Numeric) (1 ∷ 9 ∷ 10 ∷ 26 ∷ 27 ∷ 40 ∷ [])
         ≡ 10 ∷ 10 ∷ 12 ∷ 12 ∷ 14 ∷ 14 ∷ [] }
@@ -102,8 +103,8 @@ pub fn widths_compute()
         ≡ 8 ∷ 8 ∷ 10 ∷ 10 ∷ 12 ∷ 12 ∷ [] }
 {}
 
-/// The data bits of the standard's examples (7.4.3 to 7.4.5) and of `0123`, which leaves one digit over, and the values of
-/// the last nine characters (Table 5).
+/// The definitions compute the data bits of the standard's examples (7.4.3 to 7.4.5) and of `0123`, which leaves one
+/// digit over, and the values of the last nine characters (Table 5).
 #[tactic(auto, unfolding(crate::specs::Modes::characters, crate::specs::Stream::digit_bits, crate::specs::Modes::character_value, crate::specs::Stream::character_bits, crate::specs::Bits::field))]
 pub fn payloads_compute()
     ensures digits { digit_bits (codes "01234567") ≡ field 10 12 ++ (field 10 345 ++ field 7 67) }
@@ -114,9 +115,9 @@ pub fn payloads_compute()
         ≡ 36 ∷ 37 ∷ 38 ∷ 39 ∷ 40 ∷ 41 ∷ 42 ∷ 43 ∷ 44 ∷ [] }
 {}
 
-/// Data codewords in version 1: of one segment of digits, of characters and of kanji, and of the middle symbol of a series
-/// of three, which is in byte mode. The examples show the indicators, the counts, the order of a header's fields, the
-/// terminator and the pad codewords (7.4.1 to 7.4.10, 8.1).
+/// The definitions compute data codewords in version 1: of one segment of digits, of characters and of kanji, and of
+/// the middle symbol of a series of three, which is in byte mode. The examples show the indicators, the counts, the
+/// order of a header's fields, the terminator and the pad codewords (7.4.1 to 7.4.10, 8.1).
 #[tactic(auto, unfolding(crate::specs::Modes::characters, crate::specs::Modes::character_value, crate::specs::Modes::kanji_value, crate::specs::Stream::digit_bits, crate::specs::Stream::character_bits, crate::specs::Stream::kanji_bits, crate::specs::Stream::payload, crate::specs::Stream::segment_stream, crate::specs::Stream::segments_stream, crate::specs::Header::header_stream, crate::specs::Padding::padded, crate::specs::Padding::pads, crate::specs::Bits::field, crate::specs::Bits::bits_of))]
 pub fn streams_compute()
     ensures digits { padded 16 (segments_stream 1 (codes "01234567") (one Numeric 8)) ≡ bits_of eight_digits }
@@ -125,7 +126,8 @@ pub fn streams_compute()
     ensures series { padded 9 (header_stream (Some middle) ++ segments_stream 1 (codes "FGH") (one Byte 3)) ≡ bits_of middle_data }
 {}
 
-/// The parse of the middle symbol of a series of three, and the fault of each row of `unreadable`.
+/// The definition computes the parse of the middle symbol of a series of three, and the fault of each row of
+/// `unreadable`.
 #[tactic(auto, unfolding(crate::specs::Parsing::parse, crate::specs::Parsing::first_header, crate::specs::Parsing::begins_header, crate::specs::Parsing::header_at, crate::specs::Parsing::segments_of, crate::specs::Parsing::segments_at, crate::specs::Parsing::segment_at, crate::specs::Parsing::leading_number, crate::specs::Parsing::payload_at, crate::specs::Parsing::values_of, crate::specs::Parsing::digits_of, crate::specs::Parsing::characters_of, crate::specs::Parsing::character, crate::specs::Parsing::bytes_of, crate::specs::Parsing::pairs_of, crate::specs::Parsing::kanji_pair, crate::specs::Parsing::mode_of, crate::specs::Parsing::ends, crate::specs::Modes::characters, crate::specs::Bits::field, crate::specs::Bits::bits_of))]
 pub fn parses_compute()
     ensures series { parse 1 (bits_of middle_data)
@@ -138,22 +140,23 @@ pub fn headers_take_room()
     ensures { (v : ℕ) (l : Level) (h : Header) → room_of v l ≡ capacity_of v l - header_bits (Some h) }
 {}
 
-/// The parity of `ABCDEFGH`, of no byte, and of three bytes of which two are equal (8.3).
+/// The definition computes the parity of `ABCDEFGH`, of no byte, and of three bytes of which two are equal (8.3).
 pub fn parities_compute()
     ensures capitals { parity_of (codes "ABCDEFGH") ≡ 0x08 }
     ensures empty { parity_of [] ≡ 0 }
     ensures twice { parity_of (0xA5 ∷ 0xA5 ∷ 0x3C ∷ []) ≡ 0x3C }
 {}
 
-/// The modes that each rule allows, in the order of their indicators.
+/// Each rule allows the modes that are listed, in the order of their indicators.
 pub fn rules_compute()
     ensures auto { map (may_use Rule.Auto) all_modes ≡ true ∷ true ∷ true ∷ false ∷ [] }
     ensures bytes { map (may_use Rule.BytesOnly) all_modes ≡ false ∷ false ∷ true ∷ false ∷ [] }
     ensures kanji { map (may_use Rule.WithKanji) all_modes ≡ true ∷ true ∷ true ∷ true ∷ [] }
 {}
 
-/// Folding of the first and the last letters and of the characters beside them, without kanji mode. With kanji mode, a
-/// kanji pair stays as it is even if its second byte is a small letter, and so does a last byte that would begin a pair.
+/// The definition computes the folding of the first and the last letters and of the characters beside them, without
+/// kanji mode. With kanji mode, a kanji pair is unchanged even if its second byte is a small letter, and so is a last
+/// byte that would begin a pair.
 #[tactic(auto, unfolding(crate::specs::Folding::folded_around_pairs, crate::specs::Modes::is_kanji_pair))]
 pub fn foldings_compute()
     ensures auto { folded Rule.Auto (codes "@AZ[`az{") ≡ codes "@AZ[`AZ{" }
@@ -162,15 +165,19 @@ pub fn foldings_compute()
         ≡ 0x41 ∷ 0x93 ∷ 0x61 ∷ 0x41 ∷ 0x93 ∷ [] }
 {}
 
-/// The lower bound `least_bits` of short inputs: of digits, of the characters beside the digits, of the first and the last
-/// capital, of two bytes after `Z`, and of one byte of each kind.
+/// The definition computes the lower bound `least_bits` of short inputs: of digits, of the characters beside the
+/// digits, of the first and the last capital, of two bytes after `Z`, and of one byte of each kind.
 #[tactic(auto, unfolding(crate::specs::Segmentation::least_bits))]
 pub fn least_bits_compute()
     ensures { map least_bits (codes "012" ∷ codes "/9:" ∷ codes "AZ" ∷ codes "[z" ∷ codes "1A[" ∷ [])
         ≡ 10 ∷ 14 ∷ 11 ∷ 13 ∷ 15 ∷ [] }
 {}
 
-/// The discriminants of `BitFault`, which are stable.
+/// The discriminants of `BitFault` are those that are listed.
+///
+/// # Notes
+///
+/// The discriminants stay the same in later versions of this crate.
 pub fn bit_fault_numbers(fault: BitFault) -> u8
     ensures memory { fault ≡ BitFault.Memory → result ≡ 1 }
     ensures too_long { fault ≡ BitFault.TooLong → result ≡ 2 }
@@ -178,7 +185,11 @@ pub fn bit_fault_numbers(fault: BitFault) -> u8
     fault as u8
 }
 
-/// The discriminants of `ParseFault`, which are stable.
+/// The discriminants of `ParseFault` are those that are listed.
+///
+/// # Notes
+///
+/// The discriminants stay the same in later versions of this crate.
 pub fn parse_fault_numbers(fault: ParseFault) -> u8
     ensures memory { fault ≡ ParseFault.Memory → result ≡ 1 }
     ensures bad_mode { fault ≡ ParseFault.BadMode → result ≡ 2 }
@@ -188,8 +199,8 @@ pub fn parse_fault_numbers(fault: ParseFault) -> u8
     fault as u8
 }
 
-/// The values of the standard's two kanji examples and of the last kanji (7.4.6), and which pairs at the edges of the two
-/// ranges are kanji pairs.
+/// The definitions compute the values of the standard's two kanji examples and of the last kanji (7.4.6), and which
+/// pairs at the edges of the two ranges are kanji pairs.
 #[tactic(auto, unfolding(crate::specs::Modes::is_kanji_pair, crate::specs::Modes::kanji_value, crate::specs::Parsing::kanji_pair))]
 pub fn kanji_compute()
     ensures first { kanji_value 0x93 0x5F ≡ 0xD9F }

@@ -61,10 +61,12 @@ fn longest_by_rows(input: &[u8], version: Version, rule: Rule, room: u64) -> usi
     longest
 }
 
-/// Returns the length of the longest prefix of the input that fits a symbol after a header, in the
-/// segments with the fewest bits. A shorter prefix may not fit even though this prefix does.
+/// Returns the length of the longest prefix of the input that fits a symbol after a header, in the segments with the
+/// fewest bits. A shorter prefix may not fit even though this prefix does. The call never fails.
 ///
-/// Never allocates and never fails. `_alloc` and `Result` are kept so that all calls look alike.
+/// # Notes
+///
+/// Never allocates. `_alloc` and `Result` are kept so that all calls look alike.
 pub fn longest_fit(
     _alloc: Global,
     input: &[u8],

@@ -21,8 +21,12 @@ fn least_sixths(byte: u8) -> u32
     }
 }
 
-/// Returns a lower bound on the number of bits of the input in any segments, in one pass. Each byte is charged at most the
-/// lowest rate that any mode offers it, without mode indicators and counts (ISO/IEC 18004:2015, 7.4.3 to 7.4.6).
+/// Returns a lower bound on the number of bits of the input in any segments. Each byte counts at most the lowest rate
+/// that any mode has for it, without mode indicators and counts (ISO/IEC 18004:2015, 7.4.3 to 7.4.6).
+///
+/// # Notes
+///
+/// Makes one pass over the input.
 pub fn least_bits(input: &[u8]) -> u32
     requires { length input.now ≤ INPUT_MAX }
     ensures value { result ≡ least_bits input.now }

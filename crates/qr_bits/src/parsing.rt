@@ -14,7 +14,7 @@ use qr_layout::Version;
 use std::alloc::Global;
 use std::marker::Model;
 
-// Upper limits of the numbers that groups of digits and characters are written as; each number is below its limit (7.4.3,
+// A group of digits or characters is written as one number. Each such number is below the limit for its group (7.4.3,
 // 7.4.4).
 const THREE_DIGITS: u16 = 1000;
 
@@ -49,11 +49,11 @@ impl Model for Parsed {
     } };
 }
 
-/// Parses data codewords up to the terminator, or until fewer than four bits are left. The bits after
-/// that are ignored. Any segmentation is accepted, also with empty segments, and any padding.
+/// Parses data codewords up to the terminator, or until fewer than four bits are left. The bits after that are ignored.
+/// Accepts exactly the bit streams of segments, in any segmentation, also with empty segments, and with any padding.
 ///
-/// Returns `BadMode` if an indicator belongs to no mode, or if a header is not at the beginning; `Cut`
-/// if the codewords end within a header, a count or the data of a segment; `BadValue` if a group of
+/// Returns the fault of the first cause: `BadMode` if an indicator belongs to no mode, or if a header is not at the
+/// beginning; `Cut` if the codewords end within a header, a count or the data of a segment; `BadValue` if a group of
 /// digits or characters is too large a number for its length, or a kanji value is that of no pair.
 #[tactic(auto, unfolding(crate::specs::Parsing::parse))]
 pub fn parse(alloc: Global, codewords: &[u8], version: Version) -> Result<Parsed, ParseFault>

@@ -74,10 +74,10 @@ fn modes_of(numbers: &PerState<u32>) -> u32
     numbers.start % 4 + 4 * last
 }
 
-// Returns, for each state before a byte, the mode of the best choice, as a row of the table, and the number of that choice.
-// The flags say whether the byte may be written as a digit, as a character and as the first byte of a kanji pair. For each
-// state after the byte, `rest` contains the number of the best choice for the bytes that follow: four times its bits plus
-// the rank of its mode.
+// Finds the best choice of a mode for a byte, from each state before it. Returns the modes as a row of the table, and
+// the numbers of these choices. The flags say whether the byte may be written as a digit, as a character and as the
+// first byte of a kanji pair. For each state after the byte, `rest` contains the number of the best choice for the
+// bytes that follow: four times its bits plus the rank of its mode.
 #[inline(always)]
 fn choices(
     first_choices: &FirstChoices,
@@ -99,8 +99,8 @@ fn choices(
     let no_digits = characters.min(others);
     let no_characters = digits.min(others);
     let start = digits.min(no_digits);
-    // Going on with a run takes fewer bits than a new segment of the same mode that leads to the same state. So the number
-    // of going on may be compared with `start`, which includes that new segment.
+    // A run that continues takes fewer bits than a new segment of the same mode, and both lead to the same state. So
+    // the new segment is never the best choice, and `start`, the least number of all new segments, may include it.
     let digit2 = number_if(digit, number(3, Mode::Numeric), rest.digit2);
     let digit3 = number_if(digit, number(3, Mode::Numeric), rest.digit3);
     let digit1 = number_if(digit, number(4, Mode::Numeric), rest.digit1);
@@ -123,9 +123,9 @@ fn choices(
     (modes_of(&numbers), numbers)
 }
 
-/// Returns, for each state before this byte, the mode of the best choice, as a row of the table, and the number of that
-/// choice. `pair` says whether the byte may begin a kanji pair. After the first byte of a pair only kanji mode is possible,
-/// and the second byte adds no bits.
+/// Finds the best choice of a mode for this byte, from each state before it. Returns the modes as a row of the table,
+/// and the numbers of these choices. `pair` says whether the byte may begin a kanji pair. After the first byte of a
+/// pair only kanji mode is possible, and the second byte adds no bits.
 #[tactic(auto, unfolding(crate::specs::Steps::RunState::may_begin))]
 #[inline(always)]
 pub(crate) fn best_choices(

@@ -136,7 +136,8 @@ impl WriteCounts {
     }
 }
 
-/// A device that bytes are read from.
+/// A device that bytes are read from. A read returns at most as many bytes as the buffer has room for. If the bytes of
+/// the device are known, a read removes the bytes that it returned. The counts of the device show how each read went.
 pub trait Source {
     ghost use Rattle.qr_devices.specs.Device.{Reader};
 
@@ -151,7 +152,8 @@ pub trait Source {
         ensures counted { (device self.new).counts ≡ read_counted (length buf.new) result (device self.old).counts };
 }
 
-/// A device that bytes are written to.
+/// A device that bytes are written to. A write takes at most as many bytes as it is offered. If the bytes of the device
+/// are known, a write adds the bytes that it took. The counts of the device show how each write and each flush went.
 pub trait Sink {
     ghost use Rattle.qr_devices.specs.Device.{Writer};
 

@@ -32,7 +32,9 @@ impl Faults {
     };
 }
 
-/// Bytes in memory that can be read, or room for bytes that are written. A write to a full device returns 0.
+/// Bytes in memory that can be read, or room for bytes that are written. A call moves as many bytes as the `Manner`,
+/// the length of the buffer and the bytes or the room left allow. It fails or is interrupted exactly if the `Manner`
+/// states so. A write to a full device returns 0.
 #[derive(Drop)]
 pub struct Trial {
     bytes: Vec<u8>,
@@ -65,7 +67,11 @@ impl Trial {
         })
     }
 
-    /// Returns a device that takes up to `room` bytes. The memory for them is allocated here.
+    /// Returns a device that takes up to `room` bytes.
+    ///
+    /// # Notes
+    ///
+    /// The memory for these bytes is allocated here.
     pub fn writer(alloc: Global, room: usize, faults: Faults) -> Result<Trial, AllocError>
         ensures held { IfOk result (λ t. bytes_held t ≡ []) }
         ensures unwritten { IfOk result (λ t. t.writes ≡ no_writes) }

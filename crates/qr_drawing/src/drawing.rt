@@ -105,8 +105,10 @@ fn put_drawing<S: HasSquare, W: Sink>(
 /// after the other; an SVG document has them one below the other. Each symbol has a light margin of `margin` modules on
 /// all sides (ISO/IEC 18004:2015, 6.3.8).
 ///
+/// The drawing of each type depends only on the finished rasters: line by line, and for SVG run by run.
+///
 /// Allocates no memory, and offers the writer at most 1,200 bytes at a time. Writes that are interrupted are tried
-/// again, 999 times in all. If the writer is at fault, it took a prefix of the drawing.
+/// again, 999 times in all. Drawing fails only if the writer fails; the writer then took a prefix of the drawing.
 pub fn draw<S: HasSquare, W: Sink>(
     symbols: &[S],
     kind: Drawing,

@@ -8,7 +8,8 @@ pub use crate::equality::{
     draw_fault_clones, draw_faults_are_equal, drawing_clones, drawings_are_equal,
 };
 
-/// The characters for one module and for two modules, and the number of lines for an odd number of rows.
+/// One module and two modules have the characters that are listed. In half blocks, an odd number of rows has a last
+/// line of its own.
 pub fn characters_of_modules()
     ensures { CharactersOfModules }
 {}

@@ -114,8 +114,8 @@ impl Pen {
     }
 }
 
-/// Writes `text`, at most 1,200 bytes at a time. A write that is interrupted is tried again,
-/// at most 999 times in one call. Does not flush the writer.
+/// Writes `text`, at most 1,200 bytes at a time. The writer takes the whole text, or a prefix of it if the writer
+/// fails. A write that is interrupted is tried again, at most 999 times in one call. Does not flush the writer.
 pub fn write_text<W: Sink>(text: &[u8], out: &mut W) -> Result<(), DrawFault>
     ensures ok { OnOk result (Appends (W.device out.old).taken (W.device out.new).taken text.now) }
     ensures err { OnErr result (AppendsBeginning (W.device out.old).taken (W.device out.new).taken text.now) }

@@ -24,8 +24,8 @@ zeros k = replicate k 0
 abbrev pub scaled : ℕ → List ℕ → List ℕ
 scaled a p = map (product a) p
 
--- The product of two polynomials: of m and n + 1 coefficients it has m + n, so an empty list on the left gives n zeros
--- (ISO/IEC 18004:2015, 7.5.2)
+-- The product of two polynomials. If they have m and n + 1 coefficients, it has m + n, so the product of an empty list
+-- has n zeros (ISO/IEC 18004:2015, 7.5.2)
 abbrev pub times : List ℕ → List ℕ → List ℕ
 times [] g = zeros (length g - 1)
 times (a ∷ q) g = plus (scaled a g) (0 ∷ times q g)

@@ -9,7 +9,8 @@ use crate::register::Register;
 use arrayvec::ArrayVec;
 use std::marker::Model;
 
-/// The generator polynomial for n error correction codewords, made once for many blocks. Its view is the number n.
+/// The generator polynomial for n error correction codewords, made once for many blocks. Contracts describe it by the
+/// number n.
 #[derive(Drop)]
 pub struct Divisor {
     count: usize,
@@ -80,7 +81,8 @@ impl Divisor {
         self.low[place & 0xF].plus(self.high[place >> 4])
     }
 
-    /// Returns the error correction codewords of the data codewords `message` of a block (ISO/IEC 18004:2015, 7.5.2).
+    /// Returns the error correction codewords of the data codewords `message` of a block: the one list that makes the
+    /// polynomial of the block a multiple of the generator polynomial (ISO/IEC 18004:2015, 7.5.2).
     pub fn correction(&self, message: &[u8]) -> ArrayVec<u8, 30>
         ensures definition { IsCorrection message.now self.now result.items }
         ensures only { (e : List ℕ) → IsCorrection message.now self.now e → e ≡ result.items }

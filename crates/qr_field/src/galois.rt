@@ -7,7 +7,8 @@ ghost use Rattle.qr_field.specs.Galois.{IsProduct, product};
 
 use crate::logarithm::{logarithm, power_of};
 
-/// Returns the product of two elements of the field (ISO/IEC 18004:2015, 7.5.2).
+/// Returns the product of two elements of the field: the one byte that differs from the carryless product by a multiple
+/// of the field's modulus (ISO/IEC 18004:2015, 7.5.2).
 pub fn mul(a: u8, b: u8) -> u8
     ensures definition { IsProduct a b result }
     ensures only { (p : ℕ) → IsProduct a b p → p ≡ result }

@@ -21,8 +21,8 @@ pub fn correction_is_one()
     ensures only { (d e f : List ℕ) (n : ℕ) → IsCorrection d n e → IsCorrection d n f → e ≡ f }
 {}
 
-/// The tables by which products are computed: entry i of the powers is 2 to the power i, and entry a - 1 of the logarithms
-/// is the exponent below 255 for which 2 to this power is the element a.
+/// Every entry of the tables by which products are computed is correct. Entry i of the powers is 2 to the power i, and
+/// entry a - 1 of the logarithms is the exponent below 255 for which 2 to this power is the element a.
 pub fn tables_are_powers()
     ensures power_count { length POWERS ≡ 255 }
     ensures powers { (i : ℕ) → i < 255 → slice_index POWERS i ≡ power i }

@@ -13,9 +13,9 @@ use qr_layout::{Level, Version};
 use qr_symbol::{EncodeFault, Matrix, encode};
 use std::alloc::{AllocError, Global};
 
-/// Returns the label of some words: the rows of their symbol of this level as lines of text, in the least version from
-/// `smallest` on that the words fit, and then a line with the words. There is no quiet zone, so the paper around the
-/// label has to be light.
+/// Returns the label of some words: the rows of their symbol of this level as lines of text, with `#` for a dark
+/// module, in the least version from `smallest` on that the words fit, and then a line with the words. There is no
+/// quiet zone, so the paper around the label has to be light.
 ///
 /// # Errors
 ///
@@ -80,7 +80,7 @@ mod tests {
         Ok(())
     }
 
-    // Version 40-L holds 2,953 bytes (Table 7).
+    // Version 40-L contains at most 2,953 bytes (Table 7).
     #[test]
     fn refusals(rt: HostRuntime) -> Result<(), Fail> {
         let fault = label(rt.alloc(), b"", Level::L, Version::FIRST);

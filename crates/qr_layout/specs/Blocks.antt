@@ -48,8 +48,8 @@ blocks_of v l = record {
 abbrev pub longest_of : Blocks → ℕ
 longest_of b = b.short_len + min b.long 1 + b.ec_len
 
--- A percentage for each level: in every version, half of a block's error correction codewords are at least this share of
--- the block. So many codewords may be misread, and the block is still known for certain [own]
+-- A percentage for each level: in every version, half of a block's error correction codewords are at least this share
+-- of the block. If at most this share of a block is misread, the block is still known for certain [own]
 abbrev pub damage_of : Level → ℕ
 damage_of L = 9
 damage_of M = 17

@@ -55,7 +55,8 @@ pub fn number_counts(v: Version)
         → number_of v m ≡ length front }
 {}
 
-/// Numbering the region's modules in order is a bijection onto the numbers below the count of the modules.
+/// Each module of the encoding region has a number from 0 on, less than the number of these modules, and each such
+/// number belongs to exactly one module.
 pub fn numbers_are_places(v: Version)
     ensures below { (m : Module) → InRegion v m → number_of v m < module_count_of v }
     ensures one_place { (m n : Module) → InRegion v m → InRegion v n
@@ -116,7 +117,8 @@ pub fn blocks_stand_damage(v: Version, level: Level)
         ≤ 100 * ((blocks_of v level).ec_len / 2) }
 {}
 
-/// Upper limits of the number of data codewords, for the versions that share the widths of the character count indicators.
+/// The number of data codewords is at most 232 up to version 9, at most 1,370 up to version 26, and at most 2,956 in
+/// all versions. The versions of each of these ranges share the widths of the character count indicators.
 pub fn data_is_bounded(v: Version, level: Level)
     ensures small { v ≤ 9 → data_codewords_of v level ≤ 232 }
     ensures middle { v ≤ 26 → data_codewords_of v level ≤ 1370 }

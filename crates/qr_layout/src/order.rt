@@ -91,8 +91,11 @@ impl Cursor {
     }
 }
 
-/// A walk over the encoding region. Its view is the list of the modules that are still to come. It stores a position and a
-/// direction.
+/// A walk over the encoding region. Contracts describe it by the list of the modules that are still to come.
+///
+/// # Notes
+///
+/// It stores a position and a direction.
 #[derive(Drop)]
 pub struct Steps {
     version: Version,
@@ -132,8 +135,8 @@ impl Iterator for Steps {
     }
 }
 
-/// Returns the modules of the encoding region, in the order in which the bits of the codewords and the remainder bits fill
-/// them.
+/// Returns exactly the modules of the encoding region, each once, in the order in which the bits of the codewords and
+/// the remainder bits fill them.
 pub fn walk(v: Version) -> Steps
     ensures order { IsOrder v result }
     ensures count { length result ≡ module_count_of v }
@@ -149,8 +152,8 @@ pub fn walk(v: Version) -> Steps
     }
 }
 
-/// Returns the modules that come after `m` in the walk, or `None` if `m` is not in the encoding region. `m` may be outside
-/// the symbol.
+/// Returns exactly the modules that come after `m` in the walk, or `None` if `m` is not in the encoding region. `m` may
+/// be outside the symbol.
 pub fn walk_after(v: Version, m: Module) -> Option<Steps>
     ensures given { IsSome result ↔ InRegion v m }
     ensures rest { IfSome result (IsOrderAfter v m) }
@@ -166,7 +169,8 @@ pub fn walk_after(v: Version, m: Module) -> Option<Steps>
     })
 }
 
-/// Returns the number of modules of the encoding region, from 208 to 29,648.
+/// Returns the number of modules of the encoding region, from 208 to 29,648: 8 times the number of codewords, plus the
+/// number of remainder bits.
 pub fn region_len(v: Version) -> u32
     ensures count { result ≡ module_count_of v }
     ensures length { (ms : List Module) → IsOrder v ms → length ms ≡ result }

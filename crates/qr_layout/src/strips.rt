@@ -21,7 +21,7 @@ pub struct Strip {
     pub upward: bool,
 }
 
-/// The strips of a symbol. The view is the list of the strips that are still to come.
+/// The strips of a symbol. Contracts describe them by the list of the strips that are still to come.
 #[derive(Drop)]
 pub struct Strips {
     // The number of strips that are still to come. This is also the index of the next strip, counted from the left and from

@@ -1,4 +1,4 @@
--- The columns of a row in which the colour changes, and the runs between them.
+-- The columns of a row at which the colour changes, and the runs between them.
 use Rattle.std.proofs.Common.{◌≡◌, ◌≢◌, ℕ, zero, suc, ◌+◌, ◌-◌, ◌<◌, ◌≤◌, min, eqb, ltb, leb, ◌&&◌, not, Bool, true, false, refl, sym, ap, ◌∙◌, inl, inr, arith}
 use Rattle.std.proofs.lemmas.Bool.{cases_lt}
 use Rattle.std.proofs.lemmas.Bool.Decides.{nat_tests}
@@ -8,7 +8,7 @@ use Rattle.qr_matrix.specs.DarkRuns.{IsFirstRun}
 use Rattle.qr_matrix.specs.Runs.{IsRunEnd, is_change}
 use Rattle.qr_matrix.proofs.BoolLemmas.{and-false}
 
--- a place without a change has the colour of the place before it
+-- if the colour does not change at place c + 1, this place has the colour of place c
 kept : (line : ℕ → Bool) (c : ℕ) → is_change line (suc c) ≡ false → line (suc c) ≡ line c
 unfolding is_change
 kept line c e =
@@ -21,7 +21,7 @@ kept line c e =
     same false true f = cc
     same false false f = refl
 
--- a place with a change has the other colour
+-- if the colour changes at place c + 1, this place has the other colour than place c
 changed : (line : ℕ → Bool) (c : ℕ) → is_change line (suc c) ≡ true → line (suc c) ≡ not (line c)
 unfolding is_change
 changed line c e =
@@ -34,20 +34,20 @@ changed line c e =
     other false true f = refl
     other false false f = cc
 
--- without changes the colour stays
+-- if the colour does not change at any place after a, up to a + d, then place a + d has the colour of place a
 pub steady : (line : ℕ → Bool) (a d : ℕ) → ((c : ℕ) → a < c → c ≤ a + d → is_change line c ≡ false) → line (a + d) ≡ line a
 steady line a zero none = let e : a + 0 ≡ a = omega arith in ap line e
 steady line a (suc d) none =
     let e : a + suc d ≡ suc (a + d) = omega arith in
     ap line e ∙ kept line (a + d) (none (suc (a + d)) (omega arith) (omega arith)) ∙ steady line a d (λ c l m. none c l (omega arith))
 
--- between two places without changes the colour stays
+-- if the colour does not change at any place after a, up to b, then place b has the colour of place a
 steady-to : (line : ℕ → Bool) (a b : ℕ) → a ≤ b → ((c : ℕ) → a < c → c ≤ b → is_change line c ≡ false) → line b ≡ line a
 steady-to line a b le none =
     let e : a + (b - a) ≡ b = omega arith in
     ap line (sym e) ∙ steady line a (b - a) (λ c l m. none c l (omega arith))
 
--- before the first change all is light
+-- if the colour does not change at any place up to n, then place n is light
 light-before : (line : ℕ → Bool) (n : ℕ) → ((c : ℕ) → c ≤ n → is_change line c ≡ false) → line n ≡ false
 unfolding is_change
 light-before line n none = steady-to line 0 n (omega arith) (λ c l m. none c m) ∙ first (line 0) (none 0 (omega arith))
@@ -56,7 +56,7 @@ light-before line n none = steady-to line 0 n (omega arith) (λ c l m. none c m)
     first true e = cc
     first false e = refl
 
--- the first change makes the row dark
+-- the place of the first change is dark
 dark-at-first : (line : ℕ → Bool) (n : ℕ) → ((c : ℕ) → c < n → is_change line c ≡ false) → is_change line n ≡ true → line n ≡ true
 unfolding is_change
 dark-at-first line zero none here = first (line 0) here
@@ -66,18 +66,19 @@ dark-at-first line zero none here = first (line 0) here
     first false e = cc
 dark-at-first line (suc n) none here = changed line n here ∙ ap not (light-before line n (λ c l. none c (omega arith)))
 
--- the parts of a conjunction that holds
+-- if the conjunction of a and b is true, then a and b are true
 both : (a b : Bool) → (a && b) ≡ true → (a ≡ true) × (b ≡ true)
 both true true e = (refl, refl)
 both true false e = cc
 both false b e = cc
 
--- a test that fails beside one that holds
+-- if the conjunction of a and b is false and b is true, then a is false
 left-fails : (a b : Bool) → (a && b) ≡ false → b ≡ true → a ≡ false
 left-fails true b e f = sym f ∙ e
 left-fails false b e f = refl
 
--- the first later change, or the side, is the end of a run
+-- the run of equal modules from `col` on ends at the first change after `col`, or at the side if there is no such
+-- change
 pub run-end-is : (g : Grid) (row col f end : ℕ) (later : ℕ → Bool) → col < g.side → g.side ≤ 177
     → ((c : ℕ) → c < 192 → later c ≡ (is_change (colour g row) c && not (ltb c (col + 1))))
     → ((c : ℕ) → c < f → later c ≡ false) → (f < 192 → later f ≡ true) → end ≡ min f g.side → IsRunEnd g row col end
@@ -113,61 +114,61 @@ run-end-is g row col f end later l s is before here e =
 
 -- ---- the dark runs of a row
 
--- a row from a column on, all before it being light
+-- `row-from g row col` is the row with all places before `col` made light
 abbrev row-from : Grid → ℕ → ℕ → ℕ → Bool
 row-from g row col k = leb col k && colour g row k
 
--- from its column on it has the colours of the row
+-- from `col` on, `row-from g row col` has the colours of the row
 from-here : (g : Grid) (row col k : ℕ) → col ≤ k → row-from g row col k ≡ colour g row k
 from-here g row col k l = let t : leb col k ≡ true = grind (arith, nat_tests) in ap (λ b. b && colour g row k) t
 
--- before its column it is light
+-- before `col`, `row-from g row col` is light
 from-before : (g : Grid) (row col k : ℕ) → k < col → row-from g row col k ≡ false
 from-before g row col k l = let t : leb col k ≡ false = grind (arith, nat_tests) in ap (λ b. b && colour g row k) t
 
--- where two rows are alike, so are their changes
+-- two rows that have the same colours at c and at the place before it both change at c, or both do not
 changes-alike : (f h : ℕ → Bool) (c : ℕ) → f c ≡ h c → f (c - 1) ≡ h (c - 1) → is_change f c ≡ is_change h c
 unfolding is_change
 changes-alike f h c p q = λ i. not (is_same (p i) (ltb 0 c && q i))
 
--- a row from column 0 on has the changes of the whole row
+-- `row-from g row 0` changes at the same places as the row
 pub from-start : (g : Grid) (row c : ℕ) → is_change (colour g row) c ≡ is_change (row-from g row 0) c
 from-start g row c =
     changes-alike (colour g row) (row-from g row 0) c (sym (from-here g row 0 c (omega arith))) (sym (from-here g row 0 (c - 1) (omega arith)))
 
--- where a place and the one before it are light, nothing changes
+-- if place c and the place before it are light, the colour does not change at c
 quiet : (line : ℕ → Bool) (c : ℕ) → line c ≡ false → (0 < c → line (c - 1) ≡ false) → is_change line c ≡ false
 unfolding is_change
 quiet line zero e f = ap (λ b. not (is_same b false)) e
 quiet line (suc c) e f = let d = f (omega arith) in rw (e, d) (grind (arith, nat_tests))
 
--- equal places pass the test of equality
+-- two equal places pass the test of equality
 is-place : (c p : ℕ) → c ≡ p → eqb c p ≡ true
 is-place c p e = grind (arith, nat_tests)
 
--- without place p, the test of any other place is as before
+-- a test that place p alone is removed from is unchanged at any other place c
 other-place : (a : Bool) (c p : ℕ) → c ≢ p → (a && not (eqb c p)) ≡ a
 other-place true c p ne = let t : eqb c p ≡ false = grind (arith, nat_tests) in ap not t
 other-place false c p ne = refl
 
--- a row from a column on, whose changes are the places of a line
+-- in this module, `old` is true exactly at the changes of `row-from g row col`
 module _ (g : Grid) (row col : ℕ) (few : g.side ≤ 177) (past : (c : ℕ) → g.side ≤ c → colour g row c ≡ false) (old : ℕ → Bool)
     (is : (c : ℕ) → c < 192 → old c ≡ is_change (row-from g row col) c) where
-  -- it is light where it has no change
+  -- if there is no change, the row is light from `col` on
   pub no-runs : ((c : ℕ) → c < 192 → old c ≡ false) → (c : ℕ) → col ≤ c → colour g row c ≡ false
   no-runs none c l = elim (cases_lt c 192) [
     | inl k ↦ sym (from-here g row col c l) ∙ light-before (row-from g row col) c (λ i m. sym (is i (omega arith)) ∙ none i (omega arith))
     | inr k ↦ past c (omega arith)
   ]
 
-  -- the first change
+  -- in this module, `start` is the first change, and `mid` is `old` without it
   module _ (start : ℕ) (low : start < 192) (here : old start ≡ true) (before : (c : ℕ) → c < start → old c ≡ false)
       (mid : ℕ → Bool) (taken : (c : ℕ) → mid c ≡ (old c && not (eqb c start))) where
-    -- a dark run begins there
+    -- the place `start` is dark, so a dark run begins there
     starts : row-from g row col start ≡ true
     starts = dark-at-first (row-from g row col) start (λ c l. sym (is c (omega arith)) ∙ before c l) (sym (is start low) ∙ here)
 
-    -- without another change after it the row would be dark past its end
+    -- there is a change after `start`, since otherwise the row would be dark past the side
     pub one-more : ((c : ℕ) → c < 192 → mid c ≡ false) → ⊥
     one-more none =
         let e = steady-to (row-from g row col) start 191 (omega arith)
@@ -176,10 +177,10 @@ module _ (g : Grid) (row col : ℕ) (few : g.side ≤ 177) (past : (c : ℕ) →
         let h : true ≡ false = sym d ∙ past 191 (omega arith) in
         cc
 
-    -- the next change
+    -- in this module, `end` is the next change, and `new` is `mid` without it
     module _ (end : ℕ) (end_low : end < 192) (there : mid end ≡ true) (between : (c : ℕ) → c < end → mid c ≡ false)
         (new : ℕ → Bool) (left : (c : ℕ) → new c ≡ (mid c && not (eqb c end))) where
-      -- it comes after the first
+      -- the place `end` is after `start`
       later : start < end
       later =
           let e : old end ≡ true = (both (old end) (not (eqb end start)) (sym (taken end) ∙ there)).0 in
@@ -194,14 +195,14 @@ module _ (g : Grid) (row col : ℕ) (few : g.side ≤ 177) (past : (c : ℕ) →
             ]
           ]
 
-      -- between the two it is dark
+      -- the places from `start` to before `end` are dark
       run-dark : (c : ℕ) → start ≤ c → c < end → row-from g row col c ≡ true
       run-dark c l m =
           steady-to (row-from g row col) start c l
           (λ i a b. sym (is i (omega arith)) ∙ (sym (other-place (old i) i start (λ q. omega arith)) ∙ (sym (taken i) ∙ between i (omega arith))))
           ∙ starts
 
-      -- at the second it is light
+      -- the place `end` is light
       run-stops : row-from g row col end ≡ false
       run-stops =
           let l = later in
@@ -210,7 +211,7 @@ module _ (g : Grid) (row col : ℕ) (few : g.side ≤ 177) (past : (c : ℕ) →
           ap (is_change (row-from g row col)) (sym n) ∙ (sym (is end end_low) ∙ (both _ _ (sym (taken end) ∙ there)).0) in
           ap (row-from g row col) n ∙ (changed (row-from g row col) (end - 1) t ∙ ap not (run-dark (end - 1) (omega arith) (omega arith)))
 
-      -- so this is the first run
+      -- the places from `start` to before `end` are the first dark run of the row from `col` on
       pub first-run : IsFirstRun g row col (record { start = start; end = end })
       first-run =
           let l = later in
@@ -232,7 +233,7 @@ module _ (g : Grid) (row col : ℕ) (few : g.side ≤ 177) (past : (c : ℕ) →
             stops = sym (from-here g row col end (omega arith)) ∙ run-stops;
           }
 
-      -- and the changes after it are those that are left
+      -- the bits that are left after both changes are removed are the changes of `row-from g row end`
       pub runs-left : (c : ℕ) → c < 192 → new c ≡ is_change (row-from g row end) c
       unfolding is_change
       runs-left c k = elim (cases_lt end c) [

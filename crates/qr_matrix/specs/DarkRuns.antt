@@ -6,8 +6,8 @@ use Rattle.qr_matrix.specs.Runs.{is_change}
 use Rattle.qr_matrix.specs.declared.dark_runs.DarkRuns.{DarkRuns}
 use Rattle.qr_matrix.specs.declared.dark_runs.Run.{Run}
 
--- `AreRunsFrom g row runs` holds if `runs` are the dark runs of a row of the square g from column `runs.col` on. They are
--- given by the columns in which the colour changes, where all columns before `runs.col` count as light [own]
+-- `AreRunsFrom g row runs` holds if `runs` are the dark runs of a row of the square g from column `runs.col` on. They
+-- are represented by the columns in which the colour changes, where all columns before `runs.col` count as light [own]
 pub record AreRunsFrom (g : Grid) (row : ℕ) (runs : DarkRuns) : Type 0 where
   pub few : g.side ≤ 177
   pub past : (c : ℕ) → g.side ≤ c → colour g row c ≡ false
@@ -23,8 +23,8 @@ pub record IsFirstRun (g : Grid) (row col : ℕ) (run : Run) : Type 0 where
   pub dark : (c : ℕ) → run.start ≤ c → c < run.end → colour g row c ≡ true
   pub stops : colour g row run.end ≡ false
 
--- `GivesRun old r new` holds if r is the first of the dark runs `old`, and `new` are the runs after it; or if r is no run
--- and `old` has no run [own]
+-- `GivesRun old r new` holds in two cases: r is the first of the dark runs `old`, and `new` are the runs after it; or
+-- `old` has no dark run, and r is `None` [own]
 abbrev pub GivesRun : DarkRuns → Option Run → DarkRuns → Type 0
 GivesRun old None new = (g : Grid) (row : ℕ) → AreRunsFrom g row old → (c : ℕ) → old.col ≤ c → colour g row c ≡ false
 GivesRun old (Some run) new = (g : Grid) (row : ℕ) → AreRunsFrom g row old

@@ -26,7 +26,7 @@ impl Matrix {
     ghost use Rattle.std.specs.Prelude.{◌≡◌, ◌<◌};
     ghost use Rattle.qr_matrix.specs.DarkRuns.{AreRunsFrom};
 
-    /// Returns the runs of dark modules of a row, from left to right, each run as long as it can be.
+    /// Returns all runs of dark modules of a row, from left to right, each run as long as it can be.
     pub fn dark_runs(&self, row: u8) -> DarkRuns
         requires { row < self.now.side }
         ensures start { result.col ≡ 0 }

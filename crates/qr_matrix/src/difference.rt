@@ -5,7 +5,8 @@ ghost use Rattle.qr_matrix.specs.Difference.{difference_count};
 
 use crate::matrix::Matrix;
 
-/// Counts the places at which two squares of one side have different colours.
+/// Counts the places at which two squares of one side have different colours. The number is 0 exactly if they have the
+/// same colour everywhere.
 pub fn differences(a: &Matrix, b: &Matrix) -> u32
     requires { a.now.side ≡ b.now.side }
     ensures { result ≡ difference_count a.now b.now }

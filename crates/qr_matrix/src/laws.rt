@@ -33,21 +33,24 @@ pub fn runs_cost_by_places()
     ensures { (side : ℕ) (line : ℕ → Bool) → run_cost side line ≡ place_cost side line }
 {}
 
-/// Returns the cost of the runs of all rows and columns, counted on words.
+/// Returns the cost of the runs of all rows and columns, counted on words. It is the cost that the definition counts
+/// module by module.
 pub fn runs_on_words(m: &Matrix) -> u32
     ensures { result ≡ over_lines m.now.side (colour m.now) (run_cost m.now.side) }
 {
     runs_and_squares(m, m.words()).0
 }
 
-/// Returns the number of squares of two by two modules of one colour, counted on words.
+/// Returns the number of squares of two by two modules of one colour, counted on words. It is the number that the
+/// definition counts module by module.
 pub fn squares_on_words(m: &Matrix) -> u32
     ensures { result ≡ square_count m.now.side (colour m.now) }
 {
     runs_and_squares(m, m.words()).1
 }
 
-/// Returns the number of windows of all rows and columns, counted on words.
+/// Returns the number of windows of all rows and columns, counted on words. It is the number that the definition counts
+/// module by module.
 pub fn windows_on_words(m: &Matrix) -> u32
     ensures { result ≡ over_lines m.now.side (colour m.now) (window_count m.now.side) }
 {

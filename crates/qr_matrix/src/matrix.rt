@@ -10,7 +10,8 @@ use crate::transposition::set_transposed_band;
 use std::alloc::{AllocError, Global};
 use std::marker::Model;
 
-/// A square of modules, each dark or light. Rows and columns count from 0 at the top left.
+/// A square of modules, each dark or light. Rows and columns count from 0 at the top left. Contracts describe it by its
+/// side and the colour of each place.
 #[derive(Drop)]
 pub struct Matrix {
     side: u8,
@@ -60,8 +61,8 @@ impl Matrix {
         self.rows[usize::from(row)].at(col)
     }
 
-    /// Returns four modules of a row, from column `col` on, as a number. Column `col` is the lowest bit; `col` is a multiple
-    /// of four.
+    /// Returns four modules of a row, from column `col` on, as a number. Column `col` is the lowest bit; `col` is a
+    /// multiple of four. This is the same as reading the modules one by one.
     pub fn four(&self, row: u8, col: u8) -> u8
         requires row_in { row < self.now.side }
         requires col_in { col + 4 ≤ self.now.side }
@@ -138,7 +139,7 @@ impl Matrix {
         self.line(row) & Line::below(64 * words)
     }
 
-    /// Sets the colour of one module.
+    /// Sets the colour of one module, and of no other module.
     pub fn set(&mut self, row: u8, col: u8, dark: bool)
         requires row_in { row < self.old.side }
         requires col_in { col < self.old.side }
@@ -147,8 +148,8 @@ impl Matrix {
         self.rows[usize::from(row)].put(col, dark);
     }
 
-    /// Sets the colours of four modules of a row, from column `col` on, to the bits of `bits`. Column `col` gets the lowest
-    /// bit; `col` is a multiple of four.
+    /// Sets the colours of four modules of a row, from column `col` on, to the bits of `bits`. Column `col` gets the
+    /// lowest bit; `col` is a multiple of four. This is the same as setting the modules one by one.
     pub fn set_four(&mut self, row: u8, col: u8, bits: u8)
         requires row_in { row < self.old.side }
         requires col_in { col + 4 ≤ self.old.side }
@@ -180,8 +181,9 @@ impl Matrix {
         self.rows[row].put_word(number, word);
     }
 
-    /// Sets a row to the colours of `plain`, inverted where `within` is dark and the pattern's bit for the column is 1. The
-    /// pattern is six bits, column 0 the lowest, and is repeated every six columns.
+    /// Sets a row to the colours of `plain`, inverted where `within` is dark and the pattern's bit for the column is 1.
+    /// The pattern is six bits, column 0 the lowest, and is repeated every six columns. This is the same as setting the
+    /// modules of the row one by one.
     pub fn set_row_masked(&mut self, row: u8, plain: &Matrix, within: &Matrix, pattern: u8)
         requires row_in { row < self.old.side }
         requires plain_side { plain.now.side ≡ self.old.side }
@@ -214,7 +216,7 @@ impl Matrix {
     }
 
     /// Sets the modules of the rows from `top` to before `bottom` and the columns from `left` to before `right` to one
-    /// colour.
+    /// colour. This is the same as setting the modules one by one.
     pub fn fill(&mut self, top: u8, bottom: u8, left: u8, right: u8, dark: bool)
         requires rows_in_order { top ≤ bottom }
         requires bottom_in { bottom ≤ self.old.side }

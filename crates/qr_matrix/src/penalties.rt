@@ -60,7 +60,8 @@ fn penalty_in(m: &Matrix, words: u8) -> u32
         + balance_cost(modules, dark_count(m, words))
 }
 
-/// Returns the penalty of a square of modules: the sum of the points of Table 11 (ISO/IEC 18004:2015, 7.8.3.1).
+/// Returns the penalty of a square of modules: the sum of the points of Table 11 for its runs, its squares of two by
+/// two modules, its windows of eleven modules and its share of dark modules (ISO/IEC 18004:2015, 7.8.3.1).
 pub fn penalty(m: &Matrix) -> u32
     ensures { result ≡ penalty_of m.now.side (colour m.now) }
 {

@@ -51,8 +51,9 @@ pub(crate) fn is_block(divisor: &Divisor, codewords: &[u8]) -> bool
 }
 
 /// Mends a block of which at most `t` codewords have been changed, where 2t is at most the number of its error
-/// correction codewords. Returns the number of codewords that had been changed. Returns `None` if there is no such
-/// block, and then leaves `codewords` unchanged (ISO/IEC 18004:2015, 7.5.1 and Annex B).
+/// correction codewords. Returns the number of codewords that had been changed. Returns `None` if the codewords differ
+/// from every block in more than `t` codewords, and then leaves `codewords` unchanged (ISO/IEC 18004:2015, 7.5.1 and
+/// Annex B).
 pub fn mend(divisor: &Divisor, t: usize, codewords: &mut [u8]) -> Option<usize>
     requires half { 2 * t ≤ divisor.now }
     requires least { divisor.now ≤ length codewords.old }

@@ -1,6 +1,6 @@
 //! Removes the errors of a damaged block. The errors are the coefficients of a polynomial, and the locator is a
-//! polynomial with a root for each position of an error. The syndromes are the first values of the error polynomial
-//! at the powers of 2; the locator gives its other values, and all values together give the errors.
+//! polynomial with a root for each position of an error. The syndromes are the first values of the error polynomial at
+//! the powers of 2; the locator determines its other values, and all values together determine the errors.
 
 ghost use Rattle.std.specs.Prelude.{◌≡◌, ℕ, ◌+◌, ◌<◌, ◌≤◌, List, length};
 ghost use Rattle.std.specs.List.{All};

@@ -17,8 +17,9 @@ use qr_matrix::Matrix;
 // The number of bits of the format information.
 const FORMAT_BITS: u8 = 15;
 
-// The largest number of wrong modules in a copy that is near to a level and a mask. Any two words of the format
-// information differ in at least seven bits, so a copy is near to one word at most.
+// A copy of the format information is near to a level and a mask if at most this number of its modules differs from
+// their word. Any two words of the format information differ in at least seven bits, so a copy is near to one word at
+// most.
 const FORMAT_ERRORS: u8 = 3;
 
 /// The two copies of the format information in a symbol.

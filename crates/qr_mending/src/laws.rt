@@ -129,8 +129,7 @@ pub fn mending_refusals_are_one()
         → (e ≡ ReadFault.Memory) ⊎ (f ≡ ReadFault.Memory) ⊎ (e ≡ f) }
 {}
 
-/// A square is refused for a fault, other than lack of memory, exactly if that is the fault of the square, unless memory
-/// is refused.
+/// If memory is not refused, a square is refused for a fault exactly if it has this fault.
 pub fn mendings_are_refused_exactly(alloc: Global, damaged: &Matrix) -> Result<Mended, ReadFault>
     ensures { (e : ReadFault) → e ≢ ReadFault.Memory
         → (result ≡ Err e) ↔ ((result ≢ Err ReadFault.Memory) × IsUnmended damaged.now e) }
@@ -138,8 +137,8 @@ pub fn mendings_are_refused_exactly(alloc: Global, damaged: &Matrix) -> Result<M
     mend_symbol(alloc, damaged)
 }
 
-/// A square of which some modules could not be read is refused for a fault, other than lack of memory, exactly if that
-/// is the fault of the square, unless memory is refused.
+/// If memory is not refused, a square of which some modules could not be read is refused for a fault exactly if it has
+/// this fault.
 pub fn mendings_without_are_refused_exactly(
     alloc: Global,
     damaged: &Matrix,
@@ -215,8 +214,7 @@ pub fn few_wrong_modules_are_mended(alloc: Global, damaged: &Matrix) -> Result<M
     mend_symbol(alloc, damaged)
 }
 
-/// Damaged symbols are refused for a fault, other than lack of memory, exactly if that is the fault of these symbols,
-/// unless memory is refused.
+/// If memory is not refused, damaged symbols are refused for a fault exactly if they have this fault.
 pub fn series_mendings_are_refused_exactly(
     alloc: Global,
     damaged: &[Matrix],

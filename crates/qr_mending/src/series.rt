@@ -23,13 +23,17 @@ fn mend_all(alloc: Global, damaged: &[Matrix]) -> Result<Vec<Parsed>, ReadFault>
 }
 
 /// Reads symbols, mends their damage and joins their bytes, in their order (ISO/IEC 18004:2015, 8 and 12). The symbols
-/// are one symbol without a header, or a whole series: each header must contain the position of its symbol, counted from
-/// 0, the number of symbols less 1, and the parity of all bytes. For the damage of a single symbol, call `mend_symbol`.
+/// are one symbol without a header, or a whole series: each header must contain the position of its symbol, counted
+/// from 0, the number of symbols less 1, and the parity of all bytes.
 ///
 /// # Errors
 ///
-/// The fault of the first symbol that cannot be mended, whatever the headers contain; `Series` if all symbols are mended
-/// but do not belong together, or if there is no symbol.
+/// The fault of the first symbol that cannot be mended, whatever the headers contain; `Series` if all symbols are
+/// mended but do not belong together, or if there is no symbol.
+///
+/// # Notes
+///
+/// `mend_symbol` also returns the damage of a single symbol.
 pub fn mend_series(alloc: Global, damaged: &[Matrix]) -> Result<Vec<u8>, ReadFault>
     ensures { MatchResult result (λ bytes. IsMendedSeries damaged.now bytes.items) (IsUnmendedSeries damaged.now) }
 {

@@ -48,8 +48,8 @@ pub(crate) fn read_marks(
     Ok(marks)
 }
 
-// The codewords of a symbol, or their marks, block after block: those of the data codewords, and those of the error
-// correction codewords.
+// The codewords of a symbol, or their marks, block after block. `data` belongs to the data codewords, and `checks` to
+// the error correction codewords.
 #[derive(Drop)]
 struct InBlocks {
     data: Vec<u8>,

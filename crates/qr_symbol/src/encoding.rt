@@ -21,14 +21,20 @@ use qr_bits::{Header, INPUT_MAX, Rule, Segment, codewords};
 use qr_layout::{Level, Version};
 use std::alloc::Global;
 
-// The most bytes that a symbol holds: 7,089 digits in version 40 and level L (7.4.10, Table 7).
+// The largest number of bytes that a symbol can contain: 7,089 digits in version 40 and level L (7.4.10, Table 7).
 pub(crate) const SYMBOL_BYTES_MAX: usize = 7089;
 
 /// Encodes the input as one symbol (ISO/IEC 18004:2015, 7.1), in the least version from `smallest` on that it fits.
-/// `rule` says which modes the segments may have.
+/// `rule` says which modes the segments may have. The symbol has the segments that take the fewest bits in these modes,
+/// the standard's codewords, and the mask of least penalty. If several masks have the least penalty, it has the first
+/// of them.
 ///
-/// Returns `Empty` if the input has no byte, and `TooLong` if it fits no version from `smallest` on. An input of more
-/// than 7,089 bytes fits no version, and is refused before any allocation.
+/// If the modules of the symbol are read in the order of the walk, unmasked, deinterleaved and parsed, the result is
+/// exactly the input, in these segments.
+///
+/// Returns `Empty` exactly if the input has no byte. Unless memory is refused, returns `TooLong` exactly if the input
+/// fits no version from `smallest` on. An input of more than 7,089 bytes fits no version, and is refused before any
+/// allocation.
 pub fn encode(
     alloc: Global,
     input: &[u8],

@@ -86,7 +86,11 @@ pub enum ReadFault {
 impl ReadFault {
     ghost use Rattle.qr_symbol.specs.Fault.{read_fault_number};
 
-    /// Returns the number of the fault, from 1 to 6. It stays the same in later versions of this crate.
+    /// Returns the number of the fault, from 1 to 6.
+    ///
+    /// # Notes
+    ///
+    /// The number stays the same in later versions of this crate.
     pub fn number(&self) -> u8
         ensures { result ≡ read_fault_number self.now }
     {

@@ -148,7 +148,8 @@ fn interleave_blocks(alloc: Global, blocks: Blocks, message: &[u8]) -> Result<Ve
     Ok(sent)
 }
 
-/// Returns the final sequence of codewords for the data codewords `message` (ISO/IEC 18004:2015, 7.5.2 and 7.6).
+/// Returns the final sequence of codewords for the data codewords `message`: the data codewords by position and then by
+/// block, and then the error correction codewords in the same way (ISO/IEC 18004:2015, 7.5.2 and 7.6).
 pub fn interleave(
     alloc: Global,
     version: Version,
@@ -181,7 +182,7 @@ fn deinterleave_into(message: &mut Vec<u8>, cut: Cut, codewords: &[u8])
 }
 
 // Undoes the interleaving, and returns the data codewords. The fault is `Check` if the error correction codewords in
-// `codewords` are not theirs.
+// `codewords` do not belong to these data codewords.
 fn deinterleave_blocks(
     alloc: Global,
     blocks: Blocks,
@@ -208,8 +209,8 @@ fn deinterleave_blocks(
     }
 }
 
-/// Returns the data codewords of a final sequence of codewords (ISO/IEC 18004:2015, 7.6 and 12), or `Check` if the error
-/// correction codewords of some block do not belong to its data codewords.
+/// Returns the data codewords of a final sequence of codewords (ISO/IEC 18004:2015, 7.6 and 12). Returns `Check`
+/// exactly if the error correction codewords of some block do not belong to its data codewords.
 pub fn deinterleave(
     alloc: Global,
     version: Version,

@@ -143,8 +143,7 @@ pub fn refusals_are_one()
         → (e ≡ ReadFault.Memory) ⊎ (f ≡ ReadFault.Memory) ⊎ (e ≡ f) }
 {}
 
-/// A square is refused for a fault, other than lack of memory, exactly if that is the fault of the square, unless memory
-/// is refused.
+/// If memory is not refused, a square is refused for a fault exactly if it has this fault.
 pub fn readings_are_refused_exactly(alloc: Global, matrix: &Matrix) -> Result<Parsed, ReadFault>
     ensures { (e : ReadFault) → e ≢ ReadFault.Memory
         → (result ≡ Err e) ↔ ((result ≢ Err ReadFault.Memory) × IsUnread matrix.now e) }
@@ -166,7 +165,7 @@ pub fn joining_refusals_are_one()
         → (e ≡ ReadFault.Memory) ⊎ (f ≡ ReadFault.Memory) ⊎ (e ≡ f) }
 {}
 
-/// If memory is not refused, symbols are refused with a fault exactly if their squares have this fault.
+/// If memory is not refused, symbols are refused for a fault exactly if their squares have this fault.
 pub fn joinings_are_refused_exactly(alloc: Global, symbols: &[Symbol]) -> Result<Vec<u8>, ReadFault>
     ensures { (e : ReadFault) → e ≢ ReadFault.Memory
         → (result ≡ Err e) ↔ ((result ≢ Err ReadFault.Memory) × IsUnjoined (squares_of symbols.now) e) }

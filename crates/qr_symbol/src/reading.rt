@@ -95,6 +95,14 @@ pub fn read_codewords(
 /// level and the mask come from the format information beside the top left finder pattern alone. The error correction
 /// codewords must be those of the data codewords. The other function patterns, the second format information, the
 /// version information and the remainder bits are ignored.
+///
+/// A square is read if, and only if, its side, its format information, its blocks and its data codewords are those of a
+/// symbol, which may have kanji segments.
+///
+/// # Errors
+///
+/// Returns the fault of the first cause. A side of no version, and format information of no level and mask, are refused
+/// before any allocation.
 pub fn read_symbol(alloc: Global, matrix: &Matrix) -> Result<Parsed, ReadFault>
     ensures read { MatchResult result (IsReading matrix.now) (IsUnread matrix.now) }
     ensures side { IsUnread matrix.now ReadFault.Side → result ≡ Err ReadFault.Side }
@@ -179,8 +187,8 @@ mod tests {
         Ok(())
     }
 
-    // In a symbol of version 1, 15 modules hold the first format information and 208 modules hold codewords. All other
-    // modules are ignored.
+    // In a symbol of version 1, 15 modules contain the first format information and 208 modules contain codewords. All
+    // other modules are ignored.
     #[test]
     fn each_module_inverted(rt: HostRuntime) -> Result<(), Fail> {
         let version = Version::FIRST;
@@ -210,7 +218,7 @@ mod tests {
         Ok(())
     }
 
-    // Version 2 has 44 codewords; the seven modules after them hold its remainder bits.
+    // Version 2 has 44 codewords; the seven modules after them contain its remainder bits.
     #[test]
     fn remainder_bits_inverted(rt: HostRuntime) -> Result<(), Fail> {
         let version = Version::new(2).ok_or("version 2")?;

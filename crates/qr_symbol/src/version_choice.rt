@@ -74,7 +74,7 @@ fn first_for(input: &[u8], rule: Rule) -> u8
     }
 }
 
-// Returns the least version from `first` to `last` whose data codewords hold at least `bits` bits.
+// Returns the least version from `first` to `last` whose data codewords have at least `bits` bits.
 fn first_with_room(level: Level, first: Version, last: u8, bits: u64) -> Option<Version>
     requires { last ≤ 40 }
     ensures { MatchOption result

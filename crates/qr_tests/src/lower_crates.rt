@@ -11,7 +11,8 @@ use qr_symbol::{EncodeFault, ReadFault};
 use qrencode_cli::{DrawFault, Drawing, UsageFault, options};
 use std::test::Fail;
 
-// Column 6 is in no strip: after column 7 the walk goes on in column 5, in the row in which the strip before it ended.
+// Column 6 is in no strip: after column 7 the walk continues in column 5, in the row in which the strip before it
+// ended.
 #[test]
 fn walk_over_column_6(rt: HostRuntime) -> Result<(), Fail> {
     let version = Version::FIRST;

@@ -122,8 +122,47 @@ fn run_to_result<R: Source, W: Sink>(
 /// Runs the command: parses the arguments `words`, of which the first is the program's name, reads the input, and
 /// writes the drawing to `out`. After a fault it writes the fault's line to `err`. Returns the exit status, 0 or 1.
 ///
-/// All symbols are made before the first byte is written. Reads and writes that are interrupted are tried again: 999
-/// times for the input, 999 times for the drawing, and 999 times for the line of a fault.
+/// Reads and writes that are interrupted are tried again: 999 times for the input, 999 times for the drawing, and 999
+/// times for the line of a fault.
+///
+/// On success `out` received the whole drawing of the input's symbol, or of its series, and was flushed once, after the
+/// last byte. `err` received nothing, and the status is 0.
+///
+/// If the symbols that were drawn are read and joined, the result is exactly the input, and no byte of it was cut off.
+/// With `-i` the result is the folded input.
+///
+/// With `-8` the whole input is in byte mode. Without `-8`, kanji mode may be used only with `-k`.
+///
+/// With `-i` the letters `a` to `z` are encoded as capitals; but with `-k` kanji pairs are unchanged, and with `-8` all
+/// bytes are unchanged. Without `-i` nothing is folded.
+///
+/// On a fault the status is 1, and `err` received the fault's line, or a prefix of the line if a write of it failed.
+/// After a write fault `out` received a prefix of the drawing, or the whole drawing if only the flush failed. After any
+/// other fault no call of `out` was made.
+///
+/// A read fault is reported exactly if a read failed or was interrupted for the 1,000th time. A write fault is reported
+/// exactly if a write of the drawing failed, took no byte, or was interrupted for the 1,000th time, or if the flush
+/// failed.
+///
+/// The input is every byte up to its end. At most 113,425 bytes are read, in at most 114,424 reads, and no read of any
+/// kind comes after the end.
+///
+/// A run that reports no read fault has read to the end of the input, or 113,425 bytes of it. After a write fault `out`
+/// took at most as many bytes as the drawing has, and `err` always takes at most as many bytes as the line of the fault
+/// has. The counts of the devices show this, so it holds for files, pipes and terminals too.
+///
+/// No write of the drawing offers more than 1,200 bytes.
+///
+/// An input is too long only if its least segmentation fits no version from the smallest allowed version on. It needs
+/// too many symbols only if it does not fit one symbol and has more than 16 parts.
+///
+/// The promises about bytes hold for readers and writers whose bytes a contract can know, such as those in memory. The
+/// promises about counts hold for devices whose counts start at 0. For the standard streams the counts are promised:
+/// how many bytes were read, that the end was reached, how many bytes were taken, and which faults occurred.
+///
+/// # Notes
+///
+/// All symbols are made before the first byte is written.
 pub fn run<R: Source, W: Sink, E: Sink>(
     alloc: Global,
     words: &[String],

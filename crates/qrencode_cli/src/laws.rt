@@ -6,13 +6,14 @@ ghost use Rattle.qr_devices.specs.declared.device.TheConstants.{INTERRUPTIONS_MA
 ghost use Rattle.qr_drawing.specs.declared.pen.TheConstants.{WRITE_MAX};
 ghost use Rattle.qrencode_cli.specs.Laws.{AnswersAreOne, FoldingFollowsTheRule, LinesOfFaults, NumbersOfUsageFaults, RefusalsAreOne, RefusalsExcludeDrawings, CommandLines, RulesOfModes, StatusesAreTwo};
 
-/// Command lines, each with its settings or with the reason why it is refused.
+/// The 45 command lines that are listed have the settings that are listed, or are refused for the reason that is
+/// listed.
 pub fn command_lines()
     ensures { CommandLines }
 {}
 
-/// The limits that other contracts name: how many bytes of input are read at most, how many bytes one write offers at
-/// most, and how many interruptions of one device are tried again.
+/// The limits that other contracts name: at most 113,425 bytes of input are read, one write offers at most 1,200 bytes,
+/// and 999 interruptions of one device are tried again.
 pub fn limits()
     ensures input { INPUT_MAX ≡ 113425 }
     ensures piece { WRITE_MAX ≡ 1200 }
@@ -43,12 +44,12 @@ pub fn statuses_are_two()
     ensures { StatusesAreTwo }
 {}
 
-/// The line of each fault, except for arguments that `clap` refuses.
+/// Each fault has the line that is listed, except for arguments that `clap` refuses.
 pub fn lines_of_faults()
     ensures { LinesOfFaults }
 {}
 
-/// The number of each `UsageFault`.
+/// Each `UsageFault` has the number that is listed.
 pub fn numbers_of_usage_faults()
     ensures { NumbersOfUsageFaults }
 {}

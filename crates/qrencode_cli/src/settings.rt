@@ -22,7 +22,7 @@ use thiserror::Error;
 // The default margin in modules: the width of the quiet zone (ISO/IEC 18004:2015, 6.3.8).
 const QUIET_ZONE: u8 = 4;
 
-/// The parsed command line.
+/// The settings of a run: what the arguments of its command line mean.
 #[derive(Debug, Drop)]
 pub struct Settings {
     /// The level of error correction.
@@ -35,11 +35,12 @@ pub struct Settings {
     pub margin: u8,
     /// Whether the whole input is encoded in byte mode.
     pub bytes_only: bool,
-    /// Whether kanji mode may be used. Without effect if the whole input is encoded in byte mode.
+    /// Whether kanji mode may be used. This has no effect if the whole input is encoded in byte mode.
     pub kanji: bool,
-    /// Whether the letters a to z are encoded as capitals. Without effect if the whole input is encoded in byte mode.
+    /// Whether the letters a to z are encoded as capitals. This has no effect if the whole input is encoded in byte
+    /// mode.
     pub fold: bool,
-    /// Whether a series of symbols is drawn if one symbol does not hold the input.
+    /// Whether a series of symbols is drawn if the input does not fit one symbol.
     pub structured: bool,
     /// The input if it is an argument, or `None` if standard input is read.
     pub string: Option<String>,
@@ -103,7 +104,11 @@ pub enum UsageFault {
 impl UsageFault {
     ghost use Rattle.qrencode_cli.specs.Settings.{usage_fault_number};
 
-    /// Returns the number of the fault. The numbers are stable.
+    /// Returns the number of the fault.
+    ///
+    /// # Notes
+    ///
+    /// The number stays the same in later versions of this crate.
     pub fn number(&self) -> u8
         ensures { result ≡ usage_fault_number self.now }
     {
@@ -248,12 +253,13 @@ fn settings_in(alloc: Global, matches: &ArgMatches<'_>) -> Result<Settings, Usag
     })
 }
 
-/// Parses a command line, of which the first text is the program's name.
+/// Parses a command line, of which the first text is the program's name. The arguments mean what `clap` states of a
+/// simple command.
 ///
 /// # Errors
 ///
-/// Returns the first fault that applies: `Words` if `clap` refuses the arguments, then `Level`, `Kind` and
-/// `NeedsVersion`. Returns `Memory` if memory is refused before another fault is found.
+/// Returns the first fault that applies: `Words` only if `clap` states a fault for the arguments, then `Level`, `Kind`
+/// and `NeedsVersion`. Returns `Memory` if memory is refused before another fault is found.
 pub fn options(alloc: Global, words: &[String]) -> Result<Settings, UsageFault>
     ensures settings { MatchResult result (λ s. settings_for (map string_bytes words.now) ≡ Ok s)
         (IsUsageFault (settings_for (map string_bytes words.now))) }

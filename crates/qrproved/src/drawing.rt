@@ -85,14 +85,17 @@ fn drawn(alloc: Global, modules: &[u8], asked: DrawingSettings) -> Result<Vec<u8
     }
 }
 
-/// Writes the drawing of squares of one side, as `qrencode` draws symbols. Their modules are in the buffer `modules`, as
-/// `qrproved_encode_series` writes them; any byte but 0 is a dark module, and a square need not be a symbol. The numbers
-/// of types of drawing are 0 to 3 for ASCII, ASCIIi, UTF8 and SVG.
+/// Writes the drawing of squares of one side, as `qrencode` draws symbols. Their modules are in the buffer `modules`,
+/// as `qrproved_encode_series` writes them; any byte but 0 is a dark module, and a square need not be a symbol. The
+/// numbers of types of drawing are 0 to 3 for ASCII, ASCIIi, UTF8 and SVG.
 ///
 /// The causes of a refusal are checked in this order: the numbers (1 to 177 modules on a side, 1 to 16 squares, a type,
 /// a margin of 0 to 100 modules), too few modules in `modules`, and a buffer `text` that is too short for the drawing.
 /// If there are too few modules, `written` becomes 0; if `text` is too short, it becomes the length of the drawing. The
 /// first two causes are found without any allocation.
+///
+/// On status 0 the text is the drawing of the squares whose modules are in the buffer, in the type and with the margin
+/// asked for, and its length is written.
 #[unsafe(no_mangle)]
 pub extern "C" fn qrproved_draw(
     alloc: Global,

@@ -32,6 +32,9 @@ pub struct QrprovedSymbol {
 /// The causes of a refusal are checked in this order: the numbers, an empty input, an input that is too long, a buffer
 /// that is too short. Numbers out of range, an empty input and an input of more than 7,089 bytes are refused before any
 /// allocation.
+///
+/// On status 0 the buffer contains exactly the symbol of the input, row by row, and the symbol is read as the input.
+/// The struct contains the symbol's version, side and mask.
 #[unsafe(no_mangle)]
 pub extern "C" fn qrproved_encode(
     alloc: Global,

@@ -16,8 +16,11 @@ use crate::status::{
 };
 use std::alloc::AllocError;
 
-/// The numbers of the statuses that the contracts of other functions name. They do not change between versions of the
-/// library.
+/// The number of a status has one meaning in all calls. The statuses are 0 to 10, as the header lists them.
+///
+/// # Notes
+///
+/// The numbers do not change between versions of the library.
 pub fn statuses()
     ensures done { DONE ≡ 0 }
     ensures empty { EMPTY ≡ 1 }

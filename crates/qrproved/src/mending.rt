@@ -161,12 +161,19 @@ fn mended_of(len: usize, mended: &Mended) -> QrprovedMended
 
 /// Reads the symbol whose modules are in the buffer `modules`, as `qrproved_encode` writes them, and mends its damage.
 /// The byte of a light module is 0, and that of a dark module is 1. A module that is not known has the byte 2: a
-/// codeword with such a module takes half as much of the error correction as a misread codeword. Writes the bytes of the
-/// symbol to the buffer `bytes`, and its header and its damage to the struct `mended`.
+/// codeword with such a module takes half as much of the error correction as a misread codeword. Writes the bytes of
+/// the symbol to the buffer `bytes`, and its header and its damage to the struct `mended`.
 ///
 /// The causes of a refusal are checked in this order: the side, too few modules in `modules`, a module with a byte of
 /// more than 2, the format information, the codewords, the parse of the data codewords, a buffer `bytes` that is too
 /// short. The first three are found without any allocation.
+///
+/// On status 0 the modules in the buffer are a damaged form of one symbol. This symbol contains the bytes and the
+/// header that were written, and has the version, level and mask that were written.
+///
+/// The struct also contains four counts: how many modules of the whole square are not those of the symbol or not known,
+/// which is 0 exactly if the square is the symbol; how many of the 30 modules of format information are wrong or not
+/// known; how many codewords were changed in the block with the most of them; and how many may be changed in a block.
 #[unsafe(no_mangle)]
 pub extern "C" fn qrproved_mend(
     alloc: Global,
@@ -312,8 +319,8 @@ mod tests {
         Ok(())
     }
 
-    // In version 1-M eight of the ten error correction codewords may be used. Five codewords that are not known take
-    // five of them, and one misread codeword takes two.
+    // In version 1-M eight of the ten error correction codewords may be used. Five unknown codewords need five of
+    // these, and one misread codeword needs two.
     #[test]
     fn modules_that_are_not_known(rt: HostRuntime) -> Result<(), Fail> {
         let drawn = eight_digits(&rt)?;

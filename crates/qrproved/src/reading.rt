@@ -71,6 +71,9 @@ pub(crate) fn content_of(len: usize, version: Version, header: Option<Header>) -
 /// The causes of a refusal are checked in this order: the side, too few modules in `modules`, the format information,
 /// the codewords, the parse of the data codewords, a buffer `bytes` that is too short. A wrong side and too few modules
 /// are refused without any allocation.
+///
+/// On status 0 the modules in the buffer are those of a symbol that contains the bytes and the header that were
+/// written.
 #[unsafe(no_mangle)]
 pub extern "C" fn qrproved_read(
     alloc: Global,

@@ -24,13 +24,16 @@ pub struct QrprovedSeries {
 }
 
 /// Writes the series of an input, all of whose symbols have the version `version`. The byte of a module is at index
-/// `number * side * side + row * side + column`, where `number` is the number of its symbol, from 0 on. The series of an
-/// input that fits one symbol is that symbol, without a header. Levels and rules are numbered as in
+/// `number * side * side + row * side + column`, where `number` is the number of its symbol, from 0 on. The series of
+/// an input that fits one symbol is that symbol, without a header. Levels and rules are numbered as in
 /// `qrproved_encode`.
 ///
 /// The causes of a refusal are checked in this order: the numbers, an empty input, more than 16 symbols, a buffer that
 /// is too short. Numbers out of range, an empty input and an input of more than 113,425 bytes are refused before any
 /// allocation.
+///
+/// On status 0 the buffer contains exactly the series of the input, symbol after symbol, and the symbols are joined to
+/// the input. Without kanji mode no shorter series exists. The struct contains the number of symbols and their side.
 #[unsafe(no_mangle)]
 pub extern "C" fn qrproved_encode_series(
     alloc: Global,

@@ -96,8 +96,9 @@ pub record IsBestRest (v : ℕ) (r : Rule) (test : ℕ → ℕ → Bool) (p : Ru
   pub least : (ks : List Mode) → IsTrue (allowed r test p xs ks) → n ≤ cost_of v p ks
   pub first : (ks : List Mode) → IsTrue (allowed r test p xs ks) → cost_of v p ks ≡ n → IsNotAfter ms ks
 
--- `IsChoice v r p x pair cost m n` holds if the mode m for the byte x leads to the fewest bits after state p, and has the
--- lowest rank of all modes that do. These bits are n, where `cost` contains the bits of the rest after each state.
+-- `IsChoice v r p x pair cost m n` holds if, after state p, the byte x and the bytes after it take the fewest bits if x
+-- has the mode m. They then take n bits. If several modes lead to n bits, m is the mode of the lowest rank. `cost` is
+-- the number of bits of the bytes after x, for each state.
 pub record IsChoice (v : ℕ) (r : Rule) (p : RunState) (x : ℕ) (pair : Bool) (cost : RunState → ℕ) (m : Mode) (n : ℕ) : Type 0 where
   pub is_allowed : IsTrue (may_take r p x pair m)
   pub has_bits : n ≡ byte_cost v p m + cost (state_after p m)

@@ -29,7 +29,8 @@ IsSmall n =
     (n.start < 40000000) × (n.digit1 < 40000000) × (n.digit2 < 40000000) × (n.digit3 < 40000000) × (n.character1 < 40000000)
     × (n.character2 < 40000000) × (n.in_bytes < 40000000) × (n.half_pair < 40000000) × (n.whole_pair < 40000000)
 
--- The bit of a row of the table at which the mode for a state begins
+-- A row of the table has two bits for the mode of each state. `shift_of p` is the index of the lower one of these bits
+-- for state p
 abbrev pub shift_of : RunState → ℕ
 shift_of Start = 0
 shift_of Digit1 = 2

@@ -5,16 +5,16 @@ use Rattle.qr_drawing.specs.Steps.Writing.{Stops, Writes}
 use Rattle.qr_drawing.specs.declared.pen.DrawFault.{DrawFault}
 use Rattle.qr_drawing.specs.declared.pen.Pen.{Pen}
 
--- `Puts old new before after text r` says what adding the text to the pen does. Of the bytes that the pen contains
--- then, a prefix may be written, and the pen keeps the rest; after an error a prefix of these bytes was written. The
--- writer is `old` and then `new`, the pen `before` and then `after`
+-- `Puts old new before after text r` says what happens if the text is added to the bytes of the pen: a prefix of all
+-- these bytes may be written, and the pen then contains the rest. After an error, a prefix of these bytes was written.
+-- The writer `old` became `new`, and the pen `before` became `after`
 abbrev pub Puts : Writer → Writer → Pen → Pen → List ℕ → {T : Type 0} → Result T DrawFault → Type 0
 Puts old new before after text r = MatchResult r
     (λ _. Writes old new before.interrupted after.interrupted (before.piece.items ++ text) after.piece.items)
     (λ _. Stops old new before.interrupted (before.piece.items ++ text))
 
--- `Reserves old new before after r` says what making room in the pen does: some of the bytes that the pen held may be
--- written, and the pen holds the rest. After an error a prefix of these bytes was written
+-- `Reserves old new before after r` says what happens if room is made in the pen: a prefix of its bytes may be written,
+-- and the pen then contains the rest. After an error, a prefix of these bytes was written
 abbrev pub Reserves : Writer → Writer → Pen → Pen → {T : Type 0} → Result T DrawFault → Type 0
 Reserves old new before after r = MatchResult r
     (λ _. Writes old new before.interrupted after.interrupted before.piece.items after.piece.items)

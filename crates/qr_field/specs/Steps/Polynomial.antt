@@ -1,4 +1,4 @@
--- What a loop has still to write, and the values of a polynomial.
+-- Steps with polynomials: the product with one factor more, and the values of a polynomial at powers of 2.
 use Rattle.std.specs.Prelude.{ℕ, ◌*◌, List, [], ◌∷◌, length, bit_xor}
 use Rattle.qr_field.specs.Galois.{product}
 use Rattle.qr_field.specs.Polynomial.{power}

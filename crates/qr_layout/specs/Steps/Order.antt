@@ -27,7 +27,8 @@ rank_of s a = if a.upward then s - 1 - a.row else a.row
 unfoldable pub left_of : ℕ → Cursor → ℕ
 left_of s a = a.strips * (2 * s) - (2 * rank_of s a + half_of a.second)
 
--- The next position: the left module of the row, else the next row, else the next strip, which goes the other way
+-- The next position: after the right module of a row its left module, after a row the next row, and after a strip the
+-- next strip, which runs in the other direction
 unfoldable pub next_of : ℕ → Cursor → Cursor
 next_of s a =
     if a.second then
