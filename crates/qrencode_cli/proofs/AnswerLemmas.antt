@@ -18,7 +18,9 @@ use Rattle.qrencode_cli.specs.Arguments.{faults_for, rows_for}
 use Rattle.qr_drawing.specs.Drawing.{drawn}
 use Rattle.qrencode_cli.specs.Settings.{Reason, SettingsView, checked_series, drawing_named, level_named, needs_version, number_or, refused_by_clap, rule_for, settings_for, settings_of, settings_with, unknown_level, unknown_type}
 use Rattle.qr_drawing.specs.declared.drawing.Drawing.{Drawing}
+use Rattle.qr_symbol.specs.declared.fault.EncodeFault.{EncodeFault}
 use Rattle.qr_symbol.specs.declared.fault.EncodeFault.TheVariants as encode
+use Rattle.qrencode_cli.specs.declared.settings.UsageFault.{UsageFault}
 use Rattle.qrencode_cli.specs.declared.fault.Fault.{Fault}
 use Rattle.qrencode_cli.specs.declared.fault.Fault.TheVariants as fault
 use Rattle.qrencode_cli.specs.Picture.{AreSquares, AreSymbols, IsTooLong, IsTooMany, smallest_of}
@@ -77,6 +79,11 @@ refusals-exclude words given d (fault.Encode encode.TooLong) a h =
 refusals-exclude words given d (fault.Encode encode.TooMany) a h =
     let same = settings-one words h.settings a.settings h.taken a.taken in
     not-too-many a.settings (held a.settings (input_for a.settings given)) a.holds.squares a.holds.symbols (subst (λ (s : SettingsView). IsTooMany s (held s (input_for s given))) same h.holds)
+refusals-exclude words given d (fault.Usage usage.Memory) a h = elim h [ ]
+refusals-exclude words given d (fault.Encode encode.Memory) a h = elim h [ ]
+refusals-exclude words given d fault.Read a h = elim h [ ]
+refusals-exclude words given d fault.Memory a h = elim h [ ]
+refusals-exclude words given d fault.Write a h = elim h [ ]
 refusals-exclude words given d (fault.Usage (usage.Words text)) a h = let e : Ok a.settings ≡ Err _ = sym a.taken ∙ h in cc
 refusals-exclude words given d (fault.Usage usage.Level) a h = let e : Ok a.settings ≡ Err _ = sym a.taken ∙ h in cc
 refusals-exclude words given d (fault.Usage usage.Kind) a h = let e : Ok a.settings ≡ Err _ = sym a.taken ∙ h in cc
@@ -153,6 +160,11 @@ class_told _ = 0
 -- a correct refusal names the reason why the command line has no settings
 class-is : (words : List Text) (given : List ℕ) (r : Fault) → IsRefusal words given r → class_of (settings_for words) ≡ class_told r
 unfolding class_of class_told
+class-is words given (fault.Usage usage.Memory) h = elim h [ ]
+class-is words given (fault.Encode encode.Memory) h = elim h [ ]
+class-is words given fault.Read h = elim h [ ]
+class-is words given fault.Memory h = elim h [ ]
+class-is words given fault.Write h = elim h [ ]
 class-is words given (fault.Usage (usage.Words text)) h = ap class_of h
 class-is words given (fault.Usage usage.Level) h = ap class_of h
 class-is words given (fault.Usage usage.Kind) h = ap class_of h
@@ -167,9 +179,28 @@ because-one : (words : List Text) (given : List ℕ) (P Q : SettingsView → Lis
 because-one words given P Q h k =
     (k.settings, k.taken, subst (λ (s : SettingsView). P s (held s (input_for s given))) (settings-one words h.settings k.settings h.taken k.taken) h.holds, k.holds)
 
+-- a refused input has settings, and a refused command line has none
+settings-or-none : (words : List Text) (given : List ℕ) (e : EncodeFault) (u : UsageFault) → IsRefusal words given (fault.Encode e) → IsRefusal words given (fault.Usage u) → ⊥
+unfolding class_told
+settings-or-none words given encode.Memory u h k = elim h [ ]
+settings-or-none words given e usage.Memory h k = elim k [ ]
+settings-or-none words given e u h k = let same = sym (class-is words given (fault.Encode e) h) ∙ class-is words given (fault.Usage u) k in omega (arith, same)
+
 -- for a command line and an input at most one refusal is correct
 pub refusals-one : RefusalsAreOne
 unfolding class_told
+refusals-one words given (fault.Usage usage.Memory) q h k = elim h [ ]
+refusals-one words given (fault.Encode encode.Memory) q h k = elim h [ ]
+refusals-one words given fault.Read q h k = elim h [ ]
+refusals-one words given fault.Memory q h k = elim h [ ]
+refusals-one words given fault.Write q h k = elim h [ ]
+refusals-one words given r (fault.Usage usage.Memory) h k = elim k [ ]
+refusals-one words given r (fault.Encode encode.Memory) h k = elim k [ ]
+refusals-one words given r fault.Read h k = elim k [ ]
+refusals-one words given r fault.Memory h k = elim k [ ]
+refusals-one words given r fault.Write h k = elim k [ ]
+refusals-one words given (fault.Encode e) (fault.Usage u) h k = absurd (settings-or-none words given e u h k)
+refusals-one words given (fault.Usage u) (fault.Encode e) h k = absurd (settings-or-none words given e u k h)
 refusals-one words given (fault.Usage (usage.Words text)) (fault.Usage (usage.Words other)) h k = tt
 refusals-one words given (fault.Usage usage.Level) (fault.Usage usage.Level) h k = refl
 refusals-one words given (fault.Usage usage.Kind) (fault.Usage usage.Kind) h k = refl
