@@ -1,5 +1,5 @@
 -- The lemmas that other crates use.
-pub use Rattle.qr_layout.proofs.AlignmentLemmas.{IsInside, centre-inside, alignment-squares, region_in}
+pub use Rattle.qr_layout.proofs.AlignmentLemmas.{centres-inside, fixed-within, fixed_parts, alignment-squares, region_outside}
 pub use Rattle.qr_layout.proofs.BlockLemmas.{blocks-sound, every, every-at, laws-of}
 pub use Rattle.qr_layout.proofs.ListLemmas.{All-of-Mem, Mem, Mem-at, Rises, Rises-of-pairs, one_rising}
 pub use Rattle.qr_layout.proofs.OrderLemmas.{number-at, only_order, order-has, order-length, order-mem, order-small}

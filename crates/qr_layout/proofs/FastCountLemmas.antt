@@ -1,9 +1,10 @@
 -- The number of modules of the encoding region, computed: for each row only the rectangles that meet the row are checked.
-use Rattle.std.proofs.Common.{◌≡◌, ℕ, ◌+◌, ◌<◌, Bool, true, false, not, ◌&&◌, ◌||◌, cond, eqb, ltb, leb, List, [], ◌∷◌, refl, ap, ◌∙◌, arith}
-use Rattle.std.proofs.lemmas.Bool.Decides.{nat_tests}
+use Rattle.std.proofs.Common.{◌≡◌, ℕ, ◌+◌, ◌<◌, Bool, true, false, not, ◌&&◌, ◌||◌, cond, eqb, ltb, leb, List, [], ◌∷◌, refl, ap, ◌∙◌}
 use Rattle.std.specs.List.{list_any, filter}
 use Rattle.qr_layout.specs.Region.{is_in_region}
-use Rattle.qr_layout.specs.Steps.Rectangles.{Rectangle, taken_rectangles, is_in_rectangle}
+use Rattle.qr_layout.specs.declared.rectangles.Rectangle.{Rectangle}
+use Rattle.qr_layout.specs.Rectangles.{is_in_rectangle}
+use Rattle.qr_layout.specs.Steps.Rectangles.{taken_rectangles}
 use Rattle.qr_layout.proofs.AlignmentLemmas.{region_taken}
 use Rattle.qr_layout.specs.Version.{side_of}
 use Rattle.qr_layout.specs.Alignment.{centres_of}
@@ -47,10 +48,7 @@ any-filter r c (b ∷ bs) = ap (λ z. z || list_any (is_in_rectangle r c) bs) (i
 
 -- a place inside the square is in the region if no rectangle of its row contains it
 region-free : (v r c : ℕ) → r < side_of v → c < side_of v → is_in_region v r c ≡ not (list_any (is_in_columns c) (filter (is_in_rows r) (taken_rectangles v)))
-region-free v r c h k =
-    let p : ltb r (side_of v) ≡ true = grind (arith, nat_tests) in
-    let q : ltb c (side_of v) ≡ true = grind (arith, nat_tests) in
-    region_taken v r c ∙ (ap (λ z. z && ltb c (side_of v) && not (list_any (is_in_rectangle r c) (taken_rectangles v))) p ∙ (ap (λ z. z && not (list_any (is_in_rectangle r c) (taken_rectangles v))) q ∙ ap not (any-filter r c (taken_rectangles v))))
+region-free v r c h k = region_taken v r c h k ∙ ap not (any-filter r c (taken_rectangles v))
 
 -- the places of the region, counted row by row
 pub region-count : (v : ℕ) → places_passing (side_of v) (is_in_region v) ≡ free_of (side_of v) (taken_rectangles v)

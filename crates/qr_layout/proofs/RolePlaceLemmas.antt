@@ -11,11 +11,11 @@ use Rattle.qr_layout.specs.declared.role.Role.TheVariants.{Fixed, FormatBit, Ver
 use Rattle.qr_layout.specs.Version.{side_of}
 use Rattle.qr_layout.specs.Alignment.{centres_of}
 use Rattle.qr_layout.specs.Region.{is_alignment, is_in_region}
-use Rattle.qr_layout.specs.Steps.Rectangles.{is_in_rectangle, corner_rectangles, timing_lines, version_rectangles}
+use Rattle.qr_layout.specs.Rectangles.{is_in_rectangle, corner_rectangles, timing_rectangles, version_rectangles}
 use Rattle.qr_layout.specs.Role.{finder_ring, is_alignment_light, pattern_colour, first_place, second_place, version_place, transposed, is_at, format_bit_at, version_bit_at, is_dark_module, role_of}
 use Rattle.qr_layout.proofs.RegionLemmas.{&&-left, &&-right}
 use Rattle.qr_layout.proofs.TableLemmas.{below, below-at, eqb-same}
-use Rattle.qr_layout.proofs.AlignmentLemmas.{region_in, region_parts}
+use Rattle.qr_layout.proofs.AlignmentLemmas.{region_free, region_parts}
 use Rattle.qr_layout.proofs.RoleLemmas.{decide, either, first-at, format-top, format-bend, format-foot, format-left, format-seven, format-right, format-no_row, format-no_column, format-off, in_block, version-small, version-right, version-below, version-neither}
 
 -- the choice of a role, over what its parts say
@@ -422,15 +422,15 @@ corner-no_format s r c l w = elim (decide (eqb c 8)) [
 -- ---- the timing patterns and the blocks of version information
 
 -- a place off row 6 and column 6 is on no timing pattern
-timing-free : (s r c : ℕ) → (r ≡ 6 → ⊥) → (c ≡ 6 → ⊥) → list_any (is_in_rectangle r c) (timing_lines s) ≡ false
+timing-free : (s r c : ℕ) → (r ≡ 6 → ⊥) → (c ≡ 6 → ⊥) → list_any (is_in_rectangle r c) (timing_rectangles s) ≡ false
 timing-free s r c h k = grind (arith, nat_tests)
 
 -- a place on no timing pattern is not in row 6
-timing-row : (s r c : ℕ) → c < s → list_any (is_in_rectangle r c) (timing_lines s) ≡ false → r ≡ 6 → ⊥
+timing-row : (s r c : ℕ) → c < s → list_any (is_in_rectangle r c) (timing_rectangles s) ≡ false → r ≡ 6 → ⊥
 timing-row s r c l h e = grind (arith, nat_tests)
 
 -- a place on no timing pattern is not in column 6
-timing-column : (s r c : ℕ) → r < s → list_any (is_in_rectangle r c) (timing_lines s) ≡ false → c ≡ 6 → ⊥
+timing-column : (s r c : ℕ) → r < s → list_any (is_in_rectangle r c) (timing_rectangles s) ≡ false → c ≡ 6 → ⊥
 timing-column s r c l h e = grind (arith, nat_tests)
 
 -- the two blocks of version information, as tests
@@ -488,7 +488,7 @@ clear false q a b d e h = cc
 pub region-role : (v r c : ℕ) → 1 ≤ v → r < side_of v → c < side_of v → is_in_region v r c ≡ true → role_of v r c ≡ Region
 region-role v r c l i j h =
     let s = side_of v in
-    let w = clear (ltb r s) (ltb c s) (list_any (is_in_rectangle r c) (corner_rectangles s)) (list_any (is_in_rectangle r c) (timing_lines s)) (list_any (is_in_rectangle r c) (version_rectangles v s)) (is_alignment v r c) (sym (region_parts v r c) ∙ h) in
+    let w = clear (ltb r s) (ltb c s) (list_any (is_in_rectangle r c) (corner_rectangles s)) (list_any (is_in_rectangle r c) (timing_rectangles s)) (list_any (is_in_rectangle r c) (version_rectangles v s)) (is_alignment v r c) (sym (region_parts v r c) ∙ h) in
     let o = off-corners s r c (omega arith) i j w.no_corner in
     let p = none-pattern v r c (corner-far s r c (omega arith) o) (timing-row s r c j w.no_timing) (timing-column s r c i w.no_timing) w.no_alignment in
     role-with v r c ∙ free-region _ _ _ _ p (corner-not_dark s r c (omega arith) o) (corner-no_format s r c (omega arith) o) (free-version v r c w.no_version)
@@ -510,10 +510,10 @@ role-region v r c l i j h =
     let m = not-six r p.off_row in
     let n = not-six c p.off_column in
     let a = corners-free s r c (omega arith) i j (ring-far (finder_ring s r c) p.off_finder p.off_separator) m n w.not_dark w.no_format in
-    sym (region_in v r c s false false false false refl i j (sym a) (sym (timing-free s r c m n)) (sym (version-free v r c w.no_version)) (sym p.off_alignment))
+    region_free v r c i j a (timing-free s r c m n) (version-free v r c w.no_version) ∙ ap not p.off_alignment
 
 -- a place off the corners, the timing patterns and the version information is in an alignment pattern or in the region
-pub off-role : (v r c : ℕ) → 1 ≤ v → r < side_of v → c < side_of v → list_any (is_in_rectangle r c) (corner_rectangles (side_of v)) ≡ false → list_any (is_in_rectangle r c) (timing_lines (side_of v)) ≡ false → list_any (is_in_rectangle r c) (version_rectangles v (side_of v)) ≡ false
+pub off-role : (v r c : ℕ) → 1 ≤ v → r < side_of v → c < side_of v → list_any (is_in_rectangle r c) (corner_rectangles (side_of v)) ≡ false → list_any (is_in_rectangle r c) (timing_rectangles (side_of v)) ≡ false → list_any (is_in_rectangle r c) (version_rectangles v (side_of v)) ≡ false
     → role_of v r c ≡ cond (is_alignment v r c) (Fixed (not (is_alignment_light v r c))) Region
 off-role v r c l i j ha ht hv =
     let s = side_of v in

@@ -5,6 +5,7 @@ pub mod Alignment
 pub mod Region
 pub mod Order
 pub mod Role
+pub mod Rectangles
 pub mod Strips
 pub mod Laws
 pub mod Steps

@@ -1,8 +1,8 @@
 //! Laws that hold for every version, level and mask. The contracts are the laws; the functions do nothing, except for
 //! `nth_place`, which walks, `first_version` and `default_module`.
 
-ghost use Rattle.std.specs.Prelude.{◌≡◌, ◌<◌, ◌≤◌, ◌-◌, ◌*◌, ◌/◌, ◌⊎◌, ◌↔◌, true, ℕ, List, ◌∷◌, ◌++◌, length, map, slice_get};
-ghost use Rattle.std.specs.List.{range_with_len};
+ghost use Rattle.std.specs.Prelude.{◌≡◌, ◌<◌, ◌≤◌, ◌-◌, ◌*◌, ◌/◌, ◌⊎◌, ◌↔◌, ◌||◌, not, true, ℕ, List, ◌∷◌, ◌++◌, length, map, slice_get};
+ghost use Rattle.std.specs.List.{list_any, range_with_len};
 ghost use Rattle.qr_layout.specs.declared.region.Module.{Module};
 ghost use Rattle.qr_layout.specs.declared.level.Level.TheVariants.{L, M, Q, H};
 ghost use Rattle.qr_layout.specs.declared.role.Role.TheVariants.{Fixed, FormatBit, VersionBit, Region};
@@ -10,7 +10,8 @@ ghost use Rattle.qr_layout.specs.Version.{side_of, module_count_of};
 ghost use Rattle.qr_layout.specs.Blocks.{correction_len_of, data_codewords_of, blocks_of, longest_of, damage_of, AreWhole};
 ghost use Rattle.qr_layout.specs.Format.{five_bits, format_word_of, version_word_of, IsFormatWord, IsVersionWord};
 ghost use Rattle.qr_layout.specs.Alignment.{centres_of};
-ghost use Rattle.qr_layout.specs.Region.{is_in_region, InRegion};
+ghost use Rattle.qr_layout.specs.Region.{is_alignment, is_in_region, InRegion};
+ghost use Rattle.qr_layout.specs.Rectangles.{fixed_rectangles, is_in_rectangle};
 ghost use Rattle.qr_layout.specs.Order.{IsOrder, number_of, places_passing};
 ghost use Rattle.qr_layout.specs.Role.{first_place, second_place, version_place, transposed, role_of};
 ghost use Rattle.qr_layout.specs.Laws.{all_versions, printed_correction, printed_data, spaced_centres, region_size, row_6, row_8, column_8, alignment_figure, finder_figure, version_figure};
@@ -42,6 +43,13 @@ pub fn order_is_full(v: Version)
 pub fn region_is_counted(v: Version)
     ensures region { places_passing (side_of v) (is_in_region v) ≡ region_size v }
     ensures filled { module_count_of v ≡ region_size v }
+{}
+
+/// The encoding region is the square without the rectangles of `fixed_rectangles` and without the alignment patterns.
+#[tactic(auto, using(crate::proofs::AlignmentLemmas::region_outside))]
+pub fn region_is_outside(v: Version)
+    ensures { (r c : ℕ) → r < side_of v → c < side_of v → is_in_region v r c
+        ≡ not (list_any (is_in_rectangle r c) (fixed_rectangles v) || is_alignment v r c) }
 {}
 
 /// The encoding region is the same when rows and columns are exchanged.

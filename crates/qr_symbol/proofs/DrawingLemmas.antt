@@ -1,5 +1,5 @@
 -- Drawing along the walk: every place that the walk has passed, or never reaches, has its final colour.
-use Rattle.std.proofs.Common.{◌≡◌, ℕ, ◌+◌, ◌-◌, ◌<◌, ◌≤◌, Bool, true, false, cond, nat_eq, ◌&&◌, List, [], ◌∷◌, ◌++◌, length, length-append, refl, sym, ◌∙◌, ap, inl, inr, subst, append_assoc, append-nil, arith}
+use Rattle.std.proofs.Common.{◌≡◌, ℕ, ◌<◌, ◌≤◌, Bool, true, false, cond, nat_eq, ◌&&◌, List, [], ◌∷◌, ◌++◌, length, length-append, refl, sym, ◌∙◌, ap, inl, inr, subst, append_assoc, append-nil, arith}
 use Rattle.std.specs.Prelude.{Option, None, Some, SomeIff, unwrap_or}
 use Rattle.qr_layout.specs.declared.level.Level.{Level}
 use Rattle.qr_layout.specs.declared.region.Module.{Module}
@@ -15,7 +15,8 @@ use Rattle.qr_bits.specs.Bits.{codeword_bit}
 use Rattle.qr_matrix.specs.Grid.{Grid, square, colour, painted, IsSquare}
 use Rattle.qr_symbol.specs.Mask.{inverts, inverted}
 use Rattle.qr_symbol.specs.Symbol.{word_bit, colour_by, colour_of, grid_of}
-use Rattle.qr_symbol.specs.Steps.Drawing.{fixed_colour, placed_colour, placed_if, number_after, number_along, placed_along, format_or, masked_colour, masked_grid, region_grid, plain_grid}
+use Rattle.qr_symbol.specs.Steps.Drawing.{placed_colour, placed_if, number_after, number_along, placed_along, masked_colour, masked_grid, region_grid, plain_grid}
+use Rattle.qr_symbol.specs.Steps.Patterns.{fixed_colour, format_or}
 use Rattle.qr_matrix.proofs.Facts.{same-place, square-same, colour-square, colour-painted-here, colour-painted-there}
 use Rattle.qr_symbol.proofs.KeptPlaceLemmas.{kept-in, kept-out, kept-push-in, kept-push-out}
 

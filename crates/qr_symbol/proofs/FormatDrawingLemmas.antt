@@ -11,7 +11,7 @@ use Rattle.qr_layout.proofs.Facts.{format-only, format-first, format-second}
 use Rattle.qr_matrix.specs.Grid.{Grid, square, colour, painted, IsSquare}
 use Rattle.qr_matrix.proofs.Facts.{same-place, square-same, colour-painted-here, colour-painted-there}
 use Rattle.qr_symbol.specs.Symbol.{word_bit}
-use Rattle.qr_symbol.specs.Steps.Drawing.{format_or}
+use Rattle.qr_symbol.specs.Steps.Patterns.{format_or}
 use Rattle.qr_symbol.proofs.DrawingLemmas.{at}
 
 -- the colour of a module once the bits below n are drawn

@@ -1,15 +1,14 @@
 -- The colours of row 6 and column 6.
-use Rattle.std.proofs.Common.{◌≡◌, ℕ, ◌+◌, ◌-◌, ◌%◌, ◌<◌, ◌≤◌, Bool, true, false, eqb, ltb, ◌&&◌, ◌||◌, Option, None, Some, refl, sym, ◌∙◌, ap, inl, inr, arith}
+use Rattle.std.proofs.Common.{◌≡◌, ℕ, ◌+◌, ◌-◌, ◌%◌, ◌<◌, ◌≤◌, Bool, true, false, eqb, ltb, ◌&&◌, ◌||◌, refl, sym, ◌∙◌, ap, inl, inr, arith}
 use Rattle.std.proofs.lemmas.Bool.{cases_lt}
 use Rattle.std.proofs.lemmas.Bool.Decides.{nat_tests}
 use Rattle.qr_layout.specs.declared.role.Role.TheVariants.{Fixed}
 use Rattle.std.specs.List.{list_any}
-use Rattle.std.specs.Prelude.{is_some}
 use Rattle.qr_layout.specs.Format.{version_word_of}
-use Rattle.qr_layout.specs.Steps.Rectangles.{is_in_rectangle, timing_lines}
+use Rattle.qr_layout.specs.Rectangles.{is_in_rectangle, timing_rectangles}
 use Rattle.qr_layout.specs.Version.{side_of}
 use Rattle.qr_layout.specs.Role.{finder_ring, pattern_colour, role_of}
-use Rattle.qr_symbol.specs.Steps.Drawing.{fixed_colour, is_dark_in_six, paint_of}
+use Rattle.qr_symbol.specs.Steps.Patterns.{fixed_colour, is_dark_in_six, paint_of}
 
 -- a place in ring 3 of a finder pattern is dark
 ring-three : (v r c : ℕ) → finder_ring (side_of v) r c ≡ 3 → role_of v r c ≡ Fixed true
@@ -86,19 +85,18 @@ column-six : (v at : ℕ) → 1 ≤ v → at < side_of v → role_of v at 6 ≡ 
 column-six v at l h =
     six v at 6 at (omega arith) h (λ k. omega arith) (λ k. omega arith) (λ k. omega arith) (λ k. omega arith) (λ k m. column-off v at (omega arith) k)
 
--- the colour that a module with a fixed colour is painted with
-pub paint-fixed : (v r c : ℕ) (format : Option ℕ) (dark : Bool) → role_of v r c ≡ Fixed dark → paint_of v format r c ≡ (is_some format && dark)
-unfolding paint_of fixed_colour
-paint-fixed v r c None dark e = refl
-paint-fixed v r c (Some w) dark e = ap (fixed_colour w (version_word_of v)) e
+-- a module with a fixed colour is painted with this colour
+pub paint-fixed : (v r c format : ℕ) (dark : Bool) → role_of v r c ≡ Fixed dark → paint_of v format r c ≡ dark
+unfolding fixed_colour
+paint-fixed v r c format dark e = ap (fixed_colour format (version_word_of v)) e
 
 -- the colour that a module of row 6 is painted with
-pub paint_row_six : (v at : ℕ) (format : Option ℕ) → 1 ≤ v → at < side_of v → paint_of v format 6 at ≡ (is_some format && is_dark_in_six (side_of v) at)
-paint_row_six v at format l h = paint-fixed v 6 at format (is_dark_in_six (side_of v) at) (row-six v at l h)
+pub paint-row_six : (v at format : ℕ) → 1 ≤ v → at < side_of v → is_dark_in_six (side_of v) at ≡ paint_of v format 6 at
+paint-row_six v at format l h = sym (paint-fixed v 6 at format (is_dark_in_six (side_of v) at) (row-six v at l h))
 
 -- the colour that a module of column 6 is painted with
-pub paint_column_six : (v at : ℕ) (format : Option ℕ) → 1 ≤ v → at < side_of v → paint_of v format at 6 ≡ (is_some format && is_dark_in_six (side_of v) at)
-paint_column_six v at format l h = paint-fixed v at 6 format (is_dark_in_six (side_of v) at) (column-six v at l h)
+pub paint-column_six : (v at format : ℕ) → 1 ≤ v → at < side_of v → is_dark_in_six (side_of v) at ≡ paint_of v format at 6
+paint-column_six v at format l h = sym (paint-fixed v at 6 format (is_dark_in_six (side_of v) at) (column-six v at l h))
 
 -- the painted modules of row 6 and column 6, with one module more of each
 pub six-more : (at r c : ℕ) → ((eqb r 6 && ltb c (at + 1)) || (eqb c 6 && ltb r (at + 1)))
@@ -110,5 +108,5 @@ pub six-none : (r c : ℕ) → ((eqb r 6 && ltb c 0) || (eqb c 6 && ltb r 0)) �
 six-none r c = grind (arith, nat_tests)
 
 -- at the end all modules of row 6 and column 6 are painted
-pub six-all : (s r c : ℕ) → r < s → c < s → ((eqb r 6 && ltb c s) || (eqb c 6 && ltb r s)) ≡ list_any (is_in_rectangle r c) (timing_lines s)
+pub six-all : (s r c : ℕ) → r < s → c < s → ((eqb r 6 && ltb c s) || (eqb c 6 && ltb r s)) ≡ list_any (is_in_rectangle r c) (timing_rectangles s)
 six-all s r c l m = grind (arith, nat_tests)

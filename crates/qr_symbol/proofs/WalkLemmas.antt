@@ -16,7 +16,8 @@ use Rattle.qr_matrix.specs.Grid.{Grid, square, colour, light, painted, IsSquare}
 use Rattle.qr_matrix.proofs.Facts.{square-same, colour-square}
 use Rattle.qr_symbol.specs.Mask.{inverts, inverted}
 use Rattle.qr_symbol.specs.Symbol.{colour_by, colour_of, grid_of}
-use Rattle.qr_symbol.specs.Steps.Drawing.{fixed_colour, walked_colour}
+use Rattle.qr_symbol.specs.Steps.Drawing.{walked_colour}
+use Rattle.qr_symbol.specs.Steps.Patterns.{fixed_colour}
 use Rattle.qr_symbol.proofs.BitLemmas.{differs-inverted}
 use Rattle.qr_symbol.proofs.DrawingLemmas.{at, by_test, Done, done-start, done-step, done-end, next-number, painted-square, whole-next, whole-push, in-square}
 

@@ -1,5 +1,6 @@
 -- Definitions of single steps of the code. Only the contracts of private functions use them, so a reader who judges the
 -- promises need not read them.
+pub mod Patterns
 pub mod Drawing
 pub mod Series
 pub mod Interleaving

@@ -6,8 +6,9 @@ ghost use Rattle.qr_layout.specs.Version.{side_of};
 ghost use Rattle.qr_matrix.specs.Grid.{IsSquare};
 ghost use Rattle.qr_symbol.specs.Steps.Drawing.{masked_grid, plain_grid, region_grid};
 
-use crate::drawing::{draw_codewords, draw_fixed, draw_format, draw_region};
+use crate::drawing::draw_codewords;
 use crate::mask::pattern;
+use crate::patterns::{draw_fixed, draw_format, draw_region};
 use qr_layout::{Level, Version, format_word};
 use qr_matrix::Matrix;
 use std::alloc::{AllocError, Global};

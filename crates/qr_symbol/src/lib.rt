@@ -12,6 +12,7 @@ mod interleaving;
 mod joining;
 pub mod laws;
 mod mask;
+mod patterns;
 mod reading;
 #[cfg(test)]
 mod samples;

@@ -8,10 +8,10 @@ ghost use Rattle.qr_layout.specs.declared.level.Level.{Level};
 ghost use Rattle.qr_layout.specs.Version.{side_of, total_codewords_of};
 ghost use Rattle.qr_symbol.specs.Reading.{IsFormat, IsRead, IsReading, IsUnread};
 
-use crate::drawing::{FORMAT_BITS, is_bit_set};
 use crate::fault::ReadFault;
 use crate::interleaving::deinterleave;
 use crate::mask::inverts;
+use crate::patterns::{FORMAT_BITS, is_bit_set};
 use qr_bits::{Parsed, parse};
 use qr_layout::{Level, Version, format_place, format_word, walk};
 use qr_matrix::Matrix;

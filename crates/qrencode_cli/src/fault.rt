@@ -33,9 +33,8 @@ impl Fault {
             Fault::Encode(EncodeFault::TooLong) => b"qrencode: input does not fit\n",
             Fault::Encode(EncodeFault::TooMany) => b"qrencode: more than 16 symbols\n",
             Fault::Read => b"qrencode: read error\n",
-            Fault::Usage(UsageFault::Memory) | Fault::Encode(EncodeFault::Memory) | Fault::Memory => {
-                b"qrencode: out of memory\n"
-            }
+            Fault::Usage(UsageFault::Memory) | Fault::Encode(EncodeFault::Memory) | Fault::Memory =>
+                { b"qrencode: out of memory\n" }
             Fault::Write => b"qrencode: write error\n",
         }
     }

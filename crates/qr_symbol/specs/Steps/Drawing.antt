@@ -1,10 +1,8 @@
 -- The colours of modules after single steps of drawing. A codeword bit is named by its number: bit 0 is the highest bit
 -- of the first codeword.
-use Rattle.std.specs.Prelude.{◌≡◌, ◌<◌, ℕ, ◌+◌, ◌-◌, ◌%◌, ◌==◌, ◌&&◌, ◌||◌, nat_le, nat_lt, Bool, false, if◌then◌else◌, List, [], ◌∷◌, Option, None, Some}
+use Rattle.std.specs.Prelude.{◌≡◌, ◌<◌, ℕ, ◌+◌, ◌-◌, ◌&&◌, Bool, if◌then◌else◌, List, [], ◌∷◌}
 use Rattle.qr_layout.specs.declared.level.Level.{Level}
 use Rattle.qr_layout.specs.declared.region.Module.{Module}
-use Rattle.qr_layout.specs.declared.role.Role.{Role}
-use Rattle.qr_layout.specs.declared.role.Role.TheVariants.{Fixed, FormatBit, VersionBit, Region}
 use Rattle.qr_layout.specs.Version.{side_of}
 use Rattle.qr_layout.specs.Format.{format_word_of, version_word_of}
 use Rattle.qr_layout.specs.Order.{number_of}
@@ -15,28 +13,8 @@ use Rattle.qr_matrix.specs.Grid.{Grid, square, colour, painted, transposed, IsSq
 use Rattle.qr_matrix.specs.Line.{has_bit}
 use Rattle.qr_symbol.specs.declared.drawing.Window.{Window}
 use Rattle.qr_symbol.specs.Mask.{inverts, inverted}
-use Rattle.qr_symbol.specs.Symbol.{word_bit}
+use Rattle.qr_symbol.specs.Steps.Patterns.{fixed_colour, format_or}
 use Rattle.qr_matrix.specs.Penalty.{penalty_of}
-
--- The colour of a module outside the encoding region by its role, where `format` and `version` are the words of the
--- format and the version information.
-unfoldable pub fixed_colour : ℕ → ℕ → Role → Bool
-fixed_colour format version (Fixed dark) = dark
-fixed_colour format version (FormatBit i) = word_bit format i
-fixed_colour format version (VersionBit i) = word_bit version i
-fixed_colour format version Region = false
-
--- The colour that a module outside the encoding region is painted with: light if there is no word of format information,
--- otherwise the module's colour by its role.
-unfoldable pub paint_of : ℕ → Option ℕ → ℕ → ℕ → Bool
-paint_of v None r c = false
-paint_of v (Some format) r c = fixed_colour format (version_word_of v) (role_of v r c)
-
--- `is_dark_in_six s at` is true if the module with index `at` of row 6, or of column 6, is dark, where s is the side.
--- The first seven and the last seven modules belong to finder patterns; the modules at even indices between them belong
--- to a timing pattern.
-abbrev pub is_dark_in_six : ℕ → ℕ → Bool
-is_dark_in_six s at = nat_lt at 7 || nat_le (s - 7) at || at % 2 == 0
 
 -- The colour in row r and column c once the codewords are placed: the codeword bit in the encoding region, `other r c`
 -- elsewhere.
@@ -90,14 +68,6 @@ pub record IsDrawnAcross (v : ℕ) (cw : List ℕ) (ms : List Module) (first : �
   pub number : next ≡ number_along v ms first
   pub placed : transposed after ≡ placed_along v cw ms first (transposed before)
   pub square : IsSquare (side_of v) after
-
--- The colour of a module after the format information is drawn: its bit of the format information if its role is such a
--- bit, otherwise the colour `other` that it had.
-unfoldable pub format_or : ℕ → Role → Bool → Bool
-format_or format (Fixed dark) other = other
-format_or format (FormatBit i) other = word_bit format i
-format_or format (VersionBit i) other = other
-format_or format Region other = other
 
 -- The colour in row r and column c of a symbol with its mask and format information. It is computed from `plain`, the
 -- symbol without mask and format information, and `region`, the square in which the encoding region is dark.

@@ -5,7 +5,8 @@ use Rattle.qr_layout.specs.Format.{format_word_of}
 use Rattle.qr_matrix.specs.Grid.{Grid, square, colour}
 use Rattle.qr_matrix.proofs.Facts.{filled, passed, fill-none, fill-line, fill-all, square-same, colour-square}
 use Rattle.qr_symbol.specs.Mask.{inverts, inverted}
-use Rattle.qr_symbol.specs.Steps.Drawing.{format_or, masked_colour}
+use Rattle.qr_symbol.specs.Steps.Drawing.{masked_colour}
+use Rattle.qr_symbol.specs.Steps.Patterns.{format_or}
 use Rattle.qr_symbol.proofs.DrawingLemmas.{square-is}
 use Rattle.qr_symbol.proofs.canvas.Canvas.draw_masked.Goals as goal
 

@@ -1,0 +1,69 @@
+//! The finder, separator and timing patterns, the format information and the version information, as rectangles. Together
+//! with the alignment patterns they are all modules outside the encoding region (ISO/IEC 18004:2015, 6.3).
+
+ghost use Rattle.std.specs.Prelude.{◌≡◌};
+ghost use Rattle.qr_layout.specs.Rectangles.{fixed_rectangles};
+
+use crate::version::Version;
+use arrayvec::ArrayVec;
+use std::ops::Range;
+
+/// A rectangle of modules: the rows from `top` to before `bottom`, and the columns from `left` to before `right`.
+#[derive(Clone, Copy, Default)]
+pub struct Rectangle {
+    pub top: u8,
+    pub bottom: u8,
+    pub left: u8,
+    pub right: u8,
+}
+
+impl Rectangle {
+    /// Returns the rectangle of these rows and columns.
+    pub fn new(rows: Range<u8>, columns: Range<u8>) -> Rectangle
+        ensures { result ≡ record { top = rows.start; bottom = rows.end; left = columns.start; right = columns.end } }
+    {
+        Rectangle {
+            top: rows.start,
+            bottom: rows.end,
+            left: columns.start,
+            right: columns.end,
+        }
+    }
+}
+
+/// Returns the rectangles of a version: the three corners, each with a finder pattern, its separator and the format
+/// information; row 6 and column 6, which have the timing patterns; and from version 7 on the two blocks of version
+/// information (ISO/IEC 18004:2015, 6.3.3 to 6.3.5, 7.9 and 7.10). Some of the rectangles overlap.
+pub fn fixed_rectangles(v: Version) -> ArrayVec<Rectangle, 7>
+    ensures { result.items ≡ fixed_rectangles v }
+{
+    let side = v.side();
+    let mut rectangles = ArrayVec::new();
+    rectangles.push(Rectangle::new(0..9, 0..9));
+    rectangles.push(Rectangle::new(0..9, side - 8..side));
+    rectangles.push(Rectangle::new(side - 8..side, 0..9));
+    rectangles.push(Rectangle::new(6..7, 0..side));
+    rectangles.push(Rectangle::new(0..side, 6..7));
+    if v.number() >= 7 {
+        rectangles.push(Rectangle::new(0..6, side - 11..side - 8));
+        rectangles.push(Rectangle::new(side - 11..side - 8, 0..6));
+    }
+    rectangles
+}
+
+#[cfg(test)]
+mod tests {
+    use super::*;
+    use std::test::Fail;
+
+    #[test]
+    fn rectangles_of_versions_6_and_7(rt: HostRuntime) -> Result<(), Fail> {
+        let sixth = fixed_rectangles(Version::new(6).ok_or("version 6")?);
+        assert!(rt; sixth.len() == 5, "no version information");
+        let seventh = fixed_rectangles(Version::new(7).ok_or("version 7")?);
+        assert!(rt; seventh.len() == 7, "two blocks of version information");
+        let last = seventh[6];
+        assert!(rt; (last.top, last.bottom) == (34, 37) && (last.left, last.right) == (0, 6));
+        Ok(())
+    }
+}

@@ -1,0 +1,13 @@
+use Rattle.std.proofs.Common.{◌≡◌, take}
+use Rattle.std.specs.List.{list_any}
+use Rattle.qr_layout.specs.Version.{side_of}
+use Rattle.qr_layout.specs.Rectangles.{is_in_rectangle}
+use Rattle.qr_matrix.specs.Grid.{colour}
+use Rattle.qr_symbol.specs.Steps.Patterns.{paint_of}
+use Rattle.qr_symbol.proofs.PaintLemmas.{over}
+use Rattle.qr_symbol.proofs.patterns.paint_rectangles.Given as goal
+
+abbrev pub invariant-loop-rectangle : goal.invariant-loop-rectangle
+invariant-loop-rectangle l = record {
+  so_far : l.matrix ≡ over (side_of l.fn.v) (λ r c. list_any (is_in_rectangle r c) (take l.rectangle-index l.rectangles)) (paint_of l.fn.v l.format) (colour l.fn.matrix);
+}

@@ -1,0 +1,281 @@
+//! Draws the function patterns, the format information and the version information of a symbol, and the encoding region,
+//! which is all the rest (ISO/IEC 18004:2015, 6.3, 7.9 and 7.10).
+
+ghost use Rattle.std.specs.Prelude.{◌≡◌, ℕ, ◌%◌, ◌+◌, ◌<◌, ◌≤◌, ◌==◌, ◌&&◌, not, if◌then◌else◌, nat_le, nat_lt, false};
+ghost use Rattle.std.specs.List.{list_any, All};
+ghost use Rattle.qr_layout.specs.Version.{side_of};
+ghost use Rattle.qr_layout.specs.Alignment.{alignment_places, centres_of};
+ghost use Rattle.qr_layout.specs.Region.{is_alignment, is_in_region, ring_of};
+ghost use Rattle.qr_layout.specs.Rectangles.{corner_rectangles, is_in_rectangle, timing_rectangles, version_rectangles};
+ghost use Rattle.qr_layout.specs.Steps.Rectangles.{IsInside, IsWithin};
+ghost use Rattle.qr_layout.specs.Role.{finder_ring, is_alignment_light, role_of};
+ghost use Rattle.qr_layout.specs.Format.{version_word_of};
+ghost use Rattle.qr_matrix.specs.Grid.{square, colour, light, IsSquare};
+ghost use Rattle.qr_symbol.specs.Symbol.{word_bit};
+ghost use Rattle.qr_symbol.specs.Steps.Patterns.{fixed_colour, format_or, is_dark_in_six, paint_of};
+ghost use Rattle.qr_symbol.specs.Steps.Drawing.{region_grid};
+
+use qr_layout::{
+    Module, Rectangle, Role, Version, alignment_centres, cell, fixed_rectangles, format_place,
+    second_format_place,
+};
+use qr_matrix::Matrix;
+
+// Returns bit `i` of a word of format or version information. Bit 0 is the lowest.
+pub(crate) fn is_bit_set(word: u32, i: u8) -> bool
+    ensures { result ≡ word_bit word i }
+{
+    i < 32 && word >> i & 1 == 1
+}
+
+// Returns the colour of a module outside the encoding region by its role.
+#[tactic(auto, unfolding(crate::specs::Steps::Patterns::fixed_colour))]
+fn fixed_colour(format: u32, version: u32, role: Role) -> bool
+    ensures { result ≡ fixed_colour format version role }
+{
+    match role {
+        Role::Fixed(dark) => dark,
+        Role::FormatBit(i) => is_bit_set(format, i),
+        Role::VersionBit(i) => is_bit_set(version, i),
+        Role::Region => false,
+    }
+}
+
+// Returns the colour of the module in this row and this column, which is outside the encoding region.
+fn paint(v: Version, format: u32, row: u8, col: u8) -> bool
+    requires row_in { row < side_of v }
+    requires col_in { col < side_of v }
+    ensures { result ≡ paint_of v format row col }
+{
+    let version = v.version_word().unwrap_or(0);
+    fixed_colour(format, version, cell(v, row, col))
+}
+
+// Paints the modules of row `row` in the columns from `left` to before `right`.
+fn paint_row(matrix: &mut Matrix, v: Version, format: u32, row: u8, left: u8, right: u8)
+    requires square { IsSquare (side_of v) matrix.old }
+    requires row_in { row < side_of v }
+    requires in_order { left ≤ right }
+    requires right_in { right ≤ side_of v }
+    ensures { matrix.new ≡ square (side_of v) (λ r c. if r == row && nat_le left c && nat_lt c right
+        then paint_of v format r c else colour matrix.old r c) }
+{
+    for col in left..right {
+        matrix.set(row, col, paint(v, format, row, col));
+    }
+}
+
+// Paints the modules of a rectangle.
+fn paint_rectangle(matrix: &mut Matrix, v: Version, format: u32, rectangle: Rectangle)
+    requires square { IsSquare (side_of v) matrix.old }
+    requires inside { IsWithin (side_of v) rectangle }
+    ensures { matrix.new ≡ square (side_of v) (λ r c. if is_in_rectangle r c rectangle
+        then paint_of v format r c else colour matrix.old r c) }
+{
+    for row in rectangle.top..rectangle.bottom {
+        paint_row(matrix, v, format, row, rectangle.left, rectangle.right);
+    }
+}
+
+// Paints the modules of all these rectangles.
+fn paint_rectangles(matrix: &mut Matrix, v: Version, format: u32, rectangles: &[Rectangle])
+    requires square { IsSquare (side_of v) matrix.old }
+    requires inside { All (IsWithin (side_of v)) rectangles.now }
+    ensures { matrix.new ≡ square (side_of v) (λ r c. if list_any (is_in_rectangle r c) rectangles.now
+        then paint_of v format r c else colour matrix.old r c) }
+{
+    for rectangle in rectangles {
+        paint_rectangle(matrix, v, format, *rectangle);
+    }
+}
+
+// Makes the modules of all these rectangles light.
+fn clear_rectangles(matrix: &mut Matrix, v: Version, rectangles: &[Rectangle])
+    requires square { IsSquare (side_of v) matrix.old }
+    requires inside { All (IsWithin (side_of v)) rectangles.now }
+    ensures { matrix.new ≡ square (side_of v) (λ r c. if list_any (is_in_rectangle r c) rectangles.now
+        then false else colour matrix.old r c) }
+{
+    for rectangle in rectangles {
+        let Rectangle {
+            top,
+            bottom,
+            left,
+            right,
+        } = *rectangle;
+        matrix.fill(top, bottom, left, right, false);
+    }
+}
+
+// Draws a finder pattern round its centre. The centre and the rings 1 and 3 round it are dark, and ring 2 is light.
+fn draw_finder(matrix: &mut Matrix, row: u8, col: u8)
+    requires row_least { 3 ≤ row }
+    requires row_most { row + 4 ≤ matrix.old.side }
+    requires col_least { 3 ≤ col }
+    requires col_most { col + 4 ≤ matrix.old.side }
+    requires side { matrix.old.side ≤ 177 }
+    ensures { matrix.new ≡ square matrix.old.side (λ r c. if nat_lt (ring_of row col r c) 4
+        then not (ring_of row col r c == 2) else colour matrix.old r c) }
+{
+    matrix.fill(row - 3, row + 4, col - 3, col + 4, true);
+    matrix.fill(row - 2, row + 3, col - 2, col + 3, false);
+    matrix.fill(row - 1, row + 2, col - 1, col + 2, true);
+}
+
+// Paints a finder pattern with this centre and its separator: the eight by eight modules whose top left module is
+// `block`.
+fn paint_finder(matrix: &mut Matrix, v: Version, block: Module, centre: Module)
+    requires square { IsSquare (side_of v) matrix.old }
+    requires bottom_in { block.row + 8 ≤ side_of v }
+    requires right_in { block.col + 8 ≤ side_of v }
+    requires row_least { block.row + 3 ≤ centre.row }
+    requires row_most { centre.row ≤ block.row + 4 }
+    requires col_least { block.col + 3 ≤ centre.col }
+    requires col_most { centre.col ≤ block.col + 4 }
+    requires nearest { (r c : ℕ) → ring_of centre.row centre.col r c ≤ 4 → finder_ring (side_of v) r c ≡ ring_of centre.row centre.col r c }
+    ensures { (format : ℕ) → matrix.new ≡ square (side_of v) (λ r c. if nat_le block.row r && nat_lt r (block.row + 8)
+        && nat_le block.col c && nat_lt c (block.col + 8) then paint_of v format r c else colour matrix.old r c) }
+{
+    matrix.fill(block.row, block.row + 8, block.col, block.col + 8, false);
+    draw_finder(matrix, centre.row, centre.col);
+}
+
+// Paints the corners: the finder patterns and separators, and the modules of row 8 and column 8 beside them.
+fn paint_corners(matrix: &mut Matrix, v: Version, format: u32)
+    requires { IsSquare (side_of v) matrix.old }
+    ensures { matrix.new ≡ square (side_of v) (λ r c. if list_any (is_in_rectangle r c) (corner_rectangles (side_of v))
+        then paint_of v format r c else colour matrix.old r c) }
+{
+    let side = v.side();
+    let (far, last) = (side - 8, side - 4);
+    let near = Module { row: 3, col: 3 };
+    let right = Module { row: 3, col: last };
+    let below = Module { row: last, col: 3 };
+    paint_finder(matrix, v, Module { row: 0, col: 0 }, near);
+    paint_finder(matrix, v, Module { row: 0, col: far }, right);
+    paint_finder(matrix, v, Module { row: far, col: 0 }, below);
+    let beside = [
+        Rectangle::new(8..9, 0..9),
+        Rectangle::new(8..9, far..side),
+        Rectangle::new(0..8, 8..9),
+        Rectangle::new(far..side, 8..9),
+    ];
+    paint_rectangles(matrix, v, format, &beside);
+}
+
+// Returns whether the module with index `at` of row 6, or of column 6, is dark. The first and the last seven modules
+// belong to finder patterns, and a timing pattern is between their separators (ISO/IEC 18004:2015, 6.3.5).
+fn is_dark_in_six(side: u8, at: u8) -> bool
+    ensures { result ≡ is_dark_in_six side at }
+{
+    at < 7 || at >= side.saturating_sub(7) || at % 2 == 0
+}
+
+// Paints the timing patterns.
+fn paint_timing(matrix: &mut Matrix, v: Version)
+    requires { IsSquare (side_of v) matrix.old }
+    ensures { (format : ℕ) → matrix.new ≡ square (side_of v) (λ r c. if list_any (is_in_rectangle r c) (timing_rectangles (side_of v))
+        then paint_of v format r c else colour matrix.old r c) }
+{
+    let side = v.side();
+    for at in 0..side {
+        let dark = is_dark_in_six(side, at);
+        matrix.set(6, at, dark);
+        matrix.set(at, 6, dark);
+    }
+}
+
+// Paints the version information, which versions from 7 on have. The first five of the fixed rectangles are the corners,
+// row 6 and column 6.
+fn paint_version(matrix: &mut Matrix, v: Version, format: u32)
+    requires { IsSquare (side_of v) matrix.old }
+    ensures { matrix.new ≡ square (side_of v) (λ r c. if list_any (is_in_rectangle r c)
+        (version_rectangles v (side_of v)) then paint_of v format r c else colour matrix.old r c) }
+{
+    let rectangles = fixed_rectangles(v);
+    paint_rectangles(matrix, v, format, &rectangles.as_slice()[5..]);
+}
+
+// Makes all modules of the alignment patterns dark or light, as `dark` says.
+fn fill_alignment(matrix: &mut Matrix, v: Version, centres: &[Module], dark: bool)
+    requires square { IsSquare (side_of v) matrix.old }
+    requires centres { centres.now ≡ alignment_places (side_of v) (centres_of v) }
+    requires inside { All (IsInside (side_of v)) centres.now }
+    ensures { matrix.new ≡ square (side_of v) (λ r c. if is_alignment v r c then dark else colour matrix.old r c) }
+{
+    for centre in centres {
+        let Module { row, col } = *centre;
+        matrix.fill(row - 2, row + 3, col - 2, col + 3, dark);
+    }
+}
+
+// Makes the ring of eight modules round a centre light.
+fn clear_ring(matrix: &mut Matrix, row: u8, col: u8)
+    requires row_least { 1 ≤ row }
+    requires row_most { row + 2 ≤ matrix.old.side }
+    requires col_least { 1 ≤ col }
+    requires col_most { col + 2 ≤ matrix.old.side }
+    requires side { matrix.old.side ≤ 177 }
+    ensures { matrix.new ≡ square matrix.old.side (λ r c. if ring_of row col r c == 1 then false
+        else colour matrix.old r c) }
+{
+    matrix.fill(row - 1, row, col - 1, col + 2, false);
+    matrix.fill(row + 1, row + 2, col - 1, col + 2, false);
+    matrix.fill(row, row + 1, col - 1, col, false);
+    matrix.fill(row, row + 1, col + 1, col + 2, false);
+}
+
+// Makes the light rings of the alignment patterns light.
+fn clear_rings(matrix: &mut Matrix, v: Version, centres: &[Module])
+    requires square { IsSquare (side_of v) matrix.old }
+    requires centres { centres.now ≡ alignment_places (side_of v) (centres_of v) }
+    requires inside { All (IsInside (side_of v)) centres.now }
+    ensures { matrix.new ≡ square (side_of v) (λ r c. if is_alignment_light v r c then false
+        else colour matrix.old r c) }
+{
+    for centre in centres {
+        clear_ring(matrix, centre.row, centre.col);
+    }
+}
+
+// Draws each module outside the encoding region in its colour.
+pub(crate) fn draw_fixed(matrix: &mut Matrix, v: Version, format: u32)
+    requires { IsSquare (side_of v) matrix.old }
+    ensures { matrix.new ≡ square (side_of v) (λ r c. if is_in_region v r c then colour matrix.old r c
+        else fixed_colour format (version_word_of v) (role_of v r c)) }
+{
+    let centres = alignment_centres(v);
+    fill_alignment(matrix, v, centres.as_slice(), true);
+    clear_rings(matrix, v, centres.as_slice());
+    paint_corners(matrix, v, format);
+    paint_timing(matrix, v);
+    paint_version(matrix, v, format);
+}
+
+// Makes each module of the encoding region dark and all other modules light. `matrix` must be light before.
+pub(crate) fn draw_region(matrix: &mut Matrix, v: Version)
+    requires { matrix.old ≡ light (side_of v) }
+    ensures { matrix.new ≡ region_grid v }
+{
+    let side = v.side();
+    matrix.fill(0, side, 0, side, true);
+    clear_rectangles(matrix, v, fixed_rectangles(v).as_slice());
+    fill_alignment(matrix, v, alignment_centres(v).as_slice(), false);
+}
+
+// The number of bits of the format information.
+pub(crate) const FORMAT_BITS: u8 = 15;
+
+// Draws the format information over a symbol, both times.
+pub(crate) fn draw_format(matrix: &mut Matrix, v: Version, format: u32)
+    requires { IsSquare (side_of v) matrix.old }
+    ensures { matrix.new ≡ square (side_of v) (λ r c. format_or format (role_of v r c) (colour matrix.old r c)) }
+{
+    for bit in 0..FORMAT_BITS {
+        let dark = is_bit_set(format, bit);
+        let first = format_place(bit);
+        matrix.set(first.row, first.col, dark);
+        let second = second_format_place(v, bit);
+        matrix.set(second.row, second.col, dark);
+    }
+}
