@@ -32,9 +32,15 @@ pub(crate) const SYMBOL_BYTES_MAX: usize = 7089;
 /// If the modules of the symbol are read in the order of the walk, unmasked, deinterleaved and parsed, the result is
 /// exactly the input, in these segments.
 ///
+/// # Errors
+///
 /// Returns `Empty` exactly if the input has no byte. Unless memory is refused, returns `TooLong` exactly if the input
 /// fits no version from `smallest` on. An input of more than 7,089 bytes fits no version, and is refused before any
-/// allocation.
+/// allocation. Returns `Memory` if memory is refused.
+///
+/// # Notes
+///
+/// The level comes before the version here, and after it in `encode_series`.
 pub fn encode(
     alloc: Global,
     input: &[u8],

@@ -84,7 +84,8 @@ fn are_in_series(contents: &[Parsed], parity: u8) -> bool
 ///
 /// # Errors
 ///
-/// `Series` if the contents do not belong together, or if there is no content; `Memory`.
+/// Returns `Series` if the contents do not belong together, or if there is no content. Returns `Memory` if memory is
+/// refused.
 pub fn join(alloc: Global, contents: &[Parsed]) -> Result<Vec<u8>, ReadFault>
     ensures { MatchResult result
         (λ bytes. BelongTogether contents.now × (bytes.items ≡ bytes_of_all contents.now))
@@ -102,6 +103,8 @@ pub fn join(alloc: Global, contents: &[Parsed]) -> Result<Vec<u8>, ReadFault>
 /// Reads the symbols and joins their bytes, in their order (ISO/IEC 18004:2015, 8): the symbols are one symbol without a
 /// header, or a whole series. The header of each symbol of a series must contain its position, counted from 0, the
 /// number of symbols less 1, and the parity of all bytes. Of each symbol only its matrix is read.
+///
+/// # Errors
 ///
 /// Returns the fault of the first symbol that cannot be read, before any header is checked. Returns `Series` if all
 /// symbols can be read but do not belong together, or if there is no symbol.

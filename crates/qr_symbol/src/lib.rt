@@ -1,5 +1,18 @@
-//! Encodes an input as one symbol or as a series of symbols, and reads symbols back. Interleaves codewords, places them
-//! in the square, and masks them.
+//! Encodes an input as one symbol or as a series of symbols, and reads symbols back.
+//!
+//! `encode` makes one symbol. Its square of modules is drawn row by row, here with `#` for a dark module:
+//!
+//! ```text
+//! let symbol = encode(alloc, words, Level::M, Version::FIRST, Rule::Auto)?;
+//! for row in 0..symbol.matrix.side() {
+//!     for col in 0..symbol.matrix.side() {
+//!         text.push(if symbol.matrix.dark(row, col) { b'#' } else { b' ' })?;
+//!     }
+//!     text.push(b'\n')?;
+//! }
+//! ```
+//!
+//! The crate `example_label` is this example with a contract. A drawing needs a light margin of four modules on each side.
 #![tactic(auto)]
 
 mod canvas;
@@ -25,6 +38,8 @@ pub use encoding::encode;
 pub use fault::{EncodeFault, ReadFault};
 pub use interleaving::{Cut, deinterleave, interleave};
 pub use joining::{join, read_series};
+pub use qr_bits::{INPUT_MAX, Rule};
+pub use qr_layout::{Level, Version};
 pub use qr_matrix::{Matrix, penalty};
 pub use reading::{read_codewords, read_symbol};
 pub use series::encode_series;

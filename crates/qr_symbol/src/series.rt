@@ -27,8 +27,18 @@ use std::alloc::Global;
 /// which modes the segments may have. Without kanji mode the series is the shortest possible: no cut into fewer parts
 /// fits.
 ///
-/// Returns `Empty` if the input has no byte, and `TooMany` if it has more than 16 parts. If kanji mode is not allowed,
-/// no other cut into 16 parts fits then.
+/// A series has at most 16 symbols. Each header contains the position of its symbol, the number of symbols and the parity
+/// of the whole input. If the symbols are read and joined, the result is exactly the input.
+///
+/// # Errors
+///
+/// Returns `Empty` exactly if the input has no byte. Unless memory is refused, returns `TooMany` exactly if the input has
+/// no series: it has more than 16 parts. If kanji mode is not allowed, no other cut into 16 parts fits then. Returns
+/// `Memory` if memory is refused.
+///
+/// # Notes
+///
+/// The version comes before the level here, and after it in `encode`.
 pub fn encode_series(
     alloc: Global,
     input: &[u8],
