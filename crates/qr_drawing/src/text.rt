@@ -155,11 +155,11 @@ static ASCII_QUADS: [[u8; 8]; 16] = [
 ];
 
 // Returns four modules as two characters each. Bit 0 of `bits` is the first module, and a set bit is a dark module.
-fn ascii_quad(bits: u8) -> [u8; 8]
+fn ascii_quad(bits: u8) -> &'static [u8; 8]
     requires { bits < 16 }
-    ensures { result ≡ bits_text 4 Plain bits 0 }
+    ensures { result.now ≡ bits_text 4 Plain bits 0 }
 {
-    ASCII_QUADS[usize::from(bits)]
+    &ASCII_QUADS[usize::from(bits)]
 }
 
 // Adds two modules and the two modules below them as two characters of half blocks. Bits 0 and 1 of `pair` are the upper
@@ -214,8 +214,8 @@ fn push_quad(text: &mut ArrayVec<u8, 1200>, style: TextStyle, upper: u8, lower: 
     ensures len { array_vec_len text.new ≤ array_vec_len text.old + 4 * cell_room style }
 {
     match style {
-        TextStyle::Plain => push_all(text, &ascii_quad(upper % 16)),
-        TextStyle::Inverse => push_all(text, &ascii_quad(15 - upper % 16)),
+        TextStyle::Plain => push_all(text, ascii_quad(upper % 16)),
+        TextStyle::Inverse => push_all(text, ascii_quad(15 - upper % 16)),
         TextStyle::HalfBlocks => push_half_block_quad(text, upper, lower),
     }
 }
