@@ -1,33 +1,74 @@
 -- The cells of a line by the bits of their modules, and the room that they take.
-use Rattle.std.proofs.Common.{◌≡◌, ◌++◌, ◌∙◌, ◌<◌, ◌≤◌, ◌+◌, ◌-◌, ◌*◌, ◌/◌, ◌%◌, ℕ, Bool, true, false, not, List, [], ◌∷◌, length, length-append, append_assoc, refl, sym, ap, arith}
+use Rattle.std.proofs.Common.{◌≡◌, ◌++◌, ◌∙◌, ◌<◌, ◌≤◌, ◌+◌, ◌-◌, ◌*◌, ◌/◌, ◌%◌, ◌^◌, ◌&&◌, ℕ, Bool, true, false, not, List, [], ◌∷◌, length, get_or, nat_eq, length-append, append_assoc, refl, sym, ap, arith}
 use Rattle.std.proofs.Math.Nat.{add-mul, mul-le-mul_right}
+use Rattle.std.specs.Cmp.Lexicographic.{pointwise, same_text}
 use Rattle.qr_matrix.specs.Grid.{Grid, colour}
 use Rattle.qr_matrix.specs.Line.{has_bit}
 use Rattle.qr_matrix.specs.Penalty.{is_same, all_below}
-use Rattle.qr_matrix.proofs.Facts.{below-at, same-same}
+use Rattle.qr_matrix.proofs.Facts.{&&-left, &&-right, below-at, has_bit-shr, low-bits, same-same}
 use Rattle.qr_drawing.specs.Raster.{is_dark_at, raster_width, texts_below}
-use Rattle.qr_drawing.specs.Text.{cell_of, cells_of_line}
-use Rattle.qr_drawing.specs.Steps.Text.{AreDark, cell_at, cell_room, cell_text, quad_text, top_row}
+use Rattle.qr_drawing.specs.Text.{cell_of, cells_of_line, half_blocks}
+use Rattle.qr_drawing.specs.Steps.Text.{AreDark, bits_text, cell_at, cell_room, cell_text, pair_text, top_row}
+use Rattle.qr_drawing.specs.declared.text.TheConstants.{ASCII_QUADS}
 use Rattle.qr_drawing.specs.declared.text.TextStyle.{TextStyle}
 use Rattle.qr_drawing.specs.declared.text.TextStyle.TheVariants.{Plain, Inverse, HalfBlocks}
 use Rattle.qr_drawing.proofs.LineLemmas.{texts_below-add, texts_below-alike, texts_below-length}
-use Rattle.qr_drawing.proofs.PathLemmas.{is_dark_at_inside}
+use Rattle.qr_drawing.proofs.PathLemmas.{is_dark_at_inside, is_dark_at_left, is_dark_at_right}
 
 -- no bit of 0 is set: computed
-none-set : all_below 4 (λ k. is_same (has_bit 0 k) false) ≡ true
+none-set : all_below 8 (λ k. is_same (has_bit 0 k) false) ≡ true
 unfolding has_bit
 none-set = refl
 
--- four places of a row of the raster that shows no row of the square
+-- eight places of a row of the raster that shows no row of the square
 pub dark_none : (margin : ℕ) (g : Grid) (y col : ℕ) → ((x : ℕ) → is_dark_at margin g y x ≡ false) → AreDark margin g y col 0
-dark_none margin g y col h k lt =
-    same-same (has_bit 0 k) false (below-at 4 (λ k. is_same (has_bit 0 k) false) none-set k lt) ∙ sym (h (margin + (col + k)))
+dark_none margin g y col h k lt inside =
+    same-same (has_bit 0 k) false (below-at 8 (λ k. is_same (has_bit 0 k) false) none-set k lt) ∙ sym (h (margin + (col + k)))
 
--- four places of a row of the raster that shows a row of the square
-pub dark_four : (margin : ℕ) (g : Grid) (y row col bits : ℕ) → margin + row ≡ y → row < g.side → col + 4 ≤ g.side
-    → ((k : ℕ) → k < 4 → has_bit bits k ≡ colour g row (col + k)) → AreDark margin g y col bits
-dark_four margin g y row col bits e inside fits h k lt =
-    h k lt ∙ sym (ap (λ r. is_dark_at margin g r (margin + (col + k))) (sym e) ∙ is_dark_at_inside margin row (col + k) g inside (omega arith))
+-- eight places of a row of the raster that shows a row of the square
+pub dark_eight : (margin : ℕ) (g : Grid) (y row col bits : ℕ) → margin + row ≡ y → row < g.side
+    → ((k : ℕ) → k < 8 → has_bit bits k ≡ colour g row (col + k)) → AreDark margin g y col bits
+dark_eight margin g y row col bits e inside h k lt col_in =
+    h k lt ∙ sym (ap (λ r. is_dark_at margin g r (margin + (col + k))) (sym e) ∙ is_dark_at_inside margin row (col + k) g inside col_in)
+
+-- the cells of n columns of the square
+pub bits-cells : (style : TextStyle) (margin : ℕ) (g : Grid) (row col n upper lower : ℕ) → n ≤ 8 → col + n ≤ g.side → AreDark margin g row col upper
+    → AreDark margin g (row + 1) col lower → bits_text n style upper lower ≡ texts_below n (λ k. cell_at style margin g row (margin + (col + k)))
+bits-cells style margin g row col n upper lower few fits u l =
+    texts_below-alike n (λ k. cell_text style (has_bit upper k) (has_bit lower k)) (λ k. cell_at style margin g row (margin + (col + k)))
+    (λ k lt. λ i. cell_text style (u k (omega arith) (omega arith) i) (l k (omega arith) (omega arith) i))
+
+-- the texts of n + d cells are those of the n lowest bits and of the d bits after them
+bits-split : (n d : ℕ) (style : TextStyle) (upper lower : ℕ)
+    → bits_text (n + d) style upper lower ≡ bits_text n style upper lower ++ bits_text d style (upper / 2 ^ n) (lower / 2 ^ n)
+bits-split n d style upper lower =
+    let up : (b k : ℕ) → has_bit b (n + k) ≡ has_bit (b / 2 ^ n) k = λ b k. let e : n + k ≡ k + n = omega arith in ap (has_bit b) e ∙ sym (has_bit-shr b n k) in
+    texts_below-add n d (λ k. cell_text style (has_bit upper k) (has_bit lower k))
+    ∙ ap (λ l. bits_text n style upper lower ++ l) (texts_below-alike d (λ k. cell_text style (has_bit upper (n + k)) (has_bit lower (n + k)))
+    (λ k. cell_text style (has_bit (upper / 2 ^ n) k) (has_bit (lower / 2 ^ n) k)) (λ k lt. λ i. cell_text style (up upper k i) (up lower k i)))
+
+-- eight cells that are added as four and four
+pub eight_quads : (h t u : List ℕ) (style : TextStyle) (upper lower : ℕ) → t ≡ h ++ bits_text 4 style upper lower
+    → u ≡ t ++ bits_text 4 style (upper / 16) (lower / 16) → u ≡ h ++ bits_text 8 style upper lower
+eight_quads h t u style upper lower p q =
+    q ∙ ap (λ l. l ++ bits_text 4 style (upper / 16) (lower / 16)) p
+    ∙ append_assoc h (bits_text 4 style upper lower) (bits_text 4 style (upper / 16) (lower / 16))
+    ∙ ap (λ l. h ++ l) (sym (bits-split 4 4 style upper lower))
+
+-- each text of the table is that of its four modules: computed
+all-quads : all_below 16 (λ b. pointwise nat_eq (get_or ASCII_QUADS b []) (bits_text 4 Plain b 0)) ≡ true
+unfolding has_bit texts_below
+all-quads = refl
+
+-- a text of the table
+pub quad-at : (b : ℕ) → b < 16 → get_or ASCII_QUADS b [] ≡ bits_text 4 Plain b 0
+quad-at b lt = same_text _ _ (sym (below-at 16 (λ b. pointwise nat_eq (get_or ASCII_QUADS b []) (bits_text 4 Plain b 0)) all-quads b lt))
+
+-- four modules by the four lowest bits
+pub quad_plain : (upper lower : ℕ) → bits_text 4 Plain (upper % 16) 0 ≡ bits_text 4 Plain upper lower
+quad_plain upper lower =
+    texts_below-alike 4 (λ k. cell_text Plain (has_bit (upper % 16) k) (has_bit 0 k)) (λ k. cell_text Plain (has_bit upper k) (has_bit lower k))
+    (λ k lt. ap (λ b. cell_text Plain b false) (low-bits 4 upper k lt))
 
 -- each of the four lowest bits of `15 - bits` is the opposite bit: computed
 all-others : all_below 16 (λ b. all_below 4 (λ k. is_same (has_bit (15 - b) k) (not (has_bit b k)))) ≡ true
@@ -39,17 +80,37 @@ other-bit : (b k : ℕ) → b < 16 → k < 4 → has_bit (15 - b) k ≡ not (has
 other-bit b k l m = same-same (has_bit (15 - b) k) (not (has_bit b k)) (below-at 4 (λ k. is_same (has_bit (15 - b) k) (not (has_bit b k))) (below-at 16 (λ b. all_below 4 (λ k. is_same (has_bit (15 - b) k) (not (has_bit b k)))) all-others b l) k m)
 
 -- four modules of an inverse text
-pub quad_inverse : (upper lower : ℕ) → upper < 16 → quad_text Plain (15 - upper) 0 ≡ quad_text Inverse upper lower
-quad_inverse upper lower small =
-    texts_below-alike 4 (λ k. cell_text Plain (has_bit (15 - upper) k) (has_bit 0 k)) (λ k. cell_text Inverse (has_bit upper k) (has_bit lower k))
-    (λ k lt. ap (λ b. cell_text Plain b false) (other-bit upper k small lt))
+pub quad_inverse : (upper lower : ℕ) → bits_text 4 Plain (15 - upper % 16) 0 ≡ bits_text 4 Inverse upper lower
+quad_inverse upper lower =
+    texts_below-alike 4 (λ k. cell_text Plain (has_bit (15 - upper % 16) k) (has_bit 0 k)) (λ k. cell_text Inverse (has_bit upper k) (has_bit lower k))
+    (λ k lt. ap (λ b. cell_text Plain b false) (other-bit (upper % 16) k (omega arith) lt ∙ ap (λ b. not b) (low-bits 4 upper k lt)))
 
--- the cells of four columns of the square
-pub quad-cells : (style : TextStyle) (margin : ℕ) (g : Grid) (row col upper lower : ℕ) → AreDark margin g row col upper → AreDark margin g (row + 1) col lower
-    → quad_text style upper lower ≡ texts_below 4 (λ k. cell_at style margin g row (margin + (col + k)))
-quad-cells style margin g row col upper lower u l =
-    texts_below-alike 4 (λ k. cell_text style (has_bit upper k) (has_bit lower k)) (λ k. cell_at style margin g row (margin + (col + k)))
-    (λ k lt. λ i. cell_text style (u k lt i) (l k lt i))
+-- the bits of two modules and of the two below them, as one number: computed
+all-pairs : all_below 4 (λ a. all_below 4 (λ b. all_below 2 (λ k. is_same (has_bit (a + b * 4) k) (has_bit a k) && is_same (has_bit (a + b * 4) (2 + k)) (has_bit b k)))) ≡ true
+unfolding has_bit
+all-pairs = refl
+
+-- two modules and the two below them as two characters of half blocks
+half-pair : (upper lower : ℕ) → pair_text (upper % 4 + lower % 4 * 4) ≡ bits_text 2 HalfBlocks upper lower
+half-pair upper lower =
+    let a = upper % 4 in
+    let b = lower % 4 in
+    let test = λ (a b k : ℕ). is_same (has_bit (a + b * 4) k) (has_bit a k) && is_same (has_bit (a + b * 4) (2 + k)) (has_bit b k) in
+    let both : (k : ℕ) → k < 2 → test a b k ≡ true = below-at 2 (test a b)
+    (below-at 4 (λ b. all_below 2 (test a b)) (below-at 4 (λ a. all_below 4 (λ b. all_below 2 (test a b))) all-pairs a (omega arith)) b (omega arith)) in
+    let up : (k : ℕ) → k < 2 → has_bit (a + b * 4) k ≡ has_bit upper k = λ k lt. same-same _ _ (&&-left _ _ (both k lt)) ∙ low-bits 2 upper k lt in
+    let down : (k : ℕ) → k < 2 → has_bit (a + b * 4) (2 + k) ≡ has_bit lower k = λ k lt. same-same _ _ (&&-right _ _ (both k lt)) ∙ low-bits 2 lower k lt in
+    texts_below-alike 2 (λ k. half_blocks (has_bit (a + b * 4) k) (has_bit (a + b * 4) (2 + k))) (λ k. cell_text HalfBlocks (has_bit upper k) (has_bit lower k))
+    (λ k lt. λ i. half_blocks (up k lt i) (down k lt i))
+
+-- four characters of half blocks that are added as two and two
+pub half_block_pairs : (h t u : List ℕ) (upper lower : ℕ) → t ≡ h ++ pair_text (upper % 4 + lower % 4 * 4)
+    → u ≡ t ++ pair_text (upper / 4 % 4 + lower / 4 % 4 * 4) → u ≡ h ++ bits_text 4 HalfBlocks upper lower
+half_block_pairs h t u upper lower p q =
+    let low = bits_text 2 HalfBlocks upper lower in
+    let high = bits_text 2 HalfBlocks (upper / 4) (lower / 4) in
+    q ∙ (λ i. p i ++ half-pair (upper / 4) (lower / 4) i) ∙ ap (λ l. (h ++ l) ++ high) (half-pair upper lower) ∙ append_assoc h low high
+    ∙ ap (λ l. h ++ l) (sym (bits-split 2 2 HalfBlocks upper lower))
 
 -- a cell takes at most its room
 pub cell-length : (style : TextStyle) (upper lower : Bool) → length (cell_text style upper lower) ≤ cell_room style
@@ -72,26 +133,47 @@ room-left h t n d o b room text most e le fits =
     let q : (n + d) * b ≤ o * b = mul-le-mul_right b le in
     omega arith
 
+-- if there was room for `last` cells, `first` cells and a newline, then after the `last` cells there is room for the rest
+pub room-light : (h t : List ℕ) (r last first room b : ℕ) (text : ℕ → List ℕ) → ((k : ℕ) → length (text k) ≤ b) → t ≡ h ++ texts_below last text
+    → r ≡ last + first → room ≡ b → length h + (r * room + 1) ≤ 1200 → length t + first * b ≤ 1199
+room-light h t r last first room b text most e sum same fits =
+    let p : r * room ≡ (last + first) * b = λ i. sum i * same i in
+    room-left h t last first (last + first) b 1199 text most e (omega arith) (omega arith)
+
 -- a cell of a line
 cell-of : (style : TextStyle) (margin : ℕ) (g : Grid) (y x : ℕ) → cell_of style margin g y x ≡ cell_at style margin g (top_row style y) x
 cell-of Plain margin g y x = refl
 cell-of Inverse margin g y x = refl
 cell-of HalfBlocks margin g y x = refl
 
--- a line is the cells of the margin, of the square's columns by fours, and of the remaining columns and margin, and a
--- newline
+-- the cells of columns that are light
+light-cells : (style : TextStyle) (margin : ℕ) (g : Grid) (row first n : ℕ) → ((y k : ℕ) → k < n → is_dark_at margin g y (first + k) ≡ false)
+    → texts_below n (λ i. cell_at style margin g row (first + i)) ≡ texts_below n (λ _. cell_text style false false)
+light-cells style margin g row first n light =
+    texts_below-alike n (λ i. cell_at style margin g row (first + i)) (λ _. cell_text style false false)
+    (λ k lt. λ i. cell_text style (light row k lt i) (light (row + 1) k lt i))
+
+-- a line is the light cells of the margin, the cells of the square's columns by fours, those of the remaining columns,
+-- the light cells of the margin, and a newline
 pub line-parts : (style : TextStyle) (margin : ℕ) (g : Grid) (y : ℕ) → cells_of_line style margin g y ++ 10 ∷ []
-    ≡ (texts_below margin (λ i. cell_at style margin g (top_row style y) (0 + i))
+    ≡ (texts_below margin (λ _. cell_text style false false)
     ++ texts_below (g.side / 4 * 4) (λ i. cell_at style margin g (top_row style y) (margin + i)))
-    ++ (texts_below (g.side % 4 + margin) (λ i. cell_at style margin g (top_row style y) (margin + g.side / 4 * 4 + i)) ++ 10 ∷ [])
+    ++ (texts_below (g.side % 4) (λ i. cell_at style margin g (top_row style y) (margin + g.side / 4 * 4 + i))
+    ++ (texts_below margin (λ _. cell_text style false false) ++ 10 ∷ []))
 line-parts style margin g y =
-    let cell = λ (x : ℕ). cell_at style margin g (top_row style y) x in
+    let row = top_row style y in
+    let cell = λ (x : ℕ). cell_at style margin g row x in
     let fours = g.side / 4 * 4 in
-    let rest = texts_below (g.side % 4 + margin) (λ i. cell (margin + fours + i)) in
-    let e : raster_width margin g ≡ margin + fours + (g.side % 4 + margin) = omega arith in
-    let left : texts_below margin cell ≡ texts_below margin (λ i. cell (0 + i)) =
-    texts_below-alike margin cell (λ i. cell (0 + i)) (λ k lt. ap cell (omega arith)) in
+    let light = texts_below margin (λ _. cell_text style false false) in
+    let columns = texts_below fours (λ i. cell (margin + i)) in
+    let rest = texts_below (g.side % 4) (λ i. cell (margin + fours + i)) in
+    let e : raster_width margin g ≡ margin + fours + g.side % 4 + margin = omega arith in
+    let left : texts_below margin cell ≡ light =
+    texts_below-alike margin cell (λ k. cell (0 + k)) (λ k lt. ap cell (omega arith)) ∙ light-cells style margin g row 0 margin (λ y k lt. is_dark_at_left margin y (0 + k) g (omega arith)) in
+    let right : texts_below margin (λ i. cell (margin + fours + g.side % 4 + i)) ≡ light =
+    light-cells style margin g row (margin + fours + g.side % 4) margin (λ y k lt. is_dark_at_right margin y (margin + fours + g.side % 4 + k) g (omega arith)) in
     ap (λ l. l ++ 10 ∷ []) (texts_below-alike (raster_width margin g) (cell_of style margin g y) cell (λ k lt. cell-of style margin g y k)
-    ∙ ap (λ n. texts_below n cell) e ∙ texts_below-add (margin + fours) (g.side % 4 + margin) cell
-    ∙ ap (λ l. l ++ rest) (texts_below-add margin fours cell ∙ ap (λ l. l ++ texts_below fours (λ i. cell (margin + i))) left))
-    ∙ append_assoc (texts_below margin (λ i. cell (0 + i)) ++ texts_below fours (λ i. cell (margin + i))) rest (10 ∷ [])
+    ∙ ap (λ n. texts_below n cell) e ∙ texts_below-add (margin + fours + g.side % 4) margin cell
+    ∙ (λ i. (texts_below-add (margin + fours) (g.side % 4) cell ∙ ap (λ l. l ++ rest) (texts_below-add margin fours cell ∙ ap (λ l. l ++ columns) left)) i ++ right i)
+    ∙ append_assoc (light ++ columns) rest light)
+    ∙ append_assoc (light ++ columns) (rest ++ light) (10 ∷ []) ∙ ap (λ l. (light ++ columns) ++ l) (append_assoc rest light (10 ∷ []))

@@ -1,13 +1,12 @@
 //! Draws symbols as lines of text. A cell of a line is two characters for a module, or one character for two modules,
 //! one above the other.
 
-ghost use Rattle.std.specs.Prelude.{◌≡◌, ℕ, ◌≤◌, ◌<◌, ◌+◌, ◌-◌, ◌*◌, ◌/◌, ◌%◌, ◌++◌, ◌∷◌, [], map, IfSome};
+ghost use Rattle.std.specs.Prelude.{◌≡◌, ℕ, ◌≤◌, ◌<◌, ◌+◌, ◌-◌, ◌*◌, ◌/◌, ◌%◌, ◌++◌, ◌∷◌, [], false, map, IfSome};
 ghost use Rattle.std.specs.List.{flat_map};
 ghost use Rattle.arrayvec.specs.ArrayVec.{array_vec_len};
-ghost use Rattle.qr_matrix.specs.Line.{has_bit};
 ghost use Rattle.qr_drawing.specs.Raster.{texts_below};
 ghost use Rattle.qr_drawing.specs.Text.{ascii_module, half_blocks, line_count, cells_of_line, text_drawing};
-ghost use Rattle.qr_drawing.specs.Steps.Text.{AreDark, ShowsRow, cell_at, cell_room, cell_text, quad_text, top_row};
+ghost use Rattle.qr_drawing.specs.Steps.Text.{AreDark, ShowsRow, bits_text, cell_at, cell_room, cell_text, pair_text, top_row};
 ghost use Rattle.qr_drawing.specs.Steps.Pen.{Puts};
 ghost use Rattle.qr_drawing.specs.declared.text.TextStyle.TheVariants.{HalfBlocks, Plain};
 
@@ -69,8 +68,7 @@ fn push_module(text: &mut ArrayVec<u8, 1200>, dark: bool)
     ensures { text.new.items ≡ text.old.items ++ ascii_module dark }
 {
     let character = if dark { b'#' } else { b' ' };
-    text.push(character);
-    text.push(character);
+    push_all(text, &[character; 2]);
 }
 
 // Adds two modules as one character of half blocks, of which the filled parts are light modules.
@@ -120,135 +118,133 @@ fn square_row(matrix: &Matrix, margin: u8, row: u16) -> Option<u8>
     Some((row - first) as u8)
 }
 
-// Returns the colours of four modules of a row of the square, from column `col` on, which is a multiple of four. Bit 0
-// is the module in column `col`; a bit is set if its module is dark. All four are light if `row` is `None`.
+// Returns the colours of eight modules of a row of the square, from column `col` on, which is a multiple of eight. Bit 0
+// is the module in column `col`; a bit is set if its module is dark. All eight are light if `row` is `None`.
 #[inline(always)]
 #[tactic(auto, using(crate::proofs::CellLemmas::dark_none))]
 fn dark_bits(matrix: &Matrix, row: Option<u8>, col: u8) -> u8
     requires row_in { IfSome row (λ r. r < matrix.now.side) }
-    requires col_in { col + 4 ≤ matrix.now.side }
-    requires whole { col % 4 ≡ 0 }
-    ensures small { result < 16 }
-    ensures dark { (margin y : ℕ) → ShowsRow margin matrix.now y row → AreDark margin matrix.now y col result }
+    requires col_in { col < matrix.now.side }
+    requires whole { col % 8 ≡ 0 }
+    ensures { (margin y : ℕ) → ShowsRow margin matrix.now y row → AreDark margin matrix.now y col result }
 {
     match row {
-        Some(row) => matrix.four(row, col),
+        Some(row) => matrix.eight(row, col),
         None => 0,
     }
 }
 
+// The texts of four modules, as two characters each. Bit 0 of the index is the first module, and a set bit is a dark module.
+static ASCII_QUADS: [[u8; 8]; 16] = [
+    *b"        ",
+    *b"##      ",
+    *b"  ##    ",
+    *b"####    ",
+    *b"    ##  ",
+    *b"##  ##  ",
+    *b"  ####  ",
+    *b"######  ",
+    *b"      ##",
+    *b"##    ##",
+    *b"  ##  ##",
+    *b"####  ##",
+    *b"    ####",
+    *b"##  ####",
+    *b"  ######",
+    *b"########",
+];
+
 // Returns four modules as two characters each. Bit 0 of `bits` is the first module, and a set bit is a dark module.
-#[tactic(auto, unfolding(qr_matrix::specs::Line::has_bit, crate::specs::Raster::texts_below))]
-fn ascii_quad(bits: u8) -> [u8; 8]
+fn ascii_quad(bits: u8) -> &'static [u8; 8]
     requires { bits < 16 }
-    ensures { result ≡ quad_text Plain bits 0 }
+    ensures { result.now ≡ bits_text 4 Plain bits 0 }
 {
-    match bits {
-        0 => *b"        ",
-        1 => *b"##      ",
-        2 => *b"  ##    ",
-        3 => *b"####    ",
-        4 => *b"    ##  ",
-        5 => *b"##  ##  ",
-        6 => *b"  ####  ",
-        7 => *b"######  ",
-        8 => *b"      ##",
-        9 => *b"##    ##",
-        10 => *b"  ##  ##",
-        11 => *b"####  ##",
-        12 => *b"    ####",
-        13 => *b"##  ####",
-        14 => *b"  ######",
-        _ => *b"########",
-    }
+    &ASCII_QUADS[usize::from(bits)]
 }
 
-// Returns whether bit `place` of `bits` is set, where `place` is less than four.
-#[tactic(auto, using(std::proofs::lemmas::Nat::Bits::shr_and_one), unfolding(qr_matrix::specs::Line::has_bit))]
-fn is_set(bits: u8, place: u8) -> bool
-    requires { place < 4 }
-    ensures { result ≡ has_bit bits place }
+// Adds two modules and the two modules below them as two characters of half blocks. Bits 0 and 1 of `pair` are the upper
+// modules, and bits 2 and 3 are the lower modules.
+#[inline(always)]
+#[tactic(auto, unfolding(qr_matrix::specs::Line::has_bit, crate::specs::Raster::texts_below))]
+fn push_half_block_pair(text: &mut ArrayVec<u8, 1200>, pair: u8)
+    requires small { pair < 16 }
+    requires room { array_vec_len text.old + 6 ≤ 1200 }
+    ensures items { text.new.items ≡ text.old.items ++ pair_text pair }
+    ensures len { array_vec_len text.new ≤ array_vec_len text.old + 6 }
 {
-    bits >> place & 1 == 1
+    match pair {
+        0 => push_all(text, b"\xE2\x96\x88\xE2\x96\x88"),
+        1 => push_all(text, b"\xE2\x96\x84\xE2\x96\x88"),
+        2 => push_all(text, b"\xE2\x96\x88\xE2\x96\x84"),
+        3 => push_all(text, b"\xE2\x96\x84\xE2\x96\x84"),
+        4 => push_all(text, b"\xE2\x96\x80\xE2\x96\x88"),
+        5 => push_all(text, b" \xE2\x96\x88"),
+        6 => push_all(text, b"\xE2\x96\x80\xE2\x96\x84"),
+        7 => push_all(text, b" \xE2\x96\x84"),
+        8 => push_all(text, b"\xE2\x96\x88\xE2\x96\x80"),
+        9 => push_all(text, b"\xE2\x96\x84\xE2\x96\x80"),
+        10 => push_all(text, b"\xE2\x96\x88 "),
+        11 => push_all(text, b"\xE2\x96\x84 "),
+        12 => push_all(text, b"\xE2\x96\x80\xE2\x96\x80"),
+        13 => push_all(text, b" \xE2\x96\x80"),
+        14 => push_all(text, b"\xE2\x96\x80 "),
+        _ => push_all(text, b"  "),
+    }
 }
 
 // Adds four modules and the four modules below them as four characters of half blocks. Bit 0 of `upper` and of `lower`
 // is the first module.
-#[tactic(auto, unfolding(crate::specs::Raster::texts_below))]
+#[inline(always)]
+#[tactic(auto, using(crate::proofs::CellLemmas::half_block_pairs))]
 fn push_half_block_quad(text: &mut ArrayVec<u8, 1200>, upper: u8, lower: u8)
     requires room { array_vec_len text.old + 12 ≤ 1200 }
-    ensures { text.new.items ≡ text.old.items ++ quad_text HalfBlocks upper lower }
+    ensures items { text.new.items ≡ text.old.items ++ bits_text 4 HalfBlocks upper lower }
+    ensures len { array_vec_len text.new ≤ array_vec_len text.old + 12 }
 {
-    push_half_block(text, is_set(upper, 0), is_set(lower, 0));
-    push_half_block(text, is_set(upper, 1), is_set(lower, 1));
-    push_half_block(text, is_set(upper, 2), is_set(lower, 2));
-    push_half_block(text, is_set(upper, 3), is_set(lower, 3));
+    push_half_block_pair(text, upper % 4 + lower % 4 * 4);
+    push_half_block_pair(text, upper / 4 % 4 + lower / 4 % 4 * 4);
 }
 
 // Adds four cells. Bit 0 of `upper` and of `lower` is the first cell.
 #[inline(always)]
-#[tactic(auto, using(crate::proofs::CellLemmas::quad_inverse))]
+#[tactic(auto, using(crate::proofs::CellLemmas::quad_plain, crate::proofs::CellLemmas::quad_inverse))]
 fn push_quad(text: &mut ArrayVec<u8, 1200>, style: TextStyle, upper: u8, lower: u8)
-    requires small { upper < 16 }
     requires room { array_vec_len text.old + 4 * cell_room style ≤ 1200 }
-    ensures { text.new.items ≡ text.old.items ++ quad_text style upper lower }
+    ensures items { text.new.items ≡ text.old.items ++ bits_text 4 style upper lower }
+    ensures len { array_vec_len text.new ≤ array_vec_len text.old + 4 * cell_room style }
 {
     match style {
-        TextStyle::Plain => push_all(text, &ascii_quad(upper)),
-        TextStyle::Inverse => push_all(text, &ascii_quad(15 - upper)),
+        TextStyle::Plain => push_all(text, ascii_quad(upper % 16)),
+        TextStyle::Inverse => push_all(text, ascii_quad(15 - upper % 16)),
         TextStyle::HalfBlocks => push_half_block_quad(text, upper, lower),
     }
 }
 
-// Adds `count` cells of row `row` of the raster, from column `first` on.
-fn push_cells(
-    text: &mut ArrayVec<u8, 1200>,
-    style: TextStyle,
-    matrix: &Matrix,
-    margin: u8,
-    row: u16,
-    first: u16,
-    count: u16,
-)
-    requires row_in { row < 2000 }
-    requires first_in { first < 1000 }
-    requires room { array_vec_len text.old + count * cell_room style ≤ 1200 }
-    ensures { text.new.items ≡ text.old.items ++ texts_below count (λ i. cell_at style margin matrix.now row (first + i)) }
+// Adds eight cells. Bit 0 of `upper` and of `lower` is the first cell.
+#[inline(always)]
+#[tactic(auto, using(crate::proofs::CellLemmas::eight_quads))]
+fn push_eight(text: &mut ArrayVec<u8, 1200>, style: TextStyle, upper: u8, lower: u8)
+    requires room { array_vec_len text.old + 8 * cell_room style ≤ 1200 }
+    ensures { text.new.items ≡ text.old.items ++ bits_text 8 style upper lower }
 {
-    match style {
-        TextStyle::Plain => push_cells_of(
-            text,
-            TextStyle::Plain,
-            matrix,
-            margin,
-            row,
-            first,
-            count,
-        ),
-        TextStyle::Inverse => push_cells_of(
-            text,
-            TextStyle::Inverse,
-            matrix,
-            margin,
-            row,
-            first,
-            count,
-        ),
-        TextStyle::HalfBlocks => push_cells_of(
-            text,
-            TextStyle::HalfBlocks,
-            matrix,
-            margin,
-            row,
-            first,
-            count,
-        ),
+    push_quad(text, style, upper, lower);
+    push_quad(text, style, upper / 16, lower / 16);
+}
+
+// Adds `count` light cells.
+#[inline(always)]
+fn push_light(text: &mut ArrayVec<u8, 1200>, style: TextStyle, count: u16)
+    requires room { array_vec_len text.old + count * cell_room style ≤ 1200 }
+    ensures { text.new.items ≡ text.old.items ++ texts_below count (λ _. cell_text style false false) }
+{
+    for done in 0..count {
+        push_cell(text, style, false, false);
     }
 }
 
-// Does what `push_cells` does. It is compiled once for each style, so that its loop does not branch on the style.
+// Adds `count` cells of row `row` of the raster, from column `first` on.
 #[inline(always)]
-fn push_cells_of(
+fn push_cells(
     text: &mut ArrayVec<u8, 1200>,
     style: TextStyle,
     matrix: &Matrix,
@@ -270,30 +266,10 @@ fn push_cells_of(
     }
 }
 
-// Adds the cells of the square's columns in row `row` of the raster, four at a time. The last columns are not added if
-// fewer than four are left.
-fn push_quads(
-    text: &mut ArrayVec<u8, 1200>,
-    style: TextStyle,
-    matrix: &Matrix,
-    margin: u8,
-    row: u16,
-)
-    requires row_in { row < 2000 }
-    requires room { array_vec_len text.old + matrix.now.side * cell_room style ≤ 1200 }
-    ensures { text.new.items
-        ≡ text.old.items ++ texts_below (matrix.now.side / 4 * 4) (λ i. cell_at style margin matrix.now row (margin + i)) }
-{
-    match style {
-        TextStyle::Plain => push_quads_of(text, TextStyle::Plain, matrix, margin, row),
-        TextStyle::Inverse => push_quads_of(text, TextStyle::Inverse, matrix, margin, row),
-        TextStyle::HalfBlocks => push_quads_of(text, TextStyle::HalfBlocks, matrix, margin, row),
-    }
-}
-
-// Does what `push_quads` does. It is compiled once for each style.
+// Adds the cells of the square's columns in row `row` of the raster, eight at a time, and then four if four are left.
+// The last columns are not added if fewer than four are left.
 #[inline(always)]
-fn push_quads_of(
+fn push_columns(
     text: &mut ArrayVec<u8, 1200>,
     style: TextStyle,
     matrix: &Matrix,
@@ -309,16 +285,22 @@ fn push_quads_of(
     let lower_row = square_row(matrix, margin, row + 1);
     let end = matrix.side() / 4 * 4;
     let mut col = 0;
-    'quads: while col < end {
+    'eights: while end - col >= 8 {
+        let upper = dark_bits(matrix, upper_row, col);
+        let lower = dark_bits(matrix, lower_row, col);
+        push_eight(text, style, upper, lower);
+        col += 8;
+    }
+    if col < end {
         let upper = dark_bits(matrix, upper_row, col);
         let lower = dark_bits(matrix, lower_row, col);
         push_quad(text, style, upper, lower);
-        col += 4;
     }
 }
 
-// Writes line `y` through `pen`: the margin, the columns of the square by fours, and then the remaining columns and the
-// margin.
+// Writes line `y` through `pen`: the margin, the columns of the square by eights and by fours, and then the remaining
+// columns and the margin.
+#[inline(always)]
 fn put_line<W: Sink>(
     pen: &mut Pen,
     out: &mut W,
@@ -334,12 +316,12 @@ fn put_line<W: Sink>(
     let room = cell_room(style);
     let row = top_row(style, y);
     let first = u16::from(margin);
-    let rest = u16::from(matrix.side() % 4) + first;
-    pen.reserve(out, usize::from(margin) * room)?;
-    push_cells(&mut pen.piece, style, matrix, margin, row, 0, first);
+    let last = u16::from(matrix.side() % 4);
+    pen.reserve(out, usize::from(first) * room)?;
+    push_light(&mut pen.piece, style, first);
     pen.reserve(out, usize::from(matrix.side()) * room)?;
-    push_quads(&mut pen.piece, style, matrix, margin, row);
-    pen.reserve(out, usize::from(rest) * room + 1)?;
+    push_columns(&mut pen.piece, style, matrix, margin, row);
+    pen.reserve(out, usize::from(last + first) * room + 1)?;
     push_cells(
         &mut pen.piece,
         style,
@@ -347,14 +329,36 @@ fn put_line<W: Sink>(
         margin,
         row,
         first + u16::from(matrix.side() / 4 * 4),
-        rest,
+        last,
     );
+    push_light(&mut pen.piece, style, first);
     pen.piece.push(b'\n');
     Ok(())
 }
 
 // Writes the lines of a symbol through `pen`.
+#[inline(never)]
 fn put_lines<W: Sink>(
+    pen: &mut Pen,
+    out: &mut W,
+    style: TextStyle,
+    matrix: &Matrix,
+    margin: u8,
+) -> Result<(), DrawFault>
+    ensures { Puts (W.device out.old) (W.device out.new)
+        pen.old pen.new (text_drawing style margin matrix.now) result }
+{
+    match style {
+        TextStyle::Plain => put_lines_of(pen, out, TextStyle::Plain, matrix, margin),
+        TextStyle::Inverse => put_lines_of(pen, out, TextStyle::Inverse, matrix, margin),
+        TextStyle::HalfBlocks => put_lines_of(pen, out, TextStyle::HalfBlocks, matrix, margin),
+    }
+}
+
+// Does what `put_lines` does. It is compiled once for each style, with all that it calls, so that no loop branches on the
+// style.
+#[inline(always)]
+fn put_lines_of<W: Sink>(
     pen: &mut Pen,
     out: &mut W,
     style: TextStyle,

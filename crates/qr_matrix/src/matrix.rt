@@ -73,6 +73,17 @@ impl Matrix {
         self.rows[usize::from(row)].four(col)
     }
 
+    /// Returns eight modules of a row, from column `col` on, as a number. Column `col` is the lowest bit; `col` is a multiple
+    /// of eight. The bits of columns from the side on are 0.
+    pub fn eight(&self, row: u8, col: u8) -> u8
+        requires row_in { row < self.now.side }
+        requires col_in { col < self.now.side }
+        requires whole { col % 8 ≡ 0 }
+        ensures { (k : ℕ) → k < 8 → has_bit result k ≡ colour self.now row (col + k) }
+    {
+        self.rows[usize::from(row)].eight(col)
+    }
+
     /// Returns the end of the run of equal modules from `col` on: the least column after `col` whose
     /// colour in this row differs from that at `col`, or the side if there is no such column.
     pub fn run_end(&self, row: u8, col: u8) -> u8

@@ -30,14 +30,19 @@ cell_text HalfBlocks upper lower = half_blocks upper lower
 abbrev pub cell_at : TextStyle → ℕ → Grid → ℕ → ℕ → List ℕ
 cell_at style margin g row x = cell_text style (is_dark_at margin g row x) (is_dark_at margin g (row + 1) x)
 
--- `quad_text style upper lower` is the texts of four cells; bit 0 of `upper` and of `lower` is the first cell
-abbrev pub quad_text : TextStyle → ℕ → ℕ → List ℕ
-quad_text style upper lower = texts_below 4 (λ k. cell_text style (has_bit upper k) (has_bit lower k))
+-- `bits_text n style upper lower` is the texts of n cells; bit 0 of `upper` and of `lower` is the first cell
+abbrev pub bits_text : ℕ → TextStyle → ℕ → ℕ → List ℕ
+bits_text n style upper lower = texts_below n (λ k. cell_text style (has_bit upper k) (has_bit lower k))
 
--- `AreDark margin g row col bits` holds if each of the four lowest bits is set exactly if its module is dark: bit 0 is
--- the module in column `col` of the square, in row `row` of the raster
+-- `pair_text pair` is the texts of two cells of half blocks; bits 0 and 1 of `pair` are the upper modules, and bits 2
+-- and 3 are the lower modules
+abbrev pub pair_text : ℕ → List ℕ
+pair_text pair = texts_below 2 (λ k. half_blocks (has_bit pair k) (has_bit pair (2 + k)))
+
+-- `AreDark margin g row col bits` holds if each of the eight lowest bits whose module is in the square is set exactly if
+-- this module is dark: bit 0 is the module in column `col` of the square, in row `row` of the raster
 abbrev pub AreDark : ℕ → Grid → ℕ → ℕ → ℕ → Type 0
-AreDark margin g row col bits = (k : ℕ) → k < 4 → has_bit bits k ≡ is_dark_at margin g row (margin + (col + k))
+AreDark margin g row col bits = (k : ℕ) → k < 8 → col + k < g.side → has_bit bits k ≡ is_dark_at margin g row (margin + (col + k))
 
 -- `ShowsRow margin g row r` holds if row `row` of the raster shows row `r` of the square. If `r` is `None`, it holds if
 -- the whole row of the raster is light

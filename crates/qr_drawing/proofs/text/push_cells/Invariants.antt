@@ -1,7 +1,7 @@
 use Rattle.std.proofs.Common.{◌≡◌, ◌+◌, ◌++◌}
 use Rattle.qr_drawing.specs.Raster.{texts_below}
 use Rattle.qr_drawing.specs.Steps.Text.{cell_at}
-use Rattle.qr_drawing.proofs.text.push_cells_of.Given as goal
+use Rattle.qr_drawing.proofs.text.push_cells.Given as goal
 
 abbrev pub invariant-loop-done : goal.invariant-loop-done
 invariant-loop-done l = l.text.items ≡ l.fn.text.items ++ texts_below l.done (λ i. cell_at l.style l.margin l.matrix l.row (l.first + i))

@@ -1,15 +1,15 @@
 use Rattle.std.proofs.Common.{◌≡◌, ◌≤◌, ◌+◌, ◌-◌, ◌*◌, ◌/◌, ◌%◌, ◌++◌}
 use Rattle.qr_drawing.specs.Raster.{texts_below}
 use Rattle.qr_drawing.specs.Steps.Text.{cell_at}
-use Rattle.qr_drawing.proofs.text.push_quads_of.Given as goal
+use Rattle.qr_drawing.proofs.text.push_columns.Given as goal
 
-abbrev pub invariant-quads : goal.invariant-quads
-invariant-quads l = record {
+abbrev pub invariant-eights : goal.invariant-eights
+invariant-eights l = record {
   end : l.end ≡ l.matrix.side / 4 * 4;
   within : l.col ≤ l.end;
-  whole : l.col % 4 ≡ 0;
+  whole : l.col % 8 ≡ 0;
   items : l.text.items ≡ l.fn.text.items ++ texts_below l.col (λ i. cell_at l.style l.margin l.matrix l.row (l.margin + i));
 }
 
-abbrev pub decreases-quads : goal.decreases-quads
-decreases-quads l = l.end - l.col
+abbrev pub decreases-eights : goal.decreases-eights
+decreases-eights l = l.end - l.col

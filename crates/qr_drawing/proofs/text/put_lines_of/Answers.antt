@@ -2,7 +2,7 @@ use Rattle.std.proofs.Common.{◌++◌, ◌∷◌, [], refl}
 use Rattle.std.proofs.lemmas.Result.{err_from_is_err_and}
 use Rattle.qr_drawing.specs.Text.{cells_of_line}
 use Rattle.qr_drawing.proofs.LineLemmas.{no-texts, put_next, put_none, put_stops}
-use Rattle.qr_drawing.proofs.text.put_lines.Goals as goal
+use Rattle.qr_drawing.proofs.text.put_lines_of.Goals as goal
 
 pub loop-y-init : goal.loop-y-init
 loop-y-init g c = put_none _ _ _ _ _ (no-texts _)

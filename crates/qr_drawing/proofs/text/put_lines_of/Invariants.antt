@@ -2,7 +2,7 @@ use Rattle.std.proofs.Common.{◌++◌, ◌∷◌, []}
 use Rattle.qr_drawing.specs.Text.{cells_of_line}
 use Rattle.qr_drawing.specs.Raster.{texts_below}
 use Rattle.qr_drawing.specs.Steps.Writing.{Writes}
-use Rattle.qr_drawing.proofs.text.put_lines.Given as goal
+use Rattle.qr_drawing.proofs.text.put_lines_of.Given as goal
 
 abbrev pub invariant-loop-y : goal.invariant-loop-y
 invariant-loop-y g l = Writes (g.W.Sink.device l.fn.out) (g.W.Sink.device l.out)

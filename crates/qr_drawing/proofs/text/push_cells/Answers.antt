@@ -2,7 +2,7 @@ use Rattle.std.proofs.Common.{◌+◌, arith}
 use Rattle.qr_drawing.specs.Steps.Text.{cell_at, cell_room}
 use Rattle.qr_drawing.proofs.LineLemmas.{added_next, added_none}
 use Rattle.qr_drawing.proofs.CellLemmas.{cell-length, room-left}
-use Rattle.qr_drawing.proofs.text.push_cells_of.Goals as goal
+use Rattle.qr_drawing.proofs.text.push_cells.Goals as goal
 
 pub loop-done-init : goal.loop-done-init
 loop-done-init c = added_none c.args.text.now.items _

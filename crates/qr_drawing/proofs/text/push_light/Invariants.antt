@@ -1,0 +1,7 @@
+use Rattle.std.proofs.Common.{◌≡◌, ◌++◌, false}
+use Rattle.qr_drawing.specs.Raster.{texts_below}
+use Rattle.qr_drawing.specs.Steps.Text.{cell_text}
+use Rattle.qr_drawing.proofs.text.push_light.Given as goal
+
+abbrev pub invariant-loop-done : goal.invariant-loop-done
+invariant-loop-done l = l.text.items ≡ l.fn.text.items ++ texts_below l.done (λ _. cell_text l.style false false)
