@@ -4,8 +4,8 @@ ghost use Rattle.std.specs.Prelude.{◌≡◌, ◌-◌, ◌^◌, false};
 ghost use Rattle.qr_devices.specs.declared.device.TheConstants.{INTERRUPTIONS_MAX};
 
 pub use crate::equality::{
-    device_faults_clone, device_faults_are_equal, read_counts_are_equal, read_counts_clones, trouble_clones,
-    troubles_are_equal, write_counts_are_equal, write_counts_clones,
+    device_faults_are_equal, device_faults_clone, read_counts_are_equal, read_counts_clones,
+    trouble_clones, troubles_are_equal, write_counts_are_equal, write_counts_clones,
 };
 use crate::trial::Faults;
 

@@ -6,11 +6,9 @@ ghost use Rattle.std.specs.Prelude.{◌≡◌, ◌≢◌, ◌<◌, ◌≤◌, �
 ghost use Rattle.qr_bits.specs.declared.modes.Rule.{Rule};
 ghost use Rattle.qr_symbol.specs.declared.fault.EncodeFault.{EncodeFault};
 ghost use Rattle.qr_symbol.specs.VersionChoice.{HasNoVersion};
-ghost use Rattle.qr_label.specs.Label.{IsLabel, character_of, line_of_row};
+ghost use Rattle.example_label.specs.Label.{IsLabel, character_of, line_of_row};
 
-use qr_bits::{INPUT_MAX, Rule};
-use qr_layout::{Level, Version};
-use qr_symbol::{EncodeFault, Matrix, encode};
+use qr_symbol::{EncodeFault, INPUT_MAX, Level, Matrix, Rule, Version, encode};
 use std::alloc::{AllocError, Global};
 
 /// Returns the label of some words: the rows of their symbol of this level as lines of text, with `#` for a dark

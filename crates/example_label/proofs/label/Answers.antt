@@ -1,9 +1,9 @@
 use Rattle.std.proofs.Common.{◌≡◌, ◌≢◌, ◌↔◌, ℕ, suc, ◌+◌, List, [], ◌∷◌, ◌++◌, Result, Err, append_assoc, refl, sym, ap, ◌∙◌, arith}
 use Rattle.std.proofs.lemmas.Result.{err_from_is_err_and}
 use Rattle.std.specs.List.{flat_map, range_with_len}
-use Rattle.qr_label.specs.Label.{line_of_row}
-use Rattle.qr_label.proofs.LineLemmas.{flat-more}
-use Rattle.qr_label.proofs.label.Goals as goal
+use Rattle.example_label.specs.Label.{line_of_row}
+use Rattle.example_label.proofs.LineLemmas.{flat-more}
+use Rattle.example_label.proofs.label.Goals as goal
 
 -- if `encode` returns a refusal exactly if P holds, unless memory is refused, so does the call that passes it on
 passed-on : {X Y E : Type 0} (r : Result X E) (s : Result Y E) (e refused memory : E) (P : Type 0) → r ≡ Err e → s ≡ Err e

@@ -1,7 +1,7 @@
 use Rattle.std.proofs.Common.{◌≡◌}
 use Rattle.std.specs.List.{flat_map, range_with_len}
-use Rattle.qr_label.specs.Label.{line_of_row}
-use Rattle.qr_label.proofs.label.Given as goal
+use Rattle.example_label.specs.Label.{line_of_row}
+use Rattle.example_label.proofs.label.Given as goal
 
 -- the lines of the rows before the current one have been added
 abbrev pub invariant-loop-row : goal.invariant-loop-row

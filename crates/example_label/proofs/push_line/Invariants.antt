@@ -1,8 +1,8 @@
 use Rattle.std.proofs.Common.{◌≡◌, ◌++◌, map}
 use Rattle.std.specs.List.{range_with_len}
 use Rattle.qr_matrix.specs.Grid.{colour}
-use Rattle.qr_label.specs.Label.{character_of}
-use Rattle.qr_label.proofs.push_line.Given as goal
+use Rattle.example_label.specs.Label.{character_of}
+use Rattle.example_label.proofs.push_line.Given as goal
 
 -- the characters of the modules before the current one have been added
 abbrev pub invariant-loop-col : goal.invariant-loop-col

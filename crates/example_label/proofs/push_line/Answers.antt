@@ -2,8 +2,8 @@ use Rattle.std.proofs.Common.{◌≡◌, ℕ, List, [], ◌∷◌, ◌++◌, map
 use Rattle.std.proofs.lemmas.List.FromFn.{map-range_with_len_more}
 use Rattle.std.specs.List.{range_with_len}
 use Rattle.qr_matrix.specs.Grid.{colour}
-use Rattle.qr_label.specs.Label.{character_of}
-use Rattle.qr_label.proofs.push_line.Goals as goal
+use Rattle.example_label.specs.Label.{character_of}
+use Rattle.example_label.proofs.push_line.Goals as goal
 
 pub loop-col-preserved : goal.loop-col-preserved
 loop-col-preserved c =
