@@ -1,5 +1,5 @@
 -- The cells of a line by the bits of their modules, and the room that they take.
-use Rattle.std.proofs.Common.{◌≡◌, ◌++◌, ◌∙◌, ◌<◌, ◌≤◌, ◌+◌, ◌-◌, ◌*◌, ◌/◌, ◌%◌, ◌^◌, ◌&&◌, ℕ, Bool, true, false, not, List, [], ◌∷◌, length, get_or, nat_eq, length-append, append_assoc, refl, sym, ap, arith}
+use Rattle.std.proofs.Common.{◌≡◌, ◌++◌, ◌∙◌, ◌<◌, ◌≤◌, ◌+◌, ◌-◌, ◌*◌, ◌/◌, ◌%◌, ◌^◌, ◌&&◌, ℕ, Bool, true, false, not, List, [], ◌∷◌, length, get_or, nat_eq, length-append, append-nil, append_assoc, length-drop, take, drop, refl, sym, ap, arith}
 use Rattle.std.proofs.Math.Nat.{add-mul, mul-le-mul_right}
 use Rattle.std.specs.Cmp.Lexicographic.{pointwise, same_text}
 use Rattle.qr_matrix.specs.Grid.{Grid, colour}
@@ -12,6 +12,9 @@ use Rattle.qr_drawing.specs.Steps.Text.{AreDark, bits_text, cell_at, cell_room, 
 use Rattle.qr_drawing.specs.declared.text.TheConstants.{ASCII_QUADS}
 use Rattle.qr_drawing.specs.declared.text.TextStyle.{TextStyle}
 use Rattle.qr_drawing.specs.declared.text.TextStyle.TheVariants.{Plain, Inverse, HalfBlocks}
+use Rattle.std.proofs.Math.Seq.{take-append_seam}
+use Rattle.std.proofs.lemmas.List.{drop_all}
+use borrow.Rule.Slice.PartMut.{put_mid}
 use Rattle.qr_drawing.proofs.LineLemmas.{texts_below-add, texts_below-alike, texts_below-length}
 use Rattle.qr_drawing.proofs.PathLemmas.{is_dark_at_inside, is_dark_at_left, is_dark_at_right}
 
@@ -70,6 +73,19 @@ quad_plain upper lower =
     texts_below-alike 4 (λ k. cell_text Plain (has_bit (upper % 16) k) (has_bit 0 k)) (λ k. cell_text Plain (has_bit upper k) (has_bit lower k))
     (λ k lt. ap (λ b. cell_text Plain b false) (low-bits 4 upper k lt))
 
+-- if the first eight of 16 bytes are the text of four modules, and the last eight that of the next four, the 16 bytes are
+-- the text of eight modules
+pub eight-joined : (bits : ℕ) (a b : List ℕ) → length a ≡ 8 → a ≡ bits_text 4 Plain (bits % 16) 0 → b ≡ bits_text 4 Plain (bits / 16) 0
+    → put_mid 8 8 (a ++ 32 ∷ 32 ∷ 32 ∷ 32 ∷ 32 ∷ 32 ∷ 32 ∷ 32 ∷ []) b ≡ bits_text 8 Plain bits 0
+eight-joined bits a b l p q =
+    let light = 32 ∷ 32 ∷ 32 ∷ 32 ∷ 32 ∷ 32 ∷ 32 ∷ 32 ∷ [] in
+    let first : take 8 (a ++ light) ≡ a = ap (λ n. take n (a ++ light)) (sym l) ∙ take-append_seam a light in
+    let rest : drop 8 (drop 8 (a ++ light)) ≡ [] = drop_all 8 (drop 8 (a ++ light)) (omega (arith, length-drop 8 (a ++ light), length-append a light, l)) in
+    let whole : put_mid 8 8 (a ++ light) b ≡ a ++ b = rw first (ap (λ t. a ++ (b ++ t)) rest ∙ ap (λ t. a ++ t) (append-nil b)) in
+    whole ∙ ap (λ t. t ++ b) p ∙ ap (λ t. bits_text 4 Plain (bits % 16) 0 ++ t) q
+    ∙ ap (λ t. t ++ bits_text 4 Plain (bits / 16) 0) (quad_plain bits 0)
+    ∙ sym (bits-split 4 4 Plain bits 0)
+
 -- each of the four lowest bits of `15 - bits` is the opposite bit: computed
 all-others : all_below 16 (λ b. all_below 4 (λ k. is_same (has_bit (15 - b) k) (not (has_bit b k)))) ≡ true
 unfolding has_bit
@@ -84,6 +100,22 @@ pub quad_inverse : (upper lower : ℕ) → bits_text 4 Plain (15 - upper % 16) 0
 quad_inverse upper lower =
     texts_below-alike 4 (λ k. cell_text Plain (has_bit (15 - upper % 16) k) (has_bit 0 k)) (λ k. cell_text Inverse (has_bit upper k) (has_bit lower k))
     (λ k lt. ap (λ b. cell_text Plain b false) (other-bit (upper % 16) k (omega arith) lt ∙ ap (λ b. not b) (low-bits 4 upper k lt)))
+
+-- the same of eight bits: computed
+all-eight-others : all_below 256 (λ b. all_below 8 (λ k. is_same (has_bit (255 - b) k) (not (has_bit b k)))) ≡ true
+unfolding has_bit
+all-eight-others = refl
+
+-- eight cells of a plain text show the upper modules
+pub eight_plain : (upper lower : ℕ) → bits_text 8 Plain upper 0 ≡ bits_text 8 Plain upper lower
+eight_plain upper lower = texts_below-alike 8 (λ k. cell_text Plain (has_bit upper k) (has_bit 0 k)) (λ k. cell_text Plain (has_bit upper k) (has_bit lower k)) (λ k lt. refl)
+
+-- eight cells of an inverse text show the opposite of the upper modules
+pub eight_inverse : (upper lower : ℕ) → upper < 256 → bits_text 8 Plain (255 - upper) 0 ≡ bits_text 8 Inverse upper lower
+eight_inverse upper lower l =
+    texts_below-alike 8 (λ k. cell_text Plain (has_bit (255 - upper) k) (has_bit 0 k)) (λ k. cell_text Inverse (has_bit upper k) (has_bit lower k))
+    (λ k lt. ap (λ b. cell_text Plain b false) (same-same (has_bit (255 - upper) k) (not (has_bit upper k)) (below-at 8 (λ k. is_same (has_bit (255 - upper) k) (not (has_bit upper k)))
+    (below-at 256 (λ b. all_below 8 (λ k. is_same (has_bit (255 - b) k) (not (has_bit b k)))) all-eight-others upper l) k lt)))
 
 -- the bits of two modules and of the two below them, as one number: computed
 all-pairs : all_below 4 (λ a. all_below 4 (λ b. all_below 2 (λ k. is_same (has_bit (a + b * 4) k) (has_bit a k) && is_same (has_bit (a + b * 4) (2 + k)) (has_bit b k)))) ≡ true

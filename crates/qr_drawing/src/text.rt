@@ -220,15 +220,31 @@ fn push_quad(text: &mut ArrayVec<u8, 1200>, style: TextStyle, upper: u8, lower: 
     }
 }
 
+// Returns eight modules as two characters each. Bit 0 of `bits` is the first module, and a set bit is a dark module.
+fn ascii_eight(bits: u8) -> [u8; 16]
+    ensures { result ≡ bits_text 8 Plain bits 0 }
+{
+    let mut text = [b' '; 16];
+    text[..8].copy_from_slice(ascii_quad(bits % 16));
+    text[8..].copy_from_slice(ascii_quad(bits / 16));
+    text
+}
+
 // Adds eight cells. Bit 0 of `upper` and of `lower` is the first cell.
 #[inline(always)]
-#[tactic(auto, using(crate::proofs::CellLemmas::eight_quads))]
+#[tactic(auto, using(crate::proofs::CellLemmas::eight_quads, crate::proofs::CellLemmas::eight_plain, crate::proofs::CellLemmas::eight_inverse))]
 fn push_eight(text: &mut ArrayVec<u8, 1200>, style: TextStyle, upper: u8, lower: u8)
     requires room { array_vec_len text.old + 8 * cell_room style ≤ 1200 }
     ensures { text.new.items ≡ text.old.items ++ bits_text 8 style upper lower }
 {
-    push_quad(text, style, upper, lower);
-    push_quad(text, style, upper / 16, lower / 16);
+    match style {
+        TextStyle::Plain => push_all(text, &ascii_eight(upper)),
+        TextStyle::Inverse => push_all(text, &ascii_eight(255 - upper)),
+        TextStyle::HalfBlocks => {
+            push_half_block_quad(text, upper, lower);
+            push_half_block_quad(text, upper / 16, lower / 16);
+        }
+    }
 }
 
 // Adds `count` light cells.
