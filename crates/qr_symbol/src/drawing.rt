@@ -15,7 +15,7 @@ ghost use Rattle.qr_bits.specs.Bits.{codeword_bit};
 ghost use Rattle.qr_matrix.specs.Grid.{square, colour, light, painted, transposed, IsSquare};
 ghost use Rattle.qr_matrix.specs.Line.{has_bit};
 ghost use Rattle.qr_symbol.specs.Symbol.{word_bit};
-ghost use Rattle.qr_symbol.specs.Steps.Drawing.{fixed_colour, is_dark_in_six, paint_of, placed_colour, number_after, walked_colour, AreNext, IsDrawnAcross, IsWindow, format_or, region_grid};
+ghost use Rattle.qr_symbol.specs.Steps.Drawing.{fixed_colour, is_dark_in_six, paint_of, placed_colour, number_after, walked_colour, AreNext, IsDrawnAcross, IsCodewordBits, format_or, region_grid};
 
 use crate::mask::inverts;
 use qr_layout::{
@@ -34,15 +34,15 @@ fn codeword_at(codewords: &[u8], place: usize) -> u8
 // Eight codewords as one word, the first of them its highest byte. `first` is the number of its highest bit among the
 // bits of all codewords.
 #[derive(Clone, Copy)]
-struct Window {
+struct CodewordBits {
     bits: u64,
     first: usize,
 }
 
-// Returns the window that begins with the codeword of bit `number`.
-fn window_at(codewords: &[u8], number: usize) -> Window
+// Returns the eight codewords from the codeword of bit `number` on.
+fn codeword_bits_at(codewords: &[u8], number: usize) -> CodewordBits
     requires { number ≤ 40000 }
-    ensures bits { IsWindow codewords.now result }
+    ensures bits { IsCodewordBits codewords.now result }
     ensures least { result.first ≤ number }
     ensures most { number ≤ result.first + 7 }
 {
@@ -51,19 +51,19 @@ fn window_at(codewords: &[u8], number: usize) -> Window
     for next in 0..8 {
         bits = 256 * bits + u64::from(codeword_at(codewords, place + next));
     }
-    Window {
+    CodewordBits {
         bits,
         first: 8 * place,
     }
 }
 
-// Returns the eight bits of the window from bit `number` on, the first of them as the highest.
-fn eight_bits(window: Window, number: usize) -> u8
-    requires least { window.first ≤ number }
-    requires most { number ≤ window.first + 56 }
-    ensures { (cw : List ℕ) → IsWindow cw window → AreNext cw number result }
+// Returns the eight bits of `next` from bit `number` on, the first of them as the highest.
+fn eight_bits(next: CodewordBits, number: usize) -> u8
+    requires least { next.first ≤ number }
+    requires most { number ≤ next.first + 56 }
+    ensures { (cw : List ℕ) → IsCodewordBits cw next → AreNext cw number result }
 {
-    (window.bits >> (56 - (number - window.first)) & 255) as u8
+    (next.bits >> (56 - (number - next.first)) & 255) as u8
 }
 
 // Splits eight bits of the codewords, as they fill four rows of a strip: the bits alternate between the right and the
@@ -503,17 +503,17 @@ fn draw_columns(
 {
     let last = v.side() - 1;
     let before = u8::from(strip.upward);
-    let mut window = window_at(codewords, first);
-    let bits = eight_bits(window, first);
+    let mut next = codeword_bits_at(codewords, first);
+    let bits = eight_bits(next, first);
     let mut number = first + usize::from(draw_rows(across, v, region, bits, strip, 0, before));
     for group in 0..last / 4 {
-        let bits = eight_bits(window, number);
+        let bits = eight_bits(next, number);
         number += usize::from(draw_four(across, v, region, bits, strip, before + 4 * group));
-        if number > window.first + 56 {
-            window = window_at(codewords, number);
+        if number > next.first + 56 {
+            next = codeword_bits_at(codewords, number);
         }
     }
-    let bits = eight_bits(window, number);
+    let bits = eight_bits(next, number);
     number + usize::from(draw_rows(across, v, region, bits, strip, before + last, 1 - before))
 }
 

@@ -13,7 +13,7 @@ use Rattle.qr_layout.specs.Role.{role_of}
 use Rattle.qr_bits.specs.Bits.{codeword_bit}
 use Rattle.qr_matrix.specs.Grid.{Grid, square, colour, painted, transposed, IsSquare}
 use Rattle.qr_matrix.specs.Line.{has_bit}
-use Rattle.qr_symbol.specs.declared.drawing.Window.{Window}
+use Rattle.qr_symbol.specs.declared.drawing.CodewordBits.{CodewordBits}
 use Rattle.qr_symbol.specs.Mask.{inverts, inverted}
 use Rattle.qr_symbol.specs.Symbol.{word_bit}
 use Rattle.qr_matrix.specs.Penalty.{penalty_of}
@@ -73,10 +73,10 @@ placed_along v cw [] number g = g
 placed_along v cw (m ∷ ms) number g =
     placed_along v cw ms (number_after (is_in_region v m.row m.col) number) (placed_if (is_in_region v m.row m.col) cw number g m.row m.col)
 
--- `IsWindow cw w` holds if the window w contains 64 bits of the codewords cw from bit `w.first` on, the first of them as
+-- `IsCodewordBits cw w` holds if w contains 64 bits of the codewords cw from bit `w.first` on, the first of them as
 -- its highest bit.
-abbrev pub IsWindow : List ℕ → Window → Type 0
-IsWindow cw w = (k : ℕ) → k < 64 → has_bit w.bits (63 - k) ≡ codeword_bit cw (w.first + k)
+abbrev pub IsCodewordBits : List ℕ → CodewordBits → Type 0
+IsCodewordBits cw w = (k : ℕ) → k < 64 → has_bit w.bits (63 - k) ≡ codeword_bit cw (w.first + k)
 
 -- `AreNext cw number bits` holds if `bits` contains the eight bits of the codewords cw from bit `number` on, the first
 -- of them as its highest bit.
