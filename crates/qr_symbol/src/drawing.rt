@@ -15,7 +15,7 @@ ghost use Rattle.qr_bits.specs.Bits.{codeword_bit};
 ghost use Rattle.qr_matrix.specs.Grid.{square, colour, light, painted, transposed, IsSquare};
 ghost use Rattle.qr_matrix.specs.Line.{has_bit};
 ghost use Rattle.qr_symbol.specs.Symbol.{word_bit};
-ghost use Rattle.qr_symbol.specs.Steps.Drawing.{fixed_colour, is_dark_in_six, paint_of, placed_colour, number_after, walked_colour, AreNext, IsDrawnAcross, IsCodewordBits, format_or, region_grid};
+ghost use Rattle.qr_symbol.specs.Steps.Drawing.{fixed_colour, is_dark_in_six, paint_of, placed_colour, number_after, walked_colour, AreCommon, AreNext, IsDrawnAcross, IsCodewordBits, format_or, region_grid};
 
 use crate::mask::inverts;
 use qr_layout::{
@@ -446,13 +446,39 @@ fn draw_rows(
     taken
 }
 
+// Returns one word of the bit row of the places that are dark both in row `row` and in row `other` of `square`.
+fn common_word(square: &Matrix, row: u8, other: u8, number: usize) -> u64
+    requires row_in { row < square.now.side }
+    requires other_in { other < square.now.side }
+    requires word_in { number < 3 }
+    ensures { (c : ℕ) → c < 64 → has_bit result c
+        ≡ (colour square.now row (64 * number + c) && colour square.now other (64 * number + c)) }
+{
+    square.word(usize::from(row), number) & square.word(usize::from(other), number)
+}
+
+// Returns the words of the bit row of the places that are dark both in row `row` and in row `other` of `square`.
+fn common_words(square: &Matrix, row: u8, other: u8) -> [u64; 3]
+    requires row_in { row < square.now.side }
+    requires other_in { other < square.now.side }
+    ensures { AreCommon square.now row other result }
+{
+    [
+        common_word(square, row, other, 0),
+        common_word(square, row, other, 1),
+        common_word(square, row, other, 2),
+    ]
+}
+
 // Draws up to eight bits in four rows of a strip: one bit in each module that is in the encoding region. Returns how many
 // of them are drawn. In the transposed square each column of the strip is a row, so four modules of it are set at once.
+// `both` contains the rows in which both columns are in the encoding region.
 #[inline(always)]
 fn draw_four(
     across: &mut Matrix,
     v: Version,
     region: &Matrix,
+    both: &[u64; 3],
     bits: u8,
     strip: Strip,
     passed: u8,
@@ -463,6 +489,7 @@ fn draw_four(
     requires right_in { strip.right < side_of v }
     requires rows_in { passed + 4 ≤ side_of v }
     requires whole { passed % 4 ≡ (if strip.upward then 1 else 0) }
+    requires both { AreCommon region.now strip.right (strip.right - 1) both.now }
     ensures few { result ≤ 8 }
     ensures drawn { (cw : List ℕ) → (number : ℕ) → AreNext cw number bits → IsDrawnAcross v cw
         (both_of (rows_from (side_of v) strip passed 4)) number across.old (number + result) across.new }
@@ -472,7 +499,8 @@ fn draw_four(
     } else {
         passed
     };
-    if region.four(strip.right, top) & region.four(strip.right - 1, top) == 15 {
+    let four = 15u64 << (top % 64);
+    if both[usize::from(top / 64)] & four == four {
         let split = SPLITS[usize::from(strip.upward)][usize::from(bits)];
         across.set_four(strip.right, top, split / 16);
         across.set_four(strip.right - 1, top, split % 16);
@@ -503,12 +531,13 @@ fn draw_columns(
 {
     let last = v.side() - 1;
     let before = u8::from(strip.upward);
+    let both = common_words(region, strip.right, strip.right - 1);
     let mut next = codeword_bits_at(codewords, first);
     let bits = eight_bits(next, first);
     let mut number = first + usize::from(draw_rows(across, v, region, bits, strip, 0, before));
     for group in 0..last / 4 {
         let bits = eight_bits(next, number);
-        number += usize::from(draw_four(across, v, region, bits, strip, before + 4 * group));
+        number += usize::from(draw_four(across, v, region, &both, bits, strip, before + 4 * group));
         if number > next.first + 56 {
             next = codeword_bits_at(codewords, number);
         }

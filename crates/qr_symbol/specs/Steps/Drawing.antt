@@ -1,6 +1,6 @@
 -- The colours of modules after single steps of drawing. A codeword bit is named by its number: bit 0 is the highest bit
 -- of the first codeword.
-use Rattle.std.specs.Prelude.{◌≡◌, ◌<◌, ℕ, ◌+◌, ◌-◌, ◌%◌, ◌==◌, ◌&&◌, ◌||◌, nat_le, nat_lt, Bool, false, if◌then◌else◌, List, [], ◌∷◌, Option, None, Some}
+use Rattle.std.specs.Prelude.{◌≡◌, ◌<◌, ℕ, ◌+◌, ◌-◌, ◌/◌, ◌%◌, ◌==◌, ◌&&◌, ◌||◌, nat_le, nat_lt, Bool, false, if◌then◌else◌, List, [], ◌∷◌, slice_index, Option, None, Some}
 use Rattle.qr_layout.specs.declared.level.Level.{Level}
 use Rattle.qr_layout.specs.declared.region.Module.{Module}
 use Rattle.qr_layout.specs.declared.role.Role.{Role}
@@ -82,6 +82,11 @@ IsCodewordBits cw w = (k : ℕ) → k < 64 → has_bit w.bits (63 - k) ≡ codew
 -- of them as its highest bit.
 abbrev pub AreNext : List ℕ → ℕ → ℕ → Type 0
 AreNext cw number bits = (k : ℕ) → k < 8 → has_bit bits (7 - k) ≡ codeword_bit cw (number + k)
+
+-- `AreCommon g a b words` holds if `words` contain, as a bit row, the places that are dark both in row a and in row b of
+-- the square g.
+abbrev pub AreCommon : Grid → ℕ → ℕ → List ℕ → Type 0
+AreCommon g a b words = (p : ℕ) → p < 192 → has_bit (slice_index words (p / 64)) (p % 64) ≡ (colour g a p && colour g b p)
 
 -- `IsDrawnAcross v cw ms first before next after` holds if the modules ms were drawn in the square `before`, which
 -- became the square `after`. Each of them in the encoding region took one bit of the codewords cw, from bit `first` on,
