@@ -117,8 +117,8 @@ impl Matrix {
         self.rows[row]
     }
 
-    // Returns the modules of one word of a row; the module in column `64 * number` is the lowest bit.
-    pub(crate) fn word(&self, row: usize, number: usize) -> u64
+    /// Returns the modules of one word of a row; the module in column `64 * number` is the lowest bit.
+    pub fn word(&self, row: usize, number: usize) -> u64
         requires row_in { row < self.now.side }
         requires word_in { number < 3 }
         ensures { (c : ℕ) → c < 64 → has_bit result c ≡ colour self.now row (64 * number + c) }

@@ -27,14 +27,14 @@ differs-inverted false false = refl
 -- ---- bits of codewords
 
 -- a bit of the number 256 a + b from bit 8 on is a bit of a
-window-high : (a b i : ℕ) → b < 256 → 8 ≤ i → has_bit (256 * a + b) i ≡ nat_eq (a / 2 ^ (i - 8) % 2) 1
+codewords-high : (a b i : ℕ) → b < 256 → 8 ≤ i → has_bit (256 * a + b) i ≡ nat_eq (a / 2 ^ (i - 8) % 2) 1
 unfolding has_bit
-window-high a b i l m = let e : 256 * a + b ≡ a * 2 ^ 8 + b = omega arith in ap (λ z. nat_eq (bit_at z i) 1) e ∙ ap (λ z. nat_eq z 1) (bit_at_cat_high a 8 b i l m)
+codewords-high a b i l m = let e : 256 * a + b ≡ a * 2 ^ 8 + b = omega arith in ap (λ z. nat_eq (bit_at z i) 1) e ∙ ap (λ z. nat_eq z 1) (bit_at_cat_high a 8 b i l m)
 
 -- a bit of the number 256 a + b below bit 8 is a bit of b
-window-low : (a b i : ℕ) → i < 8 → has_bit (256 * a + b) i ≡ nat_eq (b / 2 ^ i % 2) 1
+codewords-low : (a b i : ℕ) → i < 8 → has_bit (256 * a + b) i ≡ nat_eq (b / 2 ^ i % 2) 1
 unfolding has_bit
-window-low a b i l = let e : 256 * a + b ≡ a * 2 ^ 8 + b = omega arith in ap (λ z. nat_eq (bit_at z i) 1) e ∙ ap (λ z. nat_eq z 1) (bit_at_cat_low a 8 b i l)
+codewords-low a b i l = let e : 256 * a + b ≡ a * 2 ^ 8 + b = omega arith in ap (λ z. nat_eq (bit_at z i) 1) e ∙ ap (λ z. nat_eq z 1) (bit_at_cat_low a 8 b i l)
 
 -- the lowest bits of a number that is shifted right are higher bits of that number
 lowest : (n s m k : ℕ) → k < m → has_bit (bit_and (n / 2 ^ s) (2 ^ m - 1)) k ≡ has_bit n (k + s)
@@ -46,7 +46,7 @@ lowest n s m k l =
     and-true true = refl
     and-true false = refl
 
--- the eight bits of a window from index d on, the first as the highest bit
+-- the eight bits of a word of codewords from index d on, the first as the highest bit
 pub eight-bits : (n d k : ℕ) → d ≤ 56 → k < 8 → has_bit (bit_and (n / 2 ^ (56 - d)) 255) (7 - k) ≡ has_bit n (63 - (d + k))
 eight-bits n d k l m =
     let e : 7 - k + (56 - d) ≡ 63 - (d + k) = omega arith in
@@ -57,26 +57,26 @@ pub one-bit : (n k : ℕ) → nat_eq (bit_and (n / 2 ^ k) 1) 1 ≡ has_bit n k
 unfolding has_bit
 one-bit n k = ap (λ z. nat_eq z 1) (and_mask (n / 2 ^ k) 1)
 
--- a window with one more codeword contains eight more bits
-pub window-more : (cw : List ℕ) (p n w b : ℕ) → b ≡ get_or cw (p + n) 0 → b < 256 → ((j : ℕ) → j < 8 * n → has_bit w (8 * n - 1 - j) ≡ codeword_bit cw (8 * p + j)) → (j : ℕ) → j < 8 * (n + 1) → has_bit (256 * w + b) (8 * (n + 1) - 1 - j) ≡ codeword_bit cw (8 * p + j)
+-- a word with one more codeword contains eight more bits
+pub codewords-more : (cw : List ℕ) (p n w b : ℕ) → b ≡ get_or cw (p + n) 0 → b < 256 → ((j : ℕ) → j < 8 * n → has_bit w (8 * n - 1 - j) ≡ codeword_bit cw (8 * p + j)) → (j : ℕ) → j < 8 * (n + 1) → has_bit (256 * w + b) (8 * (n + 1) - 1 - j) ≡ codeword_bit cw (8 * p + j)
 unfolding has_bit
-window-more cw p n w b e s h j l = elim (cases_lt j (8 * n)) [
+codewords-more cw p n w b e s h j l = elim (cases_lt j (8 * n)) [
   | inl m ↦
       let i : 8 * (n + 1) - 1 - j - 8 ≡ 8 * n - 1 - j = omega arith in
-      window-high w b (8 * (n + 1) - 1 - j) s (omega arith) ∙ (ap (λ z. nat_eq (w / 2 ^ z % 2) 1) i ∙ h j m)
+      codewords-high w b (8 * (n + 1) - 1 - j) s (omega arith) ∙ (ap (λ z. nat_eq (w / 2 ^ z % 2) 1) i ∙ h j m)
   | inr m ↦
       let i : 8 * (n + 1) - 1 - j ≡ 7 - (8 * p + j) % 8 = omega arith in
       let k : p + n ≡ (8 * p + j) / 8 = omega arith in
-      window-low w b (8 * (n + 1) - 1 - j) (omega arith) ∙ (ap (λ z. nat_eq (b / 2 ^ z % 2) 1) i ∙ ap (λ z. nat_eq (z / 2 ^ (7 - (8 * p + j) % 8) % 2) 1) (e ∙ ap (λ z. get_or cw z 0) k))
+      codewords-low w b (8 * (n + 1) - 1 - j) (omega arith) ∙ (ap (λ z. nat_eq (b / 2 ^ z % 2) 1) i ∙ ap (λ z. nat_eq (z / 2 ^ (7 - (8 * p + j) % 8) % 2) 1) (e ∙ ap (λ z. get_or cw z 0) k))
 ]
 
 -- appending a byte to a number makes it at most eight bits longer
-pub window-fits : (n w b : ℕ) → w < 2 ^ (8 * n) → b < 256 → 256 * w + b < 2 ^ (8 * (n + 1))
-window-fits n w b l m =
+pub codewords-fits : (n w b : ℕ) → w < 2 ^ (8 * n) → b < 256 → 256 * w + b < 2 ^ (8 * (n + 1))
+codewords-fits n w b l m =
     let e : 8 * (n + 1) ≡ 8 * n + 8 = omega arith in
     let f : 2 ^ (8 * (n + 1)) ≡ 2 ^ (8 * n) * 2 ^ 8 = ap (λ z. 2 ^ z) e ∙ pow-add 2 (8 * n) 8 in
     omega arith
 
--- a window of fewer than eight codewords has room for one more in 64 bits
-pub window-room : (n w : ℕ) → n < 8 → w < 2 ^ (8 * n) → w < 2 ^ 56
-window-room n w l m = let h : 8 * n ≤ 56 = omega arith in let k : 2 ^ (8 * n) ≤ 2 ^ 56 = pow_mono h in omega arith
+-- a word of fewer than eight codewords has room for one more in 64 bits
+pub codewords-room : (n w : ℕ) → n < 8 → w < 2 ^ (8 * n) → w < 2 ^ 56
+codewords-room n w l m = let h : 8 * n ≤ 56 = omega arith in let k : 2 ^ (8 * n) ≤ 2 ^ 56 = pow_mono h in omega arith

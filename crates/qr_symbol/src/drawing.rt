@@ -1,13 +1,13 @@
 //! Draws the bits of the codewords, either strip by strip or module by module, in the order of `qr_layout::walk`
 //! (ISO/IEC 18004:2015, 7.7.2 and 7.7.3).
 
-ghost use Rattle.std.specs.Prelude.{◌≡◌, ℕ, List, ◌*◌, ◌%◌, ◌+◌, ◌-◌, ◌<◌, ◌≤◌, ◌==◌, if◌then◌else◌, false, slice_index};
+ghost use Rattle.std.specs.Prelude.{◌≡◌, ℕ, List, ◌*◌, ◌%◌, ◌+◌, ◌-◌, ◌<◌, ◌≤◌, ◌==◌, ◌&&◌, if◌then◌else◌, false, slice_index};
 ghost use Rattle.qr_layout.specs.Version.{side_of};
 ghost use Rattle.qr_layout.specs.Strips.{both_of, rows_from};
 ghost use Rattle.qr_bits.specs.Bits.{codeword_bit};
 ghost use Rattle.qr_matrix.specs.Grid.{square, colour, painted, transposed, IsSquare};
 ghost use Rattle.qr_matrix.specs.Line.{has_bit};
-ghost use Rattle.qr_symbol.specs.Steps.Drawing.{placed_colour, number_after, walked_colour, AreNext, IsDrawnAcross, IsWindow, region_grid};
+ghost use Rattle.qr_symbol.specs.Steps.Drawing.{placed_colour, number_after, walked_colour, AreCommon, AreNext, IsDrawnAcross, IsCodewordBits, region_grid};
 
 use crate::mask::inverts;
 use crate::patterns::is_bit_set;
@@ -24,15 +24,15 @@ fn codeword_at(codewords: &[u8], place: usize) -> u8
 // Eight codewords as one word, the first of them its highest byte. `first` is the number of its highest bit among the
 // bits of all codewords.
 #[derive(Clone, Copy)]
-struct Window {
+struct CodewordBits {
     bits: u64,
     first: usize,
 }
 
-// Returns the window that begins with the codeword of bit `number`.
-fn window_at(codewords: &[u8], number: usize) -> Window
+// Returns the eight codewords from the codeword of bit `number` on.
+fn codeword_bits_at(codewords: &[u8], number: usize) -> CodewordBits
     requires { number ≤ 40000 }
-    ensures bits { IsWindow codewords.now result }
+    ensures bits { IsCodewordBits codewords.now result }
     ensures least { result.first ≤ number }
     ensures most { number ≤ result.first + 7 }
 {
@@ -41,19 +41,19 @@ fn window_at(codewords: &[u8], number: usize) -> Window
     for next in 0..8 {
         bits = 256 * bits + u64::from(codeword_at(codewords, place + next));
     }
-    Window {
+    CodewordBits {
         bits,
         first: 8 * place,
     }
 }
 
-// Returns the eight bits of the window from bit `number` on, the first of them as the highest.
-fn eight_bits(window: Window, number: usize) -> u8
-    requires least { window.first ≤ number }
-    requires most { number ≤ window.first + 56 }
-    ensures { (cw : List ℕ) → IsWindow cw window → AreNext cw number result }
+// Returns the eight bits of `next` from bit `number` on, the first of them as the highest.
+fn eight_bits(next: CodewordBits, number: usize) -> u8
+    requires least { next.first ≤ number }
+    requires most { number ≤ next.first + 56 }
+    ensures { (cw : List ℕ) → IsCodewordBits cw next → AreNext cw number result }
 {
-    (window.bits >> (56 - (number - window.first)) & 255) as u8
+    (next.bits >> (56 - (number - next.first)) & 255) as u8
 }
 
 // Splits eight bits of the codewords, as they fill four rows of a strip: the bits alternate between the right and the
@@ -168,13 +168,39 @@ fn draw_rows(
     taken
 }
 
+// Returns one word of the bit row of the places that are dark both in row `row` and in row `other` of `square`.
+fn common_word(square: &Matrix, row: u8, other: u8, number: usize) -> u64
+    requires row_in { row < square.now.side }
+    requires other_in { other < square.now.side }
+    requires word_in { number < 3 }
+    ensures { (c : ℕ) → c < 64 → has_bit result c
+        ≡ (colour square.now row (64 * number + c) && colour square.now other (64 * number + c)) }
+{
+    square.word(usize::from(row), number) & square.word(usize::from(other), number)
+}
+
+// Returns the words of the bit row of the places that are dark both in row `row` and in row `other` of `square`.
+fn common_words(square: &Matrix, row: u8, other: u8) -> [u64; 3]
+    requires row_in { row < square.now.side }
+    requires other_in { other < square.now.side }
+    ensures { AreCommon square.now row other result }
+{
+    [
+        common_word(square, row, other, 0),
+        common_word(square, row, other, 1),
+        common_word(square, row, other, 2),
+    ]
+}
+
 // Draws up to eight bits in four rows of a strip: one bit in each module that is in the encoding region. Returns how many
 // of them are drawn. In the transposed square each column of the strip is a row, so four modules of it are set at once.
+// `both` contains the rows in which both columns are in the encoding region.
 #[inline(always)]
 fn draw_four(
     across: &mut Matrix,
     v: Version,
     region: &Matrix,
+    both: &[u64; 3],
     bits: u8,
     strip: Strip,
     passed: u8,
@@ -185,6 +211,7 @@ fn draw_four(
     requires right_in { strip.right < side_of v }
     requires rows_in { passed + 4 ≤ side_of v }
     requires whole { passed % 4 ≡ (if strip.upward then 1 else 0) }
+    requires both { AreCommon region.now strip.right (strip.right - 1) both.now }
     ensures few { result ≤ 8 }
     ensures drawn { (cw : List ℕ) → (number : ℕ) → AreNext cw number bits → IsDrawnAcross v cw
         (both_of (rows_from (side_of v) strip passed 4)) number across.old (number + result) across.new }
@@ -194,7 +221,8 @@ fn draw_four(
     } else {
         passed
     };
-    if region.four(strip.right, top) & region.four(strip.right - 1, top) == 15 {
+    let four = 15u64 << (top % 64);
+    if both[usize::from(top / 64)] & four == four {
         let split = SPLITS[usize::from(strip.upward)][usize::from(bits)];
         across.set_four(strip.right, top, split / 16);
         across.set_four(strip.right - 1, top, split % 16);
@@ -225,17 +253,18 @@ fn draw_columns(
 {
     let last = v.side() - 1;
     let before = u8::from(strip.upward);
-    let mut window = window_at(codewords, first);
-    let bits = eight_bits(window, first);
+    let both = common_words(region, strip.right, strip.right - 1);
+    let mut next = codeword_bits_at(codewords, first);
+    let bits = eight_bits(next, first);
     let mut number = first + usize::from(draw_rows(across, v, region, bits, strip, 0, before));
     for group in 0..last / 4 {
-        let bits = eight_bits(window, number);
-        number += usize::from(draw_four(across, v, region, bits, strip, before + 4 * group));
-        if number > window.first + 56 {
-            window = window_at(codewords, number);
+        let bits = eight_bits(next, number);
+        number += usize::from(draw_four(across, v, region, &both, bits, strip, before + 4 * group));
+        if number > next.first + 56 {
+            next = codeword_bits_at(codewords, number);
         }
     }
-    let bits = eight_bits(window, number);
+    let bits = eight_bits(next, number);
     number + usize::from(draw_rows(across, v, region, bits, strip, before + last, 1 - before))
 }
 

@@ -1,6 +1,6 @@
 -- The colours of modules after single steps of drawing. A codeword bit is named by its number: bit 0 is the highest bit
 -- of the first codeword.
-use Rattle.std.specs.Prelude.{◌≡◌, ◌<◌, ℕ, ◌+◌, ◌-◌, ◌&&◌, Bool, if◌then◌else◌, List, [], ◌∷◌}
+use Rattle.std.specs.Prelude.{◌≡◌, ◌<◌, ℕ, ◌+◌, ◌-◌, ◌/◌, ◌%◌, ◌&&◌, Bool, if◌then◌else◌, List, [], ◌∷◌, slice_index}
 use Rattle.qr_layout.specs.declared.level.Level.{Level}
 use Rattle.qr_layout.specs.declared.region.Module.{Module}
 use Rattle.qr_layout.specs.Version.{side_of}
@@ -11,7 +11,7 @@ use Rattle.qr_layout.specs.Role.{role_of}
 use Rattle.qr_bits.specs.Bits.{codeword_bit}
 use Rattle.qr_matrix.specs.Grid.{Grid, square, colour, painted, transposed, IsSquare}
 use Rattle.qr_matrix.specs.Line.{has_bit}
-use Rattle.qr_symbol.specs.declared.drawing.Window.{Window}
+use Rattle.qr_symbol.specs.declared.drawing.CodewordBits.{CodewordBits}
 use Rattle.qr_symbol.specs.Mask.{inverts, inverted}
 use Rattle.qr_symbol.specs.Steps.Patterns.{fixed_colour, format_or}
 use Rattle.qr_matrix.specs.Penalty.{penalty_of}
@@ -51,15 +51,20 @@ placed_along v cw [] number g = g
 placed_along v cw (m ∷ ms) number g =
     placed_along v cw ms (number_after (is_in_region v m.row m.col) number) (placed_if (is_in_region v m.row m.col) cw number g m.row m.col)
 
--- `IsWindow cw w` holds if the window w contains 64 bits of the codewords cw from bit `w.first` on, the first of them as
+-- `IsCodewordBits cw w` holds if w contains 64 bits of the codewords cw from bit `w.first` on, the first of them as
 -- its highest bit.
-abbrev pub IsWindow : List ℕ → Window → Type 0
-IsWindow cw w = (k : ℕ) → k < 64 → has_bit w.bits (63 - k) ≡ codeword_bit cw (w.first + k)
+abbrev pub IsCodewordBits : List ℕ → CodewordBits → Type 0
+IsCodewordBits cw w = (k : ℕ) → k < 64 → has_bit w.bits (63 - k) ≡ codeword_bit cw (w.first + k)
 
 -- `AreNext cw number bits` holds if `bits` contains the eight bits of the codewords cw from bit `number` on, the first
 -- of them as its highest bit.
 abbrev pub AreNext : List ℕ → ℕ → ℕ → Type 0
 AreNext cw number bits = (k : ℕ) → k < 8 → has_bit bits (7 - k) ≡ codeword_bit cw (number + k)
+
+-- `AreCommon g a b words` holds if `words` contain, as a bit row, the places that are dark both in row a and in row b of
+-- the square g.
+abbrev pub AreCommon : Grid → ℕ → ℕ → List ℕ → Type 0
+AreCommon g a b words = (p : ℕ) → p < 192 → has_bit (slice_index words (p / 64)) (p % 64) ≡ (colour g a p && colour g b p)
 
 -- `IsDrawnAcross v cw ms first before next after` holds if the modules ms were drawn in the square `before`, which
 -- became the square `after`. Each of them in the encoding region took one bit of the codewords cw, from bit `first` on,

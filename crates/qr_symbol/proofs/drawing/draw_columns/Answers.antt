@@ -2,17 +2,17 @@ use Rattle.std.proofs.Common.{◌≡◌, ◌+◌, ◌-◌, ◌*◌, ◌≤◌, a
 use Rattle.qr_bits.proofs.Facts.{bool_byte-bit}
 use Rattle.qr_layout.specs.Version.{side_of}
 use Rattle.qr_layout.specs.Strips.{both_of, rows_from}
-use Rattle.qr_symbol.specs.Steps.Drawing.{IsDrawnAcross, IsWindow}
-use Rattle.qr_symbol.specs.declared.drawing.Window.{Window}
+use Rattle.qr_symbol.specs.Steps.Drawing.{IsDrawnAcross, IsCodewordBits}
+use Rattle.qr_symbol.specs.declared.drawing.CodewordBits.{CodewordBits}
 use Rattle.qr_symbol.proofs.AcrossLemmas.{drawn-rows}
 use Rattle.qr_symbol.proofs.drawing.draw_columns.Goals as goal
-use Rattle.qr_symbol.proofs.drawing.draw_columns.Goals.{then-number-window, else-number-window}
+use Rattle.qr_symbol.proofs.drawing.draw_columns.Goals.{then-number-next, else-number-next}
 
 pub loop-group-init : goal.loop-group-init
 loop-group-init c =
     let v = c.args.v in
     let cw = c.args.codewords.now in
-    let w = c.window_at-window in
+    let w = c.codeword_bits_at-next in
     let e : c.from-before.result ≡ c.from-before.result + 0 = omega arith in
     let f : c.args.first + c.draw_rows.result ≡ c.args.first + c.from.result = ap (λ z. c.args.first + z) (sym c.from.ensures) in
     let least = w.ensures.least in
@@ -22,7 +22,7 @@ loop-group-init c =
     let one = (bool_byte-bit c.args.strip.upward).0 in
     let before = c.from-before.ensures in
     record {
-      window = w.ensures.bits;
+      next = w.ensures.bits;
       least = omega arith;
       most = omega arith;
       few = omega arith;
@@ -40,18 +40,18 @@ loop-group-preserved c =
     let old = c.loop-group.number in
     let number = old + c.from-number.result in
     let four = c.draw_four in
-    let most : number ≤ c.loop-group.window.first + 64 = omega (arith, i.most, c.from-number.ensures, four.ensures.few) in
-    let w = c.if-number-window.window in
-    let now : IsWindow cw w × (w.first ≤ number) × (number ≤ w.first + 56) = elim c.if-number-window.branch [
-      | then-number-window b ↦ subst (λ (z : Window). IsWindow cw z × (z.first ≤ number) × (number ≤ z.first + 56)) (sym b.window-is) (b.window_at-window-then-number-window.ensures.bits, b.window_at-window-then-number-window.ensures.least, omega (arith, b.window_at-window-then-number-window.ensures.most))
-      | else-number-window b ↦ subst (λ (z : Window). IsWindow cw z × (z.first ≤ number) × (number ≤ z.first + 56)) (sym b.window-is) (i.window, omega (arith, i.least), omega (arith, b.if-number-window.false))
+    let most : number ≤ c.loop-group.next.first + 64 = omega (arith, i.most, c.from-number.ensures, four.ensures.few) in
+    let w = c.if-number-next.next in
+    let now : IsCodewordBits cw w × (w.first ≤ number) × (number ≤ w.first + 56) = elim c.if-number-next.branch [
+      | then-number-next b ↦ subst (λ (z : CodewordBits). IsCodewordBits cw z × (z.first ≤ number) × (number ≤ z.first + 56)) (sym b.next-is) (b.codeword_bits_at-next-then-number-next.ensures.bits, b.codeword_bits_at-next-then-number-next.ensures.least, omega (arith, b.codeword_bits_at-next-then-number-next.ensures.most))
+      | else-number-next b ↦ subst (λ (z : CodewordBits). IsCodewordBits cw z × (z.first ≤ number) × (number ≤ z.first + 56)) (sym b.next-is) (i.next, omega (arith, i.least), omega (arith, b.if-number-next.false))
     ] in
     let k = c.from-before.result + 4 * c.loop-group.group in
     let e : k + 4 ≡ c.from-before.result + 4 * (c.loop-group.group + 1) = omega arith in
     let f : old + four.result ≡ number = ap (λ z. old + z) (sym c.from-number.ensures) in
     let g : k ≡ 0 + k = omega arith in
     record {
-      window = now.0;
+      next = now.0;
       least = now.1;
       most = now.2;
       few = omega (arith, i.few, c.from-number.ensures, four.ensures.few);
@@ -59,7 +59,7 @@ loop-group-preserved c =
           (drawn-rows v s cw c.args.strip 0 k 4 c.args.first old number c.args.across.now c.loop-group.across four.new.across i.drawn
           (subst (λ z. IsDrawnAcross v cw (both_of (rows_from s c.args.strip z 4)) old c.loop-group.across number four.new.across) g
           (subst (λ z. IsDrawnAcross v cw (both_of (rows_from s c.args.strip k 4)) old c.loop-group.across z four.new.across) f
-          (four.ensures.drawn cw old (c.eight_bits-bits-in-loop-group.ensures cw i.window)))));
+          (four.ensures.drawn cw old (c.eight_bits-bits-in-loop-group.ensures cw i.next)))));
     }
 
 pub returns : goal.returns
@@ -81,4 +81,4 @@ returns c =
     (drawn-rows v s cw c.args.strip 0 k (1 - b) c.args.first c.loop-group.number number c.args.across.now c.loop-group.across last.new.across i.drawn
     (subst (λ z. IsDrawnAcross v cw (both_of (rows_from s c.args.strip z (1 - b))) c.loop-group.number c.loop-group.across number last.new.across) e
     (subst (λ z. IsDrawnAcross v cw (both_of (rows_from s c.args.strip (b + (c.side-last.result - 1)) (1 - b))) c.loop-group.number c.loop-group.across z last.new.across) f
-    (last.ensures.drawn cw c.loop-group.number (c.eight_bits-bits-2.ensures cw i.window)))))
+    (last.ensures.drawn cw c.loop-group.number (c.eight_bits-bits-2.ensures cw i.next)))))

@@ -5,6 +5,6 @@ use Rattle.qr_symbol.proofs.drawing.eight_bits.Goals as goal
 
 pub returns : goal.returns
 returns c = λ cw w k l.
-    let d = c.args.number - c.args.window.first in
-    let e : c.args.window.first + (d + k) ≡ c.args.number + k = omega arith in
-    eight-bits c.args.window.bits d k (omega arith) l ∙ (w (d + k) (omega arith) ∙ ap (codeword_bit cw) e)
+    let d = c.args.number - c.args.next.first in
+    let e : c.args.next.first + (d + k) ≡ c.args.number + k = omega arith in
+    eight-bits c.args.next.bits d k (omega arith) l ∙ (w (d + k) (omega arith) ∙ ap (codeword_bit cw) e)
