@@ -1,7 +1,7 @@
 //! Draws the bits of the codewords, either strip by strip or module by module, in the order of `qr_layout::walk`
 //! (ISO/IEC 18004:2015, 7.7.2 and 7.7.3).
 
-ghost use Rattle.std.specs.Prelude.{◌≡◌, ℕ, List, ◌*◌, ◌%◌, ◌+◌, ◌-◌, ◌<◌, ◌≤◌, ◌==◌, ◌&&◌, if◌then◌else◌, false, slice_index};
+ghost use Rattle.std.specs.Prelude.{◌≡◌, ℕ, List, ◌*◌, ◌%◌, ◌+◌, ◌-◌, ◌<◌, ◌≤◌, ◌==◌, ◌&&◌, if◌then◌else◌, false, length, slice_index};
 ghost use Rattle.qr_layout.specs.Version.{side_of};
 ghost use Rattle.qr_layout.specs.Strips.{both_of, rows_from};
 ghost use Rattle.qr_bits.specs.Bits.{codeword_bit};
@@ -21,6 +21,31 @@ fn codeword_at(codewords: &[u8], place: usize) -> u8
     codewords.get(place).copied().unwrap_or(0)
 }
 
+// Returns the eight codewords from index `place` on as one word, the first of them as its highest byte.
+fn eight_codewords(codewords: &[u8], place: usize) -> u64
+    requires { place + 8 ≤ length codewords.now }
+    ensures { (k : ℕ) → k < 64 → has_bit result (63 - k) ≡ codeword_bit codewords.now (8 * place + k) }
+{
+    let mut bits = 0u64;
+    for next in 0..8 {
+        bits = 256 * bits + u64::from(codewords[place + next]);
+    }
+    bits
+}
+
+// Does the same as `eight_codewords`, where zeros follow the last codeword.
+#[inline(never)]
+fn last_codewords(codewords: &[u8], place: usize) -> u64
+    requires { place ≤ 5000 }
+    ensures { (k : ℕ) → k < 64 → has_bit result (63 - k) ≡ codeword_bit codewords.now (8 * place + k) }
+{
+    let mut bits = 0u64;
+    for next in 0..8 {
+        bits = 256 * bits + u64::from(codeword_at(codewords, place + next));
+    }
+    bits
+}
+
 // Eight codewords as one word, the first of them its highest byte. `first` is the number of its highest bit among the
 // bits of all codewords.
 #[derive(Clone, Copy)]
@@ -37,10 +62,11 @@ fn codeword_bits_at(codewords: &[u8], number: usize) -> CodewordBits
     ensures most { number ≤ result.first + 7 }
 {
     let place = number / 8;
-    let mut bits = 0u64;
-    for next in 0..8 {
-        bits = 256 * bits + u64::from(codeword_at(codewords, place + next));
-    }
+    let bits = if place + 8 <= codewords.len() {
+        eight_codewords(codewords, place)
+    } else {
+        last_codewords(codewords, place)
+    };
     CodewordBits {
         bits,
         first: 8 * place,

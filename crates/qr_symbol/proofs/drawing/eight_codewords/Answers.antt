@@ -1,7 +1,7 @@
-use Rattle.std.proofs.Common.{◌≡◌, ◌-◌, ◌*◌, ◌/◌, ap, sym, ◌∙◌, arith}
+use Rattle.std.proofs.Common.{◌≡◌, ◌-◌, ◌*◌, ap, sym, ◌∙◌, arith}
 use Rattle.qr_matrix.specs.Line.{has_bit}
 use Rattle.qr_symbol.proofs.BitLemmas.{codewords-more, codewords-fits, codewords-room}
-use Rattle.qr_symbol.proofs.drawing.codeword_bits_at.Goals as goal
+use Rattle.qr_symbol.proofs.drawing.eight_codewords.Goals as goal
 
 pub overflow_mul-bits : goal.overflow_mul-bits
 overflow_mul-bits c = omega (arith, codewords-room c.loop-next.next c.loop-next.bits (omega arith) c.loop-next.invariant.small)
@@ -14,11 +14,11 @@ loop-next-preserved c =
     let i = c.loop-next.invariant in
     record {
       small = codewords-fits c.loop-next.next c.loop-next.bits c.from.result i.small (omega arith);
-      held = codewords-more c.args.codewords.now (c.args.number / 8) c.loop-next.next c.loop-next.bits c.from.result (c.from.ensures ∙ c.codeword_at.ensures) (omega arith) i.held;
+      held = codewords-more c.args.codewords.now c.args.place c.loop-next.next c.loop-next.bits c.from.result c.from.ensures (omega arith) i.held;
     }
 
-pub returns-clause-bits : goal.returns-clause-bits
-returns-clause-bits c = λ k l.
+pub returns : goal.returns
+returns c = λ k l.
     let n : c.loop-next.next ≡ 8 = omega arith in
     let e : 8 * c.loop-next.next - 1 - k ≡ 63 - k = omega arith in
     ap (has_bit c.loop-next.bits) (sym e) ∙ c.loop-next.invariant.held k (omega arith)
