@@ -3,7 +3,7 @@ use Rattle.std.proofs.Common.{◌≡◌, ◌++◌, ◌∙◌, ◌<◌, ◌≤◌
 use Rattle.std.proofs.Math.Nat.{add-mul, mul-le-mul_right}
 use Rattle.std.specs.Cmp.Lexicographic.{pointwise, same_text}
 use Rattle.qr_matrix.specs.Grid.{Grid, colour}
-use Rattle.qr_matrix.specs.Line.{has_bit}
+use Rattle.qr_matrix.specs.BitRow.{has_bit}
 use Rattle.qr_matrix.specs.Penalty.{is_same, all_below}
 use Rattle.qr_matrix.proofs.Facts.{&&-left, &&-right, below-at, has_bit-shr, low-bits, same-same}
 use Rattle.qr_drawing.specs.Raster.{is_dark_at, raster_width, texts_below}

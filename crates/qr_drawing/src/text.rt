@@ -165,7 +165,7 @@ fn ascii_quad(bits: u8) -> &'static [u8; 8]
 // Adds two modules and the two modules below them as two characters of half blocks. Bits 0 and 1 of `pair` are the upper
 // modules, and bits 2 and 3 are the lower modules.
 #[inline(always)]
-#[tactic(auto, unfolding(qr_matrix::specs::Line::has_bit, crate::specs::Raster::texts_below))]
+#[tactic(auto, unfolding(qr_matrix::specs::BitRow::has_bit, crate::specs::Raster::texts_below))]
 fn push_half_block_pair(text: &mut ArrayVec<u8, 1200>, pair: u8)
     requires small { pair < 16 }
     requires room { array_vec_len text.old + 6 ≤ 1200 }

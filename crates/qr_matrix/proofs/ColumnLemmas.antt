@@ -3,7 +3,7 @@ use Rattle.std.proofs.Common.{◌≡◌, ℕ, ◌+◌, ◌-◌, ◌*◌, ◌<◌
 use Rattle.std.proofs.lemmas.Bool.{cases_lt}
 use Rattle.std.proofs.lemmas.Bool.Decides.{nat_tests}
 use Rattle.std.proofs.lemmas.Nat.Bits.{bit_at-zero}
-use Rattle.qr_matrix.specs.Line.{has, has_bit, line_of}
+use Rattle.qr_matrix.specs.BitRow.{has, has_bit, bit_row_number}
 use Rattle.qr_matrix.specs.Steps.{size_of, row_share}
 use Rattle.qr_matrix.specs.Penalty.{count_below, is_same, sum_below}
 use Rattle.qr_matrix.specs.Runs.{joins, begins_five, begins_long_run, place_cost}
@@ -13,7 +13,7 @@ use Rattle.qr_matrix.proofs.BoolLemmas.{and-false, not-not}
 
 -- the bit row of zeros has no bit set
 pub has-nothing : (c : ℕ) → has (0 ∷ 0 ∷ 0 ∷ []) c ≡ false
-unfolding has line_of has_bit
+unfolding has bit_row_number has_bit
 has-nothing c = ap (λ z. eqb z 1) (bit_at-zero c)
 
 -- if bit x is set in the columns below s whose place does not differ from the place below it, then x is set exactly

@@ -3,7 +3,7 @@ use Rattle.std.proofs.Common.{◌≡◌, ℕ, zero, suc, ◌<◌, ◌≤◌, Boo
 use Rattle.std.specs.Prelude.{List, ◌↔◌}
 use Rattle.std.proofs.lemmas.Bool.{cases_lt}
 use Rattle.qr_matrix.specs.Grid.{Grid, colour}
-use Rattle.qr_matrix.specs.Line.{has}
+use Rattle.qr_matrix.specs.BitRow.{has}
 use Rattle.qr_matrix.specs.Steps.{size_of}
 use Rattle.qr_matrix.specs.Penalty.{is_same, sum_below, count_below}
 use Rattle.qr_matrix.specs.Difference.{differs, difference_count}

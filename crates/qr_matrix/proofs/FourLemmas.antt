@@ -5,7 +5,7 @@ use Rattle.std.proofs.Math.Nat.{mul-le-mul_right}
 use Rattle.std.proofs.Math.Pow.{pow_mono}
 use Rattle.std.proofs.lemmas.Bool.{cases_lt}
 use Rattle.std.proofs.lemmas.Bool.Decides.{nat_tests}
-use Rattle.qr_matrix.specs.Line.{has, has_bit}
+use Rattle.qr_matrix.specs.BitRow.{has, has_bit}
 use Rattle.qr_matrix.specs.Penalty.{is_same}
 use Rattle.qr_matrix.specs.Grid.{Grid, colour, painted, with_row}
 use Rattle.qr_matrix.proofs.GridLemmas.{square-same, colour-square}

@@ -6,7 +6,7 @@ use Rattle.std.proofs.lemmas.Bool.Decides.{nat_tests}
 use Rattle.std.proofs.lemmas.List.{get_or_past, get_or_read, get_or-replicate, length-replicate, get_or-set_same, get_or-set_other}
 use Rattle.std.proofs.lemmas.Nat.Bits.{bit_at-zero}
 use Rattle.qr_matrix.specs.Grid.{Grid, square, colour, painted, with_row, with_rectangle}
-use Rattle.qr_matrix.specs.Line.{has, has_bit, line_of, dark_in}
+use Rattle.qr_matrix.specs.BitRow.{has, has_bit, bit_row_number, dark_in}
 use Rattle.qr_matrix.specs.Penalty.{is_same}
 use Rattle.qr_matrix.proofs.BoolLemmas.{and-false}
 use Rattle.qr_matrix.proofs.ColumnLemmas.{has-nothing}
@@ -14,7 +14,7 @@ use Rattle.qr_matrix.proofs.GridLemmas.{square-same, colour-square, colour-outsi
 
 -- a bit row without words has no bit that is set
 has-none : (c : ℕ) → has [] c ≡ false
-unfolding has has_bit line_of
+unfolding has has_bit bit_row_number
 has-none c = ap (λ z. eqb z 1) (bit_at-zero c)
 
 -- all places below the last row of `rows` are light

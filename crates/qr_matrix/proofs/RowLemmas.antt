@@ -1,7 +1,7 @@
 -- Bit operations on a bit row compute the tests of a row.
 use Rattle.std.proofs.Common.{◌≡◌, ℕ, ◌+◌, ◌-◌, ◌*◌, ◌<◌, ◌≤◌, List, ltb, Bool, false, not, ◌&&◌, refl, ap, ◌∙◌, arith}
 use Rattle.std.proofs.lemmas.Bool.Decides.{nat_tests}
-use Rattle.qr_matrix.specs.Line.{has}
+use Rattle.qr_matrix.specs.BitRow.{has}
 use Rattle.qr_matrix.specs.Steps.{size_of}
 use Rattle.qr_matrix.specs.Penalty.{count_below, is_same}
 use Rattle.qr_matrix.specs.Runs.{joins, begins_five, begins_long_run, place_cost}

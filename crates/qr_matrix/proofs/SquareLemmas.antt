@@ -1,7 +1,7 @@
 -- Bit operations on two rows compute the test of a square of two by two modules.
 use Rattle.std.proofs.Common.{◌≡◌, ℕ, ◌+◌, ◌≤◌, List, ltb, Bool, true, false, ◌&&◌, refl, sym, ap, ◌∙◌, subst, arith}
 use Rattle.std.proofs.lemmas.Bool.Decides.{nat_tests}
-use Rattle.qr_matrix.specs.Line.{has}
+use Rattle.qr_matrix.specs.BitRow.{has}
 use Rattle.qr_matrix.specs.Steps.{size_of}
 use Rattle.qr_matrix.specs.Penalty.{count_below, is_same, is_square_of_two}
 use Rattle.qr_matrix.specs.Runs.{joins}

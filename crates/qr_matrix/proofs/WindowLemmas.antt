@@ -1,7 +1,7 @@
 -- The windows of rows and columns, found and counted on bit rows.
 use Rattle.std.proofs.Common.{◌≡◌, ℕ, ◌+◌, ◌<◌, ◌≤◌, List, ltb, leb, Bool, true, false, ◌&&◌, ◌||◌, cond, refl, sym, ap, ◌∙◌, arith}
 use Rattle.std.proofs.lemmas.Bool.Decides.{nat_tests}
-use Rattle.qr_matrix.specs.Line.{has}
+use Rattle.qr_matrix.specs.BitRow.{has}
 use Rattle.qr_matrix.specs.Steps.{size_of}
 use Rattle.qr_matrix.specs.Penalty.{count_below, reads, tail_window, head_window, is_window, window_count, sum_below}
 use Rattle.qr_matrix.proofs.SumLemmas.{sum_below-swap}

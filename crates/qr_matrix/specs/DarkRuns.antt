@@ -1,7 +1,7 @@
 -- The runs of dark modules of a row, one after the other.
 use Rattle.std.specs.Prelude.{◌≡◌, ◌<◌, ◌≤◌, ◌&&◌, ℕ, true, false, nat_le, Option, None, Some}
 use Rattle.qr_matrix.specs.Grid.{Grid, colour}
-use Rattle.qr_matrix.specs.Line.{has}
+use Rattle.qr_matrix.specs.BitRow.{has}
 use Rattle.qr_matrix.specs.Runs.{is_change}
 use Rattle.qr_matrix.specs.declared.dark_runs.DarkRuns.{DarkRuns}
 use Rattle.qr_matrix.specs.declared.dark_runs.Run.{Run}

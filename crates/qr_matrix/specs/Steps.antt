@@ -2,7 +2,7 @@
 use Rattle.std.specs.Prelude.{◌≡◌, ℕ, ◌+◌, ◌-◌, ◌*◌, ◌%◌, ◌^◌, ◌<◌, ◌==◌, ◌&&◌, not, true, false, Bool, List, Option, None, Some, length, slice_index, nat_lt, if◌then◌else◌}
 use Rattle.qr_matrix.specs.Penalty.{count_below}
 use Rattle.qr_matrix.specs.Runs.{begins_five, begins_long_run}
-use Rattle.qr_matrix.specs.Line.{has, has_bit}
+use Rattle.qr_matrix.specs.BitRow.{has, has_bit}
 
 -- `AreWords words` holds if there are three words of 64 bits
 abbrev pub AreWords : List ℕ → Type 0

@@ -1,9 +1,9 @@
 //! Finds the runs of dark modules of a row, by the columns in which the colour changes.
 
 ghost use Rattle.std.specs.Prelude.{◌≡◌, ℕ, ◌<◌, ◌-◌, false};
-ghost use Rattle.qr_matrix.specs.Line.{has};
+ghost use Rattle.qr_matrix.specs.BitRow.{has};
 
-use crate::line::Line;
+use crate::bit_row::BitRow;
 use crate::matrix::Matrix;
 
 /// A run of dark modules of a row: the columns from `start` to before `end`.
@@ -17,7 +17,7 @@ pub struct Run {
 #[derive(Drop)]
 pub struct DarkRuns {
     // The columns from `col` on in which the colour changes, where all columns before `col` count as light.
-    changes: Line,
+    changes: BitRow,
     col: u8,
     ghost later: { (c : ℕ) → c < col → has changes c ≡ false },
 }

@@ -13,7 +13,7 @@ pub fn differences(a: &Matrix, b: &Matrix) -> u32
 {
     let mut total = 0;
     for row in 0..usize::from(a.side()) {
-        total += (a.line(row) ^ b.line(row)).count();
+        total += (a.bit_row(row) ^ b.bit_row(row)).count();
     }
     total
 }

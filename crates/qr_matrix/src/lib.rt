@@ -2,10 +2,10 @@
 //! square and the differences of two squares.
 #![tactic(auto)]
 
+mod bit_row;
 mod dark_runs;
 mod difference;
 pub mod laws;
-mod line;
 mod matrix;
 mod penalties;
 mod runs;
@@ -13,6 +13,7 @@ mod squares;
 mod transposition;
 mod windows;
 
+pub use bit_row::BitRow;
 pub use dark_runs::{DarkRuns, Run};
 pub use difference::differences;
 pub use matrix::Matrix;

@@ -2,10 +2,10 @@
 
 ghost use Rattle.std.specs.Prelude.{◌≡◌, ℕ, ◌+◌, ◌-◌, ◌*◌, ◌/◌, ◌%◌, ◌<◌, ◌≤◌, ◌&&◌, ◌==◌, not, nat_le, nat_lt, if◌then◌else◌, false, length, IfOk};
 ghost use Rattle.qr_matrix.specs.Grid.{square, colour, painted, with_row, with_rectangle, light, transposed};
-ghost use Rattle.qr_matrix.specs.Line.{dark_in, has, has_bit};
+ghost use Rattle.qr_matrix.specs.BitRow.{dark_in, has, has_bit};
 ghost use Rattle.qr_matrix.specs.Runs.{IsRunEnd, is_change};
 
-use crate::line::Line;
+use crate::bit_row::BitRow;
 use crate::transposition::set_transposed_band;
 use std::alloc::{AllocError, Global};
 use std::marker::Model;
@@ -16,13 +16,13 @@ use std::marker::Model;
 pub struct Matrix {
     side: u8,
     // Each row as a bit row: column 0 is the lowest bit, and no bit from the side on is set.
-    rows: Vec<Line>,
+    rows: Vec<BitRow>,
 }
 
 impl Model for Matrix {
     ghost use Rattle.std.specs.Prelude.{◌≡◌, ℕ, ◌≤◌, false, length};
     ghost use Rattle.qr_matrix.specs.Grid.{Grid, square};
-    ghost use Rattle.qr_matrix.specs.Line.{dark_in};
+    ghost use Rattle.qr_matrix.specs.BitRow.{dark_in};
 
     ghost Value = { Grid };
 
@@ -39,7 +39,7 @@ impl Matrix {
         requires most { side ≤ 177 }
         ensures { IfOk result (λ m. m ≡ light side) }
     {
-        let rows = vec![in alloc; Line::EMPTY; usize::from(side)]?;
+        let rows = vec![in alloc; BitRow::EMPTY; usize::from(side)]?;
         Ok(Matrix { side, rows })
     }
 
@@ -92,23 +92,23 @@ impl Matrix {
         ensures { IsRunEnd self.now row col result }
     {
         let side = self.side();
-        let later = self.changes(row).and_not(Line::below(col + 1));
+        let later = self.changes(row).and_not(BitRow::below(col + 1));
         later.first().min(side)
     }
 
     // Returns the columns of a row whose colour differs from that of the column before; before column 0 all is light.
-    pub(crate) fn changes(&self, row: u8) -> Line
+    pub(crate) fn changes(&self, row: u8) -> BitRow
         requires { row < self.now.side }
         ensures changes { (c : ℕ) → c < 192 → has result c ≡ is_change (colour self.now row) c }
         ensures past { (c : ℕ) → self.now.side ≤ c → colour self.now row c ≡ false }
         ensures few { self.now.side ≤ 177 }
     {
-        let line = self.line(usize::from(row));
-        line ^ line.shifted_right()
+        let bits = self.bit_row(usize::from(row));
+        bits ^ bits.shifted_right()
     }
 
-    // Returns a row as a bit row. No bit from the side on is set.
-    pub(crate) fn line(&self, row: usize) -> Line
+    /// Returns a row as a bit row. No bit from the side on is set.
+    pub fn bit_row(&self, row: usize) -> BitRow
         requires { row < self.now.side }
         ensures colours { (c : ℕ) → has result c ≡ colour self.now row c }
         ensures past { (c : ℕ) → self.now.side ≤ c → has result c ≡ false }
@@ -138,7 +138,7 @@ impl Matrix {
     // Returns a row as a bit row. `words` is the number of words that a row fills. If it is a constant, the compiler leaves
     // out what would be done with the other words.
     #[inline(always)]
-    pub(crate) fn line_in(&self, row: usize, words: u8) -> Line
+    pub(crate) fn bit_row_in(&self, row: usize, words: u8) -> BitRow
         requires row_in { row < self.now.side }
         requires least { 64 * (words - 1) < self.now.side }
         requires most { self.now.side ≤ 64 * words }
@@ -147,7 +147,7 @@ impl Matrix {
         ensures past { (c : ℕ) → self.now.side ≤ c → has result c ≡ false }
         ensures few { self.now.side ≤ 177 }
     {
-        self.line(row) & Line::below(64 * words)
+        self.bit_row(row) & BitRow::below(64 * words)
     }
 
     /// Sets the colour of one module, and of no other module.
@@ -172,13 +172,13 @@ impl Matrix {
         self.rows[usize::from(row)].put_four(col, bits);
     }
 
-    // Sets the colours of a row to the bits of a bit row.
-    fn set_line(&mut self, row: u8, line: Line)
+    /// Sets the colours of a row to the bits of a bit row.
+    pub fn set_bit_row(&mut self, row: u8, bits: BitRow)
         requires row_in { row < self.old.side }
-        requires past { (c : ℕ) → self.old.side ≤ c → has line c ≡ false }
-        ensures { self.new ≡ with_row self.old row (has line) }
+        requires past { (c : ℕ) → self.old.side ≤ c → has bits c ≡ false }
+        ensures { self.new ≡ with_row self.old row (has bits) }
     {
-        self.rows[usize::from(row)] = line;
+        self.rows[usize::from(row)] = bits;
     }
 
     // Sets the colours of the modules of one word of a row to the bits of a word.
@@ -205,8 +205,8 @@ impl Matrix {
             then not (colour plain.now row c) else colour plain.now row c) }
     {
         let index = usize::from(row);
-        let inverted = within.line(index) & Line::repeated(pattern);
-        self.set_line(row, plain.line(index) ^ inverted);
+        let inverted = within.bit_row(index) & BitRow::repeated(pattern);
+        self.set_bit_row(row, plain.bit_row(index) ^ inverted);
     }
 
     // Sets the modules of a row from `left` to before `right` to one colour.
@@ -217,12 +217,12 @@ impl Matrix {
         ensures { self.new ≡ with_row self.old row
             (λ c. if nat_le left c && nat_lt c right then dark else colour self.old row c) }
     {
-        let line = self.line(usize::from(row));
-        let columns = Line::below(right).and_not(Line::below(left));
+        let bits = self.bit_row(usize::from(row));
+        let columns = BitRow::below(right).and_not(BitRow::below(left));
         if dark {
-            self.set_line(row, line | columns);
+            self.set_bit_row(row, bits | columns);
         } else {
-            self.set_line(row, line.and_not(columns));
+            self.set_bit_row(row, bits.and_not(columns));
         }
     }
 

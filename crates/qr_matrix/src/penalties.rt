@@ -27,7 +27,7 @@ fn dark_count(matrix: &Matrix, words: u8) -> u32
 {
     let mut total = 0;
     for row in 0..usize::from(matrix.side()) {
-        total += matrix.line_in(row, words).count();
+        total += matrix.bit_row_in(row, words).count();
     }
     total
 }

@@ -7,7 +7,7 @@
 
 ghost use Rattle.std.specs.Prelude.{◌≡◌, ℕ, ◌+◌, ◌-◌, ◌*◌, ◌/◌, ◌%◌, ◌<◌, ◌≤◌, ◌&&◌, ◌==◌, ◌⊎◌, nat_lt, if◌then◌else◌, false, slice_index};
 ghost use Rattle.qr_matrix.specs.Grid.{square, colour, IsSquare};
-ghost use Rattle.qr_matrix.specs.Line.{has_bit};
+ghost use Rattle.qr_matrix.specs.BitRow.{has_bit};
 ghost use Rattle.qr_matrix.specs.Steps.{bit_in, exchanged};
 
 use crate::matrix::Matrix;

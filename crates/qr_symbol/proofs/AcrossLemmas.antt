@@ -9,7 +9,7 @@ use Rattle.qr_layout.specs.Version.{side_of}
 use Rattle.qr_layout.proofs.Facts.{region-symmetric}
 use Rattle.qr_bits.specs.Bits.{codeword_bit}
 use Rattle.qr_matrix.specs.Grid.{Grid, square, colour, painted, transposed, IsSquare}
-use Rattle.qr_matrix.specs.Line.{has_bit}
+use Rattle.qr_matrix.specs.BitRow.{has_bit}
 use Rattle.qr_matrix.proofs.Facts.{same-place, square-same, colour-square}
 use Rattle.qr_symbol.specs.Steps.Drawing.{IsDrawnAcross, number_after, number_along, placed_along, placed_if, region_grid}
 use Rattle.qr_symbol.proofs.DrawingLemmas.{at, by_test, painted-square, square-is}

@@ -8,7 +8,7 @@ use Rattle.std.proofs.Math.Pow.{pow_mono}
 use Rattle.std.proofs.lemmas.Nat.Bits.{bit_at_above, bit_at_cat_low, bit_at_cat_high}
 use mathlib.Core.Bool.{beq}
 use Rattle.qr_bits.specs.Bits.{codeword_bit}
-use Rattle.qr_matrix.specs.Line.{has_bit}
+use Rattle.qr_matrix.specs.BitRow.{has_bit}
 use Rattle.qr_matrix.proofs.Facts.{has_bit-and, has_bit-ones, has_bit-shr}
 use Rattle.qr_symbol.specs.Mask.{inverted}
 use Rattle.qr_symbol.specs.Symbol.{word_bit}

@@ -1,6 +1,6 @@
 -- The table that splits eight bits into those of the two columns of a strip.
 use Rattle.std.proofs.Common.{◌≡◌, ℕ, ◌-◌, ◌*◌, ◌/◌, ◌%◌, ◌<◌, Bool, true, ◌&&◌, eqb, get_or, [], refl}
-use Rattle.qr_matrix.specs.Line.{has_bit}
+use Rattle.qr_matrix.specs.BitRow.{has_bit}
 use Rattle.qr_matrix.specs.Penalty.{is_same, all_below}
 use Rattle.qr_matrix.proofs.Facts.{below-at, same-same, &&-left, &&-right}
 use Rattle.qr_symbol.specs.declared.drawing.TheConstants.{SPLITS}

@@ -6,7 +6,7 @@ ghost use Rattle.qr_layout.specs.Version.{side_of};
 ghost use Rattle.qr_layout.specs.Strips.{both_of, rows_from};
 ghost use Rattle.qr_bits.specs.Bits.{codeword_bit};
 ghost use Rattle.qr_matrix.specs.Grid.{square, colour, painted, transposed, IsSquare};
-ghost use Rattle.qr_matrix.specs.Line.{has_bit};
+ghost use Rattle.qr_matrix.specs.BitRow.{has_bit};
 ghost use Rattle.qr_symbol.specs.Steps.Drawing.{placed_colour, number_after, walked_colour, AreCommon, AreNext, IsDrawnAcross, IsCodewordBits, region_grid};
 
 use crate::mask::inverts;

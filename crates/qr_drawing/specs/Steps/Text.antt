@@ -1,7 +1,7 @@
 -- The cells of a text by the bits of their modules, and the room that they take.
 use Rattle.std.specs.Prelude.{◌≡◌, ℕ, ◌+◌, ◌*◌, ◌<◌, Bool, false, not, List, Option, Some, None}
 use Rattle.qr_matrix.specs.Grid.{Grid}
-use Rattle.qr_matrix.specs.Line.{has_bit}
+use Rattle.qr_matrix.specs.BitRow.{has_bit}
 use Rattle.qr_drawing.specs.Raster.{is_dark_at, texts_below}
 use Rattle.qr_drawing.specs.Text.{ascii_module, half_blocks}
 use Rattle.qr_drawing.specs.declared.text.TextStyle.{TextStyle}

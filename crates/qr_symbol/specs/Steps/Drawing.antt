@@ -10,7 +10,7 @@ use Rattle.qr_layout.specs.Region.{is_in_region}
 use Rattle.qr_layout.specs.Role.{role_of}
 use Rattle.qr_bits.specs.Bits.{codeword_bit}
 use Rattle.qr_matrix.specs.Grid.{Grid, square, colour, painted, transposed, IsSquare}
-use Rattle.qr_matrix.specs.Line.{has_bit}
+use Rattle.qr_matrix.specs.BitRow.{has_bit}
 use Rattle.qr_symbol.specs.declared.drawing.CodewordBits.{CodewordBits}
 use Rattle.qr_symbol.specs.Mask.{inverts, inverted}
 use Rattle.qr_symbol.specs.Steps.Patterns.{fixed_colour, format_or}

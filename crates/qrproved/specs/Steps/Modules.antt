@@ -1,6 +1,6 @@
 -- The bytes of four modules at once.
 use Rattle.std.specs.Prelude.{ℕ, List, [], ◌∷◌}
-use Rattle.qr_matrix.specs.Line.{has_bit}
+use Rattle.qr_matrix.specs.BitRow.{has_bit}
 use Rattle.qrproved.specs.Modules.{byte_of}
 
 -- The bytes of four modules, which are given as four bits; the first module is the lowest bit.

@@ -1,6 +1,6 @@
 use Rattle.std.proofs.Common.{◌≡◌, ◌+◌, ◌*◌, ◌/◌, ◌++◌, ◌∙◌, ℕ, ap, arith}
 use Rattle.qr_drawing.specs.Raster.{texts_below}
-use Rattle.qr_matrix.specs.Line.{has_bit}
+use Rattle.qr_matrix.specs.BitRow.{has_bit}
 use Rattle.qr_drawing.specs.Steps.Text.{cell_at, cell_room, cell_text}
 use Rattle.qr_drawing.proofs.LineLemmas.{added_more, added_none}
 use Rattle.qr_drawing.proofs.CellLemmas.{bits-cells, cell-length, room-left}

@@ -9,7 +9,7 @@ pub loop-row-preserved : goal.loop-row-preserved
 loop-row-preserved c =
     let m = c.args.matrix.now in
     let r = c.loop-row.row in
-    let e = size-is m.side c.line_in.result (colour m r) (omega arith) (λ k _. c.line_in.ensures.colours k) (λ k h. sym (c.line_in.ensures.colours k) ∙ c.line_in.ensures.past k h) in
+    let e = size-is m.side c.bit_row_in.result (colour m r) (omega arith) (λ k _. c.bit_row_in.ensures.colours k) (λ k h. sym (c.bit_row_in.ensures.colours k) ∙ c.bit_row_in.ensures.past k h) in
     record {
       counted = sum_below-more r _ _ _ (λ r. count_below m.side (colour m r)) c.loop-row.invariant.counted (c.count-total.ensures.value ∙ e) refl;
       small = omega arith;

@@ -1,5 +1,5 @@
 use Rattle.std.proofs.Common.{not, ◌&&◌, arith}
-use Rattle.qr_matrix.specs.Line.{has}
+use Rattle.qr_matrix.specs.BitRow.{has}
 use Rattle.qr_matrix.proofs.RowLemmas.{size-counts}
 use Rattle.qr_matrix.proofs.runs.fives_cost.Goals as goal
 

@@ -1,6 +1,6 @@
 use Rattle.std.proofs.Common.{not, ltb, ap, ◌∙◌, arith}
 use Rattle.qr_matrix.specs.Grid.{colour}
-use Rattle.qr_matrix.specs.Line.{has}
+use Rattle.qr_matrix.specs.BitRow.{has}
 use Rattle.qr_matrix.specs.Penalty.{is_same}
 use Rattle.qr_matrix.proofs.ColumnLemmas.{has-nothing, joins-down-bit, joins-down-none}
 use Rattle.qr_matrix.proofs.runs.joined_in_column.Goals as goal
@@ -10,7 +10,7 @@ returns-then-row-from c = λ k.
     let m = c.args.matrix.now in
     joins-down-bit m.side (λ i. colour m i k) k c.args.row (has c.and_not.result k) (has c.below_in.result k) (has c.bitxor.result k) (omega arith) (c.and_not.ensures k)
     (c.below_in.ensures k ∙ ap (ltb k) c.side-side.ensures.value)
-    (c.bitxor.ensures k ∙ (ap (λ z. not (is_same z (has c.line_in-then-row-from.result k))) (c.line_in.ensures.colours k) ∙ ap (λ z. not (is_same (colour m c.args.row k) z)) (c.line_in-then-row-from.ensures.colours k)))
+    (c.bitxor.ensures k ∙ (ap (λ z. not (is_same z (has c.bit_row_in-then-row-from.result k))) (c.bit_row_in.ensures.colours k) ∙ ap (λ z. not (is_same (colour m c.args.row k) z)) (c.bit_row_in-then-row-from.ensures.colours k)))
 
 pub returns-else-row-from : goal.returns-else-row-from
 returns-else-row-from c = λ k.

@@ -1,6 +1,6 @@
 use Rattle.std.proofs.Common.{◌≡◌, ℕ, ◌+◌, ◌-◌, ◌*◌, ◌≤◌, ◌&&◌, ltb}
 use Rattle.qr_matrix.specs.Grid.{colour}
-use Rattle.qr_matrix.specs.Line.{has}
+use Rattle.qr_matrix.specs.BitRow.{has}
 use Rattle.qr_matrix.specs.Penalty.{count_below, is_square_of_two, sum_below}
 use Rattle.qr_matrix.specs.Runs.{joins, place_cost}
 use Rattle.qr_matrix.specs.Steps.{row_share}

@@ -1,6 +1,6 @@
 use Rattle.std.proofs.Common.{◌≡◌, ◌+◌, ◌*◌, ◌/◌, ◌%◌, ◌&&◌, ◌∙◌, eqb, ltb, get_or, sym, ap, refl, arith}
 use Rattle.qr_matrix.specs.Grid.{Grid, colour}
-use Rattle.qr_matrix.specs.Line.{has_bit}
+use Rattle.qr_matrix.specs.BitRow.{has_bit}
 use Rattle.qr_matrix.specs.Steps.{bit_in}
 use Rattle.qr_matrix.proofs.TranspositionLemmas.{chosen-none, chosen-row, chosen-more, chosen-same, row-none, row-more, row-all}
 use Rattle.qr_matrix.proofs.transposition.set_tile.Goals as goal

@@ -1,6 +1,6 @@
 use Rattle.std.proofs.Common.{◌≡◌, ◌+◌, not, ◌&&◌, ◌||◌, ltb, sym, ap, ◌∙◌}
 use Rattle.qr_matrix.specs.Grid.{colour}
-use Rattle.qr_matrix.specs.Line.{has}
+use Rattle.qr_matrix.specs.BitRow.{has}
 use Rattle.qr_matrix.proofs.ColumnLemmas.{guarded}
 use Rattle.qr_matrix.proofs.ReadingLemmas.{head-order, head-down}
 use Rattle.qr_matrix.proofs.windows.heads_in_column.Goals as goal
@@ -8,19 +8,19 @@ use Rattle.qr_matrix.proofs.windows.heads_in_column.Goals as goal
 pub returns : goal.returns
 returns c = λ k.
     let m = c.args.matrix.now in
-    let g : has c.line_in-5.result k ≡ (ltb k m.side && colour m (c.args.row + 4) k) =
-    c.line_in-5.ensures.colours k ∙ guarded m.side k (colour m (c.args.row + 4) k) (λ h. sym (c.line_in-5.ensures.colours k) ∙ c.line_in-5.ensures.past k h) in
-    let l0 = c.line_in.ensures.colours k in
-    let l1 = c.line_in-2.ensures.colours k in
-    let l2 = c.line_in-3.ensures.colours k in
-    let l3 = c.line_in-4.ensures.colours k in
-    let l4 = c.line_in-5.ensures.colours k in
-    let l5 = c.line_in-6.ensures.colours k in
-    let l6 = c.line_in-7.ensures.colours k in
-    let l7 = c.line_in-8.ensures.colours k in
-    let l8 = c.line_in-9.ensures.colours k in
-    let l9 = c.line_in-10.ensures.colours k in
-    let l10 = c.line_in-11.ensures.colours k in
+    let g : has c.bit_row_in-5.result k ≡ (ltb k m.side && colour m (c.args.row + 4) k) =
+    c.bit_row_in-5.ensures.colours k ∙ guarded m.side k (colour m (c.args.row + 4) k) (λ h. sym (c.bit_row_in-5.ensures.colours k) ∙ c.bit_row_in-5.ensures.past k h) in
+    let l0 = c.bit_row_in.ensures.colours k in
+    let l1 = c.bit_row_in-2.ensures.colours k in
+    let l2 = c.bit_row_in-3.ensures.colours k in
+    let l3 = c.bit_row_in-4.ensures.colours k in
+    let l4 = c.bit_row_in-5.ensures.colours k in
+    let l5 = c.bit_row_in-6.ensures.colours k in
+    let l6 = c.bit_row_in-7.ensures.colours k in
+    let l7 = c.bit_row_in-8.ensures.colours k in
+    let l8 = c.bit_row_in-9.ensures.colours k in
+    let l9 = c.bit_row_in-10.ensures.colours k in
+    let l10 = c.bit_row_in-11.ensures.colours k in
     let h0 = c.bitor-upper.ensures k in
     let h1 = c.bitor.ensures k in
     let h2 = c.bitor-dark.ensures k in

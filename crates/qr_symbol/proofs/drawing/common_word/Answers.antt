@@ -1,6 +1,6 @@
 use Rattle.std.proofs.Common.{◌+◌, ◌*◌, ◌&&◌, refl, ap, ◌∙◌}
 use Rattle.qr_matrix.specs.Grid.{colour}
-use Rattle.qr_matrix.specs.Line.{has_bit}
+use Rattle.qr_matrix.specs.BitRow.{has_bit}
 use Rattle.qr_matrix.proofs.Facts.{has_bit-and}
 use Rattle.qr_symbol.proofs.drawing.common_word.Goals as goal
 

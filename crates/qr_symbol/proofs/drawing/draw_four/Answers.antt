@@ -7,7 +7,7 @@ use Rattle.qr_bits.proofs.Facts.{bool_byte-bit}
 use Rattle.qr_layout.specs.Region.{is_in_region}
 use Rattle.qr_layout.specs.Version.{side_of}
 use Rattle.qr_matrix.specs.Grid.{Grid, colour}
-use Rattle.qr_matrix.specs.Line.{has_bit}
+use Rattle.qr_matrix.specs.BitRow.{has_bit}
 use Rattle.qr_matrix.proofs.Facts.{has_bit-and, has_bit-ones, has_bit-shl-high, &&-left, &&-right}
 use Rattle.qr_symbol.specs.Steps.Drawing.{AreCommon}
 use Rattle.qr_symbol.proofs.AcrossLemmas.{four-drawn, rank_of, region-across}

@@ -2,7 +2,7 @@ use Rattle.std.proofs.Common.{◌≡◌, ◌<◌, ◌≤◌, [], ◌+◌, ◌-�
 use Rattle.qr_layout.specs.Version.{side_of}
 use Rattle.qr_layout.specs.Strips.{both_of, rows_from}
 use Rattle.qr_matrix.specs.Grid.{Grid, colour, painted}
-use Rattle.qr_matrix.specs.Line.{has_bit}
+use Rattle.qr_matrix.specs.BitRow.{has_bit}
 use Rattle.qr_symbol.specs.Steps.Drawing.{IsDrawnAcross}
 use Rattle.qr_symbol.proofs.AcrossLemmas.{after-plus, drawn-none, drawn-row, drawn-rows, region-across, side-painted, square-placed}
 use Rattle.qr_symbol.proofs.drawing.draw_rows.Goals as goal

@@ -1,5 +1,5 @@
 use Rattle.std.proofs.Common.{◌≡◌, ◌-◌, ◌*◌, ap, sym, ◌∙◌, arith}
-use Rattle.qr_matrix.specs.Line.{has_bit}
+use Rattle.qr_matrix.specs.BitRow.{has_bit}
 use Rattle.qr_symbol.proofs.BitLemmas.{codewords-more, codewords-fits, codewords-room}
 use Rattle.qr_symbol.proofs.drawing.eight_codewords.Goals as goal
 

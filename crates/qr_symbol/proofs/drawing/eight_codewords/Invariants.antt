@@ -1,6 +1,6 @@
 use Rattle.std.proofs.Common.{◌≡◌, ℕ, ◌+◌, ◌-◌, ◌*◌, ◌^◌, ◌<◌}
 use Rattle.qr_bits.specs.Bits.{codeword_bit}
-use Rattle.qr_matrix.specs.Line.{has_bit}
+use Rattle.qr_matrix.specs.BitRow.{has_bit}
 use Rattle.qr_symbol.proofs.drawing.eight_codewords.Given as goal
 
 abbrev pub invariant-loop-next : goal.invariant-loop-next

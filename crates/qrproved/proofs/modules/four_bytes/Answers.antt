@@ -1,5 +1,5 @@
 use Rattle.std.proofs.Common.{◌≡◌, sym, ap, arith}
-use Rattle.qr_matrix.specs.Line.{has_bit}
+use Rattle.qr_matrix.specs.BitRow.{has_bit}
 use Rattle.qrproved.specs.Steps.Modules.{four_bytes}
 use Rattle.qrproved.proofs.modules.four_bytes.Goals as goal
 

@@ -1,5 +1,5 @@
 use Rattle.std.proofs.Common.{◌&&◌, not, eqb, ap, ◌∙◌, refl}
-use Rattle.qr_matrix.specs.Line.{has}
+use Rattle.qr_matrix.specs.BitRow.{has}
 use Rattle.qr_matrix.proofs.ChangeLemmas.{first-run, no-runs, one-more, runs-left}
 use Rattle.qr_matrix.proofs.dark_runs.DarkRunsIterator.next.Goals as goal
 

@@ -3,7 +3,7 @@ use Rattle.std.proofs.Math.ListN.{length-set}
 use Rattle.std.proofs.lemmas.Bool.Decides.{nat_tests}
 use Rattle.std.proofs.lemmas.List.{get_or_read}
 use Rattle.qr_matrix.specs.Grid.{Grid, colour}
-use Rattle.qr_matrix.specs.Line.{has, has_bit, dark_in}
+use Rattle.qr_matrix.specs.BitRow.{has, has_bit, dark_in}
 use Rattle.qr_matrix.proofs.MatrixLemmas.{line-set, line-inside, row-read, line-write}
 use Rattle.qr_matrix.proofs.FourLemmas.{row-four}
 use Rattle.qr_matrix.proofs.matrix.Matrix.set_four.Goals as goal

@@ -1,0 +1,21 @@
+use Rattle.std.proofs.Common.{get_or, ◌∙◌, arith}
+use Rattle.qr_matrix.specs.BitRow.{has, bit_row_number}
+use Rattle.qr_matrix.specs.Steps.{size_of}
+use Rattle.qr_matrix.proofs.WordLemmas.{three-ones, three-below}
+use Rattle.qr_matrix.proofs.PlaceLemmas.{ones-count}
+use Rattle.std.proofs.lemmas.Nat.{ones-le}
+use Rattle.qr_matrix.proofs.bit_row.BitRow.count.Goals as goal
+
+pub returns-clause-value : goal.returns-clause-value
+unfolding size_of has bit_row_number
+returns-clause-value c =
+    let a = c.self.inside.0 in
+    rw (← c.self.view_is) (three-ones (get_or a 0 0) (get_or a 1 0) (get_or a 2 0) (omega arith) (omega arith) ∙ ones-count 192 (bit_row_number a) (three-below (get_or a 0 0) (get_or a 1 0) (get_or a 2 0) (omega arith) (omega arith) (omega arith)))
+
+pub returns-clause-bound : goal.returns-clause-bound
+returns-clause-bound c =
+    let a = c.self.inside.0 in
+    let p = ones-le 64 (get_or a 0 0) (omega arith) in
+    let q = ones-le 64 (get_or a 1 0) (omega arith) in
+    let r = ones-le 64 (get_or a 2 0) (omega arith) in
+    omega arith

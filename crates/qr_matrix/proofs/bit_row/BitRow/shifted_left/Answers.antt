@@ -1,0 +1,23 @@
+use Rattle.std.proofs.Common.{◌-◌, ◌*◌, ◌/◌, ◌%◌, ◌^◌, get_or, refl, ap, ◌∙◌, arith}
+use Rattle.std.proofs.lemmas.Nat.{or_lt, shr_le}
+use Rattle.qr_matrix.specs.BitRow.{has, has_bit, bit_row_number}
+use Rattle.qr_matrix.proofs.WordLemmas.{three-down}
+use Rattle.qr_matrix.proofs.PlaceLemmas.{has_bit-shr}
+use Rattle.qr_matrix.proofs.bit_row.BitRow.shifted_left.Goals as goal
+
+pub returns : goal.returns
+unfolding has bit_row_number
+returns c =
+    let a = c.self.inside.0 in
+    let k = c.args.steps in
+    let e = three-down (get_or a 0 0) (get_or a 1 0) (get_or a 2 0) k (omega arith) (omega arith) (omega arith) in
+    rw (← c.self.view_is) (λ i. ap (λ z. has_bit z i) e ∙ has_bit-shr (bit_row_number a) k i)
+
+pub invariant_of-result : goal.invariant_of-result
+invariant_of-result c =
+    let a = c.self.inside.0 in
+    let k = c.args.steps in
+    let e = shr_le (get_or a 0 0) k in
+    let f = shr_le (get_or a 1 0) k in
+    let g = shr_le (get_or a 2 0) k in
+    (refl, or_lt 64 (get_or a 0 0 / 2 ^ k) (get_or a 1 0 * 2 ^ (64 - k) % 2 ^ 64) (omega arith) (omega arith), or_lt 64 (get_or a 1 0 / 2 ^ k) (get_or a 2 0 * 2 ^ (64 - k) % 2 ^ 64) (omega arith) (omega arith), omega arith)

@@ -1,0 +1,22 @@
+use Rattle.std.proofs.Common.{get_or, refl, ap, ◌∙◌, arith}
+use Rattle.std.proofs.lemmas.Nat.{or_lt}
+use Rattle.qr_matrix.specs.BitRow.{has, has_bit, bit_row_number}
+use Rattle.qr_matrix.proofs.WordLemmas.{three-or}
+use Rattle.qr_matrix.proofs.PlaceLemmas.{has_bit-or}
+use Rattle.qr_matrix.proofs.bit_row.BitRowBitOr.bitor.Goals as goal
+
+pub returns : goal.returns
+unfolding has bit_row_number
+returns c =
+    let a = c.self.inside.0 in
+    let b = c.rhs.inside.0 in
+    let e = three-or (get_or a 0 0) (get_or a 1 0) (get_or a 2 0) (get_or b 0 0) (get_or b 1 0) (get_or b 2 0) (omega arith) (omega arith) (omega arith) (omega arith) in
+    rw (← c.self.view_is, ← c.rhs.view_is) (λ k. ap (λ z. has_bit z k) e ∙ has_bit-or (bit_row_number a) (bit_row_number b) k)
+
+pub invariant_of-result : goal.invariant_of-result
+invariant_of-result c = (
+  refl,
+  or_lt 64 _ _ c.self.invariant.1 c.rhs.invariant.1,
+  or_lt 64 _ _ c.self.invariant.2 c.rhs.invariant.2,
+  or_lt 64 _ _ c.self.invariant.3 c.rhs.invariant.3,
+)

@@ -1,0 +1,22 @@
+use Rattle.std.proofs.Common.{get_or, refl, ap, ◌∙◌, arith}
+use Rattle.std.proofs.lemmas.Nat.{xor_lt}
+use Rattle.qr_matrix.specs.BitRow.{has, has_bit, bit_row_number}
+use Rattle.qr_matrix.proofs.WordLemmas.{three-xor}
+use Rattle.qr_matrix.proofs.PlaceLemmas.{has_bit-xor}
+use Rattle.qr_matrix.proofs.bit_row.BitRowBitXor.bitxor.Goals as goal
+
+pub returns : goal.returns
+unfolding has bit_row_number
+returns c =
+    let a = c.self.inside.0 in
+    let b = c.rhs.inside.0 in
+    let e = three-xor (get_or a 0 0) (get_or a 1 0) (get_or a 2 0) (get_or b 0 0) (get_or b 1 0) (get_or b 2 0) (omega arith) (omega arith) (omega arith) (omega arith) in
+    rw (← c.self.view_is, ← c.rhs.view_is) (λ k. ap (λ z. has_bit z k) e ∙ has_bit-xor (bit_row_number a) (bit_row_number b) k)
+
+pub invariant_of-result : goal.invariant_of-result
+invariant_of-result c = (
+  refl,
+  xor_lt 64 _ _ c.self.invariant.1 c.rhs.invariant.1,
+  xor_lt 64 _ _ c.self.invariant.2 c.rhs.invariant.2,
+  xor_lt 64 _ _ c.self.invariant.3 c.rhs.invariant.3,
+)
