@@ -1,5 +1,5 @@
 -- If only byte mode may be used, there is one valid assignment: byte mode for each byte.
-use Rattle.std.proofs.Common.{◌≡◌, ℕ, zero, suc, ◌+◌, ◌*◌, ◌<◌, ◌≤◌, min, take, ⊎_elim, true, false, ◌==◌, List, [], ◌∷◌, length, refl, sym, ◌∙◌, ap, subst, arith, inr, lit<}
+use Rattle.std.proofs.Common.{◌≡◌, ℕ, zero, suc, ◌+◌, ◌*◌, ◌<◌, ◌≤◌, min, take, ⊎_elim, true, ◌==◌, List, [], ◌∷◌, length, refl, sym, ◌∙◌, ap, subst, arith, inr, lit<}
 use Rattle.std.specs.List.{list_all}
 use Rattle.std.proofs.lemmas.List.{length-take-le}
 use Rattle.std.proofs.lemmas.Bool.{and_from, and_parts, cases_lt, eqb-true, false≢true}
@@ -87,11 +87,6 @@ bytes_least v xs =
       },
       sym (runs_of-bytes xs),
     )
-
--- if there are bytes, `one_segment` is one segment
-pub bytes_some : (m : Mode) (n : ℕ) → (n == 0) ≡ false → record { mode = m; len = n } ∷ [] ≡ one_segment m n
-bytes_some m zero h = cc
-bytes_some m (suc n) h = refl
 
 -- if there is no byte, `one_segment` is no segment
 pub bytes_none : (m : Mode) (n : ℕ) → (n == 0) ≡ true → [] ≡ one_segment m n

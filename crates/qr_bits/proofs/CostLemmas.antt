@@ -1,5 +1,5 @@
 -- The number of bits of an assignment is a sum over its modes.
-use Rattle.std.proofs.Common.{◌≡◌, ℕ, ◌+◌, ◌/◌, ◌%◌, Bool, true, false, cond, ◌==◌, List, [], ◌∷◌, replicate, refl, sym, ◌∙◌, ap, subst, arith, suc, zero}
+use Rattle.std.proofs.Common.{◌≡◌, ℕ, ◌+◌, Bool, true, false, cond, ◌==◌, List, [], ◌∷◌, replicate, refl, sym, ◌∙◌, ap, subst, arith, suc, zero}
 use Rattle.std.proofs.lemmas.Bool.{false_from_ne_true, cond_both, cond-true, cond-false, false≢true, true≢false, eqb-true, eq-eqb}
 use Rattle.qr_bits.specs.declared.modes.Mode.{Mode}
 use Rattle.qr_bits.specs.declared.modes.Mode.TheVariants.{Numeric, Alphanumeric, Byte, Kanji}
@@ -10,6 +10,7 @@ use Rattle.qr_bits.specs.Modes.{count_width, payload_bits}
 use Rattle.qr_bits.specs.Segmentation.{segment_bits, bits, rank, prepend_mode, runs_of}
 use Rattle.qr_bits.specs.Steps.RunState.{state_after, byte_cost, cost_of}
 use Rattle.qr_bits.proofs.BestLemmas.{same_rank}
+use Rattle.qr_bits.proofs.WritingLemmas.{three_more}
 
 -- how far the last group is filled in a state
 abbrev turn : RunState → ℕ
@@ -50,15 +51,6 @@ state_rank-after _ Alphanumeric = refl
 state_rank-after _ Byte = refl
 state_rank-after HalfPair Kanji = refl
 state_rank-after _ Kanji = refl
-
-pub three_more : (n : ℕ) → payload_bits Numeric (3 + n) ≡ 10 + payload_bits Numeric n
-three_more n =
-    let q : (3 + n) / 3 ≡ 1 + n / 3 = omega arith in
-    let r : (3 + n) % 3 ≡ n % 3 = omega arith in
-    rw (q, r) (omega arith)
-
-two_more : (n : ℕ) → payload_bits Alphanumeric (2 + n) ≡ 11 + payload_bits Alphanumeric n
-two_more n = omega arith
 
 -- at the start no mode goes on with a run
 at_start : (m : Mode) → goes_on Start m ≡ true → ⊥

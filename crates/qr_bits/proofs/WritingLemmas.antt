@@ -19,43 +19,7 @@ all_rest p xs zero h = h
 all_rest p [] (suc n) h = h
 all_rest p (x ∷ xs) (suc n) h = all_rest p xs n (and_parts (p x) _ h).1
 
--- if all bytes pass a test, each byte passes it
-pub all_at : (p : ℕ → Bool) (xs : List ℕ) (i : ℕ) → list_all p xs ≡ true → i < length xs → p (get_or xs i 0) ≡ true
-all_at p [] i h l = absurd (omega arith)
-all_at p (x ∷ xs) zero h l = (and_parts (p x) _ h).0
-all_at p (x ∷ xs) (suc i) h l = all_at p xs i (and_parts (p x) _ h).1 (omega arith)
-
 -- ---- digits
-
--- a group of three digits, and the digits after it
-pub digits_three : (xs : List ℕ) → 3 ≤ length xs
-    → digit_bits xs ≡ field 10 (100 * (get_or xs 0 0 - 48) + 10 * (get_or xs 1 0 - 48) + (get_or xs 2 0 - 48)) ++ digit_bits (drop 3 xs)
-unfolding digit_bits
-digits_three [] h = absurd (omega arith)
-digits_three (a ∷ []) h = absurd (omega arith)
-digits_three (a ∷ b ∷ []) h = absurd (omega arith)
-digits_three (a ∷ b ∷ c ∷ xs) h = refl
-
--- two digits left over
-pub digits_two_left : (xs : List ℕ) → length xs ≡ 2 → digit_bits xs ≡ field 7 (10 * (get_or xs 0 0 - 48) + (get_or xs 1 0 - 48))
-unfolding digit_bits
-digits_two_left [] h = absurd (omega arith)
-digits_two_left (a ∷ []) h = absurd (omega arith)
-digits_two_left (a ∷ b ∷ []) h = refl
-digits_two_left (a ∷ b ∷ c ∷ xs) h = absurd (omega arith)
-
--- one digit left over
-pub digits_one_left : (xs : List ℕ) → length xs ≡ 1 → digit_bits xs ≡ field 4 (get_or xs 0 0 - 48)
-unfolding digit_bits
-digits_one_left [] h = absurd (omega arith)
-digits_one_left (a ∷ []) h = refl
-digits_one_left (a ∷ b ∷ xs) h = absurd (omega arith)
-
--- no digit left over
-pub digits_none_left : (xs : List ℕ) → length xs ≡ 0 → digit_bits xs ≡ []
-unfolding digit_bits
-digits_none_left [] h = refl
-digits_none_left (a ∷ xs) h = absurd (omega arith)
 
 -- ---- characters
 
@@ -66,19 +30,6 @@ unfolding character_bits
 characters_two [] h = absurd (omega arith)
 characters_two (a ∷ []) h = absurd (omega arith)
 characters_two (a ∷ b ∷ xs) h = refl
-
--- one character left over
-pub characters_one_left : (xs : List ℕ) → length xs ≡ 1 → character_bits xs ≡ field 6 (character_value (get_or xs 0 0))
-unfolding character_bits
-characters_one_left [] h = absurd (omega arith)
-characters_one_left (a ∷ []) h = refl
-characters_one_left (a ∷ b ∷ xs) h = absurd (omega arith)
-
--- no character left over
-pub characters_none_left : (xs : List ℕ) → length xs ≡ 0 → character_bits xs ≡ []
-unfolding character_bits
-characters_none_left [] h = refl
-characters_none_left (a ∷ xs) h = absurd (omega arith)
 
 -- ---- kanji pairs
 
@@ -94,13 +45,6 @@ pub in_twos-first : (test : ℕ → ℕ → Bool) (xs : List ℕ) → in_twos te
 in_twos-first test [] h n = absurd (omega arith)
 in_twos-first test (x ∷ []) h n = absurd (omega arith)
 in_twos-first test (x ∷ y ∷ xs) h n = let p = and_parts (test x y) _ h in (p.0, p.1)
-
--- fewer than two bytes that pass a test two by two are no bytes, and have no bits
-pub kanji_none : (test : ℕ → ℕ → Bool) (xs : List ℕ) → in_twos test xs ≡ true → length xs < 2 → kanji_bits xs ≡ []
-unfolding kanji_bits
-kanji_none test [] h n = refl
-kanji_none test (x ∷ []) h n = absurd (false≢true h)
-kanji_none test (x ∷ y ∷ xs) h n = absurd (omega arith)
 
 -- ---- lengths
 

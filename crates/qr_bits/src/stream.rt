@@ -86,26 +86,22 @@ fn put_payload(writer: &mut BitWriter, mode: Mode, bytes: &[u8]) -> Result<(), A
 }
 
 // Writes digits: three in ten bits, two left over in seven, one left over in four (7.4.3).
+#[tactic(auto, unfolding(crate::specs::Stream::digit_bits), using(crate::proofs::WritingLemmas::all_rest, std::proofs::lemmas::List::append_assoc))]
 fn put_digits(writer: &mut BitWriter, digits: &[u8]) -> Result<(), AllocError>
     requires { IsTrue (list_all is_digit digits.now) }
     ensures { OnOk result (writer.new ≡ writer.old ++ digit_bits digits.now) }
 {
     let mut rest = digits;
-    while rest.len() >= 3 {
-        let hundreds = 100 * digit_value(rest[0]);
-        writer.put(
-            10,
-            hundreds + 10 * digit_value(rest[1]) + digit_value(rest[2]),
-        )?;
-        let (_, after) = rest.split_at(3);
+    while let [a, b, c, after @ ..] = rest {
+        let hundreds = 100 * digit_value(*a);
+        writer.put(10, hundreds + 10 * digit_value(*b) + digit_value(*c))?;
         rest = after;
     }
-    if rest.len() == 2 {
-        writer.put(7, 10 * digit_value(rest[0]) + digit_value(rest[1]))?;
-    } else if rest.len() == 1 {
-        writer.put(4, digit_value(rest[0]))?;
+    match rest {
+        [a, b] => writer.put(7, 10 * digit_value(*a) + digit_value(*b)),
+        [a] => writer.put(4, digit_value(*a)),
+        _ => Ok(()),
     }
-    Ok(())
 }
 
 fn digit_value(digit: u8) -> u16
@@ -117,20 +113,20 @@ fn digit_value(digit: u8) -> u16
 }
 
 // Writes characters: two in eleven bits, one left over in six (7.4.4).
+#[tactic(auto, unfolding(crate::specs::Stream::character_bits))]
 fn put_characters(writer: &mut BitWriter, characters: &[u8]) -> Result<(), AllocError>
     requires { IsTrue (list_all is_alphanumeric characters.now) }
     ensures { OnOk result (writer.new ≡ writer.old ++ character_bits characters.now) }
 {
     let mut rest = characters;
-    while rest.len() >= 2 {
-        writer.put(11, 45 * character_value(rest[0]) + character_value(rest[1]))?;
-        let (_, after) = rest.split_at(2);
+    while let [a, b, after @ ..] = rest {
+        writer.put(11, 45 * character_value(*a) + character_value(*b))?;
         rest = after;
     }
-    if rest.len() == 1 {
-        writer.put(6, character_value(rest[0]))?;
+    match rest {
+        [a] => writer.put(6, character_value(*a)),
+        _ => Ok(()),
     }
-    Ok(())
 }
 
 fn put_bytes(writer: &mut BitWriter, bytes: &[u8]) -> Result<(), AllocError>
@@ -143,14 +139,14 @@ fn put_bytes(writer: &mut BitWriter, bytes: &[u8]) -> Result<(), AllocError>
 }
 
 // Writes kanji pairs, each in thirteen bits (7.4.6).
+#[tactic(auto, unfolding(crate::specs::Stream::kanji_bits))]
 fn put_kanji(writer: &mut BitWriter, bytes: &[u8]) -> Result<(), AllocError>
     requires { IsTrue (in_twos is_kanji_pair bytes.now) }
     ensures { OnOk result (writer.new ≡ writer.old ++ kanji_bits bytes.now) }
 {
     let mut rest = bytes;
-    while rest.len() >= 2 {
-        writer.put(13, kanji_value(rest[0], rest[1]))?;
-        let (_, after) = rest.split_at(2);
+    while let [high, low, after @ ..] = rest {
+        writer.put(13, kanji_value(*high, *low))?;
         rest = after;
     }
     Ok(())
