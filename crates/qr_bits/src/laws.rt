@@ -18,7 +18,7 @@ ghost use Rattle.qr_bits.specs.Stream.{character_bits, digit_bits, segments_stre
 ghost use Rattle.qr_bits.specs.Laws.{BitsAreCodewordBits, CountsFitWhereBitsFit, DataAreOne, DataAreParsed, DataAreThere, DataFillTheSymbol, FittingInputsAreShort, LeastSegmentationsFit, PiecesNeedNoMore, StreamsAreParsed, StreamsHaveTheirBits};
 ghost use Rattle.qr_bits.specs.Examples.{all_modes, eight_digits, eleven_characters, middle, middle_data, one, two_kanji, two_kanji_data, unreadable};
 
-pub use crate::equality::{
+pub use crate::derives::{
     bit_fault_clones, bit_faults_are_equal, header_clones, headers_are_equal, mode_clones,
     modes_are_equal, parse_fault_clones, parse_faults_are_equal, rule_clones, rules_are_equal,
     segment_clones, segments_are_equal,

@@ -2,7 +2,7 @@
 #![tactic(auto)]
 
 mod bits;
-mod equality;
+mod derives;
 mod fault;
 mod folding;
 mod header;

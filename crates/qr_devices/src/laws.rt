@@ -3,7 +3,7 @@
 ghost use Rattle.std.specs.Prelude.{◌≡◌, ◌-◌, ◌^◌, false};
 ghost use Rattle.qr_devices.specs.declared.device.TheConstants.{INTERRUPTIONS_MAX};
 
-pub use crate::equality::{
+pub use crate::derives::{
     device_faults_are_equal, device_faults_clone, read_counts_are_equal, read_counts_clones,
     trouble_clones, troubles_are_equal, write_counts_are_equal, write_counts_clones,
 };

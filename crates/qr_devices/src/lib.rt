@@ -3,8 +3,8 @@
 #![tactic(auto)]
 
 mod counted;
+mod derives;
 mod device;
-mod equality;
 pub mod laws;
 mod trial;
 

@@ -4,7 +4,7 @@ ghost use Rattle.std.specs.Prelude.{◌≡◌};
 ghost use Rattle.qr_drawing.specs.declared.pen.TheConstants.{WRITE_MAX};
 ghost use Rattle.qr_drawing.specs.Laws.{CharactersOfModules};
 
-pub use crate::equality::{
+pub use crate::derives::{
     draw_fault_clones, draw_faults_are_equal, drawing_clones, drawings_are_equal,
 };
 

@@ -1,8 +1,8 @@
 //! Draws symbols: as ASCII, as UTF-8 half blocks, or as a Scalable Vector Graphics document.
 #![tactic(auto)]
 
+mod derives;
 mod drawing;
-mod equality;
 pub mod laws;
 mod pen;
 mod svg;

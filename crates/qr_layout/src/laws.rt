@@ -16,7 +16,7 @@ ghost use Rattle.qr_layout.specs.Order.{IsOrder, number_of, places_passing};
 ghost use Rattle.qr_layout.specs.Role.{first_place, second_place, version_place, transposed, role_of};
 ghost use Rattle.qr_layout.specs.Laws.{all_versions, printed_correction, printed_data, spaced_centres, region_size, row_6, row_8, column_8, alignment_figure, finder_figure, version_figure};
 
-pub use crate::equality::{
+pub use crate::derives::{
     blocks_are_equal, blocks_clones, level_clones, levels_are_equal, module_clones,
     modules_are_equal, role_clones, roles_are_equal, strip_clones, strips_are_equal,
     version_clones, versions_are_equal,

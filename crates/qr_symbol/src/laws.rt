@@ -33,7 +33,7 @@ ghost use Rattle.qr_symbol.specs.Distance.{MessagesLieApart, DamagedMessagesAreO
 ghost use Rattle.qr_symbol.specs.Laws.{all_masks, bits_down, computed_rows, first_rows};
 
 use crate::choice::build;
-pub use crate::equality::{
+pub use crate::derives::{
     encode_fault_clones, encode_faults_are_equal, read_fault_clones, read_faults_are_equal,
 };
 use crate::fault::{EncodeFault, ReadFault};

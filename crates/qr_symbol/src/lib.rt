@@ -17,9 +17,9 @@
 
 mod canvas;
 mod choice;
+mod derives;
 mod drawing;
 mod encoding;
-mod equality;
 mod fault;
 mod interleaving;
 mod joining;
