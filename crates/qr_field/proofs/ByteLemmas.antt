@@ -1,7 +1,6 @@
 -- Facts that are computed for each number below a bound, and what they say about products of bytes.
-use Rattle.std.proofs.Common.{◌≡◌, ℕ, zero, suc, ◌*◌, ◌<◌, Bool, true, false, ◌&&◌, eqb, refl, subst, inl, inr, arith}
-use Rattle.std.proofs.lemmas.Bool.Decides.{nat_tests}
-use Rattle.std.proofs.lemmas.Bool.{cases_lt}
+use Rattle.std.proofs.Common.{◌≡◌, ℕ, zero, suc, ◌*◌, ◌<◌, Bool, true, ◌&&◌, eqb, refl, subst, inl, inr, arith}
+use Rattle.std.proofs.lemmas.Bool.{cases_lt, and_parts, eqb-true}
 use Rattle.qr_field.specs.Galois.{carryless, product, remainder_of}
 
 -- a test at each number below n
@@ -9,31 +8,17 @@ abbrev pub below : ℕ → (ℕ → Bool) → Bool
 below zero p = true
 below (suc n) p = p n && below n p
 
--- the first of two tests that pass together
-pub &&-left : (a b : Bool) → (a && b) ≡ true → a ≡ true
-&&-left true b h = refl
-&&-left false b h = h
-
--- the second of two tests that pass together
-pub &&-right : (a b : Bool) → (a && b) ≡ true → b ≡ true
-&&-right true b h = h
-&&-right false b h = cc
-
 -- what passes below n passes at each number below n
 pub below-at : (n : ℕ) (p : ℕ → Bool) → below n p ≡ true → (k : ℕ) → k < n → p k ≡ true
 below-at zero p h k l = absurd (omega arith)
 below-at (suc n) p h k l = elim (cases_lt k n) [
-  | inl m ↦ below-at n p (&&-right (p n) _ h) k m
-  | inr m ↦ let e : n ≡ k = omega arith in subst (λ (z : ℕ). p z ≡ true) e (&&-left (p n) _ h)
+  | inl m ↦ below-at n p (and_parts (p n) _ h).1 k m
+  | inr m ↦ let e : n ≡ k = omega arith in subst (λ (z : ℕ). p z ≡ true) e (and_parts (p n) _ h).0
 ]
-
--- numbers that test equal are equal
-eqb-same : (x y : ℕ) → eqb x y ≡ true → x ≡ y
-eqb-same x y h = grind (arith, nat_tests)
 
 -- functions that test equal below n are equal at each number below n
 pub same-below : (n : ℕ) (f g : ℕ → ℕ) → below n (λ k. eqb (f k) (g k)) ≡ true → (k : ℕ) → k < n → f k ≡ g k
-same-below n f g h k l = eqb-same (f k) (g k) (below-at n (λ i. eqb (f i) (g i)) h k l)
+same-below n f g h k l = eqb-true (f k) (g k) (below-at n (λ i. eqb (f i) (g i)) h k l)
 
 -- ---- products
 

@@ -1,5 +1,6 @@
 -- Lists of coefficients: their sums, lengths and products.
 use Rattle.std.proofs.Common.{◌≡◌, ℕ, zero, suc, ◌+◌, ◌-◌, ◌<◌, ◌≤◌, List, [], ◌∷◌, ◌++◌, length, take, get_or, refl, sym, ap, ◌∙◌, arith, bit_xor, lit<, ltb, true}
+use Rattle.std.proofs.lemmas.Bool.{and_parts}
 use Rattle.std.specs.List.{All, refill, list_all}
 use Rattle.std.specs.Int.Bits.{xor_assoc, xor_zero_r}
 use Rattle.std.proofs.lemmas.Nat.{xor_comm, xor_of_8}
@@ -8,7 +9,6 @@ use Rattle.std.proofs.lemmas.List.Elements.{All-map, All-nil, All-cons, All-head
 use borrow.Author.Tests.{ltb-true}
 use Rattle.qr_field.specs.Galois.{product}
 use Rattle.qr_field.specs.Polynomial.{IsByte, plus, zeros, scaled, times}
-use Rattle.qr_field.proofs.ByteLemmas.{&&-left, &&-right}
 use Rattle.qr_field.proofs.BitLemmas.{xor-cancel}
 use Rattle.qr_field.proofs.ProductLemmas.{product-lt}
 
@@ -91,7 +91,7 @@ same-plus n xs ys zs l m e =
 pub bytes-computed : (xs : List ℕ) → list_all (λ x. ltb x 256) xs ≡ true → All IsByte xs
 bytes-computed [] h = All-nil IsByte
 bytes-computed (x ∷ xs) h =
-    All-cons IsByte x xs (ltb-true x 256 (&&-left (ltb x 256) _ h)) (bytes-computed xs (&&-right (ltb x 256) _ h))
+    All-cons IsByte x xs (ltb-true x 256 (and_parts (ltb x 256) _ h).0) (bytes-computed xs (and_parts (ltb x 256) _ h).1)
 
 -- zeros are bytes
 pub bytes-zeros : (k : ℕ) → All IsByte (zeros k)

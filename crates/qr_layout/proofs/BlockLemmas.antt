@@ -1,5 +1,6 @@
 -- Facts of the blocks that are computed for each version and level.
 use Rattle.std.proofs.Common.{◌≡◌, ℕ, ◌+◌, ◌-◌, ◌*◌, ◌/◌, ◌%◌, ◌<◌, ◌≤◌, Bool, true, ◌&&◌, ◌||◌, leb, refl, ap, subst, arith}
+use Rattle.std.proofs.lemmas.Bool.{and_parts}
 use Rattle.std.proofs.lemmas.Bool.Decides.{nat_tests}
 use borrow.Author.Tests.{leb-true}
 use Rattle.std.proofs.lemmas.Nat.{div-add-mod'}
@@ -7,7 +8,6 @@ use Rattle.qr_layout.specs.declared.level.Level.{Level}
 use Rattle.qr_layout.specs.declared.level.Level.TheVariants.{L, M, Q, H}
 use Rattle.qr_layout.specs.Version.{total_codewords_of}
 use Rattle.qr_layout.specs.Blocks.{correction_len_of, block_count_of, data_codewords_of, blocks_of, longest_of, damage_of, AreWhole}
-use Rattle.qr_layout.proofs.RegionLemmas.{&&-left, &&-right}
 use Rattle.qr_layout.proofs.TableLemmas.{below, below-at}
 
 -- a test at each level and version
@@ -20,10 +20,10 @@ one-at p h v a b = let e : v - 1 + 1 ≡ v = omega arith in subst (λ (t : ℕ).
 
 -- if a test passes for all levels and versions, it passes for each level and version
 pub every-at : (p : Level → ℕ → Bool) → every p ≡ true → (l : Level) (v : ℕ) → 1 ≤ v → v ≤ 40 → p l v ≡ true
-every-at p h L = one-at (p L) (&&-left (below 40 (λ i. p L (i + 1))) _ h)
-every-at p h M = one-at (p M) (&&-left (below 40 (λ i. p M (i + 1))) _ (&&-right (below 40 (λ i. p L (i + 1))) _ h))
-every-at p h Q = one-at (p Q) (&&-left (below 40 (λ i. p Q (i + 1))) _ (&&-right (below 40 (λ i. p M (i + 1))) _ (&&-right (below 40 (λ i. p L (i + 1))) _ h)))
-every-at p h H = one-at (p H) (&&-right (below 40 (λ i. p Q (i + 1))) _ (&&-right (below 40 (λ i. p M (i + 1))) _ (&&-right (below 40 (λ i. p L (i + 1))) _ h)))
+every-at p h L = one-at (p L) (and_parts (below 40 (λ i. p L (i + 1))) _ h).0
+every-at p h M = one-at (p M) (and_parts (below 40 (λ i. p M (i + 1))) _ (and_parts (below 40 (λ i. p L (i + 1))) _ h).1).0
+every-at p h Q = one-at (p Q) (and_parts (below 40 (λ i. p Q (i + 1))) _ (and_parts (below 40 (λ i. p M (i + 1))) _ (and_parts (below 40 (λ i. p L (i + 1))) _ h).1).1).0
+every-at p h H = one-at (p H) (and_parts (below 40 (λ i. p Q (i + 1))) _ (and_parts (below 40 (λ i. p M (i + 1))) _ (and_parts (below 40 (λ i. p L (i + 1))) _ h).1).1).1
 
 -- the error correction codewords are no more than all codewords
 fits-all : every (λ l v. leb (block_count_of v l * correction_len_of v l) (total_codewords_of v)) ≡ true
@@ -74,18 +74,18 @@ laws-of l v a b =
     let len = every-at (λ l v. leb 1 (data_codewords_of v l / block_count_of v l) && leb (data_codewords_of v l / block_count_of v l) 122) len-all l v a b in
     let correction = every-at (λ l v. leb 1 (correction_len_of v l) && leb (correction_len_of v l) 30) correction-all l v a b in
     let most = every-at (λ l v. leb (data_codewords_of v l) 2956 && ((leb 27 v || leb (data_codewords_of v l) 1370) && (leb 10 v || leb (data_codewords_of v l) 232))) most-all l v a b in
-    let rest = &&-right (leb (data_codewords_of v l) 2956) _ most in
+    let rest = (and_parts (leb (data_codewords_of v l) 2956) _ most).1 in
     record {
       fits = leb-true _ _ (every-at (λ l v. leb (block_count_of v l * correction_len_of v l) (total_codewords_of v)) fits-all l v a b);
-      count = leb-true _ _ (&&-left (leb 1 (block_count_of v l)) _ count);
-      most_count = leb-true _ _ (&&-right (leb 1 (block_count_of v l)) _ count);
-      len = leb-true _ _ (&&-right (leb 1 (data_codewords_of v l / block_count_of v l)) _ len);
-      some_len = leb-true _ _ (&&-left (leb 1 (data_codewords_of v l / block_count_of v l)) _ len);
-      ec_least = leb-true _ _ (&&-left (leb 1 (correction_len_of v l)) _ correction);
-      ec_most = leb-true _ _ (&&-right (leb 1 (correction_len_of v l)) _ correction);
-      most = leb-true _ _ (&&-left (leb (data_codewords_of v l) 2956) _ most);
-      most_middle = λ h. unless 27 v (data_codewords_of v l) 1370 (&&-left (leb 27 v || leb (data_codewords_of v l) 1370) _ rest) (omega arith);
-      most_small = λ h. unless 10 v (data_codewords_of v l) 232 (&&-right (leb 27 v || leb (data_codewords_of v l) 1370) _ rest) (omega arith);
+      count = leb-true _ _ (and_parts (leb 1 (block_count_of v l)) _ count).0;
+      most_count = leb-true _ _ (and_parts (leb 1 (block_count_of v l)) _ count).1;
+      len = leb-true _ _ (and_parts (leb 1 (data_codewords_of v l / block_count_of v l)) _ len).1;
+      some_len = leb-true _ _ (and_parts (leb 1 (data_codewords_of v l / block_count_of v l)) _ len).0;
+      ec_least = leb-true _ _ (and_parts (leb 1 (correction_len_of v l)) _ correction).0;
+      ec_most = leb-true _ _ (and_parts (leb 1 (correction_len_of v l)) _ correction).1;
+      most = leb-true _ _ (and_parts (leb (data_codewords_of v l) 2956) _ most).0;
+      most_middle = λ h. unless 27 v (data_codewords_of v l) 1370 (and_parts (leb 27 v || leb (data_codewords_of v l) 1370) _ rest).0 (omega arith);
+      most_small = λ h. unless 10 v (data_codewords_of v l) 232 (and_parts (leb 27 v || leb (data_codewords_of v l) 1370) _ rest).1 (omega arith);
     }
 
 -- the difference that the code computes is that of the definition

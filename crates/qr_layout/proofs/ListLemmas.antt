@@ -1,6 +1,6 @@
 -- Lists with the same members: their lengths, and that only one such list is rising.
-use Rattle.std.proofs.Common.{◌≡◌, ◌≢◌, suc, ◌≤◌, List, [], ◌∷◌, ◌++◌, length, refl, sym, ap, ◌∙◌, subst, inl, inr, ◌⊎◌, arith}
-use Rattle.std.specs.List.{All, AllPairs, AllByRecursion}
+use Rattle.std.proofs.Common.{◌≡◌, ◌≢◌, zero, suc, ◌≤◌, List, [], ◌∷◌, ◌++◌, length, refl, sym, ap, ◌∙◌, subst, inl, inr, ◌⊎◌, arith}
+use Rattle.std.specs.List.{All, AllPairs, AllByRecursion, Contains}
 
 -- x is in the list
 abbrev pub Mem : {X : Type 0} → X → List X → Type 0
@@ -77,6 +77,12 @@ length-le_members (x ∷ xs) ys d f =
     let e = ap length w.2 in
     let k = length-mid x w.0 w.1 in
     omega arith
+
+-- an item that a list contains is in the list
+pub Mem-of-Contains : {X : Type 0} (xs : List X) (x : X) → Contains xs x → Mem x xs
+Mem-of-Contains [] x (k, l, e) = absurd (omega arith)
+Mem-of-Contains (y ∷ ys) x (zero, l, e) = inl e
+Mem-of-Contains (y ∷ ys) x (suc k, l, e) = inr (Mem-of-Contains ys x (k, omega arith, e))
 
 -- a property of each item, by recursion on the list
 pub All-rec : {X : Type 0} (P : X → Type 0) (xs : List X) → All P xs → AllByRecursion P xs

@@ -1,7 +1,7 @@
 -- A version has one order, and the length of the order is the number of modules of the encoding region.
-use Rattle.std.proofs.Common.{◌≡◌, ◌≢◌, ℕ, zero, suc, ◌+◌, ◌-◌, ◌<◌, ◌≤◌, Bool, true, leb, eqb, List, [], ◌∷◌, ◌++◌, ◌&&◌, length, refl, sym, ◌∙◌, subst, inl, inr, arith}
+use Rattle.std.proofs.Common.{◌≡◌, ◌≢◌, ℕ, ◌+◌, ◌-◌, ◌<◌, ◌≤◌, Bool, true, leb, eqb, List, [], ◌∷◌, ◌++◌, ◌&&◌, length, refl, sym, ◌∙◌, subst, inl, inr, arith}
+use Rattle.std.proofs.lemmas.Bool.{and_parts, eqb-true}
 use borrow.Author.Tests.{leb-true}
-use Rattle.std.specs.List.{Contains}
 use Rattle.qr_layout.specs.declared.region.Module.{Module}
 use Rattle.qr_layout.specs.Region.{is_in_region, InRegion}
 use Rattle.qr_layout.specs.Version.{side_of}
@@ -9,12 +9,12 @@ use Rattle.qr_layout.specs.Order.{Key, key_of, is_before, IsOrder, places_passin
 use Rattle.qr_layout.specs.Version.{total_codewords_of, remainder_bits_of, module_count_of}
 use Rattle.qr_layout.specs.Alignment.{centres_of}
 use Rattle.qr_layout.specs.Laws.{region_size}
-use Rattle.qr_layout.proofs.TableLemmas.{below, below-at, eqb-same}
-use Rattle.qr_layout.proofs.ListLemmas.{Mem, Rises, Distinct, Mem-at, All-of-Mem, All-rec, Mem-left, Mem-right, Mem-append, Rises-of-pairs, one_rising}
+use Rattle.qr_layout.proofs.TableLemmas.{below, below-at}
+use Rattle.qr_layout.proofs.ListLemmas.{Mem, Rises, Distinct, Mem-at, All-of-Mem, All-rec, Mem-left, Mem-right, Mem-append, Rises-of-pairs, one_rising, Mem-of-Contains}
 use Rattle.qr_layout.proofs.CountLemmas.{count-of}
 use Rattle.qr_layout.proofs.FastCountLemmas.{region-count, agrees, agrees-40}
 use Rattle.qr_layout.proofs.PathLemmas.{before-parts}
-use Rattle.qr_layout.proofs.RegionLemmas.{row-in, col-in, &&-left, &&-right}
+use Rattle.qr_layout.proofs.RegionLemmas.{row-in, col-in}
 
 -- no two keys are each before the other
 before-asym : (a b : Key) → is_before a b ≡ true → is_before b a ≡ true → ⊥
@@ -28,12 +28,6 @@ before-asym a b h k = elim (before-parts a b h) [
     ]
   ]
 ]
-
--- an item that a list contains is in the list
-Mem-of-Contains : {X : Type 0} (xs : List X) (x : X) → Contains xs x → Mem x xs
-Mem-of-Contains [] x (k, l, e) = absurd (omega arith)
-Mem-of-Contains (y ∷ ys) x (zero, l, e) = inl e
-Mem-of-Contains (y ∷ ys) x (suc k, l, e) = inr (Mem-of-Contains ys x (k, omega arith, e))
 
 -- a list that rises has no item twice
 Rises-distinct : {X : Type 0} (R : X → X → Type 0) → ((x y : X) → R x y → R y x → ⊥) → (xs : List X) → Rises R xs → Distinct xs
@@ -62,7 +56,7 @@ only_order v ms ns o p = one_rising (Before v) (asym v) ms ns (Rises-of-pairs (B
 
 -- the region of each version has as many places as its codewords and remainder bits need
 count-at : (i : ℕ) → i < 40 → places_passing (side_of (i + 1)) (is_in_region (i + 1)) ≡ module_count_of (i + 1)
-count-at i l = region-count (i + 1) ∙ eqb-same _ _ (below-at 40 agrees agrees-40 i l)
+count-at i l = region-count (i + 1) ∙ eqb-true _ _ (below-at 40 agrees agrees-40 i l)
 
 -- the forty sizes, computed
 sizes-agree : below 40 (λ i. eqb (module_count_of (i + 1)) (region_size (i + 1))) ≡ true
@@ -73,7 +67,7 @@ sizes-agree = refl
 pub size-at : (v : ℕ) → 1 ≤ v → v ≤ 40 → module_count_of v ≡ region_size v
 size-at v l h =
     let e : v - 1 + 1 ≡ v = omega arith in
-    subst (λ (k : ℕ). module_count_of k ≡ region_size k) e (eqb-same _ _ (below-at 40 (λ i. eqb (module_count_of (i + 1)) (region_size (i + 1))) sizes-agree (v - 1) (omega arith)))
+    subst (λ (k : ℕ). module_count_of k ≡ region_size k) e (eqb-true _ _ (below-at 40 (λ i. eqb (module_count_of (i + 1)) (region_size (i + 1))) sizes-agree (v - 1) (omega arith)))
 
 -- the region has this number of places
 pub region-size : (v : ℕ) → 1 ≤ v → v ≤ 40 → places_passing (side_of v) (is_in_region v) ≡ region_size v
@@ -136,8 +130,8 @@ number-at v front back m o =
     (Rises-distinct (Before v) (asym v) front (Rises-first (Before v) front (m ∷ back) rises))
     (λ x k. let w = order-mem v whole o x (Mem-left x front (m ∷ back) k) in (row-in v x w, col-in v x w, &&-both _ _ w (Rises-front (Before v) front back m rises x k)))
     (λ x a b k.
-    let w : is_in_region v x.row x.col ≡ true = &&-left _ (is_before (key_of v x) (key_of v m)) k in
-    let l = &&-right (is_in_region v x.row x.col) (is_before (key_of v x) (key_of v m)) k in
+    let w : is_in_region v x.row x.col ≡ true = (and_parts _ (is_before (key_of v x) (key_of v m)) k).0 in
+    let l = (and_parts (is_in_region v x.row x.col) (is_before (key_of v x) (key_of v m)) k).1 in
     elim (Mem-append x front (m ∷ back) (order-has v whole o x w)) [
       | inl j ↦ j
       | inr j ↦ elim j [

@@ -1,20 +1,11 @@
 -- Each module of the encoding region is in a row and a column inside the square, and not in column 6. Besides, there are
 -- small facts of tests.
 use Rattle.std.proofs.Common.{◌≡◌, ℕ, ◌<◌, Bool, true, false, not, ◌&&◌, ◌||◌, ltb, refl, arith}
+use Rattle.std.proofs.lemmas.Bool.{and_parts}
 use Rattle.std.proofs.lemmas.Bool.Decides.{nat_tests}
 use Rattle.qr_layout.specs.declared.region.Module.{Module}
 use Rattle.qr_layout.specs.Region.{is_corner, is_timing, is_version_information, is_alignment, is_in_region, InRegion}
 use Rattle.qr_layout.specs.Version.{side_of}
-
--- if two tests pass together, the first one passes
-pub &&-left : (a b : Bool) → (a && b) ≡ true → a ≡ true
-&&-left true b e = refl
-&&-left false b e = e
-
--- if two tests pass together, the second one passes
-pub &&-right : (a b : Bool) → (a && b) ≡ true → b ≡ true
-&&-right true b e = e
-&&-right false b e = cc
 
 -- a module of the region is inside the square, and in no part outside the region
 record IsFree (v r c : ℕ) : Type 0 where
@@ -27,11 +18,11 @@ free-of : (v r c : ℕ) → is_in_region v r c ≡ true → IsFree v r c
 unfolding is_in_region
 free-of v r c h =
     let taken = is_corner (side_of v) r c || is_timing r c || is_version_information v r c || is_alignment v r c in
-    let both : (ltb r (side_of v) && ltb c (side_of v)) ≡ true = &&-left (ltb r (side_of v) && ltb c (side_of v)) (not taken) h in
+    let both : (ltb r (side_of v) && ltb c (side_of v)) ≡ true = (and_parts (ltb r (side_of v) && ltb c (side_of v)) (not taken) h).0 in
     record {
-      row = &&-left (ltb r (side_of v)) (ltb c (side_of v)) both;
-      col = &&-right (ltb r (side_of v)) (ltb c (side_of v)) both;
-      free = &&-right (ltb r (side_of v) && ltb c (side_of v)) (not taken) h;
+      row = (and_parts (ltb r (side_of v)) (ltb c (side_of v)) both).0;
+      col = (and_parts (ltb r (side_of v)) (ltb c (side_of v)) both).1;
+      free = (and_parts (ltb r (side_of v) && ltb c (side_of v)) (not taken) h).1;
     }
 
 -- the row of a module of the region is inside the square

@@ -1,20 +1,15 @@
 -- The places of the bits of the format and version information.
 use Rattle.std.proofs.Common.{◌≡◌, ℕ, zero, suc, ◌+◌, ◌-◌, ◌*◌, ◌<◌, ◌≤◌, Bool, true, false, ◌&&◌, ◌||◌, cond, eqb, ltb, leb, Option, None, Some, refl, sym, ap, ◌∙◌, subst, inl, inr, ◌⊎◌, arith}
 use Rattle.std.proofs.lemmas.Bool.Decides.{nat_tests}
-use Rattle.std.proofs.lemmas.Bool.{cases_lt}
+use Rattle.std.proofs.lemmas.Bool.{cases_lt, cases_Bool}
 use Rattle.std.specs.List.{find, range_with_len}
 use Rattle.qr_layout.specs.Version.{side_of}
 use Rattle.qr_layout.specs.Role.{first_place, second_place, version_place, transposed, is_at, format_bit_at, version_bit_at}
 
--- a test passes or fails
-pub decide : (b : Bool) → (b ≡ true) ⊎ (b ≡ false)
-decide true = inl refl
-decide false = inr refl
-
 -- the only one of n numbers from a on that passes the test is the one that is found
 found-some : (n a : ℕ) (p : ℕ → Bool) (i : ℕ) → a ≤ i → i < a + n → p i ≡ true → ((j : ℕ) → a ≤ j → j < a + n → p j ≡ true → j ≡ i) → find p (range_with_len a n) ≡ Some i
 found-some zero a p i l k h f = absurd (omega arith)
-found-some (suc n) a p i l k h f = elim (decide (p a)) [
+found-some (suc n) a p i l k h f = elim (cases_Bool (p a)) [
   | inl e ↦ let g : a ≡ i = f a (omega arith) (omega arith) e in rw e (ap (λ k. Some k) g)
   | inr e ↦ elim (cases_lt a i) [
     | inl m ↦ rw e (found-some n (a + 1) p i (omega arith) (omega arith) h (λ j b d q. f j (omega arith) (omega arith) q))
@@ -25,7 +20,7 @@ found-some (suc n) a p i l k h f = elim (decide (p a)) [
 -- if none of n numbers from a on passes the test, none is found
 found-none : (n a : ℕ) (p : ℕ → Bool) → ((j : ℕ) → a ≤ j → j < a + n → p j ≡ true → ⊥) → find p (range_with_len a n) ≡ None
 found-none zero a p f = refl
-found-none (suc n) a p f = elim (decide (p a)) [
+found-none (suc n) a p f = elim (cases_Bool (p a)) [
   | inl e ↦ absurd (f a (omega arith) (omega arith) e)
   | inr e ↦ rw e (found-none n (a + 1) p (λ j b d q. f j (omega arith) (omega arith) q))
 ]
@@ -33,7 +28,7 @@ found-none (suc n) a p f = elim (decide (p a)) [
 -- the number that is found is one of them and passes the test
 found-at : (n a : ℕ) (p : ℕ → Bool) (i : ℕ) → find p (range_with_len a n) ≡ Some i → (i < a + n) × (p i ≡ true)
 found-at zero a p i h = cc
-found-at (suc n) a p i h = elim (decide (p a)) [
+found-at (suc n) a p i h = elim (cases_Bool (p a)) [
   | inl e ↦ let k : a ≡ i = (let g = rw e at h in cc) in (omega arith, subst (λ z. p z ≡ true) k e)
   | inr e ↦ let w = found-at n (a + 1) p i (rw e at h) in let l = w.0 in (omega arith, w.1)
 ]

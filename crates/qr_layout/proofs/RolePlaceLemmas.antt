@@ -2,7 +2,7 @@
 -- colour are the encoding region.
 use Rattle.std.proofs.Common.{◌≡◌, ℕ, ◌+◌, ◌-◌, ◌%◌, ◌<◌, ◌≤◌, Bool, true, false, not, ◌&&◌, ◌||◌, cond, eqb, ltb, [], ◌∷◌, Option, None, Some, refl, sym, ap, ◌∙◌, subst, inl, inr, ◌⊎◌, arith}
 use Rattle.std.proofs.lemmas.Bool.Decides.{nat_tests}
-use Rattle.std.proofs.lemmas.Bool.{cases_lt}
+use Rattle.std.proofs.lemmas.Bool.{cases_lt, and_parts, eqb-true, cases_Bool}
 use Rattle.std.specs.List.{find, list_any, range_with_len}
 use Rattle.std.specs.Option.{option_map_or}
 use Rattle.qr_layout.specs.declared.region.Module.{Module}
@@ -13,10 +13,9 @@ use Rattle.qr_layout.specs.Alignment.{centres_of}
 use Rattle.qr_layout.specs.Region.{is_alignment, is_in_region}
 use Rattle.qr_layout.specs.Rectangles.{is_in_rectangle, corner_rectangles, timing_rectangles, version_rectangles}
 use Rattle.qr_layout.specs.Role.{finder_ring, is_alignment_light, pattern_colour, first_place, second_place, version_place, transposed, is_at, format_bit_at, version_bit_at, is_dark_module, role_of}
-use Rattle.qr_layout.proofs.RegionLemmas.{&&-left, &&-right}
-use Rattle.qr_layout.proofs.TableLemmas.{below, below-at, eqb-same}
+use Rattle.qr_layout.proofs.TableLemmas.{below, below-at}
 use Rattle.qr_layout.proofs.AlignmentLemmas.{region_free, region_parts}
-use Rattle.qr_layout.proofs.RoleLemmas.{decide, either, first-at, format-top, format-bend, format-foot, format-left, format-seven, format-right, format-no_row, format-no_column, format-off, in_block, version-small, version-right, version-below, version-neither}
+use Rattle.qr_layout.proofs.RoleLemmas.{either, first-at, format-top, format-bend, format-foot, format-left, format-seven, format-right, format-no_row, format-no_column, format-off, in_block, version-small, version-right, version-below, version-neither}
 
 -- the choice of a role, over what its parts say
 abbrev role_with : Option Bool → Bool → Option ℕ → Option ℕ → Role
@@ -48,8 +47,8 @@ with-version None false None None i h = cc
 -- a module at the row and column of another is that one
 at-place : (m n : Module) → is_at n m.row m.col ≡ true → m ≡ n
 at-place m n h =
-    let a : m.row ≡ n.row = sym (eqb-same _ _ (&&-left (eqb n.row m.row) _ h)) in
-    let b : m.col ≡ n.col = sym (eqb-same _ _ (&&-right (eqb n.row m.row) _ h)) in
+    let a : m.row ≡ n.row = sym (eqb-true _ _ (and_parts (eqb n.row m.row) _ h).0) in
+    let b : m.col ≡ n.col = sym (eqb-true _ _ (and_parts (eqb n.row m.row) _ h).1) in
     λ z. record { row = a z; col = b z }
 
 -- a module at one of two places is one of the two
@@ -113,7 +112,7 @@ is_dark Region = false
 is_format-same : (i : ℕ) (x : Role) → is_format i x ≡ true → x ≡ FormatBit i
 unfolding is_format
 is_format-same i (Fixed b) h = cc
-is_format-same i (FormatBit j) h = ap (λ k. FormatBit k) (eqb-same j i h)
+is_format-same i (FormatBit j) h = ap (λ k. FormatBit k) (eqb-true j i h)
 is_format-same i (VersionBit j) h = cc
 is_format-same i Region h = cc
 
@@ -122,7 +121,7 @@ is_version-same : (i : ℕ) (x : Role) → is_version i x ≡ true → x ≡ Ver
 unfolding is_version
 is_version-same i (Fixed b) h = cc
 is_version-same i (FormatBit j) h = cc
-is_version-same i (VersionBit j) h = ap (λ k. VersionBit k) (eqb-same j i h)
+is_version-same i (VersionBit j) h = ap (λ k. VersionBit k) (eqb-true j i h)
 is_version-same i Region h = cc
 
 -- what the test of a dark module means
@@ -408,10 +407,10 @@ off-column s c l w = let a = w.off_left in let b = w.off_right in (omega arith, 
 
 -- a place off the corners has no bit of the format information
 corner-no_format : (s r c : ℕ) → 21 ≤ s → IsOffCorners s r c → format_bit_at s r c ≡ None
-corner-no_format s r c l w = elim (decide (eqb c 8)) [
-  | inl x ↦ let e : c ≡ 8 = eqb-same c 8 x in subst (λ z. format_bit_at s r z ≡ None) (sym e) (sym (format-no_row s r l (inr (off-row s r l (subst (IsOffCorners s r) e w)))))
-  | inr x ↦ elim (decide (eqb r 8)) [
-    | inl y ↦ let e : r ≡ 8 = eqb-same r 8 y in subst (λ z. format_bit_at s z c ≡ None) (sym e) (sym (format-no_column s c l (inr (off-column s c l (subst (λ z. IsOffCorners s z c) e w)))))
+corner-no_format s r c l w = elim (cases_Bool (eqb c 8)) [
+  | inl x ↦ let e : c ≡ 8 = eqb-true c 8 x in subst (λ z. format_bit_at s r z ≡ None) (sym e) (sym (format-no_row s r l (inr (off-row s r l (subst (IsOffCorners s r) e w)))))
+  | inr x ↦ elim (cases_Bool (eqb r 8)) [
+    | inl y ↦ let e : r ≡ 8 = eqb-true r 8 y in subst (λ z. format_bit_at s z c ≡ None) (sym e) (sym (format-no_column s c l (inr (off-column s c l (subst (λ z. IsOffCorners s z c) e w)))))
     | inr y ↦ sym (format-off s r c l (unequal r y) (unequal c x))
   ]
 ]

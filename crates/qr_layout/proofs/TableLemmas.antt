@@ -1,11 +1,9 @@
 -- Tests computed at each number below a bound, and the table of the alignment centres.
 use Rattle.std.proofs.Common.{◌≡◌, ℕ, zero, suc, ◌+◌, ◌-◌, ◌/◌, ◌<◌, ◌≤◌, Bool, true, false, ◌&&◌, cond, eqb, leb, List, [], ◌∷◌, length, take, get_or, refl, sym, ap, ◌∙◌, subst, inl, inr, arith}
 use borrow.Author.Tests.{leb-true}
-use Rattle.std.proofs.lemmas.Bool.Decides.{nat_tests}
-use Rattle.std.proofs.lemmas.Bool.{cases_lt}
+use Rattle.std.proofs.lemmas.Bool.{cases_lt, and_parts, eqb-true}
 use Rattle.qr_layout.specs.declared.alignment.TheConstants.{CENTRES}
 use Rattle.qr_layout.specs.Alignment.{centres_of, centre_table}
-use Rattle.qr_layout.proofs.RegionLemmas.{&&-left, &&-right}
 
 -- a test at each number below n
 abbrev pub below : ℕ → (ℕ → Bool) → Bool
@@ -16,8 +14,8 @@ below (suc n) p = p n && below n p
 pub below-at : (n : ℕ) (p : ℕ → Bool) → below n p ≡ true → (k : ℕ) → k < n → p k ≡ true
 below-at zero p h k l = absurd (omega arith)
 below-at (suc n) p h k l = elim (cases_lt k n) [
-  | inl m ↦ below-at n p (&&-right (p n) _ h) k m
-  | inr m ↦ let e : n ≡ k = omega arith in subst (λ (z : ℕ). p z ≡ true) e (&&-left (p n) _ h)
+  | inl m ↦ below-at n p (and_parts (p n) _ h).1 k m
+  | inr m ↦ let e : n ≡ k = omega arith in subst (λ (z : ℕ). p z ≡ true) e (and_parts (p n) _ h).0
 ]
 
 -- two lists of numbers are the same
@@ -27,16 +25,12 @@ is_same [] (y ∷ ys) = false
 is_same (x ∷ xs) [] = false
 is_same (x ∷ xs) (y ∷ ys) = eqb x y && is_same xs ys
 
--- what the test of two numbers means
-pub eqb-same : (x y : ℕ) → eqb x y ≡ true → x ≡ y
-eqb-same x y h = grind (arith, nat_tests)
-
 -- what the test of two lists means
 pub is_same-same : (xs ys : List ℕ) → is_same xs ys ≡ true → xs ≡ ys
 is_same-same [] [] h = refl
 is_same-same [] (y ∷ ys) h = cc
 is_same-same (x ∷ xs) [] h = cc
-is_same-same (x ∷ xs) (y ∷ ys) h = let e = eqb-same x y (&&-left _ (is_same xs ys) h) in let f = is_same-same xs ys (&&-right (eqb x y) _ h) in cc
+is_same-same (x ∷ xs) (y ∷ ys) h = let e = eqb-true x y (and_parts _ (is_same xs ys) h).0 in let f = is_same-same xs ys (and_parts (eqb x y) _ h).1 in cc
 
 -- the two tables have the same centres for one version
 abbrev pub centres_agree : ℕ → Bool

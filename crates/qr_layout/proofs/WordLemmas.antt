@@ -1,5 +1,6 @@
 -- The words of the tables are the words of the definitions, and these are remainders.
 use Rattle.std.proofs.Common.{◌≡◌, ℕ, zero, suc, ◌+◌, ◌-◌, ◌*◌, ◌^◌, ◌<◌, ◌≤◌, Bool, true, ◌&&◌, eqb, ltb, List, [], ◌∷◌, cond, get_or, refl, ap, ◌∙◌, arith}
+use Rattle.std.proofs.lemmas.Bool.{and_parts, eqb-true}
 use Rattle.std.specs.Prelude.{bit_xor}
 use Rattle.std.specs.Int.{bit_at}
 use borrow.Author.Tests.{ltb-true}
@@ -7,8 +8,7 @@ use Rattle.qr_layout.specs.declared.level.Level.{Level}
 use Rattle.qr_layout.specs.declared.level.Level.TheVariants.{L, M, Q, H}
 use Rattle.qr_layout.specs.declared.format.TheConstants.{FORMAT_WORDS, VERSION_WORDS}
 use Rattle.qr_layout.specs.Format.{remainder_of, format_with, five_bits, format_word_of, version_word_of, level_bits, sum_of_shifts, IsWordRemainder, IsFormatWord, IsVersionWord}
-use Rattle.qr_layout.proofs.RegionLemmas.{&&-left, &&-right}
-use Rattle.qr_layout.proofs.TableLemmas.{below, below-at, eqb-same}
+use Rattle.qr_layout.proofs.TableLemmas.{below, below-at}
 
 -- the two tables have the same format information at an index
 formats : ℕ → Bool
@@ -32,14 +32,14 @@ all-versions = refl
 pub version-word-at : (v i : ℕ) → 7 ≤ v → v ≤ 40 → i ≡ v - 7 → get_or VERSION_WORDS i 0 ≡ version_word_of v
 unfolding versions
 version-word-at v i a b e =
-    let f : i + 7 ≡ v = omega arith in eqb-same (get_or VERSION_WORDS i 0) (version_word_of (i + 7)) (below-at 34 versions all-versions i (omega arith)) ∙ ap version_word_of f
+    let f : i + 7 ≡ v = omega arith in eqb-true (get_or VERSION_WORDS i 0) (version_word_of (i + 7)) (below-at 34 versions all-versions i (omega arith)) ∙ ap version_word_of f
 
 -- the format information that the code takes from its table
 pub format-at : (l : Level) (first mask i : ℕ) → first ≡ 8 * level_bits l → level_bits l ≤ 3 → mask < 8 → i ≡ first + mask → get_or FORMAT_WORDS i 0 ≡ format_word_of l mask
 unfolding formats format_word_of
 format-at l first mask i e k h f =
     let g : i ≡ 8 * level_bits l + mask = omega arith in
-    eqb-same (get_or FORMAT_WORDS i 0) (format_with i) (below-at 32 formats all-formats i (omega arith)) ∙ ap format_with g
+    eqb-true (get_or FORMAT_WORDS i 0) (format_with i) (below-at 32 formats all-formats i (omega arith)) ∙ ap format_with g
 
 -- ---- the remainders
 
@@ -67,9 +67,9 @@ passed : (n divisor k x : ℕ) → (2 ^ n ≤ divisor) × (divisor < 2 ^ (n + 1)
 unfolding is_remainder
 passed n divisor k x d h = record {
   monic = d;
-  small = ltb-true _ _ (&&-left (ltb (remainder_of n divisor k x) (2 ^ n)) _ h);
+  small = ltb-true _ _ (and_parts (ltb (remainder_of n divisor k x) (2 ^ n)) _ h).0;
   shifts = shifts_of n divisor k x;
-  multiple = eqb-same _ _ (&&-right (ltb (remainder_of n divisor k x) (2 ^ n)) _ h);
+  multiple = eqb-true _ _ (and_parts (ltb (remainder_of n divisor k x) (2 ^ n)) _ h).1;
 }
 
 -- two bits of the level and three of the mask are below 32

@@ -3,8 +3,8 @@ use Rattle.std.proofs.Common.{◌≡◌, ℕ, zero, suc, ◌+◌, ◌-◌, ◌*�
 use Rattle.std.proofs.lemmas.Bool.Decides.{nat_tests}
 use Rattle.std.proofs.lemmas.Bool.{cases_lt}
 use Rattle.std.proofs.Math.Nat.{mul-suc, mul-le-mul_left, mul_comm}
-use Rattle.std.specs.List.{All, AllByRecursion, Contains}
-use Rattle.qr_layout.proofs.Facts.{Mem, Mem-at, Rises-of-pairs, one_rising}
+use Rattle.qr_layout.proofs.Facts.{Mem, Mem-at, Rises-of-pairs, one_rising, All-rec}
+pub use Rattle.qr_layout.proofs.Facts.{Mem-of-Contains}
 use Rattle.qr_symbol.specs.declared.interleaving.Cut.{Cut}
 use Rattle.qr_symbol.specs.Interleaving.{Tag, IsSentBefore, block_count, block_len, start_of, cut_len, IsTag, IsTagOrder}
 use Rattle.qr_symbol.proofs.TagLemmas.{tag, TagsBefore, tags-start, tags-push, tags-pass, tags-row, tags-end, start-next, start-most}
@@ -92,17 +92,6 @@ pub rank-end : (c : Cut) → rank_of c (c.short_len + 1) 0 ≡ cut_len c
 rank-end c = grind (arith, nat_tests)
 
 -- ---- only one order
-
--- what is contained is a member
-pub Mem-of-Contains : {X : Type 0} (xs : List X) (x : X) → Contains xs x → Mem x xs
-Mem-of-Contains [] x (k, l, e) = absurd (omega arith)
-Mem-of-Contains (y ∷ ys) x (zero, l, e) = inl e
-Mem-of-Contains (y ∷ ys) x (suc k, l, e) = inr (Mem-of-Contains ys x (k, omega arith, e))
-
--- a fact that holds for all items, in recursive form
-All-rec : {X : Type 0} (P : X → Type 0) (xs : List X) → All P xs → AllByRecursion P xs
-All-rec P [] h = tt
-All-rec P (x ∷ xs) h = (h 0 x (omega arith), All-rec P xs (λ k d l. h (suc k) d (omega arith)))
 
 -- of two tags, at most one is sent before the other
 asym : (t u : Tag) → IsSentBefore t u → IsSentBefore u t → ⊥
