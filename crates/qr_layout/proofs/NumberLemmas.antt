@@ -5,7 +5,7 @@ use Rattle.qr_layout.specs.declared.region.Module.{Module}
 use Rattle.qr_layout.specs.Region.{InRegion}
 use Rattle.qr_layout.specs.Version.{module_count_of}
 use Rattle.qr_layout.specs.Order.{IsOrder, number_of}
-use Rattle.qr_layout.specs.Steps.Order.{to_come, start_of}
+use Rattle.qr_layout.specs.Steps.Order.{to_come, first_cursor}
 use Rattle.qr_layout.proofs.ListLemmas.{split, length-mid}
 use Rattle.qr_layout.proofs.OrderLemmas.{order-has, order-length, number-at}
 use Rattle.qr_layout.proofs.WalkLemmas.{to_come-start}
@@ -45,20 +45,20 @@ number-small v ms m o h =
 pub number-below : (v : ℕ) (m : Module) → 1 ≤ v → v ≤ 40 → InRegion v m → number_of v m < module_count_of v
 number-below v m l k h =
     let o = to_come-start v in
-    let e = order-length v (to_come v (start_of v)) l k o in
-    let a = number-small v (to_come v (start_of v)) m o h in
+    let e = order-length v (to_come v (first_cursor v)) l k o in
+    let a = number-small v (to_come v (first_cursor v)) m o h in
     omega arith
 
 -- two places with the same number are the same place
 pub number-one : (v : ℕ) (m n : Module) → InRegion v m → InRegion v n → number_of v m ≡ number_of v n → m ≡ n
 number-one v m n h k e =
     let o = to_come-start v in
-    sym (item-number v (to_come v (start_of v)) m m o h) ∙ (ap (λ i. get_or (to_come v (start_of v)) i m) e ∙ item-number v (to_come v (start_of v)) n m o k)
+    sym (item-number v (to_come v (first_cursor v)) m m o h) ∙ (ap (λ i. get_or (to_come v (first_cursor v)) i m) e ∙ item-number v (to_come v (first_cursor v)) n m o k)
 
 -- each number below the count is the number of a place
 pub number-onto : (v n : ℕ) → 1 ≤ v → v ≤ 40 → n < module_count_of v → (m : Module) × InRegion v m × (number_of v m ≡ n)
 number-onto v n l k h =
-    let ms = to_come v (start_of v) in
+    let ms = to_come v (first_cursor v) in
     let o = to_come-start v in
     let d : Module = record { row = 0; col = 0 } in
     let e = order-length v ms l k o in

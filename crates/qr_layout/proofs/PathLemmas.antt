@@ -57,17 +57,17 @@ side-arith p false k = grind (arith, nat_tests)
 
 -- in version v, the module at position a is in the strip with number 8 + 2 * v - a.strips from the right
 key-strip : (v : ℕ) (a : Cursor) → IsCursor v a → 0 < a.strips → strip_of v (place_of a).col ≡ 8 + 2 * v - a.strips
-key-strip v a i k = let l = half_of-bound a.second in let m = i.strips_in in strip-arith v a.strips (half_of a.second) _ (column-back a.strips (half_of a.second) k l) k m l
+key-strip v a i k = let l = half_of-bound a.at_left in let m = i.strips_in in strip-arith v a.strips (half_of a.at_left) _ (column-back a.strips (half_of a.at_left) k l) k m l
 
 -- in version v, the key of the module at position a has the strip, the rank and the half of a
-key_of-place : (v : ℕ) (a : Cursor) → IsCursor v a → 0 < a.strips → key_of v (place_of a) ≡ record { strip = 8 + 2 * v - a.strips; rank = rank_of (side_of v) a; side = half_of a.second }
+key_of-place : (v : ℕ) (a : Cursor) → IsCursor v a → 0 < a.strips → key_of v (place_of a) ≡ record { strip = 8 + 2 * v - a.strips; rank = rank_of (side_of v) a; side = half_of a.at_left }
 unfolding key_of
 key_of-place v a i k =
-    let l = half_of-bound a.second in
+    let l = half_of-bound a.at_left in
     let s = key-strip v a i k in
-    let c = column-back a.strips (half_of a.second) k l in
+    let c = column-back a.strips (half_of a.at_left) k l in
     let t : eqb (strip_of v (place_of a).col % 2) 0 ≡ a.upward = rw s (parity-arith v a.strips i.strips_in ∙ sym i.turned) in
-    let d : cond (eqb (column_without_timing (column_of a.strips (half_of a.second)) % 2) 1) 0 1 ≡ half_of a.second = rw c (side-arith a.strips a.second k) in
+    let d : cond (eqb (column_without_timing (column_of a.strips (half_of a.at_left)) % 2) 1) 0 1 ≡ half_of a.at_left = rw c (side-arith a.strips a.at_left k) in
     λ j. record { strip = s j; rank = cond (t j) (side_of v - 1 - a.row) a.row; side = d j }
 
 -- the rank of a position a whose row is below s is below s
@@ -116,9 +116,9 @@ is_before-left v a b i j k l m =
     let s = side_of v in
     let x = rank-bound s a i.row_in in
     let y = rank-bound s b j.row_in in
-    let p = half_of-bound a.second in
-    let q = half_of-bound b.second in
-    rw (key_of-place v a i k, key_of-place v b j l) (before-test _ _ (elim (before-arith (8 + 2 * v) a.strips b.strips (2 * s) (2 * rank_of s a + half_of a.second) (2 * rank_of s b + half_of b.second) i.strips_in j.strips_in (omega arith) (omega arith) m l) [
+    let p = half_of-bound a.at_left in
+    let q = half_of-bound b.at_left in
+    rw (key_of-place v a i k, key_of-place v b j l) (before-test _ _ (elim (before-arith (8 + 2 * v) a.strips b.strips (2 * s) (2 * rank_of s a + half_of a.at_left) (2 * rank_of s b + half_of b.at_left) i.strips_in j.strips_in (omega arith) (omega arith) m l) [
       | inl z ↦ inl z
-      | inr z ↦ inr (z.0, digits-arith (rank_of s a) (rank_of s b) (half_of a.second) (half_of b.second) p q z.1)
+      | inr z ↦ inr (z.0, digits-arith (rank_of s a) (rank_of s b) (half_of a.at_left) (half_of b.at_left) p q z.1)
     ]))

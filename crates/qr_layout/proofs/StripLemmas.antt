@@ -10,7 +10,7 @@ use Rattle.qr_layout.specs.declared.strips.Strip.{Strip}
 use Rattle.qr_layout.specs.Region.{is_in_region}
 use Rattle.qr_layout.specs.Version.{side_of}
 use Rattle.qr_layout.specs.Order.{IsOrder, in_region_of}
-use Rattle.qr_layout.specs.Steps.Order.{column_of, place_of, left_of, next_of, places_within, to_come, start_of}
+use Rattle.qr_layout.specs.Steps.Order.{column_of, place_of, left_of, next_of, places_within, to_come, first_cursor}
 use Rattle.qr_layout.specs.Strips.{rows_from, both_of, places_of, strip_at, strips_to_come}
 use Rattle.qr_layout.proofs.WalkLemmas.{places-nil, places-suc, to_come-start}
 
@@ -31,7 +31,7 @@ unfolding pairs_within
 pairs-suc v n a = refl
 
 -- if position a is at the right place of a row, then one step leads to the place to the left of it
-second-place : (s : ℕ) (a : Cursor) → a.second ≡ false → place_of (next_of s a) ≡ record { row = a.row; col = (place_of a).col - 1 }
+second-place : (s : ℕ) (a : Cursor) → a.at_left ≡ false → place_of (next_of s a) ≡ record { row = a.row; col = (place_of a).col - 1 }
 unfolding next_of
 second-place s a e = rw (e, cols a.strips) refl
   where
@@ -39,13 +39,13 @@ second-place s a e = rw (e, cols a.strips) refl
     cols p = grind (arith, nat_tests)
 
 -- if position a is at the right place of a row, then two steps lead to the right place of a row
-right-again : (s : ℕ) (a : Cursor) → a.second ≡ false → (next_of s (next_of s a)).second ≡ false
+right-again : (s : ℕ) (a : Cursor) → a.at_left ≡ false → (next_of s (next_of s a)).at_left ≡ false
 unfolding next_of
 right-again s a e = grind (arith, nat_tests)
 
 -- the places of n rows from position a on that are in the encoding region are the places that 2 * n steps of the walk
 -- visit from a on
-kept : (v n : ℕ) (a : Cursor) → a.second ≡ false → in_region_of v (both_of (pairs_within v n a)) ≡ places_within v (2 * n) a
+kept : (v n : ℕ) (a : Cursor) → a.at_left ≡ false → in_region_of v (both_of (pairs_within v n a)) ≡ places_within v (2 * n) a
 kept v zero a e = ap (λ (z : List Module). in_region_of v (both_of z)) (pairs-nil v a) ∙ sym (places-nil v a)
 kept v (suc n) a e =
     let s = side_of v in
@@ -65,7 +65,7 @@ kept v (suc n) a e =
 
 -- the position at the right place of the row of strip p that comes after k other rows of this strip
 abbrev at_row : ℕ → ℕ → Bool → ℕ → Cursor
-at_row s p upward k = record { strips = p; row = cond upward (s - 1 - k) k; second = false; upward = upward }
+at_row s p upward k = record { strips = p; row = cond upward (s - 1 - k) k; at_left = false; upward = upward }
 
 -- in a square of side s, two steps lead from row k of strip p to row k + 1 of this strip, if there is such a row
 next-row : (s p k : ℕ) (upward : Bool) → k + 1 < s → next_of s (next_of s (at_row s p upward k)) ≡ at_row s p upward (k + 1)
@@ -73,7 +73,7 @@ unfolding next_of
 next-row s p k true l =
     let t : eqb (s - 1 - k) 0 ≡ false = grind (arith, nat_tests) in
     let e : s - 1 - k - 1 ≡ s - 1 - (k + 1) = omega arith in
-    rw t (λ i. record { strips = p; row = e i; second = false; upward = true })
+    rw t (λ i. record { strips = p; row = e i; at_left = false; upward = true })
 next-row s p k false l = let t : eqb (k + 1) s ≡ false = grind (arith, nat_tests) in rw t refl
 
 -- in a square of side s, two steps lead from the last row of strip p to the first row of strip p - 1, which goes the other
@@ -84,7 +84,7 @@ next-strip s p k true e = let t : eqb (s - 1 - k) 0 ≡ true = grind (arith, nat
 next-strip s p k false e =
     let t : eqb (k + 1) s ≡ true = grind (arith, nat_tests) in
     let f : k ≡ s - 1 - 0 = omega arith in
-    rw t (λ i. record { strips = p - 1; row = f i; second = false; upward = true })
+    rw t (λ i. record { strips = p - 1; row = f i; at_left = false; upward = true })
 
 -- strip p goes the other way than strip p + 1
 turned : (p : ℕ) → not (eqb (suc p % 2) 0) ≡ eqb (p % 2) 0
@@ -145,24 +145,24 @@ places-both s [] = refl
 places-both s (x ∷ xs) = both-append (rows_from s x 0 s) (all_rows s xs) ∙ ap (λ (z : List Module). both_of (rows_from s x 0 s) ++ z) (places-both s xs)
 
 -- in version v, the number of positions left at the beginning of the walk is twice the number of rows of all strips
-left-start : (v : ℕ) → 2 * ((8 + 2 * v) * side_of v) ≡ left_of (side_of v) (start_of v)
+left-start : (v : ℕ) → 2 * ((8 + 2 * v) * side_of v) ≡ left_of (side_of v) (first_cursor v)
 unfolding left_of
 left-start v = let e : (8 + 2 * v) * (2 * side_of v) ≡ 2 * ((8 + 2 * v) * side_of v) = omega arith in omega arith
 
 -- in version v, the walk begins at the right place of the first row of the rightmost strip
-start-row : (v : ℕ) → at_row (side_of v) (8 + 2 * v) (eqb ((8 + 2 * v) % 2) 0) 0 ≡ start_of v
+start-row : (v : ℕ) → at_row (side_of v) (8 + 2 * v) (eqb ((8 + 2 * v) % 2) 0) 0 ≡ first_cursor v
 start-row v =
     let t : eqb ((8 + 2 * v) % 2) 0 ≡ true = grind (arith, nat_tests) in
     let e : side_of v - 1 - 0 ≡ 16 + 4 * v = omega arith in
-    ap (λ z. at_row (side_of v) (8 + 2 * v) z 0) t ∙ (λ i. record { strips = 8 + 2 * v; row = e i; second = false; upward = true })
+    ap (λ z. at_row (side_of v) (8 + 2 * v) z 0) t ∙ (λ i. record { strips = 8 + 2 * v; row = e i; at_left = false; upward = true })
 
 -- in version v, the places of all strips, when the places outside the encoding region are left out, are the order
 pub strips-order : (v n : ℕ) → n ≡ v → IsOrder v (in_region_of v (places_of (side_of v) (strips_to_come (8 + 2 * n))))
 unfolding to_come
 strips-order v n e =
     let h : 8 + 2 * n ≡ 8 + 2 * v = omega arith in
-    let rows : pairs_within v ((8 + 2 * v) * side_of v) (start_of v) ≡ all_rows (side_of v) (strips_to_come (8 + 2 * v)) = ap (pairs_within v ((8 + 2 * v) * side_of v)) (sym (start-row v)) ∙ rows-all v (8 + 2 * v) in
-    rw (h, ← places-both (side_of v) (strips_to_come (8 + 2 * v)), ← rows, kept v ((8 + 2 * v) * side_of v) (start_of v) refl, left-start v) (to_come-start v)
+    let rows : pairs_within v ((8 + 2 * v) * side_of v) (first_cursor v) ≡ all_rows (side_of v) (strips_to_come (8 + 2 * v)) = ap (pairs_within v ((8 + 2 * v) * side_of v)) (sym (start-row v)) ∙ rows-all v (8 + 2 * v) in
+    rw (h, ← places-both (side_of v) (strips_to_come (8 + 2 * v)), ← rows, kept v ((8 + 2 * v) * side_of v) (first_cursor v) refl, left-start v) (to_come-start v)
 
 -- both columns of strip x are columns of the square of version v
 abbrev pub Inside : ℕ → Strip → Type 0

@@ -13,13 +13,13 @@ use crate::region::{Module, is_in_region};
 use crate::version::Version;
 use std::marker::Model;
 
-// A position of the walk. `strips` is the strip: 1 is the leftmost strip, and 0 is past the end of the walk. `second` says
+// A position of the walk. `strips` is the strip: 1 is the leftmost strip, and 0 is past the end of the walk. `at_left` says
 // that the position is the left module of the row, and `upward` is the direction.
 #[derive(Clone, Copy)]
 struct Cursor {
     strips: u8,
     row: u8,
-    second: bool,
+    at_left: bool,
     upward: bool,
 }
 
@@ -29,8 +29,9 @@ impl Cursor {
         requires strips_in { self.strips ≤ 88 }
         ensures { result ≡ place_of self }
     {
-        let past = 2 * self.strips - 1 - if self.second { 1 } else { 0 };
-        let col = if past < 6 { past } else { past + 1 };
+        // The number of the column when the timing column is skipped.
+        let untimed = 2 * self.strips - 1 - if self.at_left { 1 } else { 0 };
+        let col = if untimed < 6 { untimed } else { untimed + 1 };
         Module { row: self.row, col }
     }
 
@@ -40,9 +41,9 @@ impl Cursor {
         requires row_in { self.row < side }
         ensures { result ≡ next_of side self }
     {
-        if !self.second {
+        if !self.at_left {
             Cursor {
-                second: true,
+                at_left: true,
                 ..self
             }
         } else if self.upward {
@@ -50,27 +51,27 @@ impl Cursor {
                 Cursor {
                     strips: self.strips - 1,
                     row: 0,
-                    second: false,
+                    at_left: false,
                     upward: false,
                 }
             } else {
                 Cursor {
                     row: self.row - 1,
-                    second: false,
+                    at_left: false,
                     ..self
                 }
             }
         } else if self.row + 1 == side {
             Cursor {
                 strips: self.strips - 1,
-                second: false,
+                at_left: false,
                 upward: true,
                 ..self
             }
         } else {
             Cursor {
                 row: self.row + 1,
-                second: false,
+                at_left: false,
                 ..self
             }
         }
@@ -80,12 +81,13 @@ impl Cursor {
     fn at(m: Module) -> Cursor
         ensures { result ≡ cursor_at m }
     {
-        let past = if m.col < 6 { m.col } else { m.col - 1 };
-        let strips = past / 2 + 1;
+        // The number of the column when the timing column is skipped.
+        let untimed = if m.col < 6 { m.col } else { m.col - 1 };
+        let strips = untimed / 2 + 1;
         Cursor {
             strips,
             row: m.row,
-            second: past % 2 == 0,
+            at_left: untimed % 2 == 0,
             upward: strips % 2 == 0,
         }
     }
@@ -146,7 +148,7 @@ pub fn walk(v: Version) -> Steps
         cursor: Cursor {
             strips: 8 + 2 * v.number(),
             row: v.side() - 1,
-            second: false,
+            at_left: false,
             upward: true,
         },
     }

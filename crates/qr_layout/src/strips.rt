@@ -26,7 +26,7 @@ pub struct Strip {
 pub struct Strips {
     // The number of strips that are still to come. This is also the index of the next strip, counted from the left and from
     // 1.
-    left: u8,
+    remaining: u8,
 }
 
 impl Model for Strips {
@@ -36,9 +36,9 @@ impl Model for Strips {
 
     ghost Value = { List Strip };
 
-    ghost view = { λ s. strips_to_come s.left };
+    ghost view = { λ s. strips_to_come s.remaining };
 
-    ghost invariant = { λ s. s.left ≤ 88 };
+    ghost invariant = { λ s. s.remaining ≤ 88 };
 }
 
 impl Iterator for Strips {
@@ -49,13 +49,14 @@ impl Iterator for Strips {
     ghost remaining = { item_count (λ s. s) };
 
     fn next(&mut self) -> Option<Strip> {
-        if self.left == 0 {
+        if self.remaining == 0 {
             return None;
         }
-        let past = 2 * self.left - 1;
-        let right = if past < 6 { past } else { past + 1 };
-        let upward = self.left % 2 == 0;
-        self.left -= 1;
+        // The number of the right column when the timing column is skipped.
+        let untimed = 2 * self.remaining - 1;
+        let right = if untimed < 6 { untimed } else { untimed + 1 };
+        let upward = self.remaining % 2 == 0;
+        self.remaining -= 1;
         Some(Strip { right, upward })
     }
 }
@@ -67,7 +68,7 @@ pub fn all_strips(v: Version) -> Strips
     ensures inside { All (λ x. (1 ≤ x.right) × (x.right < side_of v)) result }
 {
     Strips {
-        left: 8 + 2 * v.number(),
+        remaining: 8 + 2 * v.number(),
     }
 }
 

@@ -12,7 +12,7 @@ use Rattle.qr_layout.specs.declared.region.Module.{Module}
 use Rattle.qr_layout.specs.Version.{side_of, total_codewords_of}
 use Rattle.qr_layout.specs.Blocks.{data_codewords_of, blocks_of}
 use Rattle.qr_layout.specs.Order.{IsOrder, number_of}
-use Rattle.qr_layout.specs.Steps.Order.{to_come, start_of}
+use Rattle.qr_layout.specs.Steps.Order.{to_come, first_cursor}
 use Rattle.qr_layout.proofs.Facts.{order-mem, order-length, number-at, only_order, to_come-start, region-role}
 use Rattle.qr_bits.specs.Bits.{field, bits_of, codeword_bit}
 use Rattle.qr_bits.specs.Parsing.{bytes_of}
@@ -117,7 +117,7 @@ pub read-some : (v mask : ℕ) (g : Grid) → 1 ≤ v → v ≤ 40 → (cw : Lis
 read-some v mask g p h =
     let t = total_codewords_of v in
     let o = to_come-start v in
-    let ms = to_come v (start_of v) in
+    let ms = to_come v (first_cursor v) in
     let bits = read_bits v mask g ms in
     let many : length bits ≡ 8 * t =
     length-append (map (unmasked mask g) (take (8 * t) ms)) (replicate (8 * t - length ms) false) ∙ (let a = length-map (take (8 * t) ms) (unmasked mask g) in let b = length-take (8 * t) ms in let c = length-replicate (8 * t - length ms) false in omega arith) in

@@ -19,8 +19,8 @@ abbrev pub value_of : Register → ℕ
 value_of r = r.high * 2 ^ 128 + r.low
 
 -- A register in which all coefficients are 0
-abbrev pub blank : Register
-blank = record { low = 0; high = 0 }
+abbrev pub zero_register : Register
+zero_register = record { low = 0; high = 0 }
 
 -- The coefficients of the generator polynomial after its leading 1
 abbrev pub divisor_of : ℕ → List ℕ
@@ -30,7 +30,7 @@ divisor_of n = drop 1 (generator_of n)
 -- 2^shift
 pub record HasMultiples (g : List ℕ) (shift bound : ℕ) (rows : List Register) : Type 0 where
   pub many : length rows ≡ 16
-  pub each : (f : ℕ) → f < bound → value_of (slice_index_or rows f blank) ≡ packed (scaled (f * 2 ^ shift) g)
+  pub each : (f : ℕ) → f < bound → value_of (slice_index_or rows f zero_register) ≡ packed (scaled (f * 2 ^ shift) g)
 
 -- `IsHeld d n v` holds if the number v contains the n error correction codewords of d
 pub record IsHeld (d : List ℕ) (n v : ℕ) : Type 0 where

@@ -9,7 +9,7 @@ use Rattle.qr_layout.specs.Version.{side_of}
 
 -- 0 for the right module of a row of a strip, 1 for the left module
 abbrev pub half_of : Bool → ℕ
-half_of second = if second then 1 else 0
+half_of at_left = if at_left then 1 else 0
 
 -- The column of a half of a strip; column 6 is skipped
 abbrev pub column_of : ℕ → ℕ → ℕ
@@ -17,7 +17,7 @@ column_of strips half = let c = 2 * strips - 1 - half in if nat_lt c 6 then c el
 
 -- The module at a position
 abbrev pub place_of : Cursor → Module
-place_of a = record { row = a.row; col = column_of a.strips (half_of a.second) }
+place_of a = record { row = a.row; col = column_of a.strips (half_of a.at_left) }
 
 -- The row of a position, counted from where the strip begins
 abbrev pub rank_of : ℕ → Cursor → ℕ
@@ -25,18 +25,18 @@ rank_of s a = if a.upward then s - 1 - a.row else a.row
 
 -- The number of positions that are left, this position included
 unfoldable pub left_of : ℕ → Cursor → ℕ
-left_of s a = a.strips * (2 * s) - (2 * rank_of s a + half_of a.second)
+left_of s a = a.strips * (2 * s) - (2 * rank_of s a + half_of a.at_left)
 
 -- The next position: after the right module of a row its left module, after a row the next row, and after a strip the
 -- next strip, which runs in the other direction
 unfoldable pub next_of : ℕ → Cursor → Cursor
 next_of s a =
-    if a.second then
+    if a.at_left then
     (if a.upward then
-    (if a.row == 0 then record { strips = a.strips - 1; row = 0; second = false; upward = false } else record { strips = a.strips; row = a.row - 1; second = false; upward = true })
+    (if a.row == 0 then record { strips = a.strips - 1; row = 0; at_left = false; upward = false } else record { strips = a.strips; row = a.row - 1; at_left = false; upward = true })
     else
-    (if a.row + 1 == s then record { strips = a.strips - 1; row = a.row; second = false; upward = true } else record { strips = a.strips; row = a.row + 1; second = false; upward = false }))
-    else record { strips = a.strips; row = a.row; second = true; upward = a.upward }
+    (if a.row + 1 == s then record { strips = a.strips - 1; row = a.row; at_left = false; upward = true } else record { strips = a.strips; row = a.row + 1; at_left = false; upward = false }))
+    else record { strips = a.strips; row = a.row; at_left = true; upward = a.upward }
 
 -- `IsCursor v a` holds if a is a position of the walk of version v, or the end of the walk
 pub record IsCursor (v : ℕ) (a : Cursor) : Type 0 where
@@ -55,11 +55,11 @@ unfoldable pub to_come : ℕ → Cursor → List Module
 to_come v a = places_within v (left_of (side_of v) a) a
 
 -- The position at which the walk begins
-abbrev pub start_of : ℕ → Cursor
-start_of v = record { strips = 8 + 2 * v; row = 16 + 4 * v; second = false; upward = true }
+abbrev pub first_cursor : ℕ → Cursor
+first_cursor v = record { strips = 8 + 2 * v; row = 16 + 4 * v; at_left = false; upward = true }
 
 -- The position of a module
 unfoldable pub cursor_at : Module → Cursor
 cursor_at m =
     let c = (if nat_lt m.col 6 then m.col else m.col - 1) in
-    record { strips = c / 2 + 1; row = m.row; second = c % 2 == 0; upward = (c / 2 + 1) % 2 == 0 }
+    record { strips = c / 2 + 1; row = m.row; at_left = c % 2 == 0; upward = (c / 2 + 1) % 2 == 0 }
