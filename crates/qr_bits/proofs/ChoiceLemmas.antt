@@ -9,15 +9,15 @@ use Rattle.qr_bits.specs.declared.run_state.RunState.{RunState}
 use Rattle.qr_bits.specs.declared.run_state.RunState.TheVariants.{Digit1, Digit2, Digit3, Character1, Character2, InBytes, HalfPair, WholePair}
 use Rattle.qr_bits.specs.Segmentation.{rank}
 use Rattle.qr_bits.specs.Modes.{may_use}
-use Rattle.qr_bits.specs.Steps.RunState.{state_after, state_on, byte_cost, may_begin, may_take, may_end, number_of, ranked, IsChoice}
+use Rattle.qr_bits.specs.Steps.RunState.{state_after, state_on, byte_cost, may_begin, may_take, may_end, choice_number, ranked, IsChoice}
 use Rattle.qr_bits.proofs.BestLemmas.{same_rank}
 use Rattle.qr_bits.proofs.SegmentLemmas.{count_width_bound}
 
 -- the least of the numbers of the four modes
 abbrev pub least_of : (Mode → Bool) → (Mode → ℕ) → ℕ
 least_of may cost =
-    min (number_of (may Numeric) (cost Numeric) Numeric)
-    (min (number_of (may Alphanumeric) (cost Alphanumeric) Alphanumeric) (min (number_of (may Byte) (cost Byte) Byte) (number_of (may Kanji) (cost Kanji) Kanji)))
+    min (choice_number (may Numeric) (cost Numeric) Numeric)
+    (min (choice_number (may Alphanumeric) (cost Alphanumeric) Alphanumeric) (min (choice_number (may Byte) (cost Byte) Byte) (choice_number (may Kanji) (cost Kanji) Kanji)))
 
 -- the least number is no more than the number of each mode that may be used
 least_under : (may : Mode → Bool) (cost : Mode → ℕ) (k : Mode) → may k ≡ true → least_of may cost ≤ 4 * cost k + rank k
@@ -31,7 +31,7 @@ abbrev IsTaken : (Mode → Bool) → (Mode → ℕ) → ℕ → Type 0
 IsTaken may cost c = (m : Mode) × (may m ≡ true) × (c ≡ 4 * cost m + rank m)
 
 -- a number below the limit is that of a mode that may be used
-taken_one : (may : Mode → Bool) (cost : Mode → ℕ) (m : Mode) (t : Bool) → t ≡ may m → number_of t (cost m) m < 4294967295 → IsTaken may cost (number_of t (cost m) m)
+taken_one : (may : Mode → Bool) (cost : Mode → ℕ) (m : Mode) (t : Bool) → t ≡ may m → choice_number t (cost m) m < 4294967295 → IsTaken may cost (choice_number t (cost m) m)
 taken_one may cost m true e h = (m, sym e, refl)
 taken_one may cost m false e h = absurd (omega arith)
 
@@ -96,7 +96,7 @@ kanji_alone : (k : Mode) → (rank k == rank Kanji) ≡ true → k ≡ Kanji
 kanji_alone k h = same_rank k Kanji (eqb-true _ _ h)
 
 -- after half a pair, kanji mode is the choice
-pub half_choice : (v : ℕ) (r : Rule) (x : ℕ) (pair : Bool) (cost : RunState → ℕ) (c : ℕ) → c ≡ number_of true (byte_cost v HalfPair Kanji + cost (state_after HalfPair Kanji)) Kanji
+pub half_choice : (v : ℕ) (r : Rule) (x : ℕ) (pair : Bool) (cost : RunState → ℕ) (c : ℕ) → c ≡ choice_number true (byte_cost v HalfPair Kanji + cost (state_after HalfPair Kanji)) Kanji
     → IsChoice v r HalfPair x pair cost (ranked (c % 4)) (c / 4)
 unfolding may_take byte_cost state_after
 half_choice v r x pair cost c is =
@@ -136,7 +136,7 @@ least_choice v r p x pair cost c e small is =
     })
 
 -- fewer bits make no larger number
-pub number_less : (may : Bool) (m : Mode) (a b : ℕ) → a ≤ b → number_of may a m ≤ number_of may b m
+pub number_less : (may : Bool) (m : Mode) (a b : ℕ) → a ≤ b → choice_number may a m ≤ choice_number may b m
 number_less true m a b h = omega arith
 number_less false m a b h = omega arith
 

@@ -12,7 +12,7 @@ ghost use Rattle.qr_bits.specs.declared.run_state.RunState.{RunState};
 ghost use Rattle.qr_bits.specs.Modes.{is_kanji_pair};
 ghost use Rattle.qr_bits.specs.Segmentation.{rank};
 ghost use Rattle.qr_bits.specs.declared.modes.Rule.{Rule};
-ghost use Rattle.qr_bits.specs.Steps.RunState.{begins_with_pair, may_begin, number_of, ranked};
+ghost use Rattle.qr_bits.specs.Steps.RunState.{begins_with_pair, may_begin, choice_number, ranked};
 ghost use Rattle.qr_bits.specs.Steps.Table.{in_state, mode_at, IsBestTable, IsRow, IsSmall, shift_of};
 
 use crate::modes::{INPUT_MAX, Mode, Rule, is_alphanumeric, is_digit, is_kanji_pair, may_use};
@@ -57,7 +57,7 @@ fn may_begin(rule: Rule, byte: u8, mode: Mode) -> bool
 fn number_if(may: bool, first: u32, rest: u32) -> u32
     requires first { first ≤ 135 }
     requires rest { rest < 40000000 }
-    ensures { (b : ℕ) (m : Mode) → first ≡ 4 * b + rank m → result ≡ number_of may (b + rest / 4) m }
+    ensures { (b : ℕ) (m : Mode) → first ≡ 4 * b + rank m → result ≡ choice_number may (b + rest / 4) m }
 {
     if may { first + rest / 4 * 4 } else { NO_CHOICE }
 }

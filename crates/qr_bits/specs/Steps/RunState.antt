@@ -105,10 +105,10 @@ pub record IsChoice (v : ℕ) (r : Rule) (p : RunState) (x : ℕ) (pair : Bool) 
   pub least : (k : Mode) → IsTrue (may_take r p x pair k) → n ≤ byte_cost v p k + cost (state_after p k)
   pub first : (k : Mode) → IsTrue (may_take r p x pair k) → byte_cost v p k + cost (state_after p k) ≡ n → rank m ≤ rank k
 
--- `number_of may bits m` is the number of a choice: four times its bits plus the rank of its mode. If the mode may not be
+-- `choice_number may bits m` is the number of a choice: four times its bits plus the rank of its mode. If the mode may not be
 -- used, it is greater than the number of any choice.
-abbrev pub number_of : Bool → ℕ → Mode → ℕ
-number_of may bits m = if may then 4 * bits + rank m else 4294967295
+abbrev pub choice_number : Bool → ℕ → Mode → ℕ
+choice_number may bits m = if may then 4 * bits + rank m else 4294967295
 
 -- The mode that has a rank
 abbrev pub ranked : ℕ → Mode

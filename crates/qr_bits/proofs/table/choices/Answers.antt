@@ -3,7 +3,7 @@ use Rattle.qr_bits.specs.declared.modes.Mode.{Mode}
 use Rattle.qr_bits.specs.declared.modes.Mode.TheVariants.{Numeric, Alphanumeric, Byte, Kanji}
 use Rattle.qr_bits.specs.declared.run_state.RunState.{RunState}
 use Rattle.qr_bits.specs.declared.run_state.RunState.TheVariants.{Start, Digit1, Digit2, Digit3, Character1, Character2, InBytes, WholePair}
-use Rattle.qr_bits.specs.Steps.RunState.{state_after, byte_cost, may_begin, may_end, number_of}
+use Rattle.qr_bits.specs.Steps.RunState.{state_after, byte_cost, may_begin, may_end, choice_number}
 use Rattle.qr_bits.specs.Steps.Table.{in_state, bits_at}
 use Rattle.qr_bits.proofs.ChoiceLemmas.{byte_used, half_choice, least_choice, number_less, own_beside, own_first, own_second, own_third, own_last}
 use Rattle.qr_bits.proofs.TableLemmas.{row_of}
@@ -15,7 +15,7 @@ returns c = λ r x digit character.
     let v = c.args.first_choices.now.version in
     let t = c.args.pair in
     let rest = c.args.rest.now in
-    let of : RunState → Mode → ℕ = λ p k. number_of (may_begin r x t k) (byte_cost v p k + bits_at rest (state_after p k)) k in
+    let of : RunState → Mode → ℕ = λ p k. choice_number (may_begin r x t k) (byte_cost v p k + bits_at rest (state_after p k)) k in
     let h = c.args.first_choices.now in
     let small : bits_at rest InBytes < 10000000 = omega (arith, c.requires) in
     let n : c.number_if-digits.result ≡ of Start Numeric = rw digit at (c.number_if-digits.ensures _ Numeric h.numeric_is) in
