@@ -46,8 +46,8 @@ length-folded BytesOnly xs = refl
 length-folded WithKanji xs = length-folded_around_pairs xs
 
 -- one more part is folded
-pub more_folded : (front part rest next whole : List ℕ) → rest ≡ part ++ next → front ++ rest ≡ whole → (front ++ part) ++ next ≡ whole
-more_folded front part rest next whole e h = append_assoc front part next ∙ ap (λ (t : List ℕ). front ++ t) (sym e) ∙ h
+pub more_folded : (prefix part rest next whole : List ℕ) → rest ≡ part ++ next → prefix ++ rest ≡ whole → (prefix ++ part) ++ next ≡ whole
+more_folded prefix part rest next whole e h = append_assoc prefix part next ∙ ap (λ (t : List ℕ). prefix ++ t) (sym e) ∙ h
 
 -- if a pair begins here, there are two bytes
 pub begun_with_pair : (xs : List ℕ) → begins_with_pair WithKanji is_kanji_pair xs ≡ true → 2 ≤ length xs

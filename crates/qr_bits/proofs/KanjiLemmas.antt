@@ -10,7 +10,7 @@ use Rattle.qr_bits.specs.Modes.{in_twos, is_kanji_pair, kanji_value}
 use Rattle.qr_bits.specs.Stream.{kanji_bits}
 use Rattle.qr_bits.specs.Parsing.{◌>>=◌, kanji_pair, pairs_of}
 use Rattle.qr_bits.proofs.ParsingLemmas.{bind_ok, same_ok}
-use Rattle.qr_bits.proofs.PayloadLemmas.{value_take_below, prepend_mode, prepend_mode-twice}
+use Rattle.qr_bits.proofs.PayloadLemmas.{value_take_below, prepend_read, prepend_read-twice}
 use Rattle.qr_bits.proofs.StreamLemmas.{drop-field, read_field, field_read, chosen_ok}
 
 -- ---- one pair
@@ -209,14 +209,14 @@ pairs_takes (suc n) xs bits h e =
 -- ---- group by group
 
 -- a pair, and the pairs after it
-pub pairs_more : (front : List ℕ) (n : ℕ) (bits : List Bool) → 0 < n → value (take 13 bits) % 0xC0 ≤ 0xBC
-    → prepend_mode front (pairs_of n bits) ≡ prepend_mode (front ++ kanji_pair (value (take 13 bits)) / 256 ∷ kanji_pair (value (take 13 bits)) % 256 ∷ []) (pairs_of (n - 1) (drop 13 bits))
+pub pairs_more : (prefix : List ℕ) (n : ℕ) (bits : List Bool) → 0 < n → value (take 13 bits) % 0xC0 ≤ 0xBC
+    → prepend_read prefix (pairs_of n bits) ≡ prepend_read (prefix ++ kanji_pair (value (take 13 bits)) / 256 ∷ kanji_pair (value (take 13 bits)) % 256 ∷ []) (pairs_of (n - 1) (drop 13 bits))
 unfolding pairs_of
-pairs_more front zero bits h low = absurd (omega arith)
-pairs_more front (suc n) bits h low =
+pairs_more prefix zero bits h low = absurd (omega arith)
+pairs_more prefix (suc n) bits h low =
     let e : suc n - 1 ≡ n = omega arith in
     let p = kanji_pair (value (take 13 bits)) in
-    rw (e, le-leb _ _ low) (prepend_mode-twice front (p / 256 ∷ p % 256 ∷ []) (pairs_of n (drop 13 bits)))
+    rw (e, le-leb _ _ low) (prepend_read-twice prefix (p / 256 ∷ p % 256 ∷ []) (pairs_of n (drop 13 bits)))
 
 -- a value that is that of no pair
 pub pairs_bad : (n : ℕ) (bits : List Bool) → 0 < n → 0xBC < value (take 13 bits) % 0xC0 → pairs_of n bits ≡ Err BadValue

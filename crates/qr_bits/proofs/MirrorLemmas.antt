@@ -111,18 +111,18 @@ mirror v test r xs ms h = (
 )
 
 -- if the best rest of a reversed prefix has at most n bits, the prefix fits n bits
-pub front_fits : (v : ℕ) (r : Rule) (xs : List ℕ) (f : RunState → List Mode) (cost : RunState → ℕ) (n : ℕ) → BestBelow v r (swapped is_kanji_pair) (reverse xs) f cost → cost Start ≤ n → HasFit v r xs n
+pub prefix_fits : (v : ℕ) (r : Rule) (xs : List ℕ) (f : RunState → List Mode) (cost : RunState → ℕ) (n : ℕ) → BestBelow v r (swapped is_kanji_pair) (reverse xs) f cost → cost Start ≤ n → HasFit v r xs n
 unfolding may_end
-front_fits v r xs f cost n below small =
+prefix_fits v r xs f cost n below small =
     let best = below Start _ (bytes_rest r (swapped is_kanji_pair) Start (reverse xs) refl) in
     let back = mirror v (swapped is_kanji_pair) r (reverse xs) (f Start) (is_assignment (swapped is_kanji_pair) r (reverse xs) (f Start) Start refl best.is_allowed) in
     let again : CoversBy is_kanji_pair (reverse (reverse xs)) (runs_of (reverse (f Start))) = back.0.1 in
     (reverse (f Start), (back.0.0, by_covers xs _ (rw (reverse-reverse xs) at again)), omega (arith, back.1, small, bits-runs_of v (f Start), best.has_bits))
 
 -- if a prefix fits n bits, the best rest of the reversed prefix has at most n bits
-pub front_least : (v : ℕ) (r : Rule) (xs : List ℕ) (f : RunState → List Mode) (cost : RunState → ℕ) (n : ℕ) → BestBelow v r (swapped is_kanji_pair) (reverse xs) f cost → HasFit v r xs n → cost Start ≤ n
+pub prefix_least : (v : ℕ) (r : Rule) (xs : List ℕ) (f : RunState → List Mode) (cost : RunState → ℕ) (n : ℕ) → BestBelow v r (swapped is_kanji_pair) (reverse xs) f cost → HasFit v r xs n → cost Start ≤ n
 unfolding may_end
-front_least v r xs f cost n below fit =
+prefix_least v r xs f cost n below fit =
     let ms = fit.0 in
     let back = mirror v is_kanji_pair r xs ms (fit.1.0, covers_by xs _ fit.1.1) in
     let taken = can_take (swapped is_kanji_pair) r (reverse xs) (reverse ms) back.0 Start refl in
@@ -161,17 +161,17 @@ pub ends_short : (r : Rule) (xs : List ℕ) → length xs < 2 → begins_with_pa
 ends_short r xs h = begins_short r (swapped is_kanji_pair) (reverse xs) (omega (arith, length-reverse xs))
 
 -- a reversed prefix with one more byte
-pub front_next : (xs : List ℕ) (i : ℕ) → i < length xs → reverse (take (i + 1) xs) ≡ get_or xs i 0 ∷ reverse (take i xs)
-front_next xs i h = ap reverse (take_more xs i 0 h) ∙ reverse-append (take i xs) (get_or xs i 0 ∷ [])
+pub prefix_next : (xs : List ℕ) (i : ℕ) → i < length xs → reverse (take (i + 1) xs) ≡ get_or xs i 0 ∷ reverse (take i xs)
+prefix_next xs i h = ap reverse (take_more xs i 0 h) ∙ reverse-append (take i xs) (get_or xs i 0 ∷ [])
 
 -- the table for a reversed prefix with one more byte
-pub front_more : (v : ℕ) (r : Rule) (xs : List ℕ) (i : ℕ) (pair : Bool) (rows : List ℕ) (row : ℕ) (rest numbers : PerState ℕ) → i < length xs
+pub prefix_more : (v : ℕ) (r : Rule) (xs : List ℕ) (i : ℕ) (pair : Bool) (rows : List ℕ) (row : ℕ) (rest numbers : PerState ℕ) → i < length xs
     → pair ≡ begins_with_pair r (swapped is_kanji_pair) (reverse (take (i + 1) xs))
     → BestBelow v r (swapped is_kanji_pair) (reverse (take i xs)) (λ p. follow p rows) (bits_at rest)
     → IsRow v r (get_or xs i 0) pair rest row numbers
     → BestBelow v r (swapped is_kanji_pair) (reverse (take (i + 1) xs)) (λ p. follow p (row ∷ rows)) (bits_at numbers)
-front_more v r xs i pair rows row rest numbers h e below choice =
+prefix_more v r xs i pair rows row rest numbers h e below choice =
     let x = get_or xs i 0 in
-    let front = front_next xs i h in
-    let flag : pair ≡ begins_with_pair r (swapped is_kanji_pair) (x ∷ reverse (take i xs)) = e ∙ ap (begins_with_pair r (swapped is_kanji_pair)) front in
-    rw front (best_more v r (swapped is_kanji_pair) x (reverse (take i xs)) rows row rest numbers below (subst (λ (b : Bool). IsRow v r x b rest row numbers) flag choice))
+    let next = prefix_next xs i h in
+    let flag : pair ≡ begins_with_pair r (swapped is_kanji_pair) (x ∷ reverse (take i xs)) = e ∙ ap (begins_with_pair r (swapped is_kanji_pair)) next in
+    rw next (best_more v r (swapped is_kanji_pair) x (reverse (take i xs)) rows row rest numbers below (subst (λ (b : Bool). IsRow v r x b rest row numbers) flag choice))

@@ -19,23 +19,23 @@ value_take_below w bs =
     omega (arith, value_below (take w bs), pow-le-pow_right {n = 2} (lit< tt) short)
 
 -- the result for the rest, with the bytes that were read before it
-abbrev pub prepend_mode : List ℕ → Result (List ℕ) ParseFault → Result (List ℕ) ParseFault
-prepend_mode front read = read >>= λ xs. Ok (front ++ xs)
+abbrev pub prepend_read : List ℕ → Result (List ℕ) ParseFault → Result (List ℕ) ParseFault
+prepend_read prefix read = read >>= λ xs. Ok (prefix ++ xs)
 
 -- if the whole is read, the rest is read
-pub prepend_mode-ok : (front : List ℕ) (read : Result (List ℕ) ParseFault) (ys : List ℕ) → prepend_mode front read ≡ Ok ys → (xs : List ℕ) × (read ≡ Ok xs) × (ys ≡ front ++ xs)
-prepend_mode-ok front (Ok xs) ys h = (xs, refl, cc)
-prepend_mode-ok front (Err e) ys h = cc
+pub prepend_read-ok : (prefix : List ℕ) (read : Result (List ℕ) ParseFault) (ys : List ℕ) → prepend_read prefix read ≡ Ok ys → (xs : List ℕ) × (read ≡ Ok xs) × (ys ≡ prefix ++ xs)
+prepend_read-ok prefix (Ok xs) ys h = (xs, refl, cc)
+prepend_read-ok prefix (Err e) ys h = cc
 
 -- if the whole fails, the rest fails with the same fault
-pub prepend_mode-err : (front : List ℕ) (read : Result (List ℕ) ParseFault) (e : ParseFault) → prepend_mode front read ≡ Err e → read ≡ Err e
-prepend_mode-err front (Ok xs) e h = cc
-prepend_mode-err front (Err d) e h = cc
+pub prepend_read-err : (prefix : List ℕ) (read : Result (List ℕ) ParseFault) (e : ParseFault) → prepend_read prefix read ≡ Err e → read ≡ Err e
+prepend_read-err prefix (Ok xs) e h = cc
+prepend_read-err prefix (Err d) e h = cc
 
 -- two prefixes in turn are one prefix
-pub prepend_mode-twice : (front middle : List ℕ) (read : Result (List ℕ) ParseFault) → prepend_mode front (read >>= λ xs. Ok (middle ++ xs)) ≡ prepend_mode (front ++ middle) read
-prepend_mode-twice front middle (Ok xs) = ap Ok (sym (append_assoc front middle xs))
-prepend_mode-twice front middle (Err e) = refl
+pub prepend_read-twice : (prefix middle : List ℕ) (read : Result (List ℕ) ParseFault) → prepend_read prefix (read >>= λ xs. Ok (middle ++ xs)) ≡ prepend_read (prefix ++ middle) read
+prepend_read-twice prefix middle (Ok xs) = ap Ok (sym (append_assoc prefix middle xs))
+prepend_read-twice prefix middle (Err e) = refl
 
 -- ---- digits
 
@@ -44,15 +44,15 @@ pub payload_less : (n : ℕ) → 3 ≤ n → payload_bits Numeric n ≡ 10 + pay
 payload_less n h = let e : n ≡ 3 + (n - 3) = omega arith in ap (payload_bits Numeric) e ∙ three_more (n - 3)
 
 -- a group of three digits, and the digits after it
-pub digits_more : (front : List ℕ) (n : ℕ) (bits : List Bool) → 3 ≤ n → value (take 10 bits) < 1000
-    → prepend_mode front (digits_of n bits) ≡ prepend_mode (front ++ digit (value (take 10 bits) / 100) ∷ digit (value (take 10 bits) / 10) ∷ digit (value (take 10 bits)) ∷ []) (digits_of (n - 3) (drop 10 bits))
+pub digits_more : (prefix : List ℕ) (n : ℕ) (bits : List Bool) → 3 ≤ n → value (take 10 bits) < 1000
+    → prepend_read prefix (digits_of n bits) ≡ prepend_read (prefix ++ digit (value (take 10 bits) / 100) ∷ digit (value (take 10 bits) / 10) ∷ digit (value (take 10 bits)) ∷ []) (digits_of (n - 3) (drop 10 bits))
 unfolding digits_of
-digits_more front zero bits h low = absurd (omega arith)
-digits_more front (suc zero) bits h low = absurd (omega arith)
-digits_more front (suc (suc zero)) bits h low = absurd (omega arith)
-digits_more front (suc (suc (suc n))) bits h low =
+digits_more prefix zero bits h low = absurd (omega arith)
+digits_more prefix (suc zero) bits h low = absurd (omega arith)
+digits_more prefix (suc (suc zero)) bits h low = absurd (omega arith)
+digits_more prefix (suc (suc (suc n))) bits h low =
     let e : suc (suc (suc n)) - 3 ≡ n = omega arith in
-    rw (e, lt-ltb _ _ low) (prepend_mode-twice front (digit (value (take 10 bits) / 100) ∷ digit (value (take 10 bits) / 10) ∷ digit (value (take 10 bits)) ∷ []) (digits_of n (drop 10 bits)))
+    rw (e, lt-ltb _ _ low) (prepend_read-twice prefix (digit (value (take 10 bits) / 100) ∷ digit (value (take 10 bits) / 10) ∷ digit (value (take 10 bits)) ∷ []) (digits_of n (drop 10 bits)))
 
 -- a group of three digits that is too large
 pub digits_bad : (n : ℕ) (bits : List Bool) → 3 ≤ n → 1000 ≤ value (take 10 bits) → digits_of n bits ≡ Err BadValue
@@ -94,14 +94,14 @@ pub payload_two_less : (n : ℕ) → 2 ≤ n → payload_bits Alphanumeric n ≡
 payload_two_less n h = let e : n ≡ 2 + (n - 2) = omega arith in ap (payload_bits Alphanumeric) e ∙ two_more (n - 2)
 
 -- a pair of characters, and the characters after it
-pub characters_more : (front : List ℕ) (n : ℕ) (bits : List Bool) → 2 ≤ n → value (take 11 bits) < 2025
-    → prepend_mode front (characters_of n bits) ≡ prepend_mode (front ++ character (value (take 11 bits) / 45) ∷ character (value (take 11 bits) % 45) ∷ []) (characters_of (n - 2) (drop 11 bits))
+pub characters_more : (prefix : List ℕ) (n : ℕ) (bits : List Bool) → 2 ≤ n → value (take 11 bits) < 2025
+    → prepend_read prefix (characters_of n bits) ≡ prepend_read (prefix ++ character (value (take 11 bits) / 45) ∷ character (value (take 11 bits) % 45) ∷ []) (characters_of (n - 2) (drop 11 bits))
 unfolding characters_of
-characters_more front zero bits h low = absurd (omega arith)
-characters_more front (suc zero) bits h low = absurd (omega arith)
-characters_more front (suc (suc n)) bits h low =
+characters_more prefix zero bits h low = absurd (omega arith)
+characters_more prefix (suc zero) bits h low = absurd (omega arith)
+characters_more prefix (suc (suc n)) bits h low =
     let e : suc (suc n) - 2 ≡ n = omega arith in
-    rw (e, lt-ltb _ _ low) (prepend_mode-twice front (character (value (take 11 bits) / 45) ∷ character (value (take 11 bits) % 45) ∷ []) (characters_of n (drop 11 bits)))
+    rw (e, lt-ltb _ _ low) (prepend_read-twice prefix (character (value (take 11 bits) / 45) ∷ character (value (take 11 bits) % 45) ∷ []) (characters_of n (drop 11 bits)))
 
 -- a pair of characters that is too large
 pub characters_bad : (n : ℕ) (bits : List Bool) → 2 ≤ n → 2025 ≤ value (take 11 bits) → characters_of n bits ≡ Err BadValue
@@ -128,12 +128,12 @@ characters_none bits = refl
 -- ---- bytes
 
 -- a byte, and the bytes after it
-pub bytes_more : (front : List ℕ) (n : ℕ) (bits : List Bool) → 0 < n → front ++ bytes_of n bits ≡ (front ++ value (take 8 bits) ∷ []) ++ bytes_of (n - 1) (drop 8 bits)
+pub bytes_more : (prefix : List ℕ) (n : ℕ) (bits : List Bool) → 0 < n → prefix ++ bytes_of n bits ≡ (prefix ++ value (take 8 bits) ∷ []) ++ bytes_of (n - 1) (drop 8 bits)
 unfolding bytes_of
-bytes_more front zero bits h = absurd (omega arith)
-bytes_more front (suc n) bits h =
+bytes_more prefix zero bits h = absurd (omega arith)
+bytes_more prefix (suc n) bits h =
     let e : suc n - 1 ≡ n = omega arith in
-    rw e (sym (append_assoc front (value (take 8 bits) ∷ []) (bytes_of n (drop 8 bits))))
+    rw e (sym (append_assoc prefix (value (take 8 bits) ∷ []) (bytes_of n (drop 8 bits))))
 
 -- no byte
 pub bytes_none : (bits : List Bool) → bytes_of 0 bits ≡ []
@@ -141,9 +141,9 @@ unfolding bytes_of
 bytes_none bits = refl
 
 -- if the rest is read, the whole is read
-pub finish : (front out zs : List ℕ) (read whole : Result (List ℕ) ParseFault) → prepend_mode front read ≡ prepend_mode out whole → read ≡ Ok zs → (xs : List ℕ) × (whole ≡ Ok xs) × (front ++ zs ≡ out ++ xs)
-finish front out zs read whole h e = prepend_mode-ok out whole (front ++ zs) (sym h ∙ ap (prepend_mode front) e)
+pub finish : (prefix out zs : List ℕ) (read whole : Result (List ℕ) ParseFault) → prepend_read prefix read ≡ prepend_read out whole → read ≡ Ok zs → (xs : List ℕ) × (whole ≡ Ok xs) × (prefix ++ zs ≡ out ++ xs)
+finish prefix out zs read whole h e = prepend_read-ok out whole (prefix ++ zs) (sym h ∙ ap (prepend_read prefix) e)
 
 -- if the rest fails, the whole fails
-pub fails : (front out : List ℕ) (read whole : Result (List ℕ) ParseFault) (f : ParseFault) → prepend_mode front read ≡ prepend_mode out whole → read ≡ Err f → IsFaultOf f whole
-fails front out read whole f h e = inr (prepend_mode-err out whole f (sym h ∙ ap (prepend_mode front) e))
+pub fails : (prefix out : List ℕ) (read whole : Result (List ℕ) ParseFault) (f : ParseFault) → prepend_read prefix read ≡ prepend_read out whole → read ≡ Err f → IsFaultOf f whole
+fails prefix out read whole f h e = inr (prepend_read-err out whole f (sym h ∙ ap (prepend_read prefix) e))

@@ -135,5 +135,5 @@ unfolding segments_stream
 stream_end v xs segs i h = rw (drop_all i segs h) refl
 
 -- one more part is written, and the rest is still to be written
-pub append_next : (front part rest whole next : List Bool) → whole ≡ front ++ (part ++ rest) → next ≡ front ++ part → next ++ rest ≡ whole
-append_next front part rest whole next e f = rw f (append_assoc front part rest ∙ sym e)
+pub append_next : (prefix part rest whole next : List Bool) → whole ≡ prefix ++ (part ++ rest) → next ≡ prefix ++ part → next ++ rest ≡ whole
+append_next prefix part rest whole next e f = rw f (append_assoc prefix part rest ∙ sym e)

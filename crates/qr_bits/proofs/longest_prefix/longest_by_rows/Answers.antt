@@ -5,7 +5,7 @@ use Rattle.qr_bits.specs.Modes.{is_kanji_pair}
 use Rattle.qr_bits.specs.Steps.RunState.{swapped}
 use Rattle.qr_bits.specs.Steps.Table.{in_state, bits_at, IsRow}
 use Rattle.qr_bits.proofs.TableLemmas.{best_none, small_more, small_row, zeros}
-use Rattle.qr_bits.proofs.MirrorLemmas.{empty_fits, front_more, front_fits, front_least}
+use Rattle.qr_bits.proofs.MirrorLemmas.{empty_fits, prefix_more, prefix_fits, prefix_least}
 use Rattle.qr_bits.proofs.longest_prefix.longest_by_rows.Goals as goal
 use Rattle.qr_bits.proofs.longest_prefix.longest_by_rows.Goals.{then-from-room, else-from-room}
 
@@ -30,11 +30,11 @@ loop-i-preserved c =
     let i = c.loop-i.i in
     let inv = c.loop-i.invariant in
     let chosen : IsRow v r (get_or xs i 0) c.ends_with_pair-pair.result c.loop-i.rest c.best_choices.result.0 c.best_choices.result.1 = rw c.of-first_choices.ensures at c.best_choices.ensures in
-    let below = front_more v r xs i c.ends_with_pair-pair.result inv.best.0 c.best_choices.result.0 c.loop-i.rest c.best_choices.result.1 (omega arith) c.ends_with_pair-pair.ensures inv.best.1 chosen in
+    let below = prefix_more v r xs i c.ends_with_pair-pair.result inv.best.0 c.best_choices.result.0 c.loop-i.rest c.best_choices.result.1 (omega arith) c.ends_with_pair-pair.ensures inv.best.1 chosen in
     let room = c.args.room in
     elim c.if-from-room.branch [
       | then-from-room w ↦
-          let fit : HasFit v r (take (i + 1) xs) room = front_fits v r (take (i + 1) xs) _ (bits_at c.best_choices.result.1) room below (omega (arith, w.if-from-room.true, c.from.ensures)) in
+          let fit : HasFit v r (take (i + 1) xs) room = prefix_fits v r (take (i + 1) xs) _ (bits_at c.best_choices.result.1) room below (omega (arith, w.if-from-room.true, c.from.ensures)) in
           rw w.longest-is (record {
             inside = omega arith;
             fits = fit;
@@ -50,7 +50,7 @@ loop-i-preserved c =
                 (λ (l : i < k).
                 let e : k ≡ i + 1 = omega arith in
                 let q : HasFit v r (take (i + 1) xs) room = subst (λ (n : ℕ). HasFit v r (take n xs) room) e fit in
-                absurd (omega (arith, front_least v r (take (i + 1) xs) _ (bits_at c.best_choices.result.1) room below q, w.if-from-room.false, c.from.ensures)))
+                absurd (omega (arith, prefix_least v r (take (i + 1) xs) _ (bits_at c.best_choices.result.1) room below q, w.if-from-room.false, c.from.ensures)))
                 (λ (l : k ≤ i). inv.longest k l fit)
                 (cases_lt i k);
             small = small_more v r _ _ c.best_choices.result.0 c.loop-i.rest c.best_choices.result.1 i inv.small chosen;

@@ -2,13 +2,13 @@ use Rattle.std.proofs.Common.{◌≡◌, ◌≤◌, length, drop}
 use Rattle.qr_bits.specs.declared.modes.Mode.TheVariants.{Alphanumeric}
 use Rattle.qr_bits.specs.Modes.{payload_bits}
 use Rattle.qr_bits.specs.Parsing.{characters_of}
-use Rattle.qr_bits.proofs.PayloadLemmas.{prepend_mode}
+use Rattle.qr_bits.proofs.PayloadLemmas.{prepend_read}
 use Rattle.qr_bits.proofs.parsing.characters.Given as goal
 
 -- what was read, and what is left to read, make the whole
 abbrev pub invariant-loop-left : goal.invariant-loop-left
 invariant-loop-left l = record {
-  reads : prepend_mode l.out.items (characters_of l.left l.reader) ≡ prepend_mode l.initial.out.items (characters_of l.count l.initial.reader);
+  reads : prepend_read l.out.items (characters_of l.left l.reader) ≡ prepend_read l.initial.out.items (characters_of l.count l.initial.reader);
   there : payload_bits Alphanumeric l.left ≤ length l.reader;
   rest : drop (payload_bits Alphanumeric l.left) l.reader ≡ drop (payload_bits Alphanumeric l.count) l.initial.reader;
 }

@@ -1,12 +1,12 @@
 use Rattle.std.proofs.Common.{◌≡◌, ◌*◌, ◌≤◌, length, drop}
 use Rattle.qr_bits.specs.Parsing.{pairs_of}
-use Rattle.qr_bits.proofs.PayloadLemmas.{prepend_mode}
+use Rattle.qr_bits.proofs.PayloadLemmas.{prepend_read}
 use Rattle.qr_bits.proofs.parsing.kanji.Given as goal
 
 -- what was read, and what is left to read, make the whole
 abbrev pub invariant-loop-left : goal.invariant-loop-left
 invariant-loop-left l = record {
-  reads : prepend_mode l.out.items (pairs_of l.left l.reader) ≡ prepend_mode l.initial.out.items (pairs_of l.count l.initial.reader);
+  reads : prepend_read l.out.items (pairs_of l.left l.reader) ≡ prepend_read l.initial.out.items (pairs_of l.count l.initial.reader);
   there : 13 * l.left ≤ length l.reader;
   rest : drop (13 * l.left) l.reader ≡ drop (13 * l.count) l.initial.reader;
 }
