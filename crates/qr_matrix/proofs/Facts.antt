@@ -3,3 +3,5 @@ pub use Rattle.qr_matrix.proofs.GridLemmas.{square-same, colour-square, same-pla
 pub use Rattle.qr_matrix.proofs.PlaceLemmas.{has_bit-and, has_bit-ones, has_bit-shl-high, has_bit-shr, low-bits}
 pub use Rattle.qr_matrix.proofs.RepeatLemmas.{below-at, same-same, &&-left, &&-right}
 pub use Rattle.qr_matrix.proofs.DifferenceLemmas.{no-difference}
+pub use Rattle.qr_matrix.proofs.MatrixLemmas.{with_row-same}
+pub use Rattle.qr_matrix.proofs.FourLemmas.{row-four}

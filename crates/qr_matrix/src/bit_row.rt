@@ -204,7 +204,7 @@ impl BitRow {
 
     /// Returns the four bits from bit `place` on as a number, in which bit `place` is the lowest. `place` is a multiple of
     /// four.
-    pub(crate) fn four(&self, place: u8) -> u8
+    pub fn four(&self, place: u8) -> u8
         requires place_in { place < 192 }
         requires whole { place % 4 ≡ 0 }
         ensures small { result < 16 }

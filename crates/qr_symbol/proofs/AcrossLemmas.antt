@@ -218,7 +218,7 @@ four-number v c n p q r s p0 p1 q0 q1 r0 r1 s0 s1 =
     ∙ row-number-whole v s c (n + 2 + 2 + 2) [] s0 s1)))
 
 -- a square in which four places of a row, from column `col` on, are painted
-abbrev four_across : Grid → (row col bits : ℕ) → Grid
+abbrev pub four_across : Grid → (row col bits : ℕ) → Grid
 four_across g row col bits = painted (painted (painted (painted g row col (has_bit bits 0)) row (col + 1) (has_bit bits 1)) row (col + 2) (has_bit bits 2)) row (col + 3) (has_bit bits 3)
 
 -- four places of a row are four places of a column in the transposed square

@@ -6,13 +6,13 @@ ghost use Rattle.qr_layout.specs.Version.{side_of};
 ghost use Rattle.qr_layout.specs.Strips.{both_of, rows_from};
 ghost use Rattle.qr_bits.specs.Bits.{codeword_bit};
 ghost use Rattle.qr_matrix.specs.Grid.{square, colour, painted, transposed, IsSquare};
-ghost use Rattle.qr_matrix.specs.BitRow.{has_bit};
-ghost use Rattle.qr_symbol.specs.Steps.Drawing.{placed_colour, number_after, walked_colour, AreCommon, AreNext, IsDrawnAcross, IsCodewordBits, region_grid};
+ghost use Rattle.qr_matrix.specs.BitRow.{has, has_bit};
+ghost use Rattle.qr_symbol.specs.Steps.Drawing.{placed_colour, number_after, walked_colour, AreDrawn, AreNext, AreWithin, IsDrawnAcross, IsCodewordBits, IsRegion, region_grid};
 
 use crate::mask::inverts;
 use crate::patterns::is_bit_set;
 use qr_layout::{Module, Strip, Version, all_strips, walk};
-use qr_matrix::Matrix;
+use qr_matrix::{BitRow, Matrix};
 
 // Returns the codeword with this index, or 0 after the last codeword.
 fn codeword_at(codewords: &[u8], place: usize) -> u8
@@ -130,24 +130,42 @@ static SPLITS: [[u8; 256]; 2] = [
     ],
 ];
 
-// If the module `place` is in the encoding region, draws the next of the eight bits `bits` there, of which `taken` are
-// drawn already. Returns how many of the eight bits are drawn after the call. `across` is transposed, so row and column
-// are exchanged in it.
-fn draw_module(across: &mut Matrix, region: &Matrix, bits: u8, taken: u8, place: Module) -> u8
-    requires row_in { place.row < across.old.side }
-    requires col_in { place.col < across.old.side }
-    requires region { region.now.side ≡ across.old.side }
-    requires taken { taken < 8 }
-    ensures taken { result ≡ number_after (colour region.now place.col place.row) taken }
-    ensures few { result ≤ taken + 1 }
-    ensures across { across.new ≡ (if colour region.now place.col place.row
-        then painted across.old place.col place.row (has_bit bits (7 - taken)) else across.old) }
+// The two columns of a strip as bit rows. They are two rows of the transposed square.
+#[derive(Clone, Copy)]
+struct Columns {
+    right: BitRow,
+    left: BitRow,
+}
+
+// Returns the columns of the strip whose right column is column `right`. `across` is transposed, so they are rows in it.
+fn columns_of(across: &Matrix, right: u8) -> Columns
+    requires left_in { 1 ≤ right }
+    requires right_in { right < across.now.side }
+    ensures right { (row : ℕ) → has result.right row ≡ colour across.now right row }
+    ensures left { (row : ℕ) → has result.left row ≡ colour across.now (right - 1) row }
+    ensures within { AreWithin across.now.side result }
 {
-    let Module { row, col } = place;
-    if !region.dark(col, row) {
+    Columns {
+        right: across.bit_row(usize::from(right)),
+        left: across.bit_row(usize::from(right - 1)),
+    }
+}
+
+// If the module in row `row` of a column is in the encoding region, draws the next of the eight bits `bits` there, of
+// which `taken` are drawn already. Returns how many of the eight bits are drawn after the call. `region` contains the rows
+// of the column that are in the encoding region.
+fn draw_module(column: &mut BitRow, region: &BitRow, bits: u8, taken: u8, row: u8) -> u8
+    requires row_in { row < 192 }
+    requires taken { taken < 8 }
+    ensures taken { result ≡ number_after (has region.now row) taken }
+    ensures few { result ≤ taken + 1 }
+    ensures column { (i : ℕ) → has column.new i
+        ≡ (if has region.now row && i == row then has_bit bits (7 - taken) else has column.old i) }
+{
+    if !region.at(row) {
         return taken;
     }
-    across.set(col, row, bits >> (7 - taken) & 1 == 1);
+    column.put(row, bits >> (7 - taken) & 1 == 1);
     taken + 1
 }
 
@@ -155,106 +173,72 @@ fn draw_module(across: &mut Matrix, region: &Matrix, bits: u8, taken: u8, place:
 // the number of bits that are drawn. Few rows are drawn by this function; `draw_four` draws most of them.
 #[inline(never)]
 fn draw_rows(
-    across: &mut Matrix,
+    columns: &mut Columns,
     v: Version,
-    region: &Matrix,
+    region: &Columns,
     bits: u8,
     strip: Strip,
     passed: u8,
     count: u8,
 ) -> u8
-    requires square { IsSquare (side_of v) across.old }
-    requires region { region.now ≡ region_grid v }
+    requires within { AreWithin (side_of v) columns.old }
+    requires region { IsRegion v strip.right region.now }
     requires left_in { 1 ≤ strip.right }
     requires right_in { strip.right < side_of v }
     requires rows_in { passed + count ≤ side_of v }
     requires few { count ≤ 4 }
     ensures few { result ≤ 2 * count }
-    ensures drawn { (cw : List ℕ) → (number : ℕ) → AreNext cw number bits → IsDrawnAcross v cw
-        (both_of (rows_from (side_of v) strip passed count)) number across.old (number + result) across.new }
+    ensures within { AreWithin (side_of v) columns.new }
+    ensures drawn { (cw : List ℕ) → (number : ℕ) → AreNext cw number bits
+        → AreDrawn v cw strip passed count number columns.old (number + result) columns.new }
 {
+    let last = v.side() - 1;
     let mut taken = 0;
     for rank in passed..passed + count {
-        let row = if strip.upward {
-            v.side() - 1 - rank
-        } else {
-            rank
-        };
-        let right = Module {
-            row,
-            col: strip.right,
-        };
-        let left = Module {
-            row,
-            col: strip.right - 1,
-        };
-        taken = draw_module(across, region, bits, taken, right);
-        taken = draw_module(across, region, bits, taken, left);
+        let row = if strip.upward { last - rank } else { rank };
+        taken = draw_module(&mut columns.right, &region.right, bits, taken, row);
+        taken = draw_module(&mut columns.left, &region.left, bits, taken, row);
     }
     taken
 }
 
-// Returns one word of the bit row of the places that are dark both in row `row` and in row `other` of `square`.
-fn common_word(square: &Matrix, row: u8, other: u8, number: usize) -> u64
-    requires row_in { row < square.now.side }
-    requires other_in { other < square.now.side }
-    requires word_in { number < 3 }
-    ensures { (c : ℕ) → c < 64 → has_bit result c
-        ≡ (colour square.now row (64 * number + c) && colour square.now other (64 * number + c)) }
-{
-    square.word(usize::from(row), number) & square.word(usize::from(other), number)
-}
-
-// Returns the words of the bit row of the places that are dark both in row `row` and in row `other` of `square`.
-fn common_words(square: &Matrix, row: u8, other: u8) -> [u64; 3]
-    requires row_in { row < square.now.side }
-    requires other_in { other < square.now.side }
-    ensures { AreCommon square.now row other result }
-{
-    [
-        common_word(square, row, other, 0),
-        common_word(square, row, other, 1),
-        common_word(square, row, other, 2),
-    ]
-}
-
 // Draws up to eight bits in four rows of a strip: one bit in each module that is in the encoding region. Returns how many
-// of them are drawn. In the transposed square each column of the strip is a row, so four modules of it are set at once.
-// `both` contains the rows in which both columns are in the encoding region.
+// of them are drawn. `both` contains the rows in which both columns are in the encoding region; if they are all four, four
+// modules of each column are set at once.
 #[inline(always)]
 fn draw_four(
-    across: &mut Matrix,
+    columns: &mut Columns,
     v: Version,
-    region: &Matrix,
-    both: &[u64; 3],
+    region: &Columns,
+    both: &BitRow,
     bits: u8,
     strip: Strip,
     passed: u8,
 ) -> u8
-    requires square { IsSquare (side_of v) across.old }
-    requires region { region.now ≡ region_grid v }
+    requires within { AreWithin (side_of v) columns.old }
+    requires region { IsRegion v strip.right region.now }
     requires left_in { 1 ≤ strip.right }
     requires right_in { strip.right < side_of v }
     requires rows_in { passed + 4 ≤ side_of v }
     requires whole { passed % 4 ≡ (if strip.upward then 1 else 0) }
-    requires both { AreCommon region.now strip.right (strip.right - 1) both.now }
+    requires both { (row : ℕ) → has both.now row ≡ (has region.now.right row && has region.now.left row) }
     ensures few { result ≤ 8 }
-    ensures drawn { (cw : List ℕ) → (number : ℕ) → AreNext cw number bits → IsDrawnAcross v cw
-        (both_of (rows_from (side_of v) strip passed 4)) number across.old (number + result) across.new }
+    ensures within { AreWithin (side_of v) columns.new }
+    ensures drawn { (cw : List ℕ) → (number : ℕ) → AreNext cw number bits
+        → AreDrawn v cw strip passed 4 number columns.old (number + result) columns.new }
 {
     let top = if strip.upward {
         v.side() - 4 - passed
     } else {
         passed
     };
-    let four = 15u64 << (top % 64);
-    if both[usize::from(top / 64)] & four == four {
+    if both.four(top) == 15 {
         let split = SPLITS[usize::from(strip.upward)][usize::from(bits)];
-        across.set_four(strip.right, top, split / 16);
-        across.set_four(strip.right - 1, top, split % 16);
+        columns.right.put_four(top, split / 16);
+        columns.left.put_four(top, split % 16);
         return 8;
     }
-    draw_rows(across, v, region, bits, strip, passed, 4)
+    draw_rows(columns, v, region, bits, strip, passed, 4)
 }
 
 // Draws the bits of the codewords, from bit `first` on, at the modules of a strip that are in the encoding region.
@@ -262,39 +246,41 @@ fn draw_four(
 // four, and the bottom row is drawn by itself.
 #[inline(always)]
 fn draw_columns(
-    across: &mut Matrix,
+    columns: &mut Columns,
     v: Version,
-    region: &Matrix,
+    region: &Columns,
     codewords: &[u8],
     first: usize,
     strip: Strip,
 ) -> usize
-    requires square { IsSquare (side_of v) across.old }
-    requires region { region.now ≡ region_grid v }
+    requires within { AreWithin (side_of v) columns.old }
+    requires region { IsRegion v strip.right region.now }
     requires left_in { 1 ≤ strip.right }
     requires right_in { strip.right < side_of v }
     requires few { first ≤ 29648 }
-    ensures { IsDrawnAcross v codewords.now (both_of (rows_from (side_of v) strip 0 (side_of v))) first across.old
-        result across.new }
+    ensures within { AreWithin (side_of v) columns.new }
+    ensures drawn { AreDrawn v codewords.now strip 0 (side_of v) first columns.old result columns.new }
 {
     let last = v.side() - 1;
     let before = u8::from(strip.upward);
-    let both = common_words(region, strip.right, strip.right - 1);
+    let both = region.right & region.left;
     let mut next = codeword_bits_at(codewords, first);
     let bits = eight_bits(next, first);
-    let mut number = first + usize::from(draw_rows(across, v, region, bits, strip, 0, before));
+    let mut number = first + usize::from(draw_rows(columns, v, region, bits, strip, 0, before));
     for group in 0..last / 4 {
         let bits = eight_bits(next, number);
-        number += usize::from(draw_four(across, v, region, &both, bits, strip, before + 4 * group));
+        let passed = before + 4 * group;
+        number += usize::from(draw_four(columns, v, region, &both, bits, strip, passed));
         if number > next.first + 56 {
             next = codeword_bits_at(codewords, number);
         }
     }
     let bits = eight_bits(next, number);
-    number + usize::from(draw_rows(across, v, region, bits, strip, before + last, 1 - before))
+    number + usize::from(draw_rows(columns, v, region, bits, strip, before + last, 1 - before))
 }
 
-// Does the same as `draw_columns`, which is compiled twice here, once for each direction.
+// Draws the bits of the codewords, from bit `first` on, at the modules of a strip that are in the encoding region.
+// Returns the number of the next bit. `draw_columns` is compiled twice here, once for each direction.
 fn draw_strip(
     across: &mut Matrix,
     v: Version,
@@ -312,19 +298,24 @@ fn draw_strip(
         result across.new }
 {
     let Strip { right, upward } = strip;
-    if upward {
+    let within = columns_of(region, right);
+    let mut columns = columns_of(across, right);
+    let next = if upward {
         let strip = Strip {
             right,
             upward: true,
         };
-        draw_columns(across, v, region, codewords, first, strip)
+        draw_columns(&mut columns, v, &within, codewords, first, strip)
     } else {
         let strip = Strip {
             right,
             upward: false,
         };
-        draw_columns(across, v, region, codewords, first, strip)
-    }
+        draw_columns(&mut columns, v, &within, codewords, first, strip)
+    };
+    across.set_bit_row(right, columns.right);
+    across.set_bit_row(right - 1, columns.left);
+    next
 }
 
 // Draws the codeword bits at the modules of the encoding region, strip by strip. `across` is transposed: the encoding

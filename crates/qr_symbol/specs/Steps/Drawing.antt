@@ -1,17 +1,20 @@
 -- The colours of modules after single steps of drawing. A codeword bit is named by its number: bit 0 is the highest bit
 -- of the first codeword.
-use Rattle.std.specs.Prelude.{◌≡◌, ◌<◌, ℕ, ◌+◌, ◌-◌, ◌/◌, ◌%◌, ◌&&◌, Bool, if◌then◌else◌, List, [], ◌∷◌, slice_index}
+use Rattle.std.specs.Prelude.{◌≡◌, ◌<◌, ◌≤◌, ℕ, ◌+◌, ◌-◌, ◌&&◌, Bool, false, if◌then◌else◌, List, [], ◌∷◌}
 use Rattle.qr_layout.specs.declared.level.Level.{Level}
 use Rattle.qr_layout.specs.declared.region.Module.{Module}
+use Rattle.qr_layout.specs.declared.strips.Strip.{Strip}
 use Rattle.qr_layout.specs.Version.{side_of}
 use Rattle.qr_layout.specs.Format.{format_word_of, version_word_of}
 use Rattle.qr_layout.specs.Order.{number_of}
 use Rattle.qr_layout.specs.Region.{is_in_region}
 use Rattle.qr_layout.specs.Role.{role_of}
+use Rattle.qr_layout.specs.Strips.{both_of, rows_from}
 use Rattle.qr_bits.specs.Bits.{codeword_bit}
-use Rattle.qr_matrix.specs.Grid.{Grid, square, colour, painted, transposed, IsSquare}
-use Rattle.qr_matrix.specs.BitRow.{has_bit}
+use Rattle.qr_matrix.specs.Grid.{Grid, square, colour, painted, transposed, with_row, IsSquare}
+use Rattle.qr_matrix.specs.BitRow.{has, has_bit}
 use Rattle.qr_symbol.specs.declared.drawing.CodewordBits.{CodewordBits}
+use Rattle.qr_symbol.specs.declared.drawing.Columns.{Columns}
 use Rattle.qr_symbol.specs.Mask.{inverts, inverted}
 use Rattle.qr_symbol.specs.Steps.Patterns.{fixed_colour, format_or}
 use Rattle.qr_matrix.specs.Penalty.{penalty_of}
@@ -61,11 +64,6 @@ IsCodewordBits cw w = (k : ℕ) → k < 64 → has_bit w.bits (63 - k) ≡ codew
 abbrev pub AreNext : List ℕ → ℕ → ℕ → Type 0
 AreNext cw number bits = (k : ℕ) → k < 8 → has_bit bits (7 - k) ≡ codeword_bit cw (number + k)
 
--- `AreCommon g a b words` holds if `words` contain, as a bit row, the places that are dark both in row a and in row b of
--- the square g.
-abbrev pub AreCommon : Grid → ℕ → ℕ → List ℕ → Type 0
-AreCommon g a b words = (p : ℕ) → p < 192 → has_bit (slice_index words (p / 64)) (p % 64) ≡ (colour g a p && colour g b p)
-
 -- `IsDrawnAcross v cw ms first before next after` holds if the modules ms were drawn in the square `before`, which
 -- became the square `after`. Each of them in the encoding region took one bit of the codewords cw, from bit `first` on,
 -- and `next` is the number of the bit after those. Both squares are transposed.
@@ -73,6 +71,27 @@ pub record IsDrawnAcross (v : ℕ) (cw : List ℕ) (ms : List Module) (first : �
   pub number : next ≡ number_along v ms first
   pub placed : transposed after ≡ placed_along v cw ms first (transposed before)
   pub square : IsSquare (side_of v) after
+
+-- The square g in which row `right` is the right one of two columns, and the row before it the left one. The square is
+-- transposed, so columns are rows in it.
+abbrev pub with_columns : Grid → ℕ → Columns → Grid
+with_columns g right x = with_row (with_row g right (has x.right)) (right - 1) (has x.left)
+
+-- `AreWithin s x` holds if no bit of the columns x from bit s on is set.
+abbrev pub AreWithin : ℕ → Columns → Type 0
+AreWithin s x = (row : ℕ) → s ≤ row → (has x.right row ≡ false) × (has x.left row ≡ false)
+
+-- `IsRegion v right x` holds if the columns x contain the rows of column `right`, and of the column to its left, that
+-- are in the encoding region.
+abbrev pub IsRegion : ℕ → ℕ → Columns → Type 0
+IsRegion v right x = (row : ℕ) → row < side_of v → (has x.right row ≡ is_in_region v row right) × (has x.left row ≡ is_in_region v row (right - 1))
+
+-- `AreDrawn v cw strip k n first before next after` holds if n rows of a strip were drawn, from row k of the strip on,
+-- counted in its direction, and the columns `before` became the columns `after`: in any square with these columns, the
+-- modules of the rows were drawn, from bit `first` of the codewords cw on, and `next` is the number of the next bit.
+abbrev pub AreDrawn : ℕ → List ℕ → Strip → ℕ → ℕ → ℕ → Columns → ℕ → Columns → Type 0
+AreDrawn v cw strip k n first before next after = (g : Grid) → g.side ≡ side_of v
+    → IsDrawnAcross v cw (both_of (rows_from (side_of v) strip k n)) first (with_columns g strip.right before) next (with_columns g strip.right after)
 
 -- The colour in row r and column c of a symbol with its mask and format information. It is computed from `plain`, the
 -- symbol without mask and format information, and `region`, the square in which the encoding region is dark.

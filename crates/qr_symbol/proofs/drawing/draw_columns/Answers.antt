@@ -1,10 +1,9 @@
 use Rattle.std.proofs.Common.{◌≡◌, ◌+◌, ◌-◌, ◌*◌, ◌≤◌, ap, sym, subst, arith}
 use Rattle.qr_bits.proofs.Facts.{bool_byte-bit}
 use Rattle.qr_layout.specs.Version.{side_of}
-use Rattle.qr_layout.specs.Strips.{both_of, rows_from}
-use Rattle.qr_symbol.specs.Steps.Drawing.{IsDrawnAcross, IsCodewordBits}
+use Rattle.qr_symbol.specs.Steps.Drawing.{AreDrawn, IsCodewordBits}
 use Rattle.qr_symbol.specs.declared.drawing.CodewordBits.{CodewordBits}
-use Rattle.qr_symbol.proofs.AcrossLemmas.{drawn-rows}
+use Rattle.qr_symbol.proofs.ColumnLemmas.{rows-drawn}
 use Rattle.qr_symbol.proofs.drawing.draw_columns.Goals as goal
 use Rattle.qr_symbol.proofs.drawing.draw_columns.Goals.{then-number-next, else-number-next}
 
@@ -26,8 +25,9 @@ loop-group-init c =
       least = omega arith;
       most = omega arith;
       few = omega arith;
-      drawn = subst (λ z. IsDrawnAcross v cw (both_of (rows_from (side_of v) c.args.strip 0 z)) c.args.first c.args.across.now (c.args.first + c.from.result) c.draw_rows.new.across) e
-          (subst (λ z. IsDrawnAcross v cw (both_of (rows_from (side_of v) c.args.strip 0 c.from-before.result)) c.args.first c.args.across.now z c.draw_rows.new.across) f
+      within = c.draw_rows.ensures.within;
+      drawn = subst (λ z. AreDrawn v cw c.args.strip 0 z c.args.first c.args.columns.now (c.args.first + c.from.result) c.draw_rows.new.columns) e
+          (subst (λ z. AreDrawn v cw c.args.strip 0 c.from-before.result c.args.first c.args.columns.now z c.draw_rows.new.columns) f
           (c.draw_rows.ensures.drawn cw c.args.first (c.eight_bits-bits.ensures cw w.ensures.bits)));
     }
 
@@ -55,15 +55,16 @@ loop-group-preserved c =
       least = now.1;
       most = now.2;
       few = omega (arith, i.few, c.from-number.ensures, four.ensures.few);
-      drawn = subst (λ z. IsDrawnAcross v cw (both_of (rows_from s c.args.strip 0 z)) c.args.first c.args.across.now number four.new.across) e
-          (drawn-rows v s cw c.args.strip 0 k 4 c.args.first old number c.args.across.now c.loop-group.across four.new.across i.drawn
-          (subst (λ z. IsDrawnAcross v cw (both_of (rows_from s c.args.strip z 4)) old c.loop-group.across number four.new.across) g
-          (subst (λ z. IsDrawnAcross v cw (both_of (rows_from s c.args.strip k 4)) old c.loop-group.across z four.new.across) f
+      within = four.ensures.within;
+      drawn = subst (λ z. AreDrawn v cw c.args.strip 0 z c.args.first c.args.columns.now number four.new.columns) e
+          (rows-drawn v cw c.args.strip 0 k 4 c.args.first old number c.args.columns.now c.loop-group.columns four.new.columns i.drawn
+          (subst (λ z. AreDrawn v cw c.args.strip z 4 old c.loop-group.columns number four.new.columns) g
+          (subst (λ z. AreDrawn v cw c.args.strip k 4 old c.loop-group.columns z four.new.columns) f
           (four.ensures.drawn cw old (c.eight_bits-bits-in-loop-group.ensures cw i.next)))));
     }
 
-pub returns : goal.returns
-returns c =
+pub returns-clause-drawn : goal.returns-clause-drawn
+returns-clause-drawn c =
     let v = c.args.v in
     let s = side_of v in
     let cw = c.args.codewords.now in
@@ -77,8 +78,8 @@ returns c =
     let e : b + (c.side-last.result - 1) ≡ 0 + k = omega (arith, c.side-last.ensures.value) in
     let f : c.loop-group.number + last.result ≡ number = ap (λ z. c.loop-group.number + z) (sym c.from-2.ensures) in
     let all : k + (1 - b) ≡ s = omega arith in
-    subst (λ z. IsDrawnAcross v cw (both_of (rows_from s c.args.strip 0 z)) c.args.first c.args.across.now number last.new.across) all
-    (drawn-rows v s cw c.args.strip 0 k (1 - b) c.args.first c.loop-group.number number c.args.across.now c.loop-group.across last.new.across i.drawn
-    (subst (λ z. IsDrawnAcross v cw (both_of (rows_from s c.args.strip z (1 - b))) c.loop-group.number c.loop-group.across number last.new.across) e
-    (subst (λ z. IsDrawnAcross v cw (both_of (rows_from s c.args.strip (b + (c.side-last.result - 1)) (1 - b))) c.loop-group.number c.loop-group.across z last.new.across) f
+    subst (λ z. AreDrawn v cw c.args.strip 0 z c.args.first c.args.columns.now number last.new.columns) all
+    (rows-drawn v cw c.args.strip 0 k (1 - b) c.args.first c.loop-group.number number c.args.columns.now c.loop-group.columns last.new.columns i.drawn
+    (subst (λ z. AreDrawn v cw c.args.strip z (1 - b) c.loop-group.number c.loop-group.columns number last.new.columns) e
+    (subst (λ z. AreDrawn v cw c.args.strip (b + (c.side-last.result - 1)) (1 - b) c.loop-group.number c.loop-group.columns z last.new.columns) f
     (last.ensures.drawn cw c.loop-group.number (c.eight_bits-bits-2.ensures cw i.next)))))

@@ -1,7 +1,6 @@
 use Rattle.std.proofs.Common.{◌+◌, ◌*◌, ◌≤◌}
-use Rattle.qr_layout.specs.Strips.{both_of, rows_from}
 use Rattle.qr_layout.specs.Version.{side_of}
-use Rattle.qr_symbol.specs.Steps.Drawing.{IsDrawnAcross, IsCodewordBits}
+use Rattle.qr_symbol.specs.Steps.Drawing.{AreDrawn, AreWithin, IsCodewordBits}
 use Rattle.qr_symbol.proofs.drawing.draw_columns.Given as goal
 
 abbrev pub invariant-loop-group : goal.invariant-loop-group
@@ -10,5 +9,6 @@ invariant-loop-group l = record {
   least : l.next.first ≤ l.number;
   most : l.number ≤ l.next.first + 56;
   few : l.number ≤ l.fn.first + 2 + 8 * l.group;
-  drawn : IsDrawnAcross l.v l.codewords (both_of (rows_from (side_of l.v) l.strip 0 (l.before + 4 * l.group))) l.fn.first l.fn.across l.number l.across;
+  within : AreWithin (side_of l.v) l.columns;
+  drawn : AreDrawn l.v l.codewords l.strip 0 (l.before + 4 * l.group) l.fn.first l.fn.columns l.number l.columns;
 }

@@ -1,51 +1,28 @@
-use Rattle.std.proofs.Common.{◌≡◌, ◌<◌, ◌≤◌, [], ◌+◌, ◌-◌, cond, sym, ap, subst, ◌∙◌, arith}
+use Rattle.std.proofs.Common.{◌≡◌, ◌<◌, ◌+◌, ◌-◌, cond, refl, sym, ap, subst, ◌∙◌, arith}
 use Rattle.qr_layout.specs.Version.{side_of}
-use Rattle.qr_layout.specs.Strips.{both_of, rows_from}
-use Rattle.qr_matrix.specs.Grid.{Grid, colour, painted}
-use Rattle.qr_matrix.specs.BitRow.{has_bit}
-use Rattle.qr_symbol.specs.Steps.Drawing.{IsDrawnAcross}
-use Rattle.qr_symbol.proofs.AcrossLemmas.{after-plus, drawn-none, drawn-row, drawn-rows, region-across, side-painted, square-placed}
+use Rattle.qr_matrix.specs.BitRow.{has, has_bit}
+use Rattle.qr_matrix.specs.Grid.{painted}
+use Rattle.qr_symbol.specs.Steps.Drawing.{AreDrawn, with_columns}
+use Rattle.qr_symbol.specs.declared.drawing.Columns.{Columns}
+use Rattle.qr_symbol.proofs.AcrossLemmas.{after-plus, drawn-row}
+use Rattle.qr_symbol.proofs.ColumnLemmas.{columns-square, left-drawn, right-drawn, rows-drawn, rows-none, still-light}
 use Rattle.qr_symbol.proofs.drawing.draw_rows.Goals as goal
 use Rattle.qr_symbol.proofs.drawing.draw_rows.Goals.{then-strip, else-strip}
 
 pub loop-rank-init : goal.loop-rank-init
 loop-rank-init c =
     let v = c.args.v in
-    let g = c.args.across.now in
+    let x = c.args.columns.now in
     let e : 0 ≡ c.args.passed - c.args.passed = omega arith in
     record {
       from = omega arith;
       few = omega arith;
-      square = c.requires.square;
+      within = c.requires.within;
       drawn = λ cw number next.
           let f : number ≡ number + 0 = omega arith in
-          subst (λ z. IsDrawnAcross v cw (both_of (rows_from (side_of v) c.args.strip c.args.passed z)) number g (number + 0) g) e
-          (subst (λ z. IsDrawnAcross v cw [] number g z g) f (drawn-none v cw number g c.requires.square));
+          subst (λ z. AreDrawn v cw c.args.strip c.args.passed z number x (number + 0) x) e
+          (subst (λ z. AreDrawn v cw c.args.strip c.args.passed 0 number x z x) f (rows-none v cw c.args.strip c.args.passed number x));
     }
-
-pub draw_module-taken-requires-in-loop-rank-clause-row_in : goal.draw_module-taken-requires-in-loop-rank-clause-row_in
-draw_module-taken-requires-in-loop-rank-clause-row_in c =
-    let one = c.draw_module-taken in
-    let e = side-painted (colour c.args.region.now c.args.strip.right c.if-strip.row) c.if-strip.row c.args.strip.right (has_bit c.args.bits (7 - c.loop-rank.taken)) c.loop-rank.across one.new.across one.ensures.across in
-    let s : c.loop-rank.across.side ≡ side_of c.args.v = ap (λ (g : Grid). g.side) c.loop-rank.invariant.square in
-    elim c.if-strip.branch [
-      | then-strip w ↦ (let r = w.row-is in let f = w.side.ensures.value in omega (arith, c.loop-rank-test.true, c.requires.rows_in))
-      | else-strip w ↦ (let r = w.row-is in omega (arith, c.loop-rank-test.true, c.requires.rows_in))
-    ]
-
-pub draw_module-taken-requires-in-loop-rank-clause-col_in : goal.draw_module-taken-requires-in-loop-rank-clause-col_in
-draw_module-taken-requires-in-loop-rank-clause-col_in c =
-    let one = c.draw_module-taken in
-    let e = side-painted (colour c.args.region.now c.args.strip.right c.if-strip.row) c.if-strip.row c.args.strip.right (has_bit c.args.bits (7 - c.loop-rank.taken)) c.loop-rank.across one.new.across one.ensures.across in
-    let s : c.loop-rank.across.side ≡ side_of c.args.v = ap (λ (g : Grid). g.side) c.loop-rank.invariant.square in
-    omega (arith, c.requires.right_in)
-
-pub draw_module-taken-requires-in-loop-rank-clause-region : goal.draw_module-taken-requires-in-loop-rank-clause-region
-draw_module-taken-requires-in-loop-rank-clause-region c =
-    let one = c.draw_module-taken in
-    let e = side-painted (colour c.args.region.now c.args.strip.right c.if-strip.row) c.if-strip.row c.args.strip.right (has_bit c.args.bits (7 - c.loop-rank.taken)) c.loop-rank.across one.new.across one.ensures.across in
-    let s : c.loop-rank.across.side ≡ side_of c.args.v = ap (λ (g : Grid). g.side) c.loop-rank.invariant.square in
-    ap (λ (g : Grid). g.side) c.requires.region ∙ (sym s ∙ sym e)
 
 pub loop-rank-preserved : goal.loop-rank-preserved
 loop-rank-preserved c =
@@ -57,42 +34,49 @@ loop-rank-preserved c =
     let p = c.args.passed in
     let row = c.if-strip.row in
     let col = x.right in
-    let left = x.right - 1 in
-    let region = c.args.region.now in
+    let old = c.loop-rank.columns in
     let one = c.draw_module-taken in
     let two = c.draw_module-taken-in-loop-rank in
+    let mid : Columns = record { right = one.new.column; left = old.left } in
+    let new : Columns = record { right = one.new.column; left = two.new.column } in
+    let t = has c.args.region.now.right row in
+    let u = has c.args.region.now.left row in
     let below : k < s = omega (arith, c.loop-rank-test.true, c.requires.rows_in) in
+    let side = c.side-last.ensures.value in
     let r : row ≡ cond x.upward (s - 1 - k) k = elim c.if-strip.branch [
-      | then-strip w ↦ w.row-is ∙ (ap (λ z. z - 1 - k) w.side.ensures.value ∙ sym (ap (λ b. cond b (s - 1 - k) k) w.if-strip.true))
+      | then-strip w ↦ w.row-is ∙ (ap (λ z. z - 1 - k) side ∙ sym (ap (λ b. cond b (s - 1 - k) k) w.if-strip.true))
       | else-strip w ↦ w.row-is ∙ sym (ap (λ b. cond b (s - 1 - k) k) w.if-strip.false)
     ] in
     let inside : row < s = elim c.if-strip.branch [
-      | then-strip w ↦ (let e = w.row-is in let f = w.side.ensures.value in omega arith)
+      | then-strip w ↦ (let e = w.row-is in omega arith)
       | else-strip w ↦ (let e = w.row-is in omega arith)
     ] in
-    let t = region-across v region row col c.requires.region inside c.requires.right_in in
-    let u = region-across v region row left c.requires.region inside (omega (arith, c.requires.right_in)) in
-    let square1 = square-placed s (colour region col row) row col (has_bit c.args.bits (7 - c.loop-rank.taken)) c.loop-rank.across one.new.across i.square one.ensures.across in
-    let most : one.result ≤ 7 = omega (arith, one.ensures.few, i.few, i.from, c.loop-rank-test.true, c.requires.few) in
+    let right-in : col < s = c.requires.right_in in
     let n : k - p + 1 ≡ k + 1 - p = omega (arith, i.from) in
     let m : k ≡ p + (k - p) = omega (arith, i.from) in
     record {
       from = omega (arith, i.from);
       few = omega (arith, one.ensures.few, two.ensures.few, i.few, i.from);
-      square = square-placed s (colour region left row) row left (has_bit c.args.bits (7 - one.result)) one.new.across two.new.across square1 two.ensures.across;
+      within = λ j l. (still-light t (has_bit c.args.bits (7 - c.loop-rank.taken)) (has old.right j) (has one.new.column j) j row s inside l (one.ensures.column j) (i.within j l).0,
+          still-light u (has_bit c.args.bits (7 - one.result)) (has old.left j) (has two.new.column j) j row s inside l (two.ensures.column j) (i.within j l).1);
       drawn = λ cw number next.
           let a = number + c.loop-rank.taken in
           let b = number + one.result in
-          let row-drawn = drawn-row v s cw x k row a b (number + two.result) c.loop-rank.across one.new.across two.new.across (colour region col row) (colour region left row) r t u
-          (after-plus (colour region col row) number c.loop-rank.taken one.result one.ensures.taken) (after-plus (colour region left row) number one.result two.result two.ensures.taken) i.square
-          (one.ensures.across ∙ ap (λ d. cond (colour region col row) (painted c.loop-rank.across col row d) c.loop-rank.across) (next c.loop-rank.taken (omega (arith, one.ensures.few, i.few, i.from, c.loop-rank-test.true, c.requires.few))))
-          (two.ensures.across ∙ ap (λ d. cond (colour region left row) (painted one.new.across left row d) one.new.across) (next one.result (omega arith))) in
-          subst (λ z. IsDrawnAcross v cw (both_of (rows_from s x p z)) number c.args.across.now (number + two.result) two.new.across) n
-          (drawn-rows v s cw x p (k - p) 1 number a (number + two.result) c.args.across.now c.loop-rank.across two.new.across (i.drawn cw number next)
-          (subst (λ z. IsDrawnAcross v cw (both_of (rows_from s x z 1)) a c.loop-rank.across (number + two.result) two.new.across) m row-drawn));
+          let row-drawn : AreDrawn v cw x k 1 a old (number + two.result) new = λ g e.
+              let f = with_columns g col old in
+              let h = with_columns g col mid in
+              drawn-row v s cw x k row a b (number + two.result) f h (with_columns g col new) t u r (c.requires.region row inside).0 (c.requires.region row inside).1
+              (after-plus t number c.loop-rank.taken one.result one.ensures.taken) (after-plus u number one.result two.result two.ensures.taken) (columns-square s g col old e)
+              (right-drawn g col row old mid t (has_bit c.args.bits (7 - c.loop-rank.taken)) c.requires.left_in (omega arith) refl one.ensures.column
+                ∙ ap (λ d. cond t (painted f col row d) f) (next c.loop-rank.taken (omega (arith, i.few, i.from, c.loop-rank-test.true, c.requires.few))))
+              (left-drawn g col row mid new u (has_bit c.args.bits (7 - one.result)) c.requires.left_in (omega arith) refl two.ensures.column
+                ∙ ap (λ d. cond u (painted h (col - 1) row d) h) (next one.result (omega (arith, one.ensures.few, i.few, i.from, c.loop-rank-test.true, c.requires.few)))) in
+          subst (λ z. AreDrawn v cw x p z number c.args.columns.now (number + two.result) new) n
+          (rows-drawn v cw x p (k - p) 1 number a (number + two.result) c.args.columns.now old new (i.drawn cw number next)
+          (subst (λ z. AreDrawn v cw x z 1 a old (number + two.result) new) m row-drawn));
     }
 
 pub returns-clause-drawn : goal.returns-clause-drawn
 returns-clause-drawn c = λ cw number next.
     let e : c.loop-rank.rank - c.args.passed ≡ c.args.count = omega (arith, c.loop-rank-test.false, c.loop-rank.invariant.from) in
-    subst (λ z. IsDrawnAcross c.args.v cw (both_of (rows_from (side_of c.args.v) c.args.strip c.args.passed z)) number c.args.across.now (number + c.loop-rank.taken) c.loop-rank.across) e (c.loop-rank.invariant.drawn cw number next)
+    subst (λ z. AreDrawn c.args.v cw c.args.strip c.args.passed z number c.args.columns.now (number + c.loop-rank.taken) c.loop-rank.columns) e (c.loop-rank.invariant.drawn cw number next)

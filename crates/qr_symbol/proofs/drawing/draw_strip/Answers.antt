@@ -1,0 +1,47 @@
+use Rattle.std.proofs.Common.{◌≡◌, ◌-◌, Bool, ◌∙◌, ap, sym, subst, arith}
+use Rattle.qr_layout.specs.declared.strips.Strip.{Strip}
+use Rattle.qr_layout.specs.Strips.{both_of, rows_from}
+use Rattle.qr_layout.specs.Version.{side_of}
+use Rattle.qr_matrix.specs.BitRow.{has}
+use Rattle.qr_matrix.specs.Grid.{Grid, with_row}
+use Rattle.qr_symbol.specs.Steps.Drawing.{AreDrawn, IsDrawnAcross, with_columns}
+use Rattle.qr_symbol.specs.declared.drawing.Columns.{Columns}
+use Rattle.qr_symbol.proofs.AcrossLemmas.{region-across}
+use Rattle.qr_symbol.proofs.ColumnLemmas.{columns-same}
+use Rattle.qr_symbol.proofs.drawing.draw_strip.Goals as goal
+use Rattle.qr_symbol.proofs.drawing.draw_strip.Goals.{then-upward, else-upward}
+
+pub draw_columns-next-requires-clause-region : goal.draw_columns-next-requires-clause-region
+draw_columns-next-requires-clause-region c = λ row l. (
+    c.columns_of-within.ensures.right row ∙ region-across c.args.v c.args.region.now row c.args.strip.right c.requires.region l c.requires.right_in,
+    c.columns_of-within.ensures.left row ∙ region-across c.args.v c.args.region.now row (c.args.strip.right - 1) c.requires.region l (omega (arith, c.requires.right_in)),
+  )
+
+pub draw_columns-next-requires-else-upward-clause-region : goal.draw_columns-next-requires-else-upward-clause-region
+draw_columns-next-requires-else-upward-clause-region c = λ row l. (
+    c.columns_of-within.ensures.right row ∙ region-across c.args.v c.args.region.now row c.args.strip.right c.requires.region l c.requires.right_in,
+    c.columns_of-within.ensures.left row ∙ region-across c.args.v c.args.region.now row (c.args.strip.right - 1) c.requires.region l (omega (arith, c.requires.right_in)),
+  )
+
+pub returns : goal.returns
+returns c =
+    let v = c.args.v in
+    let s = side_of v in
+    let cw = c.args.codewords.now in
+    let right = c.args.strip.right in
+    let g = c.args.across.now in
+    let old = c.columns_of-columns.result in
+    let strip : Bool → Strip = λ up. record { right = right; upward = up } in
+    let drawn : AreDrawn v cw c.args.strip 0 s c.args.first old c.if-upward.next c.if-upward.columns = elim c.if-upward.branch [
+      | then-upward w ↦ subst (λ (z : Columns). AreDrawn v cw c.args.strip 0 s c.args.first old c.if-upward.next z) (sym w.columns-is)
+          (subst (λ z. AreDrawn v cw c.args.strip 0 s c.args.first old z w.draw_columns-next.new.columns) (sym w.next-is)
+          (subst (λ up. AreDrawn v cw (strip up) 0 s c.args.first old w.draw_columns-next.result w.draw_columns-next.new.columns) (sym w.if-upward.true) w.draw_columns-next.ensures.drawn))
+      | else-upward w ↦ subst (λ (z : Columns). AreDrawn v cw c.args.strip 0 s c.args.first old c.if-upward.next z) (sym w.columns-is)
+          (subst (λ z. AreDrawn v cw c.args.strip 0 s c.args.first old z w.draw_columns-next-else-upward.new.columns) (sym w.next-is)
+          (subst (λ up. AreDrawn v cw (strip up) 0 s c.args.first old w.draw_columns-next-else-upward.result w.draw_columns-next-else-upward.new.columns) (sym w.if-upward.false) w.draw_columns-next-else-upward.ensures.drawn))
+    ] in
+    let before : with_columns g right old ≡ g = columns-same s g right old c.requires.square c.columns_of-columns.ensures.right c.columns_of-columns.ensures.left in
+    let after : with_columns g right c.if-upward.columns ≡ c.set_bit_row-2.new.self = sym (c.set_bit_row-2.ensures ∙ ap (λ (z : Grid). with_row z (right - 1) (has c.if-upward.columns.left)) c.set_bit_row.ensures) in
+    subst (λ (z : Grid). IsDrawnAcross v cw (both_of (rows_from s c.args.strip 0 s)) c.args.first g c.if-upward.next z) after
+    (subst (λ (z : Grid). IsDrawnAcross v cw (both_of (rows_from s c.args.strip 0 s)) c.args.first z c.if-upward.next (with_columns g right c.if-upward.columns)) before
+    (drawn g (ap (λ (z : Grid). z.side) c.requires.square)))
