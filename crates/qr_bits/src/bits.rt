@@ -1,6 +1,6 @@
 //! Writes and reads numbers as bits of codewords, the highest bit of each codeword first (ISO/IEC 18004:2015, 7.4.10).
 
-ghost use Rattle.std.specs.Prelude.{Bool, List, OnOk, [], drop, length, take, ◌%◌, ◌*◌, ◌++◌, ◌+◌, ◌<◌, ◌^◌, ◌∷◌, ◌≡◌, ◌≤◌};
+ghost use Rattle.std.specs.Prelude.{Bool, IfOk, List, OnOk, [], drop, length, take, ◌%◌, ◌*◌, ◌++◌, ◌+◌, ◌<◌, ◌^◌, ◌∷◌, ◌≡◌, ◌≤◌};
 ghost use Rattle.qr_bits.specs.Padding.{filled};
 ghost use Rattle.qr_bits.specs.Bits.{bits_of, field, value};
 
@@ -37,54 +37,24 @@ impl BitWriter {
         }
     }
 
-    /// Writes one bit.
-    pub(crate) fn push(&mut self, bit: bool) -> Result<(), AllocError>
-        ensures { OnOk result (self.new ≡ self.old ++ bit ∷ []) }
-    {
-        let rest = 2 * self.rest + u8::from(bit);
-        if self.width < 7 {
-            self.rest = rest;
-            self.width += 1;
-        } else {
-            self.whole.push(rest)?;
-            self.rest = 0;
-            self.width = 0;
-        }
-        Ok(())
-    }
-
-    // Writes `number` in `width` bits, bit by bit.
-    fn put_bits(&mut self, width: u8, number: u16) -> Result<(), AllocError>
-        requires { width ≤ 16 }
-        ensures { OnOk result (self.new ≡ self.old ++ field width number) }
-    {
-        for i in (0..width).rev() {
-            self.push(number >> i & 1 == 1)?;
-        }
-        Ok(())
-    }
-
-    /// Writes `number` in `width` bits. If `width` is at least eight, the last eight bits are written at once.
+    /// Writes `number` in `width` bits.
     pub(crate) fn put(&mut self, width: u8, number: u16) -> Result<(), AllocError>
         requires { width ≤ 16 }
         ensures { OnOk result (self.new ≡ self.old ++ field width number) }
     {
-        if width < 8 {
-            return self.put_bits(width, number);
-        }
-        self.put_bits(width - 8, number / 256)?;
-        self.put_byte((number % 256) as u8)?;
+        let size = 1u32 << width;
+        let bits = size * u32::from(self.rest) + u32::from(number) % size;
+        let left = push_whole(&mut self.whole, bits, self.width + width)?;
+        self.rest = (bits % (1 << left)) as u8;
+        self.width = left;
         Ok(())
     }
 
-    /// Writes a byte.
-    pub(crate) fn put_byte(&mut self, byte: u8) -> Result<(), AllocError>
-        ensures { OnOk result (self.new ≡ self.old ++ field 8 byte) }
+    /// Writes bytes, each in eight bits.
+    pub(crate) fn put_bytes(&mut self, bytes: &[u8]) -> Result<(), AllocError>
+        ensures { OnOk result (self.new ≡ self.old ++ bits_of bytes.now) }
     {
-        let bits = 256 * u16::from(self.rest) + u16::from(byte);
-        let size = 1u16 << self.width;
-        self.whole.push((bits >> self.width) as u8)?;
-        self.rest = (bits % size) as u8;
+        self.rest = push_bytes(&mut self.whole, self.width, self.rest, bytes)?;
         Ok(())
     }
 
@@ -107,6 +77,38 @@ impl BitWriter {
         let BitWriter { whole, .. } = self;
         whole
     }
+}
+
+// Appends the whole bytes of a number of `width` bits, from its highest bit on. Returns how many of the bits are left, fewer
+// than eight.
+fn push_whole(whole: &mut Vec<u8>, bits: u32, width: u8) -> Result<u8, AllocError>
+    requires { width ≤ 23 }
+    ensures few { IfOk result (λ left. left < 8) }
+    ensures bits { IfOk result (λ left. bits_of whole.new.items ++ field left bits ≡ bits_of whole.old.items ++ field width bits) }
+{
+    let mut left = width;
+    while left >= 8 {
+        left -= 8;
+        whole.push(((bits >> left) % 256) as u8)?;
+    }
+    Ok(left)
+}
+
+// Appends bytes after `rest`, a number of `width` bits. Returns the bits that are left, again a number of `width` bits.
+fn push_bytes(whole: &mut Vec<u8>, width: u8, mut rest: u8, bytes: &[u8]) -> Result<u8, AllocError>
+    requires few { width < 8 }
+    requires rest { rest < 2 ^ width }
+    ensures rest { IfOk result (λ left. left < 2 ^ width) }
+    ensures bits { IfOk result (λ left. bits_of whole.new.items ++ field width left
+        ≡ (bits_of whole.old.items ++ field width rest) ++ bits_of bytes.now) }
+{
+    let size = 1u16 << width;
+    for byte in bytes {
+        let bits = 256 * u16::from(rest) + u16::from(*byte);
+        whole.push((bits >> width) as u8)?;
+        rest = (bits % size) as u8;
+    }
+    Ok(rest)
 }
 
 /// Reads the bits of codewords. Its view is the list of the bits that are not read yet.

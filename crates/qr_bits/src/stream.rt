@@ -80,7 +80,7 @@ fn put_payload(writer: &mut BitWriter, mode: Mode, bytes: &[u8]) -> Result<(), A
     match mode {
         Mode::Numeric => put_digits(writer, bytes),
         Mode::Alphanumeric => put_characters(writer, bytes),
-        Mode::Byte => put_bytes(writer, bytes),
+        Mode::Byte => writer.put_bytes(bytes),
         Mode::Kanji => put_kanji(writer, bytes),
     }
 }
@@ -127,15 +127,6 @@ fn put_characters(writer: &mut BitWriter, characters: &[u8]) -> Result<(), Alloc
         [a] => writer.put(6, character_value(*a)),
         _ => Ok(()),
     }
-}
-
-fn put_bytes(writer: &mut BitWriter, bytes: &[u8]) -> Result<(), AllocError>
-    ensures { OnOk result (writer.new ≡ writer.old ++ bits_of bytes.now) }
-{
-    for byte in bytes {
-        writer.put_byte(*byte)?;
-    }
-    Ok(())
 }
 
 // Writes kanji pairs, each in thirteen bits (7.4.6).
