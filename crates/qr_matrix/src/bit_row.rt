@@ -224,7 +224,7 @@ impl BitRow {
     }
 
     /// Returns the 64 bits of one of the words.
-    pub fn word(&self, number: usize) -> u64
+    pub(crate) fn word(&self, number: usize) -> u64
         requires { number < 3 }
         ensures { (c : ℕ) → c < 64 → has_bit result c ≡ has self.now (64 * number + c) }
     {
@@ -278,3 +278,25 @@ fn low_bits(n: u32) -> u64
 
 // The word in which the bits 0, 6, 12 and so on up to 60 are set.
 const SIXTHS: u64 = 0x1041_0410_4104_1041;
+
+#[cfg(test)]
+mod tests {
+    use super::*;
+    use std::test::Fail;
+
+    #[test]
+    fn four_bits_are_replaced(rt: HostRuntime) -> Result<(), Fail> {
+        for (place, bits) in [(0u8, 0b0001u8), (60, 0b0110), (64, 0b1011), (188, 0b0000)] {
+            assert!(rt; place <= 188 && place % 4 == 0 && bits < 16);
+            let mut row = BitRow::below(192);
+            row.put_four(place, bits);
+            assert_eq!(rt; row.four(place), bits, "bits from {place} on");
+            for other in 0..192u8 {
+                if other < place || place + 4 <= other {
+                    assert!(rt; row.at(other), "bit {other}, not from {place} on");
+                }
+            }
+        }
+        Ok(())
+    }
+}

@@ -117,8 +117,8 @@ impl Matrix {
         self.rows[row]
     }
 
-    /// Returns the modules of one word of a row; the module in column `64 * number` is the lowest bit.
-    pub fn word(&self, row: usize, number: usize) -> u64
+    // Returns the modules of one word of a row; the module in column `64 * number` is the lowest bit.
+    pub(crate) fn word(&self, row: usize, number: usize) -> u64
         requires row_in { row < self.now.side }
         requires word_in { number < 3 }
         ensures { (c : ℕ) → c < 64 → has_bit result c ≡ colour self.now row (64 * number + c) }
@@ -157,19 +157,6 @@ impl Matrix {
         ensures { self.new ≡ painted self.old row col dark }
     {
         self.rows[usize::from(row)].put(col, dark);
-    }
-
-    /// Sets the colours of four modules of a row, from column `col` on, to the bits of `bits`. Column `col` gets the
-    /// lowest bit; `col` is a multiple of four. This is the same as setting the modules one by one.
-    pub fn set_four(&mut self, row: u8, col: u8, bits: u8)
-        requires row_in { row < self.old.side }
-        requires col_in { col + 4 ≤ self.old.side }
-        requires whole { col % 4 ≡ 0 }
-        requires bits { bits < 16 }
-        ensures { self.new ≡ painted (painted (painted (painted self.old row col (has_bit bits 0))
-            row (col + 1) (has_bit bits 1)) row (col + 2) (has_bit bits 2)) row (col + 3) (has_bit bits 3) }
-    {
-        self.rows[usize::from(row)].put_four(col, bits);
     }
 
     /// Sets the colours of a row to the bits of a bit row.
@@ -296,24 +283,6 @@ mod tests {
         matrix.set(1, 67, true);
         assert_eq!(rt; matrix.four(1, 64), 0b1101);
         assert_eq!(rt; matrix.four(1, 60), 0);
-        Ok(())
-    }
-
-    #[test]
-    fn four_modules_are_set(rt: HostRuntime) -> Result<(), Fail> {
-        for (col, bits) in [(0u8, 0b0001u8), (60, 0b0110), (64, 0b1011), (68, 0b0000)] {
-            assert!(rt; col + 4 <= 72 && col % 4 == 0 && bits < 16);
-            let mut matrix = Matrix::new(rt.alloc(), 72)?;
-            matrix.fill(3, 4, 0, 72, true);
-            matrix.set_four(3, col, bits);
-            assert_eq!(rt; matrix.four(3, col), bits, "columns from {col} on");
-            for other in 0..72u8 {
-                if other < col || col + 4 <= other {
-                    assert!(rt; matrix.dark(3, other), "column {other}, not from {col} on");
-                }
-            }
-            assert!(rt; !matrix.dark(2, col) && !matrix.dark(4, col));
-        }
         Ok(())
     }
 
