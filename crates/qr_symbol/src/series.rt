@@ -13,7 +13,8 @@ ghost use Rattle.qr_symbol.specs.Series.{squares_of, AreParts, NeedsParts, IsSym
 ghost use Rattle.qr_symbol.specs.Joining.{IsJoined};
 ghost use Rattle.qr_symbol.specs.Steps.Series.{AreLengths, parts_of};
 
-use crate::encoding::{SYMBOL_BYTES_MAX, symbol_at};
+use crate::canvas::Canvas;
+use crate::encoding::{SYMBOL_BYTES_MAX, symbol_at, symbol_on};
 use crate::fault::EncodeFault;
 use crate::symbol::Symbol;
 use arrayvec::ArrayVec;
@@ -145,7 +146,8 @@ fn front_len(
     Ok(longest_fit(alloc, front, version, level, rule)?)
 }
 
-// Returns the symbols of the parts that have these lengths, each with its header (8.1 to 8.3).
+// Returns the symbols of the parts that have these lengths, each with its header (8.1 to 8.3). They are drawn on one
+// canvas.
 fn part_symbols(
     alloc: Global,
     input: &[u8],
@@ -166,6 +168,7 @@ fn part_symbols(
     let last = (lengths.len() - 1) as u8;
     let parity = parity(input);
     let mut symbols = Vec::with_capacity(alloc, lengths.len())?;
+    let mut canvas = Canvas::new(alloc, version, level)?;
     let mut rest = input;
     for len in lengths {
         let (part, after) = rest.split_at(*len);
@@ -174,31 +177,37 @@ fn part_symbols(
             last,
             parity,
         };
-        let symbol = part_symbol(alloc, part, header, version, level, rule)?;
+        let symbol = part_symbol(alloc, &mut canvas, part, header, rule)?;
         symbols.push(symbol)?;
         rest = after;
     }
     Ok(symbols)
 }
 
-// Returns the symbol of a part after its header.
+// Returns the symbol of a part after its header, with the version and the level of the canvas.
 fn part_symbol(
     alloc: Global,
+    canvas: &mut Canvas,
     part: &[u8],
     header: Header,
-    version: Version,
-    level: Level,
     rule: Rule,
 ) -> Result<Symbol, EncodeFault>
     requires short { length part.now ≤ INPUT_MAX }
-    requires fits { HasFit version rule part.now (room_of version level) }
+    requires fits { HasFit canvas.old.version rule part.now
+        (room_of canvas.old.version canvas.old.level) }
     requires position { header.position < 16 }
     requires last { header.last < 16 }
-    ensures made { IfOk result (λ s. IsSymbolOf version level rule part.now (Some header) s) }
+    ensures version { canvas.new.version ≡ canvas.old.version }
+    ensures level { canvas.new.level ≡ canvas.old.level }
+    ensures made { IfOk result (λ s. IsSymbolOf canvas.old.version canvas.old.level rule part.now
+        (Some header) s) }
     ensures fault { IfErr result (λ e. e ≡ EncodeFault.Memory) }
 {
+    let version = canvas.version;
+    // For the proof: brings in the range of versions.
+    prove!(version.number() <= 40);
     let segments = segments(alloc, part, version, rule)?;
-    symbol_at(alloc, part, &segments, Some(header), version, level)
+    symbol_on(alloc, canvas, part, &segments, Some(header))
 }
 
 #[cfg(test)]
