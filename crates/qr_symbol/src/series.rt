@@ -118,7 +118,7 @@ fn part_lengths(
         if lengths.is_full() {
             return Err(EncodeFault::TooMany);
         }
-        let len = front_len(alloc, rest, version, level, rule)?;
+        let len = prefix_len(alloc, rest, version, level, rule)?;
         lengths.push(len);
         let (_, after) = rest.split_at(len);
         rest = after;
@@ -128,7 +128,7 @@ fn part_lengths(
 
 // Returns the length of the longest prefix of `rest` that fits a symbol after a header. Only reads as many bytes as the
 // largest symbol holds.
-fn front_len(
+fn prefix_len(
     alloc: Global,
     rest: &[u8],
     version: Version,
@@ -142,8 +142,8 @@ fn front_len(
         IsLongestFit version rule rest.now (room_of version level) n) }
     ensures fault { IfErr result (λ e. e ≡ EncodeFault.Memory) }
 {
-    let front = &rest[..rest.len().min(SYMBOL_BYTES_MAX)];
-    Ok(longest_fit(alloc, front, version, level, rule)?)
+    let prefix = &rest[..rest.len().min(SYMBOL_BYTES_MAX)];
+    Ok(longest_fit(alloc, prefix, version, level, rule)?)
 }
 
 // Returns the symbols of the parts that have these lengths, each with its header (8.1 to 8.3). They are drawn on one
