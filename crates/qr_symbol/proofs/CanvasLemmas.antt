@@ -55,16 +55,13 @@ patterns-kept v cw g e =
       outside = λ r c i j t. ap (λ (z : Grid). colour z r c) e ∙ (colour-square (side_of v) f r c i j ∙ sym (outside v cw (paint_of v symmetric_format) r c t));
     }
 
--- codewords drawn on the transposed square of a square with the function patterns make the symbol of these codewords
-pub patterns-drawn : (v : ℕ) (cw : List ℕ) (f g h : Grid) → 1 ≤ v → HasPatterns v f → g ≡ square (side_of v) (colour f) → h ≡ square (side_of v) (placed_colour v cw (colour (transposed g))) → h ≡ plain_grid v cw
-patterns-drawn v cw f g h l p e k =
-    let s = side_of v in
-    k ∙ square-same s (placed_colour v cw (colour (transposed g))) (placed_colour v cw (paint_of v symmetric_format)) (λ r c i j.
+-- codewords drawn on a square with the function patterns, which is then transposed, make the symbol of these codewords
+pub patterns-drawn : (v : ℕ) (cw : List ℕ) (g h : Grid) → 1 ≤ v → HasPatterns v g → h ≡ square (side_of v) (placed_colour v cw (colour (transposed g))) → h ≡ plain_grid v cw
+patterns-drawn v cw g h l p k =
+    k ∙ square-same (side_of v) (placed_colour v cw (colour (transposed g))) (placed_colour v cw (paint_of v symmetric_format)) (λ r c i j.
     by_test (is_in_region v r c) (placed_colour v cw (colour (transposed g)) r c ≡ placed_colour v cw (paint_of v symmetric_format) r c)
     (λ t. inside v cw (colour (transposed g)) r c t ∙ sym (inside v cw (paint_of v symmetric_format) r c t))
     (λ t.
-    let side : g.side ≡ s = ap (λ (z : Grid). z.side) e in
-    let here : colour (transposed g) r c ≡ colour f c r =
-    colour-transposed g r c (omega arith) (omega arith) ∙ (ap (λ (z : Grid). colour z c r) e ∙ colour-square s (colour f) c r j i) in
+    let side : g.side ≡ side_of v = ap (λ (z : Grid). z.side) p.square in
     sym (outside v cw (colour (transposed g)) r c t)
-    ∙ (here ∙ (p.outside c r j i (region-symmetric v c r ∙ t) ∙ (paint-symmetric v c r l j i ∙ outside v cw (paint_of v symmetric_format) r c t)))))
+    ∙ (colour-transposed g r c (omega arith) (omega arith) ∙ (p.outside c r j i (region-symmetric v c r ∙ t) ∙ (paint-symmetric v c r l j i ∙ outside v cw (paint_of v symmetric_format) r c t)))))

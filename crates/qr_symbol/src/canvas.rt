@@ -13,6 +13,7 @@ use crate::patterns::{draw_fixed, draw_format, draw_region};
 use qr_layout::{Level, Version, format_word};
 use qr_matrix::Matrix;
 use std::alloc::{AllocError, Global};
+use std::mem;
 
 // The format information of `plain`: bit 7 alone is dark. This bit is opposite the dark module, so the function patterns
 // are the same when rows and columns are exchanged.
@@ -49,9 +50,9 @@ impl Canvas {
         })
     }
 
-    // Draws the codewords into `plain`, over those of the symbol before. `across` contains the transposed square
-    // afterwards; its old colours do not matter. The codewords are drawn there, and the function patterns are copied, since
-    // they are the same when they are transposed.
+    // Draws the codewords over those of the symbol before. The squares change places: the old `plain` has the function
+    // patterns in transposed form too, so the codewords are drawn on it, and it is then transposed into `across`, whose old
+    // colours do not matter. Afterwards `across` is the transposed square.
     #[inline(never)]
     pub(crate) fn draw_data(&mut self, across: &mut Matrix, codewords: &[u8])
         requires { IsSquare (side_of self.old.version) across.old }
@@ -60,10 +61,9 @@ impl Canvas {
         ensures plain { self.new.plain ≡ plain_grid self.old.version codewords.now }
         ensures square { IsSquare (side_of self.old.version) across.new }
     {
-        let side = self.version.side();
-        for row in 0..side {
-            across.set_bit_row(row, self.plain.bit_row(usize::from(row)));
-        }
+        // For the proof: brings in the range of versions.
+        prove!(self.version.number() <= 40);
+        mem::swap(&mut self.plain, across);
         draw_codewords(across, self.version, &self.region, codewords);
         self.plain.set_transposed(across);
     }
