@@ -26,7 +26,7 @@ any-or p q [] = refl
 any-or p q (x ∷ xs) = ap (λ b. (p x || q x) || b) (any-or p q xs) ∙ middle (p x) (q x) (list_any p xs) (list_any q xs)
 
 -- a test of pairs may go over the second list first
-any-pairs : {X Y : Type 0} (p : X → Y → Bool) (xs : List X) (ys : List Y) → list_any (λ x. list_any (p x) ys) xs ≡ list_any (λ y. list_any (λ x. p x y) xs) ys
+pub any-pairs : {X Y : Type 0} (p : X → Y → Bool) (xs : List X) (ys : List Y) → list_any (λ x. list_any (p x) ys) xs ≡ list_any (λ y. list_any (λ x. p x y) xs) ys
 any-pairs p [] ys = sym (any-none ys)
 any-pairs p (x ∷ xs) ys = ap (λ b. list_any (p x) ys || b) (any-pairs p xs ys) ∙ sym (any-or (p x) (λ y. list_any (λ x. p x y) xs) ys)
 
@@ -35,7 +35,7 @@ near : (s a b r c : ℕ) → (not (is_corner_pair s a b) && leb (ring_of a b r c
 near s a b r c = grind (arith, nat_tests)
 
 -- the alignment patterns
-alignment-symmetric : (v r c : ℕ) → is_alignment v r c ≡ is_alignment v c r
+pub alignment-symmetric : (v r c : ℕ) → is_alignment v r c ≡ is_alignment v c r
 alignment-symmetric v r c =
     let s = side_of v in
     let cs = centres_of v in

@@ -51,17 +51,15 @@ mask-is v l cw region plain mask k e f h =
     least-same 8 (masked_penalty v l region plain) (mask_penalty v l cw) mask (λ m. ap (λ (g : Grid). penalty_of (side_of v) (colour g)) (masked-all v l m cw region plain k e f)) h
 
 -- the mask that is best for a canvas is the mask of its codewords
-pub canvas-mask : (v : ℕ) (l : Level) (cw : List ℕ) (k : Canvas) (mask : ℕ) → 1 ≤ v → k.version ≡ v → k.level ≡ l
-    → k.region ≡ region_grid v → k.plain ≡ plain_grid v cw
+pub canvas-mask : (v : ℕ) (l : Level) (cw : List ℕ) (k : Canvas) (mask : ℕ) → 1 ≤ v → k.version ≡ v → k.level ≡ l → k.plain ≡ plain_grid v cw
     → IsFirstLeast 8 (masked_penalty k.version k.level k.region k.plain) mask → IsMask v l cw mask
-canvas-mask v l cw k mask least a b e f h =
+canvas-mask v l cw k mask least a b e h =
     let g = subst (λ (w : ℕ). IsFirstLeast 8 (masked_penalty w k.level k.region k.plain) mask) a h in
-    mask-is v l cw k.region k.plain mask least e f (subst (λ (w : Level). IsFirstLeast 8 (masked_penalty v w k.region k.plain) mask) b g)
+    mask-is v l cw k.region k.plain mask least (k.region_is ∙ ap region_grid a) e (subst (λ (w : Level). IsFirstLeast 8 (masked_penalty v w k.region k.plain) mask) b g)
 
 -- what a canvas draws with a mask is the symbol of its codewords
-pub canvas-drawn : (v : ℕ) (l : Level) (cw : List ℕ) (k : Canvas) (mask : ℕ) → 1 ≤ v → k.version ≡ v → k.level ≡ l
-    → k.region ≡ region_grid v → k.plain ≡ plain_grid v cw
+pub canvas-drawn : (v : ℕ) (l : Level) (cw : List ℕ) (k : Canvas) (mask : ℕ) → 1 ≤ v → k.version ≡ v → k.level ≡ l → k.plain ≡ plain_grid v cw
     → masked_grid k.version k.level mask k.region k.plain ≡ grid_of v l mask cw
-canvas-drawn v l cw k mask least a b e f =
+canvas-drawn v l cw k mask least a b e =
     ap (λ (w : ℕ). masked_grid w k.level mask k.region k.plain) a
-    ∙ (ap (λ (w : Level). masked_grid v w mask k.region k.plain) b ∙ masked-all v l mask cw k.region k.plain least e f)
+    ∙ (ap (λ (w : Level). masked_grid v w mask k.region k.plain) b ∙ masked-all v l mask cw k.region k.plain least (k.region_is ∙ ap region_grid a) e)

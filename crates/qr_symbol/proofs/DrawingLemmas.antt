@@ -16,7 +16,7 @@ use Rattle.qr_matrix.specs.Grid.{Grid, square, colour, painted, IsSquare}
 use Rattle.qr_symbol.specs.Mask.{inverts, inverted}
 use Rattle.qr_symbol.specs.Symbol.{word_bit, colour_by, colour_of, grid_of}
 use Rattle.qr_symbol.specs.Steps.Drawing.{placed_colour, placed_if, number_after, number_along, placed_along, masked_colour, masked_grid, region_grid, plain_grid}
-use Rattle.qr_symbol.specs.Steps.Patterns.{fixed_colour, format_or}
+use Rattle.qr_symbol.specs.Steps.Patterns.{fixed_colour, format_or, paint_of, symmetric_format}
 use Rattle.qr_matrix.proofs.Facts.{same-place, square-same, colour-square, colour-painted-here, colour-painted-there}
 use Rattle.qr_symbol.proofs.KeptPlaceLemmas.{kept-in, kept-out, kept-push-in, kept-push-out}
 
@@ -29,7 +29,7 @@ abbrev pub Done : ℕ → (ℕ → ℕ → Bool) → List Module → Grid → Ty
 Done s want rest g = (r c : ℕ) → r < s → c < s → (Mem (at r c) rest → ⊥) → colour g r c ≡ want r c
 
 -- outside the encoding region the colour stays
-outside : (v : ℕ) (cw : List ℕ) (f : ℕ → ℕ → Bool) (r c : ℕ) → is_in_region v r c ≡ false → f r c ≡ placed_colour v cw f r c
+pub outside : (v : ℕ) (cw : List ℕ) (f : ℕ → ℕ → Bool) (r c : ℕ) → is_in_region v r c ≡ false → f r c ≡ placed_colour v cw f r c
 unfolding placed_colour
 outside v cw f r c e = rw e refl
 
@@ -118,7 +118,7 @@ in-square v front later x o = let w = order-mem v (front ++ x ∷ later) o x (Me
 -- ---- a symbol that is drawn again with a mask
 
 -- a module that is not in the region has its colour by role once the format information is drawn
-role-masked : (v : ℕ) (l : Level) (mask : ℕ) (cw : List ℕ) (r c : ℕ) (q : Role) → (q ≡ Region → ⊥) → format_or (format_word_of l mask) q (fixed_colour 0 (version_word_of v) q) ≡ colour_by v l mask cw r c q
+role-masked : (v : ℕ) (l : Level) (mask : ℕ) (cw : List ℕ) (r c : ℕ) (q : Role) → (q ≡ Region → ⊥) → format_or (format_word_of l mask) q (fixed_colour symmetric_format (version_word_of v) q) ≡ colour_by v l mask cw r c q
 unfolding format_or fixed_colour
 role-masked v l mask cw r c (Fixed dark) n = refl
 role-masked v l mask cw r c (FormatBit i) n = refl
@@ -127,7 +127,7 @@ role-masked v l mask cw r c Region n = absurd (n refl)
 
 -- the colours of a symbol without mask and format information
 abbrev plain_colours : ℕ → List ℕ → ℕ → ℕ → Bool
-plain_colours v cw = placed_colour v cw (λ r c. fixed_colour 0 (version_word_of v) (role_of v r c))
+plain_colours v cw = placed_colour v cw (paint_of v symmetric_format)
 
 -- the masked colour of a module in the region
 masked-inside : (v : ℕ) (l : Level) (mask : ℕ) (cw : List ℕ) (r c : ℕ) → is_in_region v r c ≡ true → role_of v r c ≡ Region
@@ -136,7 +136,7 @@ unfolding colour_of format_or
 masked-inside v l mask cw r c t e =
     ap (λ (q : Role). format_or (format_word_of l mask) q (inverted (is_in_region v r c && inverts mask r c) (plain_colours v cw r c))) e
     ∙ (ap (λ (b : Bool). inverted (b && inverts mask r c) (plain_colours v cw r c)) t
-    ∙ (ap (inverted (inverts mask r c)) (inside v cw (λ r c. fixed_colour 0 (version_word_of v) (role_of v r c)) r c t) ∙ ap (colour_by v l mask cw r c) (sym e)))
+    ∙ (ap (inverted (inverts mask r c)) (inside v cw (paint_of v symmetric_format) r c t) ∙ ap (colour_by v l mask cw r c) (sym e)))
 
 -- the masked colour of a module outside the region
 masked-outside : (v : ℕ) (l : Level) (mask : ℕ) (cw : List ℕ) (r c : ℕ) → is_in_region v r c ≡ false → (role_of v r c ≡ Region → ⊥)
@@ -144,16 +144,7 @@ masked-outside : (v : ℕ) (l : Level) (mask : ℕ) (cw : List ℕ) (r c : ℕ) 
 unfolding colour_of
 masked-outside v l mask cw r c t n =
     ap (λ (b : Bool). format_or (format_word_of l mask) (role_of v r c) (inverted (b && inverts mask r c) (plain_colours v cw r c))) t
-    ∙ (ap (format_or (format_word_of l mask) (role_of v r c)) (sym (outside v cw (λ r c. fixed_colour 0 (version_word_of v) (role_of v r c)) r c t)) ∙ role-masked v l mask cw r c (role_of v r c) n)
-
--- the fixed patterns, drawn after the codewords, make the symbol without mask and format information
-pub plain-round : (v : ℕ) (cw : List ℕ) (f : ℕ → ℕ → Bool) (g h : Grid) → g ≡ square (side_of v) (placed_colour v cw f) → h ≡ square (side_of v) (λ r c. cond (is_in_region v r c) (colour g r c) (fixed_colour 0 (version_word_of v) (role_of v r c))) → h ≡ plain_grid v cw
-plain-round v cw f g h e k =
-    let fixed = λ (r c : ℕ). fixed_colour 0 (version_word_of v) (role_of v r c) in
-    k ∙ square-same (side_of v) (λ r c. cond (is_in_region v r c) (colour g r c) (fixed r c)) (plain_colours v cw) (λ r c i j.
-    by_test (is_in_region v r c) (cond (is_in_region v r c) (colour g r c) (fixed r c) ≡ plain_colours v cw r c)
-    (λ t. ap (λ (z : Bool). cond z (colour g r c) (fixed r c)) t ∙ (ap (λ (z : Grid). colour z r c) e ∙ (colour-square (side_of v) (placed_colour v cw f) r c i j ∙ (inside v cw f r c t ∙ sym (inside v cw fixed r c t)))))
-    (λ t. ap (λ (z : Bool). cond z (colour g r c) (fixed r c)) t ∙ outside v cw fixed r c t))
+    ∙ (ap (format_or (format_word_of l mask) (role_of v r c)) (sym (outside v cw (paint_of v symmetric_format) r c t)) ∙ role-masked v l mask cw r c (role_of v r c) n)
 
 -- with mask and format information, the result is the symbol of its codewords under this mask
 pub masked-all : (v : ℕ) (l : Level) (mask : ℕ) (cw : List ℕ) (region plain : Grid) → 1 ≤ v → region ≡ region_grid v → plain ≡ plain_grid v cw → masked_grid v l mask region plain ≡ grid_of v l mask cw

@@ -2,5 +2,6 @@
 -- promises need not read them.
 pub mod Patterns
 pub mod Drawing
+pub mod Canvas
 pub mod Series
 pub mod Interleaving

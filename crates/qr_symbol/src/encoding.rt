@@ -12,7 +12,8 @@ ghost use Rattle.qr_symbol.specs.Encoding.{IsSymbol};
 ghost use Rattle.qr_symbol.specs.VersionChoice.{HasNoVersion};
 ghost use Rattle.qr_symbol.specs.Series.{IsSymbolOf};
 
-use crate::choice::build;
+use crate::canvas::Canvas;
+use crate::choice::build_on;
 use crate::fault::EncodeFault;
 use crate::interleaving::interleave;
 use crate::symbol::Symbol;
@@ -88,9 +89,33 @@ pub(crate) fn symbol_at(
         → capacity_of version level < header_bits header + bits version segments.now }
     ensures fault { IfErr result (λ e. (e ≡ EncodeFault.TooLong) ⊎ (e ≡ EncodeFault.Memory)) }
 {
+    let mut canvas = Canvas::new(alloc, version, level)?;
+    symbol_on(alloc, &mut canvas, input, segments, header)
+}
+
+// Returns the symbol as `symbol_at` does, with the version and the level of the canvas.
+pub(crate) fn symbol_on(
+    alloc: Global,
+    canvas: &mut Canvas,
+    input: &[u8],
+    segments: &[Segment],
+    header: Option<Header>,
+) -> Result<Symbol, EncodeFault>
+    requires short { length input.now ≤ INPUT_MAX }
+    requires covered { Covers input.now segments.now }
+    requires in_range { ForSome header (λ h. (h.position < 16) × (h.last < 16)) }
+    ensures kept_version { canvas.new.version ≡ canvas.old.version }
+    ensures kept_level { canvas.new.level ≡ canvas.old.level }
+    ensures made { (r : Rule) → IsLeastSegmentation canvas.old.version r input.now segments.now
+        → IfOk result (λ s. IsSymbolOf canvas.old.version canvas.old.level r input.now header s) }
+    ensures too_long { result ≡ Err EncodeFault.TooLong → capacity_of canvas.old.version canvas.old.level
+        < header_bits header + bits canvas.old.version segments.now }
+    ensures fault { IfErr result (λ e. (e ≡ EncodeFault.TooLong) ⊎ (e ≡ EncodeFault.Memory)) }
+{
+    let (version, level) = (canvas.version, canvas.level);
     let message = codewords(alloc, input, segments, header, version, level)?;
-    let sent = interleave(alloc, version, level, &message)?;
-    build(alloc, version, level, &sent)
+    let interleaved = interleave(alloc, version, level, &message)?;
+    build_on(alloc, canvas, &interleaved)
 }
 
 #[cfg(test)]

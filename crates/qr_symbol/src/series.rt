@@ -13,7 +13,8 @@ ghost use Rattle.qr_symbol.specs.Series.{squares_of, AreParts, NeedsParts, IsSym
 ghost use Rattle.qr_symbol.specs.Joining.{IsJoined};
 ghost use Rattle.qr_symbol.specs.Steps.Series.{AreLengths, parts_of};
 
-use crate::encoding::{SYMBOL_BYTES_MAX, symbol_at};
+use crate::canvas::Canvas;
+use crate::encoding::{SYMBOL_BYTES_MAX, symbol_at, symbol_on};
 use crate::fault::EncodeFault;
 use crate::symbol::Symbol;
 use arrayvec::ArrayVec;
@@ -117,7 +118,7 @@ fn part_lengths(
         if lengths.is_full() {
             return Err(EncodeFault::TooMany);
         }
-        let len = front_len(alloc, rest, version, level, rule)?;
+        let len = prefix_len(alloc, rest, version, level, rule)?;
         lengths.push(len);
         let (_, after) = rest.split_at(len);
         rest = after;
@@ -127,7 +128,7 @@ fn part_lengths(
 
 // Returns the length of the longest prefix of `rest` that fits a symbol after a header. Only reads as many bytes as the
 // largest symbol holds.
-fn front_len(
+fn prefix_len(
     alloc: Global,
     rest: &[u8],
     version: Version,
@@ -141,11 +142,12 @@ fn front_len(
         IsLongestFit version rule rest.now (room_of version level) n) }
     ensures fault { IfErr result (λ e. e ≡ EncodeFault.Memory) }
 {
-    let front = &rest[..rest.len().min(SYMBOL_BYTES_MAX)];
-    Ok(longest_fit(alloc, front, version, level, rule)?)
+    let prefix = &rest[..rest.len().min(SYMBOL_BYTES_MAX)];
+    Ok(longest_fit(alloc, prefix, version, level, rule)?)
 }
 
-// Returns the symbols of the parts that have these lengths, each with its header (8.1 to 8.3).
+// Returns the symbols of the parts that have these lengths, each with its header (8.1 to 8.3). They are drawn on one
+// canvas.
 fn part_symbols(
     alloc: Global,
     input: &[u8],
@@ -166,6 +168,7 @@ fn part_symbols(
     let last = (lengths.len() - 1) as u8;
     let parity = parity(input);
     let mut symbols = Vec::with_capacity(alloc, lengths.len())?;
+    let mut canvas = Canvas::new(alloc, version, level)?;
     let mut rest = input;
     for len in lengths {
         let (part, after) = rest.split_at(*len);
@@ -174,31 +177,37 @@ fn part_symbols(
             last,
             parity,
         };
-        let symbol = part_symbol(alloc, part, header, version, level, rule)?;
+        let symbol = part_symbol(alloc, &mut canvas, part, header, rule)?;
         symbols.push(symbol)?;
         rest = after;
     }
     Ok(symbols)
 }
 
-// Returns the symbol of a part after its header.
+// Returns the symbol of a part after its header, with the version and the level of the canvas.
 fn part_symbol(
     alloc: Global,
+    canvas: &mut Canvas,
     part: &[u8],
     header: Header,
-    version: Version,
-    level: Level,
     rule: Rule,
 ) -> Result<Symbol, EncodeFault>
     requires short { length part.now ≤ INPUT_MAX }
-    requires fits { HasFit version rule part.now (room_of version level) }
+    requires fits { HasFit canvas.old.version rule part.now
+        (room_of canvas.old.version canvas.old.level) }
     requires position { header.position < 16 }
     requires last { header.last < 16 }
-    ensures made { IfOk result (λ s. IsSymbolOf version level rule part.now (Some header) s) }
+    ensures version { canvas.new.version ≡ canvas.old.version }
+    ensures level { canvas.new.level ≡ canvas.old.level }
+    ensures made { IfOk result (λ s. IsSymbolOf canvas.old.version canvas.old.level rule part.now
+        (Some header) s) }
     ensures fault { IfErr result (λ e. e ≡ EncodeFault.Memory) }
 {
+    let version = canvas.version;
+    // For the proof: brings in the range of versions.
+    prove!(version.number() <= 40);
     let segments = segments(alloc, part, version, rule)?;
-    symbol_at(alloc, part, &segments, Some(header), version, level)
+    symbol_on(alloc, canvas, part, &segments, Some(header))
 }
 
 #[cfg(test)]

@@ -5,7 +5,7 @@ use Rattle.qr_layout.specs.declared.level.Level.{Level}
 use Rattle.qr_layout.specs.declared.region.Module.{Module}
 use Rattle.qr_layout.specs.declared.strips.Strip.{Strip}
 use Rattle.qr_layout.specs.Version.{side_of}
-use Rattle.qr_layout.specs.Format.{format_word_of, version_word_of}
+use Rattle.qr_layout.specs.Format.{format_word_of}
 use Rattle.qr_layout.specs.Order.{number_of}
 use Rattle.qr_layout.specs.Region.{is_in_region}
 use Rattle.qr_layout.specs.Role.{role_of}
@@ -16,7 +16,7 @@ use Rattle.qr_matrix.specs.BitRow.{has, has_bit}
 use Rattle.qr_symbol.specs.declared.drawing.CodewordBits.{CodewordBits}
 use Rattle.qr_symbol.specs.declared.drawing.Columns.{Columns}
 use Rattle.qr_symbol.specs.Mask.{inverts, inverted}
-use Rattle.qr_symbol.specs.Steps.Patterns.{fixed_colour, format_or}
+use Rattle.qr_symbol.specs.Steps.Patterns.{format_or, paint_of, symmetric_format}
 use Rattle.qr_matrix.specs.Penalty.{penalty_of}
 
 -- The colour in row r and column c once the codewords are placed: the codeword bit in the encoding region, `other r c`
@@ -106,9 +106,9 @@ masked_grid v l mask region plain = square (side_of v) (masked_colour v (format_
 abbrev pub region_grid : ℕ → Grid
 region_grid v = square (side_of v) (is_in_region v)
 
--- The symbol of the codewords cw without mask and format information.
+-- The symbol of the codewords cw without mask; of the format information just bit 7 is dark.
 abbrev pub plain_grid : ℕ → List ℕ → Grid
-plain_grid v cw = square (side_of v) (placed_colour v cw (λ r c. fixed_colour 0 (version_word_of v) (role_of v r c)))
+plain_grid v cw = square (side_of v) (placed_colour v cw (paint_of v symmetric_format))
 
 -- The penalty of the symbol with its mask and format information.
 abbrev pub masked_penalty : ℕ → Level → Grid → Grid → ℕ → ℕ

@@ -19,6 +19,11 @@ fixed_colour format version Region = false
 abbrev pub paint_of : ℕ → ℕ → ℕ → ℕ → Bool
 paint_of v format r c = fixed_colour format (version_word_of v) (role_of v r c)
 
+-- The word of the format information in which just bit 7 is 1. If it is drawn, the function patterns are the same with
+-- rows and columns exchanged, since bit 7 is opposite the dark module.
+abbrev pub symmetric_format : ℕ
+symmetric_format = 128
+
 -- `is_dark_in_six s at` is true if the module with index `at` of row 6, or of column 6, is dark, where s is the side.
 -- The first seven and the last seven modules belong to finder patterns; the modules at even indices between them belong
 -- to a timing pattern.

@@ -1,4 +1,4 @@
-use Rattle.std.proofs.Common.{◌≡◌, ◌-◌, get_or, [], ◌∷◌, drop, length, ap, length-append, arith}
+use Rattle.std.proofs.Common.{◌≡◌, ◌-◌, get_or, [], ◌∷◌, drop, length, ◌∙◌, ap, length-append, arith}
 use Rattle.std.proofs.lemmas.List.{append-nil, drop_all, length-drop}
 use Rattle.qr_bits.specs.Header.{parity_of}
 use Rattle.qr_symbol.specs.Steps.Series.{parts_of}
@@ -13,7 +13,7 @@ split_at-requires c =
 pub part_symbol-requires-clause-fits : goal.part_symbol-requires-clause-fits
 part_symbol-requires-clause-fits c =
     let next = lengths-at c.args.version c.args.level c.args.rule c.loop-len.rest.now c.args.lengths.now c.loop-len.len-index c.loop-len-test.true c.loop-len.invariant.rest in
-    rw c.split_at.ensures.front next.0.fits
+    rw (c.loop-len.invariant.version, c.loop-len.invariant.level, c.split_at.ensures.front) next.0.fits
 
 pub loop-len-preserved : goal.loop-len-preserved
 loop-len-preserved c =
@@ -26,9 +26,11 @@ loop-len-preserved c =
     let inv = c.loop-len.invariant in
     let next = lengths-at v l b rest ns i c.loop-len-test.true inv.rest in
     let s = c.in_ok-symbol.symbol in
-    let made = rw (c.split_at.ensures.front, c.len.ensures, inv.count, c.parity-parity.ensures) at c.in_ok-symbol.ensures.made in
+    let made = rw (inv.version, inv.level, c.split_at.ensures.front, c.len.ensures, inv.count, c.parity-parity.ensures) at c.in_ok-symbol.ensures.made in
     let less = length-drop (get_or ns i 0) rest in
     rw (c.in_ok-push.ensures.items, c.split_at.ensures.back) (record {
+      version = c.part_symbol.ensures.version ∙ inv.version;
+      level = c.part_symbol.ensures.level ∙ inv.level;
       short = omega (arith, inv.short);
       count = omega (arith, ap length c.in_ok-push.ensures.items, length-append c.loop-len.symbols.items (s ∷ []));
       rest = next.1;

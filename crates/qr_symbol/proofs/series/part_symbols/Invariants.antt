@@ -9,9 +9,11 @@ use Rattle.qr_symbol.proofs.series.part_symbols.Given as goal
 -- the symbols made and those of the rest are the symbols of all parts
 abbrev pub invariant-loop-len : goal.invariant-loop-len
 invariant-loop-len l = record {
+  version : l.canvas.version ≡ l.fn.version;
+  level : l.canvas.level ≡ l.fn.level;
   short : length l.rest ≤ length l.fn.input;
   count : vec_len l.symbols ≡ l.len-index;
-  rest : AreLengths l.version l.level l.rule l.rest (drop l.len-index l.lengths);
-  made : (ss : List Symbol) → AreSymbolsFrom l.version l.level l.rule (length l.lengths - 1) (parity_of l.fn.input) l.len-index (parts_of l.rest (drop l.len-index l.lengths)) ss
-      → AreSymbolsFrom l.version l.level l.rule (length l.lengths - 1) (parity_of l.fn.input) 0 (parts_of l.fn.input l.lengths) (l.symbols.items ++ ss);
+  rest : AreLengths l.fn.version l.fn.level l.rule l.rest (drop l.len-index l.lengths);
+  made : (ss : List Symbol) → AreSymbolsFrom l.fn.version l.fn.level l.rule (length l.lengths - 1) (parity_of l.fn.input) l.len-index (parts_of l.rest (drop l.len-index l.lengths)) ss
+      → AreSymbolsFrom l.fn.version l.fn.level l.rule (length l.lengths - 1) (parity_of l.fn.input) 0 (parts_of l.fn.input l.lengths) (l.symbols.items ++ ss);
 }

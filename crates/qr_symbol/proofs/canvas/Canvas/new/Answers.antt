@@ -1,12 +1,15 @@
-use Rattle.std.proofs.Common.{◌∙◌}
+use Rattle.std.proofs.Common.{false, ◌∙◌, ap}
 use Rattle.qr_layout.specs.Version.{side_of}
-use Rattle.qr_matrix.specs.Grid.{colour, transposed}
-use Rattle.qr_symbol.specs.Steps.Drawing.{placed_colour}
-use Rattle.qr_symbol.proofs.DrawingLemmas.{square-is, plain-round}
+use Rattle.qr_matrix.specs.Grid.{light}
+use Rattle.qr_symbol.proofs.DrawingLemmas.{square-is}
+use Rattle.qr_symbol.proofs.CanvasLemmas.{patterns-start}
 use Rattle.qr_symbol.proofs.canvas.Canvas.new.Goals as goal
 
 pub draw_fixed-requires : goal.draw_fixed-requires
-draw_fixed-requires c = square-is (side_of c.args.version) (placed_colour c.args.version c.args.codewords.now (colour (transposed c.args.across.now))) c.set_transposed.new.self (c.set_transposed.ensures ∙ c.draw_codewords.ensures.placed)
+draw_fixed-requires c = square-is (side_of c.args.version) (λ _ _. false) c.in_ok-plain.plain (c.in_ok-plain.ensures ∙ ap light c.side-2.ensures.value)
 
-pub returns-clause-plain : goal.returns-clause-plain
-returns-clause-plain c = plain-round c.args.version c.args.codewords.now (colour (transposed c.args.across.now)) c.set_transposed.new.self c.draw_fixed.new.matrix (c.set_transposed.ensures ∙ c.draw_codewords.ensures.placed) c.draw_fixed.ensures
+pub invariant_of-result : goal.invariant_of-result
+invariant_of-result c = record {
+  region_is = c.draw_region.ensures;
+  patterns = patterns-start c.args.version c.in_ok-plain.plain c.draw_fixed.new.matrix c.draw_fixed.ensures;
+}

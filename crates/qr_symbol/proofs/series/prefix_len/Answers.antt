@@ -1,6 +1,6 @@
 use Rattle.std.proofs.Common.{arith}
 use Rattle.qr_symbol.proofs.PartLemmas.{longest-cut, longest-some}
-use Rattle.qr_symbol.proofs.series.front_len.Goals as goal
+use Rattle.qr_symbol.proofs.series.prefix_len.Goals as goal
 
 pub returns-clause-some : goal.returns-clause-some
 returns-clause-some c =
