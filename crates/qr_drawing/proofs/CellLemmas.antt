@@ -15,7 +15,7 @@ use Rattle.qr_drawing.specs.declared.text.TextStyle.TheVariants.{Plain, Inverse,
 use Rattle.std.proofs.Math.Seq.{take-append_seam}
 use Rattle.std.proofs.lemmas.List.{drop_all}
 use borrow.Rule.Slice.PartMut.{put_mid}
-use Rattle.qr_drawing.proofs.LineLemmas.{texts_below-add, texts_below-alike, texts_below-length}
+use Rattle.qr_drawing.proofs.LineLemmas.{added_more, texts_below-add, texts_below-alike, texts_below-length}
 use Rattle.qr_drawing.proofs.PathLemmas.{is_dark_at_inside, is_dark_at_left, is_dark_at_right}
 
 -- no bit of 0 is set: computed
@@ -34,12 +34,14 @@ pub dark_eight : (margin : ℕ) (g : Grid) (y row col bits : ℕ) → margin + r
 dark_eight margin g y row col bits e inside h k lt col_in =
     h k lt ∙ sym (ap (λ r. is_dark_at margin g r (margin + (col + k))) (sym e) ∙ is_dark_at_inside margin row (col + k) g inside col_in)
 
--- the cells of n columns of the square
-pub bits-cells : (style : TextStyle) (margin : ℕ) (g : Grid) (row col n upper lower : ℕ) → n ≤ 8 → col + n ≤ g.side → AreDark margin g row col upper
-    → AreDark margin g (row + 1) col lower → bits_text n style upper lower ≡ texts_below n (λ k. cell_at style margin g row (margin + (col + k)))
-bits-cells style margin g row col n upper lower few fits u l =
-    texts_below-alike n (λ k. cell_text style (has_bit upper k) (has_bit lower k)) (λ k. cell_at style margin g row (margin + (col + k)))
-    (λ k lt. λ i. cell_text style (u k (omega arith) (omega arith) i) (l k (omega arith) (omega arith) i))
+-- n cells of columns of the square that are added to the cells before them
+pub added-cells : (style : TextStyle) (margin : ℕ) (g : Grid) (row col n upper lower : ℕ) (h t u : List ℕ) → n ≤ 8 → col + n ≤ g.side
+    → AreDark margin g row col upper → AreDark margin g (row + 1) col lower → t ≡ h ++ texts_below col (λ i. cell_at style margin g row (margin + i))
+    → u ≡ t ++ bits_text n style upper lower → u ≡ h ++ texts_below (col + n) (λ i. cell_at style margin g row (margin + i))
+added-cells style margin g row col n upper lower h t u few fits up down p q =
+    added_more h t u col n (λ i. cell_at style margin g row (margin + i)) (λ k. cell_text style (has_bit upper k) (has_bit lower k)) p q
+    (texts_below-alike n (λ k. cell_text style (has_bit upper k) (has_bit lower k)) (λ k. cell_at style margin g row (margin + (col + k)))
+    (λ k lt. λ i. cell_text style (up k (omega arith) (omega arith) i) (down k (omega arith) (omega arith) i)))
 
 -- the texts of n + d cells are those of the n lowest bits and of the d bits after them
 bits-split : (n d : ℕ) (style : TextStyle) (upper lower : ℕ)
@@ -164,6 +166,13 @@ room-left h t n d o b room text most e le fits =
     let p : (n + d) * b ≡ n * b + d * b = add-mul n d b in
     let q : (n + d) * b ≤ o * b = mul-le-mul_right b le in
     omega arith
+
+-- if there was room for `count` cells of a row, then after `done` of them there is room for n more
+pub room-cells : (style : TextStyle) (margin : ℕ) (g : Grid) (row first done n count : ℕ) (h t : List ℕ)
+    → t ≡ h ++ texts_below done (λ i. cell_at style margin g row (first + i)) → done + n ≤ count → length h + count * cell_room style ≤ 1200
+    → length t + n * cell_room style ≤ 1200
+room-cells style margin g row first done n count h t e le fits =
+    room-left h t done n count (cell_room style) 1200 (λ i. cell_at style margin g row (first + i)) (λ k. cell-length style _ _) e le fits
 
 -- if there was room for `last` cells, `first` cells and a newline, then after the `last` cells there is room for the rest
 pub room-light : (h t : List ℕ) (r last first room b : ℕ) (text : ℕ → List ℕ) → ((k : ℕ) → length (text k) ≤ b) → t ≡ h ++ texts_below last text
