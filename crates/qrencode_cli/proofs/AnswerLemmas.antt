@@ -23,7 +23,7 @@ use Rattle.qr_symbol.specs.declared.fault.EncodeFault.TheVariants as encode
 use Rattle.qrencode_cli.specs.declared.settings.UsageFault.{UsageFault}
 use Rattle.qrencode_cli.specs.declared.fault.Fault.{Fault}
 use Rattle.qrencode_cli.specs.declared.fault.Fault.TheVariants as fault
-use Rattle.qrencode_cli.specs.Picture.{AreSquares, AreSymbols, IsTooLong, IsTooMany, smallest_of}
+use Rattle.qrencode_cli.specs.Symbols.{AreSquares, AreSymbols, IsTooLong, IsTooMany, smallest_of}
 use Rattle.qrencode_cli.specs.declared.settings.UsageFault.TheVariants as usage
 
 -- a command line has at most one list of settings

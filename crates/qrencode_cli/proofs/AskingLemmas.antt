@@ -23,15 +23,15 @@ use Rattle.qr_devices.specs.Device.{Reader}
 use Rattle.qrencode_cli.specs.Steps.Fault.{fault_of_input, fault_of_words}
 use Rattle.qrencode_cli.specs.Input.{IsInputOf}
 use Rattle.qrencode_cli.specs.Settings.{IsUsageFault, Reason, SettingsView, rule_for, settings_for}
-use Rattle.qrencode_cli.specs.Steps.Command.{AreDrawnFor, IsEarly, IsInputFault, Prepares, drawing_of}
+use Rattle.qrencode_cli.specs.Steps.Command.{AreDrawnFor, IsEarly, IsInputFault, Prepares, drawing_of_job}
 use Rattle.qr_symbol.specs.Encoding.{IsSymbol}
 use Rattle.qr_symbol.specs.VersionChoice.{HasNoVersion}
 use Rattle.qr_bits.proofs.Facts.{fitting_short}
 use Rattle.std.proofs.lemmas.Grind.{common_steps}
-use Rattle.qrencode_cli.specs.Picture.{AreSquares, IsSquareOf, smallest_of}
+use Rattle.qrencode_cli.specs.Symbols.{AreSquares, IsSquareOf, smallest_of}
 use Rattle.qrencode_cli.specs.declared.fault.Fault.{Fault}
 use Rattle.qrencode_cli.specs.declared.fault.Fault.TheVariants as fault
-use Rattle.qrencode_cli.specs.declared.picture.Picture.{Picture}
+use Rattle.qrencode_cli.specs.declared.drawing_job.DrawingJob.{DrawingJob}
 use Rattle.qrencode_cli.specs.declared.settings.UsageFault.{UsageFault}
 use Rattle.qrencode_cli.specs.declared.settings.UsageFault.TheVariants as usage
 
@@ -122,7 +122,7 @@ drawn-for-series s rule input version symbols many least most e same some series
 
 -- if nothing was read, and the outcome is lack of memory, `InputConsumedFor` holds
 reads-nothing : (o : Result SettingsView Reason) (in0 : Reader) (given : List ℕ)
-    → InputConsumedFor o in0 in0 given {T = Picture} (Err fault.Memory)
+    → InputConsumedFor o in0 in0 given {T = DrawingJob} (Err fault.Memory)
 reads-nothing (Err r) in0 given = refl
 reads-nothing (Ok s) in0 given = nothing s.string
   where
@@ -157,9 +157,9 @@ prepares-usage words in0 usage.Memory h = let i = any_input in0.remaining in rec
 
 module _ (words : List Text) (s : SettingsView) (taken : settings_for words ≡ Ok s) where
   -- a correct result for the input that is encoded is correct for the command line
-  answer-for : (given input : List ℕ) (r : Result Picture Fault) → input_for s given ≡ input
-      → MatchResult r (λ p. IsDrawing s (held s input) (drawing_of p)) (IsInputFault s (held s input))
-      → MatchResult r (λ p. HasDrawing words given (drawing_of p)) (λ f. IsFault words given f × IsEarly f)
+  answer-for : (given input : List ℕ) (r : Result DrawingJob Fault) → input_for s given ≡ input
+      → MatchResult r (λ p. IsDrawing s (held s input) (drawing_of_job p)) (IsInputFault s (held s input))
+      → MatchResult r (λ p. HasDrawing words given (drawing_of_job p)) (λ f. IsFault words given f × IsEarly f)
   answer-for given input (Ok p) e h = record { settings = s; taken = taken; holds = rw e h }
   answer-for given input (Err (fault.Encode encode.Empty)) e h = (record { settings = s; taken = taken; holds = rw e h }, tt)
   answer-for given input (Err (fault.Encode encode.TooLong)) e h = (record { settings = s; taken = taken; holds = rw e h }, tt)
@@ -168,12 +168,12 @@ module _ (words : List Text) (s : SettingsView) (taken : settings_for words ≡ 
   answer-for given input (Err _) e h = absurd h
 
   -- what was done to the reader is stated by the settings, if the command line has settings
-  reads-taken : (in0 in1 : Reader) (given : List ℕ) (r : Result Picture Fault) → InputConsumedFor (Ok s) in0 in1 given r → InputConsumedFor (settings_for words) in0 in1 given r
+  reads-taken : (in0 in1 : Reader) (given : List ℕ) (r : Result DrawingJob Fault) → InputConsumedFor (Ok s) in0 in1 given r → InputConsumedFor (settings_for words) in0 in1 given r
   reads-taken in0 in1 given r h = rw taken h
 
   -- the case that the input is the string of the command line
-  pub prepares-string : (in0 : Reader) (text buf : List ℕ) (n : ℕ) (r : Result Picture Fault) → s.string ≡ Some text → buf ≡ text → n ≡ min INPUT_MAX (length buf)
-      → MatchResult r (λ p. IsDrawing s (held s (take n buf)) (drawing_of p)) (IsInputFault s (held s (take n buf)))
+  pub prepares-string : (in0 : Reader) (text buf : List ℕ) (n : ℕ) (r : Result DrawingJob Fault) → s.string ≡ Some text → buf ≡ text → n ≡ min INPUT_MAX (length buf)
+      → MatchResult r (λ p. IsDrawing s (held s (take n buf)) (drawing_of_job p)) (IsInputFault s (held s (take n buf)))
       → Prepares words in0 in0 r
   prepares-string in0 text buf n r string is cut h = let i = any_input in0.remaining in record {
     given = i.0;
@@ -183,9 +183,9 @@ module _ (words : List Text) (s : SettingsView) (taken : settings_for words ≡ 
   }
 
   -- the case that the input is what the reader returned
-  pub prepares-reader : (in0 in1 : Reader) (bytes buf : List ℕ) (r : Result Picture Fault) → s.string ≡ None → buf ≡ bytes
+  pub prepares-reader : (in0 in1 : Reader) (bytes buf : List ℕ) (r : Result DrawingJob Fault) → s.string ≡ None → buf ≡ bytes
       → IsInputOf in0.remaining bytes → AllRead in0 in1 bytes
-      → MatchResult r (λ p. IsDrawing s (held s buf) (drawing_of p)) (IsInputFault s (held s buf))
+      → MatchResult r (λ p. IsDrawing s (held s buf) (drawing_of_job p)) (IsInputFault s (held s buf))
       → Prepares words in0 in1 r
   prepares-reader in0 in1 bytes buf r string is input gives h = record {
     given = bytes;
@@ -194,7 +194,7 @@ module _ (words : List Text) (s : SettingsView) (taken : settings_for words ≡ 
     answer = answer-for bytes buf r (input_for-reader s bytes string ∙ sym is) h;
   }
     where
-      gives-for : (r : Result Picture Fault) → MatchResult r (λ p. IsDrawing s (held s buf) (drawing_of p)) (IsInputFault s (held s buf))
+      gives-for : (r : Result DrawingJob Fault) → MatchResult r (λ p. IsDrawing s (held s buf) (drawing_of_job p)) (IsInputFault s (held s buf))
           → InputConsumed in0 in1 bytes r
       gives-for (Ok p) h = gives
       gives-for (Err fault.Read) h = tt

@@ -1,4 +1,4 @@
-//! The symbols that are drawn, and how they are drawn.
+//! The work of a run after its input is encoded: which symbols are drawn, and how.
 
 ghost use Rattle.std.specs.Prelude.{◌<◌, ◌≤◌, length};
 ghost use Rattle.qr_symbol.specs.Series.{squares_of};
@@ -9,7 +9,7 @@ use qr_symbol::Symbol;
 
 /// One symbol, or the symbols of a series, with the type and the margin of their drawing.
 #[derive(Drop)]
-pub(crate) struct Picture {
+pub(crate) struct DrawingJob {
     pub symbols: Vec<Symbol>,
     pub kind: Drawing,
     pub margin: u8,
