@@ -1,5 +1,5 @@
 use Rattle.std.proofs.lemmas.Result.{err_from_is_err_and}
-use Rattle.qrencode_cli.proofs.RunningLemmas.{attempts-refused, attempts-shown}
+use Rattle.qrencode_cli.proofs.lemmas.command.RunningLemmas.{attempts-refused, attempts-shown}
 use Rattle.qrencode_cli.proofs.command.run_to_result.Goals as goal
 
 pub returns-clause-attempts : goal.returns-clause-attempts
