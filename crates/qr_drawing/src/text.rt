@@ -282,8 +282,8 @@ fn push_cells(
     }
 }
 
-// Adds the cells of the square's columns in row `row` of the raster, eight at a time, and then four if four are left.
-// The last columns are not added if fewer than four are left.
+// Adds the cells of the square's columns in row `row` of the raster: eight at a time, and then four if at least four
+// remain. The last columns, fewer than four, are not added.
 #[inline(always)]
 fn push_columns(
     text: &mut ArrayVec<u8, 1200>,

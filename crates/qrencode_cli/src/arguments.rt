@@ -5,7 +5,7 @@ ghost use Rattle.std.specs.String.{string_bytes};
 ghost use Rattle.clap.specs.Words.{app_of, found_of};
 ghost use Rattle.clap.specs.Walk.{rows_of, rule_of};
 ghost use Rattle.clap.specs.Simple.{new_app};
-ghost use Rattle.qrencode_cli.specs.Arguments.{command, faults_for, flag_rule, number_rule, required_rule, rows_for, text_rule, positional_rule};
+ghost use Rattle.qrencode_cli.specs.Arguments.{command, faults_for, flag_rule, number_rule, positional_rule, required_rule, rows_for, text_rule};
 ghost use Rattle.qrencode_cli.specs.Settings.{IsUsageFault, settings_for};
 
 use crate::settings::UsageFault;

@@ -9,9 +9,9 @@ ghost use Rattle.qr_devices.specs.Device.{IsWrittenWithin, is_read_fault, is_wri
 ghost use Rattle.qrencode_cli.specs.Steps.Command.{AreDrawnFor, Attempts, IsInputFault, Prepares, drawing_of_job};
 ghost use Rattle.qrencode_cli.specs.declared.fault.Fault.{Fault};
 
+use crate::drawing_job::DrawingJob;
 use crate::fault::Fault;
 use crate::input::read_input;
-use crate::drawing_job::DrawingJob;
 use crate::settings::{Settings, options};
 use qr_bits::{INPUT_MAX, fold};
 use qr_devices::{Sink, Source};

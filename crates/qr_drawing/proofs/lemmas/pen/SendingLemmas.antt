@@ -94,7 +94,7 @@ refused : (a b c : Writer) (text : List ℕ) (at len i j : ℕ) (r : Result ℕ 
     → (IsWell b.counts j → is_write_fault c.counts ≡ true) → Stops a c i text
 refused a b c text at len i j r p short q e most fault =
     let one : Stops b c j ([] ++ drop at text) = record {
-      front = ([], (drop at text, refl), Appends-kept b.taken b.taken c.taken [] (Appends-nil b.taken) q);
+      prefix = ([], (drop at text, refl), Appends-kept b.taken b.taken c.taken [] (Appends-nil b.taken) q);
       most = λ fits. let m = most fits in omega arith;
       fault = fault;
       within = within-after b.counts c.counts len j r e;

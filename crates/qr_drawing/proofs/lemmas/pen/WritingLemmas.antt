@@ -58,7 +58,7 @@ writes_on a b c i j k h0 h1 h2 x y p q = record {
 pub writes_stop : (a b c : Writer) (i j : ℕ) (h0 h1 x y : List ℕ)
     → Writes a b i j (h0 ++ x) h1 → Stops b c j (h1 ++ y) → Stops a c i (h0 ++ (x ++ y))
 writes_stop a b c i j h0 h1 x y p q = record {
-  front = Sends-stops a b c h0 h1 x y p.sends q.front;
+  prefix = Sends-stops a b c h0 h1 x y p.sends q.prefix;
   most = λ fits. most-on _ _ _ (length p.sends.sent) (length h1) (length (h0 ++ x)) _ (length y) _
       (sym (length-append p.sends.sent h1) ∙ ap (λ l. length l) p.sends.whole) (length-append h1 y)
       (ap (λ l. length l) (sym (append_assoc h0 x y)) ∙ length-append (h0 ++ x) y) fits (p.sends.many fits) q.most;
@@ -75,7 +75,7 @@ begins_before a b x y (s, (rest, e), q) = (s, (rest ++ y, sym (append_assoc s re
 -- a writer that failed in a part failed in the whole text
 pub stops_before : (a b : Writer) (i : ℕ) (x y : List ℕ) → Stops a b i x → Stops a b i (x ++ y)
 stops_before a b i x y p = record {
-  front = begins_before a.taken b.taken x y p.front;
+  prefix = begins_before a.taken b.taken x y p.prefix;
   most = λ fits. most-before _ _ (length x) _ (length y) (length-append x y) (p.most fits);
   fault = p.fault;
   within = p.within;
@@ -131,4 +131,4 @@ last_stops a b c held text p (t, (rest, f), q) = (
 pub empty_stops : (a b c : Writer) (before after : Pen) (text : List ℕ) (r : Result (Unit {0}) DrawFault) → Sends a b text before.piece.items
     → Reserves b c before after r → OnErr r (AppendsBeginning a.taken c.taken text)
 empty_stops a b c before after text (Ok t) p q = tt
-empty_stops a b c before after text (Err e) p q = last_stops a b c before.piece.items text p q.front
+empty_stops a b c before after text (Err e) p q = last_stops a b c before.piece.items text p q.prefix
