@@ -36,14 +36,14 @@ pub fn settings(alloc: Global) -> Result<Answer, AllocError> {
     Ok(answer.given(are(&list, &words)))
 }
 
-// Runs the command. With ample memory its status is `status`, standard output begins with `front`, and the text on
+// Runs the command. With ample memory its status is `status`, standard output begins with `prefix`, and the text on
 // standard error contains `part`.
 fn ran(
     alloc: Global,
     words: &[&str],
     input: &[u8],
     status: u8,
-    front: &str,
+    prefix: &str,
     part: &str,
 ) -> Result<Answer, AllocError> {
     let list = line(alloc, words)?;
@@ -58,9 +58,9 @@ fn ran(
             Answer::Other
         }
     } else {
-        let told = str::from_utf8(err.bytes()).unwrap_or("");
+        let message = str::from_utf8(err.bytes()).unwrap_or("");
         Answer::of(
-            ended == status && out.bytes().starts_with(front.as_bytes()) && told.contains(part),
+            ended == status && out.bytes().starts_with(prefix.as_bytes()) && message.contains(part),
         )
     };
     Ok(answer.given(are(&list, words)))

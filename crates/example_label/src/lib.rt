@@ -1,5 +1,5 @@
-//! An example of a crate that uses `qr_symbol`: a label, which is the symbol of some words as text, and the words below
-//! it. The contract of `label` says what it returns, down to the last character.
+//! An example of a crate that uses `qr_symbol`: a label, which is a text and above it the symbol of the text, drawn
+//! with characters. The contract of `label` says what it returns, down to the last character.
 #![tactic(auto)]
 
 ghost use Rattle.std.specs.Prelude.{◌≡◌, ◌≢◌, ◌<◌, ◌≤◌, ◌↔◌, ◌⊎◌, ◌++◌, [], length, Err, IfErr, IfOk, IsOk};

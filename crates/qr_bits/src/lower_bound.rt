@@ -1,5 +1,5 @@
-//! A lower bound on the number of bits of an input in any segments. A version that has less room than this bound is passed
-//! over without a segmentation.
+//! A lower bound on the number of bits of an input in any segments. A version that has less room than this bound is skipped
+//! without a segmentation.
 
 ghost use Rattle.std.specs.Prelude.{length, ℕ, ◌/◌, ◌≡◌, ◌≤◌};
 ghost use Rattle.qr_bits.specs.declared.modes.Rule.{Rule};

@@ -68,14 +68,14 @@ flush_counted returned c = record c {
   settled = is_ok returned;
 }
 
--- `IsBeginning front whole` holds if the text `front` is a prefix of the text `whole` [own]
+-- `IsBeginning prefix whole` holds if the text `prefix` is a prefix of the text `whole` [own]
 abbrev pub IsBeginning : List ℕ → List ℕ → Type 0
-IsBeginning front whole = (rest : List ℕ) × (front ++ rest ≡ whole)
+IsBeginning prefix whole = (rest : List ℕ) × (prefix ++ rest ≡ whole)
 
 -- `AppendsBeginning old new whole` holds if a device whose bytes are known took a prefix of `whole`. If its bytes are
 -- unknown, it always holds [own]
 abbrev pub AppendsBeginning : Option (List ℕ) → Option (List ℕ) → List ℕ → Type 0
-AppendsBeginning old new whole = (front : List ℕ) × IsBeginning front whole × Appends old new front
+AppendsBeginning old new whole = (prefix : List ℕ) × IsBeginning prefix whole × Appends old new prefix
 
 -- `is_read_fault c` is true if the counts show a read that failed, or the 1,000th interruption (EINTR) [own]
 abbrev pub is_read_fault : ReadCounts → Bool
@@ -86,8 +86,8 @@ is_read_fault c = nat_lt 0 c.failed || nat_le 1000 c.interrupted
 abbrev pub is_write_fault : WriteCounts → Bool
 is_write_fault c = nat_lt 0 c.failed || (nat_lt 0 c.zeros || nat_le 1000 c.interrupted)
 
--- `IsWrittenWithin c` says how far a writer is written to. At most one call failed, or was a write of at least one byte
--- that took no byte; and at most 1,000 writes were interrupted [own]
+-- `IsWrittenWithin c` holds if at most one call of a writer failed or was a write of at least one byte that took no byte,
+-- and at most 1,000 writes were interrupted [own]
 pub record IsWrittenWithin (c : WriteCounts) : Type 0 where
   pub faults : c.failed + c.zeros ≤ 1
   pub interrupted : c.interrupted ≤ INTERRUPTIONS_MAX + 1

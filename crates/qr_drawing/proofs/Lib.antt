@@ -1,6 +1,1 @@
-mod CellLemmas
-mod DigitLemmas
-mod LineLemmas
-mod PathLemmas
-mod SendingLemmas
-mod WritingLemmas
+mod lemmas

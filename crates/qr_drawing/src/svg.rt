@@ -35,7 +35,7 @@ fn push_digit(text: &mut ArrayVec<u8, 1200>, digit: u16)
 }
 
 // Adds `number`, which has one or two decimal digits.
-#[tactic(auto, using(crate::proofs::DigitLemmas::one_digit, crate::proofs::DigitLemmas::more_digits))]
+#[tactic(auto, using(crate::proofs::lemmas::svg::DigitLemmas::one_digit, crate::proofs::lemmas::svg::DigitLemmas::more_digits))]
 fn push_two(text: &mut ArrayVec<u8, 1200>, number: u16)
     requires number { number < 100 }
     requires room { array_vec_len text.old + 2 ≤ 1200 }
@@ -51,7 +51,7 @@ fn push_two(text: &mut ArrayVec<u8, 1200>, number: u16)
 }
 
 // Adds `number`, which has one to three decimal digits.
-#[tactic(auto, using(crate::proofs::DigitLemmas::more_digits))]
+#[tactic(auto, using(crate::proofs::lemmas::svg::DigitLemmas::more_digits))]
 fn push_three(text: &mut ArrayVec<u8, 1200>, number: u16)
     requires number { number < 1000 }
     requires room { array_vec_len text.old + 3 ≤ 1200 }
@@ -67,7 +67,7 @@ fn push_three(text: &mut ArrayVec<u8, 1200>, number: u16)
 }
 
 // Adds `number` in decimal digits.
-#[tactic(auto, using(crate::proofs::DigitLemmas::more_digits))]
+#[tactic(auto, using(crate::proofs::lemmas::svg::DigitLemmas::more_digits))]
 fn push_number(text: &mut ArrayVec<u8, 1200>, number: u16)
     requires room { array_vec_len text.old + 5 ≤ 1200 }
     ensures items { text.new.items ≡ text.old.items ++ decimal number }

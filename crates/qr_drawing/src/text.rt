@@ -104,7 +104,7 @@ fn push_cell(text: &mut ArrayVec<u8, 1200>, style: TextStyle, upper: bool, lower
 }
 
 // Returns the row of the square that row `row` of the raster shows, or `None` if `row` is in the margin.
-#[tactic(auto, using(crate::proofs::PathLemmas::is_dark_at_above, crate::proofs::PathLemmas::is_dark_at_below))]
+#[tactic(auto, using(crate::proofs::lemmas::svg::PathLemmas::is_dark_at_above, crate::proofs::lemmas::svg::PathLemmas::is_dark_at_below))]
 fn square_row(matrix: &Matrix, margin: u8, row: u16) -> Option<u8>
     ensures { ShowsRow margin matrix.now row result }
 {
@@ -121,7 +121,7 @@ fn square_row(matrix: &Matrix, margin: u8, row: u16) -> Option<u8>
 // Returns the colours of eight modules of a row of the square, from column `col` on, which is a multiple of eight. Bit 0
 // is the module in column `col`; a bit is set if its module is dark. All eight are light if `row` is `None`.
 #[inline(always)]
-#[tactic(auto, using(crate::proofs::CellLemmas::dark_none))]
+#[tactic(auto, using(crate::proofs::lemmas::text::CellLemmas::dark_none))]
 fn dark_bits(matrix: &Matrix, row: Option<u8>, col: u8) -> u8
     requires row_in { IfSome row (λ r. r < matrix.now.side) }
     requires col_in { col < matrix.now.side }
@@ -195,7 +195,7 @@ fn push_half_block_pair(text: &mut ArrayVec<u8, 1200>, pair: u8)
 // Adds four modules and the four modules below them as four characters of half blocks. Bit 0 of `upper` and of `lower`
 // is the first module.
 #[inline(always)]
-#[tactic(auto, using(crate::proofs::CellLemmas::half_block_pairs))]
+#[tactic(auto, using(crate::proofs::lemmas::text::CellLemmas::half_block_pairs))]
 fn push_half_block_quad(text: &mut ArrayVec<u8, 1200>, upper: u8, lower: u8)
     requires room { array_vec_len text.old + 12 ≤ 1200 }
     ensures items { text.new.items ≡ text.old.items ++ bits_text 4 HalfBlocks upper lower }
@@ -207,7 +207,7 @@ fn push_half_block_quad(text: &mut ArrayVec<u8, 1200>, upper: u8, lower: u8)
 
 // Adds four cells. Bit 0 of `upper` and of `lower` is the first cell.
 #[inline(always)]
-#[tactic(auto, using(crate::proofs::CellLemmas::quad_plain, crate::proofs::CellLemmas::quad_inverse))]
+#[tactic(auto, using(crate::proofs::lemmas::text::CellLemmas::quad_plain, crate::proofs::lemmas::text::CellLemmas::quad_inverse))]
 fn push_quad(text: &mut ArrayVec<u8, 1200>, style: TextStyle, upper: u8, lower: u8)
     requires room { array_vec_len text.old + 4 * cell_room style ≤ 1200 }
     ensures items { text.new.items ≡ text.old.items ++ bits_text 4 style upper lower }
@@ -232,7 +232,7 @@ fn ascii_eight(bits: u8) -> [u8; 16]
 
 // Adds eight cells. Bit 0 of `upper` and of `lower` is the first cell.
 #[inline(always)]
-#[tactic(auto, using(crate::proofs::CellLemmas::eight_quads, crate::proofs::CellLemmas::eight_plain, crate::proofs::CellLemmas::eight_inverse))]
+#[tactic(auto, using(crate::proofs::lemmas::text::CellLemmas::eight_quads, crate::proofs::lemmas::text::CellLemmas::eight_plain, crate::proofs::lemmas::text::CellLemmas::eight_inverse))]
 fn push_eight(text: &mut ArrayVec<u8, 1200>, style: TextStyle, upper: u8, lower: u8)
     requires room { array_vec_len text.old + 8 * cell_room style ≤ 1200 }
     ensures { text.new.items ≡ text.old.items ++ bits_text 8 style upper lower }
@@ -282,8 +282,8 @@ fn push_cells(
     }
 }
 
-// Adds the cells of the square's columns in row `row` of the raster, eight at a time, and then four if four are left.
-// The last columns are not added if fewer than four are left.
+// Adds the cells of the square's columns in row `row` of the raster: eight at a time, and then four if at least four
+// remain. The last columns, fewer than four, are not added.
 #[inline(always)]
 fn push_columns(
     text: &mut ArrayVec<u8, 1200>,

@@ -24,7 +24,7 @@ zeros k = replicate k 0
 abbrev pub scaled : ℕ → List ℕ → List ℕ
 scaled a p = map (product a) p
 
--- The product of two polynomials. If they have m and n + 1 coefficients, it has m + n, so the product of an empty list
+-- The product of two polynomials. If the factors have m and n + 1 coefficients, the product has m + n, so the product of an empty list
 -- has n zeros (ISO/IEC 18004:2015, 7.5.2)
 abbrev pub times : List ℕ → List ℕ → List ℕ
 times [] g = zeros (length g - 1)

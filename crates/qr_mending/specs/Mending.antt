@@ -139,8 +139,8 @@ abbrev pub HasWrongModules : Grid → ℕ → Level → ℕ → List ℕ → ℕ
 HasWrongModules g v l mask changed wrong = HasWrongModulesWithout None g v l mask changed wrong
 
 -- `IsBeyondMendingWithout unknown g` holds if at least one copy of the format information of the square g is near to a
--- level and a mask, but both copies are of no use: some block has more damage than can be mended, where a codeword with
--- a module that was not read is erased (ISO/IEC 18004:2015, 7.5.1, 7.9.1, 12).
+-- level and a mask, but under each such level and mask some block has more damage than can be mended. A codeword with a
+-- module that was not read is erased (ISO/IEC 18004:2015, 7.5.1, 7.9.1, 12).
 pub record IsBeyondMendingWithout (unknown : Option Grid) (g : Grid) : Type 0 where
   pub version : ℕ
   pub sized : IsOfVersion g version

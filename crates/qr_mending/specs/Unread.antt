@@ -50,8 +50,8 @@ pub record IsMendedBlockWithout (b : Blocks) (spare : ℕ) (read : List (Option 
   pub count : misread ≡ errors read (part_of (data_cut b) message i ++ correction)
 
 -- `AreMendedWithout b spare d e u w n message misread` holds if the message consists of n mended blocks. The received
--- codewords are d and e, and u and w are their marks; item i of `misread` is the number of misread codewords in block i
--- [own].
+-- data codewords are d, with the marks u, and the received error correction codewords are e, with the marks w. Item i of
+-- `misread` is the number of misread codewords in block i [own].
 pub record AreMendedWithout (b : Blocks) (spare : ℕ) (d e u w : List ℕ) (n : ℕ) (message misread : List ℕ) : Type 0 where
   pub long : length message ≡ start_of (data_cut b) n
   pub many : length misread ≡ n

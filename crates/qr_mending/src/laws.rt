@@ -60,8 +60,8 @@ pub fn near_format_is_one()
         → (l ≡ k) × (m ≡ n) }
 {}
 
-/// The definition of the number of codewords of a block that may be changed agrees with Table 9: in the six cases where
-/// it is less than half of the error correction codewords, and in one other case.
+/// The definition of the number of codewords of a block that may be changed agrees with Table 9: in the six cases in
+/// which it is less than half of the error correction codewords, and in one other case.
 pub fn tolerances_compute()
     ensures one { tolerance_of 1 Level.L ≡ 2 × tolerance_of 1 Level.M ≡ 4 }
     ensures one_more { tolerance_of 1 Level.Q ≡ 6 × tolerance_of 1 Level.H ≡ 8 }

@@ -19,9 +19,9 @@ number_rule id letter most = record (text_rule id letter) { parser = Some (parse
 abbrev pub required_rule : Text → ℕ → Rule
 required_rule id letter = record (text_rule id letter) { required = true }
 
--- `word_rule id` is the rule of a positional argument, which belongs to no option [own]
-abbrev pub word_rule : Text → Rule
-word_rule id = record (new_rule id) { value_names = 1 }
+-- `positional_rule id` is the rule of a positional argument, which belongs to no option [own]
+abbrev pub positional_rule : Text → Rule
+positional_rule id = record (new_rule id) { value_names = 1 }
 
 -- `flag_rule id letter` is the rule of an option that takes no value [own]
 abbrev pub flag_rule : Text → ℕ → Rule
@@ -43,7 +43,7 @@ command = with_rule (with_rule (with_rule (with_rule (with_rule (with_rule (with
     (flag_rule (codes "kanji") (letter_of (codes "k"))))
     (flag_rule (codes "fold") (letter_of (codes "i"))))
     (flag_rule (codes "structured") (letter_of (codes "S"))))
-    (word_rule (codes "string"))
+    (positional_rule (codes "string"))
 
 -- `rows_for words` is the matches that `clap` states for the command line `words` [own]
 unfoldable pub rows_for : List Text → List Row

@@ -13,7 +13,7 @@ use Rattle.qr_drawing.specs.Drawing.{drawn}
 use Rattle.qrencode_cli.specs.Fault.{fault_line}
 use Rattle.qrencode_cli.specs.Input.{IsInputOf, IsReadWithin}
 use Rattle.qrencode_cli.specs.Settings.{IsUsageFault, Reason, SettingsView, rule_for, settings_for}
-use Rattle.qrencode_cli.specs.Picture.{AreSymbols, IsTooLong, IsTooMany}
+use Rattle.qrencode_cli.specs.Symbols.{AreSymbols, IsTooLong, IsTooMany}
 use Rattle.qrencode_cli.specs.declared.fault.Fault.{Fault}
 use Rattle.qrencode_cli.specs.declared.fault.Fault.TheVariants as fault
 use Rattle.qrencode_cli.specs.declared.settings.UsageFault.TheVariants as usage
@@ -45,8 +45,8 @@ pub record HasSettingsWith (words : List Text) (P : SettingsView → Type 0) : T
   pub taken : settings_for words ≡ Ok settings
   pub holds : P settings
 
--- `HasDrawing words given drawing` holds if `drawing` is what the command line `words` asks for, where `given` are the bytes
--- of the reader [own]
+-- `HasDrawing words given drawing` holds if `drawing` is what the command line `words` asks for, where `given` are the
+-- bytes of the reader [own]
 abbrev pub HasDrawing : List Text → List ℕ → List ℕ → Type 0
 HasDrawing words given drawing = HasSettingsWith words (λ s. IsDrawing s (held s (input_for s given)) drawing)
 
@@ -74,7 +74,8 @@ IsFault words given fault.Memory = Unit {0}
 IsFault words given fault.Write = (drawing : List ℕ) × HasDrawing words given drawing
 IsFault words given refusal = IsRefusal words given refusal
 
--- `DrawnWhole old new drawing` holds if the writer took the whole drawing, and was flushed once, after its last byte [own]
+-- `DrawnWhole old new drawing` holds if the writer took the whole drawing, and was flushed once, after its last byte
+-- [own]
 pub record DrawnWhole (old new : Writer) (drawing : List ℕ) : Type 0 where
   pub grows : Appends old.taken new.taken drawing
   pub many : old.counts ≡ no_writes → new.counts.taken ≡ counted (length drawing)
@@ -88,8 +89,8 @@ DrawnInPart old new drawing = (old.counts ≡ no_writes → new.counts.taken ≤
     × ((AppendsBeginning old.taken new.taken drawing × (new.counts.flushes ≡ old.counts.flushes))
     ⊎ (Appends old.taken new.taken drawing × (new.counts.flushes ≡ counted (old.counts.flushes + 1)) × (new.counts.settled ≡ false)))
 
--- `OutputHolds words given old new outcome` says what standard output received: the drawing after success, a prefix of it or
--- the whole after a write fault, and no call after any other fault [own]
+-- `OutputHolds words given old new outcome` says what standard output received: the drawing after success, a prefix of
+-- it or the whole after a write fault, and no call after any other fault [own]
 abbrev pub OutputHolds : List Text → List ℕ → Writer → Writer → {T : Type 0} → Result T Fault → Type 0
 OutputHolds words given old new (Ok t) = (drawing : List ℕ) × HasDrawing words given drawing × DrawnWhole old new drawing
 OutputHolds words given old new (Err fault.Write) = (drawing : List ℕ) × HasDrawing words given drawing × DrawnInPart old new drawing
@@ -102,21 +103,22 @@ AllRead old new given = Consumes old.remaining new.remaining given
     × (old.counts ≡ no_reads → new.counts.given ≡ length given)
     × (old.counts ≡ no_reads → (new.counts.ends ≡ 1) ⊎ (length given ≡ INPUT_MAX))
 
--- `InputConsumed old new given outcome` says what a run did to a reader that it had to read: it read the whole input, unless
--- the outcome is a read fault or lack of memory [own]
+-- `InputConsumed old new given outcome` says what a run did to a reader that it had to read: it read the whole input,
+-- unless the outcome is a read fault or lack of memory [own]
 abbrev pub InputConsumed : Reader → Reader → List ℕ → {T : Type 0} → Result T Fault → Type 0
 InputConsumed old new given (Err fault.Read) = Unit {0}
 InputConsumed old new given (Err fault.Memory) = Unit {0}
 InputConsumed old new given _ = AllRead old new given
 
--- `InputConsumedFor settings old new given outcome` says what a run did to the reader: it made no call if the command line is
--- refused or contains the input as a string, and otherwise `InputConsumed` holds [own]
+-- `InputConsumedFor settings old new given outcome` says what a run did to the reader: it made no call if the command
+-- line is refused or contains the input as a string, and otherwise `InputConsumed` holds [own]
 abbrev pub InputConsumedFor : Result SettingsView Reason → Reader → Reader → List ℕ → {T : Type 0} → Result T Fault → Type 0
 InputConsumedFor (Err r) old new given outcome = new ≡ old
 InputConsumedFor (Ok s) old new given outcome = MatchOption s.string (InputConsumed old new given outcome) (λ _. new ≡ old)
 
--- `ErrorHolds old new line` says what standard error received: the whole line; or only a prefix of it, if its counts show
--- that a write failed, took nothing, or was interrupted too often. It received no more bytes than the line has, and was not flushed [own]
+-- `ErrorHolds old new line` says what standard error received: the whole line; or only a prefix of it, if its counts
+-- show that a write failed, took nothing, or was interrupted too often. It received no more bytes than the line has,
+-- and was not flushed [own]
 abbrev pub ErrorHolds : Writer → Writer → List ℕ → Type 0
 ErrorHolds old new line = AppendsBeginning old.taken new.taken line
     × (old.counts ≡ no_writes → new.counts.taken ≤ counted (length line))
@@ -126,8 +128,8 @@ ErrorHolds old new line = AppendsBeginning old.taken new.taken line
 
 -- `Runs` says what a run of the command returns and does to its devices, for its outcome: success or a fault. If the
 -- counts of the devices start at 0, the outcome is one of three: what the arguments and the input determine; lack of
--- memory; or a fault of a device, and then the counts show this fault. Standard error receives nothing after success, and otherwise the
--- line of the fault. The status is 0 after success, and otherwise 1 [own]
+-- memory; or a fault of a device, and then the counts show this fault. Standard error receives nothing after success,
+-- and otherwise the line of the fault. The status is 0 after success, and otherwise 1 [own]
 pub record Runs (words : List Text) (in0 in1 : Reader) (out0 out1 err0 err1 : Writer) (outcome : Result (Unit {0}) Fault) (status : ℕ) : Type 0 where
   pub given : List ℕ
   pub is_input : IsInputOf in0.remaining given

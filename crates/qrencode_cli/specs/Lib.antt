@@ -4,5 +4,5 @@ pub mod Fault
 pub mod Input
 pub mod Laws
 pub mod Settings
-pub mod Picture
+pub mod Symbols
 pub mod Steps

@@ -14,7 +14,7 @@ use Rattle.qr_drawing.specs.declared.drawing.Drawing.TheVariants as drawing
 use Rattle.qrencode_cli.specs.declared.settings.UsageFault.{UsageFault}
 use Rattle.qrencode_cli.specs.declared.settings.UsageFault.TheVariants as usage
 
--- Why a command line is refused: `clap` finds no matches, the level is unknown, the type of drawing is unknown, or a
+-- Why a command line is refused: `clap` refuses it, the level is unknown, the type of drawing is unknown, or a
 -- series is asked for without a version [own]
 pub data Reason : Type 0 where
   refused_by_clap : Reason

@@ -5,7 +5,7 @@ ghost use Rattle.std.specs.String.{string_bytes};
 ghost use Rattle.clap.specs.Words.{app_of, found_of};
 ghost use Rattle.clap.specs.Walk.{rows_of, rule_of};
 ghost use Rattle.clap.specs.Simple.{new_app};
-ghost use Rattle.qrencode_cli.specs.Arguments.{command, faults_for, flag_rule, number_rule, required_rule, rows_for, text_rule, word_rule};
+ghost use Rattle.qrencode_cli.specs.Arguments.{command, faults_for, flag_rule, number_rule, positional_rule, required_rule, rows_for, text_rule};
 ghost use Rattle.qrencode_cli.specs.Settings.{IsUsageFault, settings_for};
 
 use crate::settings::UsageFault;
@@ -14,10 +14,10 @@ use clap::error::ErrorKind;
 use clap::{Arg, ArgAction, ArgMatches, Command};
 use std::alloc::{AllocError, Global};
 
-// The names of an option: `id` in the code, `short` on the command line, and `value` for its value in the help text.
-// `help` is its line of the help text.
+// An option of the command line: `id` is its name in the code, `short` its letter on the command line, `value` the name of
+// its value in the help text, and `help` its line of the help text.
 #[derive(Clone, Copy)]
-struct Name<'a> {
+struct OptionText<'a> {
     id: &'a str,
     short: char,
     value: &'a str,
@@ -25,46 +25,46 @@ struct Name<'a> {
 }
 
 // Makes an option that takes a text.
-fn text<'a>(alloc: Global, name: Name<'a>) -> Arg<'a>
-    ensures rule { rule_of result ≡ text_rule name.entry.id.now name.entry.short }
+fn text_option<'a>(alloc: Global, option: OptionText<'a>) -> Arg<'a>
+    ensures rule { rule_of result ≡ text_rule option.entry.id.now option.entry.short }
     ensures local { result.global ≡ false }
 {
-    Arg::new(alloc, name.id)
-        .short(name.short)
-        .value_name(name.value)
-        .help(name.help)
+    Arg::new(alloc, option.id)
+        .short(option.short)
+        .value_name(option.value)
+        .help(option.help)
 }
 
 // Makes an option that takes a number from 0 to `most`.
-fn number<'a>(alloc: Global, name: Name<'a>, most: i64) -> Arg<'a>
-    ensures rule { rule_of result ≡ number_rule name.entry.id.now name.entry.short most }
+fn number_option<'a>(alloc: Global, option: OptionText<'a>, most: i64) -> Arg<'a>
+    ensures rule { rule_of result ≡ number_rule option.entry.id.now option.entry.short most }
     ensures local { result.global ≡ false }
 {
-    text(alloc, name).value_parser(ValueParser::Signed(0, most))
+    text_option(alloc, option).value_parser(ValueParser::Signed(0, most))
 }
 
 // Makes an option that takes a text and must be given.
-fn required<'a>(alloc: Global, name: Name<'a>) -> Arg<'a>
-    ensures rule { rule_of result ≡ required_rule name.entry.id.now name.entry.short }
+fn required_option<'a>(alloc: Global, option: OptionText<'a>) -> Arg<'a>
+    ensures rule { rule_of result ≡ required_rule option.entry.id.now option.entry.short }
     ensures local { result.global ≡ false }
 {
-    text(alloc, name).required(true)
+    text_option(alloc, option).required(true)
 }
 
 // Makes an option that takes no value.
-fn flag<'a>(alloc: Global, name: Name<'a>) -> Arg<'a>
-    ensures rule { rule_of result ≡ flag_rule name.entry.id.now name.entry.short }
+fn flag_option<'a>(alloc: Global, option: OptionText<'a>) -> Arg<'a>
+    ensures rule { rule_of result ≡ flag_rule option.entry.id.now option.entry.short }
     ensures local { result.global ≡ false }
 {
-    Arg::new(alloc, name.id)
-        .short(name.short)
-        .help(name.help)
+    Arg::new(alloc, option.id)
+        .short(option.short)
+        .help(option.help)
         .action(ArgAction::SetTrue)
 }
 
 // Makes a positional argument, which belongs to no option.
-fn word<'a>(alloc: Global, id: &'a str, value: &'a str, help: &'a str) -> Arg<'a>
-    ensures rule { rule_of result ≡ word_rule id.entry.now }
+fn positional<'a>(alloc: Global, id: &'a str, value: &'a str, help: &'a str) -> Arg<'a>
+    ensures rule { rule_of result ≡ positional_rule id.entry.now }
     ensures local { result.global ≡ false }
 {
     Arg::new(alloc, id).value_name(value).help(help)
@@ -77,56 +77,56 @@ fn empty_command<'a>(alloc: Global) -> Command<'a>
     Command::new(alloc, "qrencode").about("Draws its input as QR Code symbols on standard output")
 }
 
-const LEVEL: Name<'static> = Name {
+const LEVEL: OptionText<'static> = OptionText {
     id: "level",
     short: 'l',
     value: "LEVEL",
     help: "Level of error correction, from the lowest to the highest: L, M, Q or H [default: L]",
 };
 
-const VERSION: Name<'static> = Name {
+const VERSION: OptionText<'static> = OptionText {
     id: "version",
     short: 'v',
     value: "N",
     help: "Smallest version of the symbol, 1 to 40, or 0 for any that fits; with -S the version [default: 0]",
 };
 
-const TYPE: Name<'static> = Name {
+const TYPE: OptionText<'static> = OptionText {
     id: "type",
     short: 't',
     value: "TYPE",
     help: "Type of the drawing: ASCII, ASCIIi, UTF8 or SVG",
 };
 
-const MARGIN: Name<'static> = Name {
+const MARGIN: OptionText<'static> = OptionText {
     id: "margin",
     short: 'm',
     value: "N",
     help: "Margin on each side, 0 to 100 modules [default: 4]",
 };
 
-const BYTES_ONLY: Name<'static> = Name {
+const BYTES_ONLY: OptionText<'static> = OptionText {
     id: "bytes-only",
     short: '8',
     value: "",
     help: "Encode the whole input in byte mode",
 };
 
-const KANJI: Name<'static> = Name {
+const KANJI: OptionText<'static> = OptionText {
     id: "kanji",
     short: 'k',
     value: "",
     help: "Encode pairs of bytes that are Shift JIS characters in kanji mode, if that is shorter; -8 switches it off",
 };
 
-const FOLD: Name<'static> = Name {
+const FOLD: OptionText<'static> = OptionText {
     id: "fold",
     short: 'i',
     value: "",
     help: "Encode the letters a to z as capitals; -8 switches it off, and with -k kanji stay as they are",
 };
 
-const STRUCTURED: Name<'static> = Name {
+const STRUCTURED: OptionText<'static> = OptionText {
     id: "structured",
     short: 'S',
     value: "",
@@ -137,15 +137,15 @@ const STRUCTURED: Name<'static> = Name {
 fn command_line<'a>(alloc: Global) -> Result<Command<'a>, AllocError>
     ensures { IfOk result (λ c. app_of c ≡ command) }
 {
-    let with_level = empty_command(alloc).arg(text(alloc, LEVEL))?;
-    let with_version = with_level.arg(number(alloc, VERSION, 40))?;
-    let with_type = with_version.arg(required(alloc, TYPE))?;
-    let with_margin = with_type.arg(number(alloc, MARGIN, 100))?;
-    let with_bytes_only = with_margin.arg(flag(alloc, BYTES_ONLY))?;
-    let with_kanji = with_bytes_only.arg(flag(alloc, KANJI))?;
-    let with_fold = with_kanji.arg(flag(alloc, FOLD))?;
-    let with_structured = with_fold.arg(flag(alloc, STRUCTURED))?;
-    with_structured.arg(word(
+    let with_level = empty_command(alloc).arg(text_option(alloc, LEVEL))?;
+    let with_version = with_level.arg(number_option(alloc, VERSION, 40))?;
+    let with_type = with_version.arg(required_option(alloc, TYPE))?;
+    let with_margin = with_type.arg(number_option(alloc, MARGIN, 100))?;
+    let with_bytes_only = with_margin.arg(flag_option(alloc, BYTES_ONLY))?;
+    let with_kanji = with_bytes_only.arg(flag_option(alloc, KANJI))?;
+    let with_fold = with_kanji.arg(flag_option(alloc, FOLD))?;
+    let with_structured = with_fold.arg(flag_option(alloc, STRUCTURED))?;
+    with_structured.arg(positional(
         alloc,
         "string",
         "STRING",

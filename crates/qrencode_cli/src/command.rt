@@ -6,12 +6,12 @@ ghost use Rattle.std.specs.String.{string_bytes};
 ghost use Rattle.qrencode_cli.specs.Input.{IsReadWithin};
 ghost use Rattle.qrencode_cli.specs.Command.{DrawnInPart, DrawnWhole, IsDrawing, RunsTo, held};
 ghost use Rattle.qr_devices.specs.Device.{IsWrittenWithin, is_read_fault, is_write_fault, no_reads, no_writes};
-ghost use Rattle.qrencode_cli.specs.Steps.Command.{AreDrawnFor, Attempts, IsInputFault, Prepares, drawing_of};
+ghost use Rattle.qrencode_cli.specs.Steps.Command.{AreDrawnFor, Attempts, IsInputFault, Prepares, drawing_of_job};
 ghost use Rattle.qrencode_cli.specs.declared.fault.Fault.{Fault};
 
+use crate::drawing_job::DrawingJob;
 use crate::fault::Fault;
 use crate::input::read_input;
-use crate::picture::Picture;
 use crate::settings::{Settings, options};
 use qr_bits::{INPUT_MAX, fold};
 use qr_devices::{Sink, Source};
@@ -37,35 +37,35 @@ fn symbols_for(alloc: Global, input: &[u8], settings: &Settings) -> Result<Vec<S
     Ok(symbols)
 }
 
-// Encodes `input` as it is, without folding, and returns the symbols together with how they are drawn.
-fn picture_of(alloc: Global, input: &[u8], settings: &Settings) -> Result<Picture, Fault>
+// Encodes `input` as it is, without folding, and returns the drawing job.
+fn job_of(alloc: Global, input: &[u8], settings: &Settings) -> Result<DrawingJob, Fault>
     requires { length input.now ≤ INPUT_MAX }
-    ensures { MatchResult result (λ p. IsDrawing settings.now input.now (drawing_of p))
+    ensures { MatchResult result (λ p. IsDrawing settings.now input.now (drawing_of_job p))
         (IsInputFault settings.now input.now) }
 {
-    Ok(Picture {
+    Ok(DrawingJob {
         symbols: symbols_for(alloc, input, settings)?,
         kind: settings.kind,
         margin: settings.margin,
     })
 }
 
-// Encodes `input`, which is folded first under `-i`, and returns the symbols together with how they are drawn.
-fn make_picture(alloc: Global, input: &[u8], settings: &Settings) -> Result<Picture, Fault>
+// Encodes `input`, which is folded first under `-i`, and returns the drawing job.
+fn make_job(alloc: Global, input: &[u8], settings: &Settings) -> Result<DrawingJob, Fault>
     requires { length input.now ≤ INPUT_MAX }
-    ensures { MatchResult result (λ p. IsDrawing settings.now (held settings.now input.now) (drawing_of p))
+    ensures { MatchResult result (λ p. IsDrawing settings.now (held settings.now input.now) (drawing_of_job p))
         (IsInputFault settings.now (held settings.now input.now)) }
 {
     if settings.fold {
         let folded = fold(alloc, input, settings.rule())?;
-        return picture_of(alloc, folded.as_slice(), settings);
+        return job_of(alloc, folded.as_slice(), settings);
     }
-    picture_of(alloc, input, settings)
+    job_of(alloc, input, settings)
 }
 
 // Parses the command line `words`, and encodes its string, or `input` if it has no string; at most `INPUT_MAX` bytes of
-// either are encoded. Returns the symbols together with how they are drawn.
-fn picture_for<R: Source>(alloc: Global, words: &[String], input: &mut R) -> Result<Picture, Fault>
+// either are encoded. Returns the drawing job.
+fn job_for<R: Source>(alloc: Global, words: &[String], input: &mut R) -> Result<DrawingJob, Fault>
     ensures prepares { Prepares (map string_bytes words.now) (R.device input.old)
         (R.device input.new) result }
     ensures within { (R.device input.old).counts ≡ no_reads → IsReadWithin (R.device input.new).counts }
@@ -75,27 +75,27 @@ fn picture_for<R: Source>(alloc: Global, words: &[String], input: &mut R) -> Res
     match &settings.string {
         Some(text) => {
             let bytes = text.as_bytes();
-            make_picture(alloc, &bytes[..INPUT_MAX.min(bytes.len())], &settings)
+            make_job(alloc, &bytes[..INPUT_MAX.min(bytes.len())], &settings)
         }
         None => {
             let bytes = read_input(alloc, input)?;
-            make_picture(alloc, bytes.as_slice(), &settings)
+            make_job(alloc, bytes.as_slice(), &settings)
         }
     }
 }
 
-// Writes the drawing of `picture` to `out`, and flushes `out` after the last byte.
-fn write_picture<W: Sink>(picture: &Picture, out: &mut W) -> Result<(), Fault>
+// Writes the drawing of `job` to `out`, and flushes `out` after the last byte.
+fn write_drawing<W: Sink>(job: &DrawingJob, out: &mut W) -> Result<(), Fault>
     ensures ok { OnOk result (DrawnWhole (W.device out.old) (W.device out.new)
-        (drawing_of picture.now)) }
+        (drawing_of_job job.now)) }
     ensures err { IfErr result (λ f. (f ≡ Fault.Write)
         × DrawnInPart (W.device out.old) (W.device out.new)
-        (drawing_of picture.now)) }
+        (drawing_of_job job.now)) }
     ensures fault { (W.device out.old).counts ≡ no_writes → IsErrOf result Fault.Write ↔ IsTrue (is_write_fault (W.device out.new).counts) }
     ensures within { (W.device out.old).counts ≡ no_writes → IsWrittenWithin (W.device out.new).counts }
     ensures offered { (W.device out.new).counts.offered ≤ max (W.device out.old).counts.offered WRITE_MAX }
 {
-    draw(&picture.symbols, picture.kind, picture.margin, out)?;
+    draw(&job.symbols, job.kind, job.margin, out)?;
     out.flush().map_err(|_| Fault::Write)
 }
 
@@ -115,8 +115,8 @@ fn run_to_result<R: Source, W: Sink>(
     ensures within { (W.device out.old).counts ≡ no_writes → IsWrittenWithin (W.device out.new).counts }
     ensures offered { (W.device out.new).counts.offered ≤ max (W.device out.old).counts.offered WRITE_MAX }
 {
-    let picture = picture_for(alloc, words, input)?;
-    write_picture(&picture, out)
+    let job = job_for(alloc, words, input)?;
+    write_drawing(&job, out)
 }
 
 /// Runs the command: parses the arguments `words`, of which the first is the program's name, reads the input, and

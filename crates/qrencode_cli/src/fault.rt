@@ -106,7 +106,7 @@ mod tests {
     use super::*;
     use std::test::Fail;
 
-    // The lines are those of the command's profile, and each message of a fault has the words of its line.
+    // The lines that the manual page lists. The message of a fault is the text of its line.
     #[test]
     fn lines(rt: HostRuntime) -> Result<(), Fail> {
         let rows = [

@@ -6,8 +6,7 @@ ghost use Rattle.qr_devices.specs.declared.device.TheConstants.{INTERRUPTIONS_MA
 ghost use Rattle.qr_drawing.specs.declared.pen.TheConstants.{WRITE_MAX};
 ghost use Rattle.qrencode_cli.specs.Laws.{AnswersAreOne, FoldingFollowsTheRule, LinesOfFaults, NumbersOfUsageFaults, RefusalsAreOne, RefusalsExcludeDrawings, CommandLines, RulesOfModes, StatusesAreTwo};
 
-/// The 45 command lines that are listed have the settings that are listed, or are refused for the reason that is
-/// listed.
+/// Each of the 45 listed command lines has the settings beside it, or is refused for the reason beside it.
 pub fn command_lines()
     ensures { CommandLines }
 {}

@@ -4,10 +4,10 @@
 
 mod arguments;
 mod command;
+mod drawing_job;
 mod fault;
 mod input;
 pub mod laws;
-mod picture;
 mod settings;
 
 pub use command::run;

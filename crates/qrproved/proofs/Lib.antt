@@ -1,5 +1,1 @@
-mod ModuleLemmas
-mod EncodingLemmas
-mod ReadingLemmas
-mod MendingLemmas
-mod DrawingLemmas
+mod lemmas

@@ -1,4 +1,4 @@
--- What the call that mends a symbol writes, and when it writes nothing. The byte 2 stands for a module that is not
+-- What the call that mends a symbol writes, and when it writes nothing. The byte 2 is that of a module that is not
 -- known.
 use Rattle.std.specs.Prelude.{◌≡◌, ℕ, ◌+◌, ◌*◌, ◌<◌, ◌≤◌, ◌==◌, if◌then◌else◌, Option, None, Some, List, ◌++◌, drop, length, slice_index_or, take}
 use Rattle.std.specs.List.{All, Any, Contains, count_by}

@@ -1,4 +1,4 @@
--- What the numbers mean that a call gets for the version, the level and the rule.
+-- What the numbers of a call mean: the version, the level and the rule.
 use Rattle.std.specs.Prelude.{ℕ, ◌<◌, ◌≤◌, ◌==◌, if◌then◌else◌}
 use Rattle.qr_layout.specs.declared.level.Level.{Level}
 use Rattle.qr_layout.specs.declared.level.Level.TheVariants as level

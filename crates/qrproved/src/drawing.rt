@@ -144,7 +144,7 @@ mod tests {
     use super::*;
     use std::test::Fail;
 
-    // A square of two by two modules, then its opposite.
+    // A square of two by two modules, and then the square with the opposite colours.
     static SQUARES: [u8; 8] = [1, 0, 0, 200, 0, 1, 1, 0];
 
     #[test]

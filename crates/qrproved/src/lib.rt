@@ -1,14 +1,14 @@
 //! The calls for C, and for all languages that can call C. They encode an input as a symbol or as a series, read a
 //! symbol, mend a damaged symbol, and draw squares as text or as SVG. Modules are bytes in the caller's buffer, and all
-//! else about them is written to the caller's struct. A call keeps no memory and returns none. `include/qrproved.h`
-//! declares the calls.
+//! else about them is written to the caller's struct. A call keeps no memory, and leaves none to be freed.
+//! `include/qrproved.h` declares the calls.
 //!
 //! The promises of a call hold if its caller meets the conditions under 'What the caller owes' in `docs/LIBRARY.md`. Bytes
 //! after the last byte asked for are unchanged. On any status but 0 the buffer and the struct are unchanged. Each status
 //! is returned exactly if its cause applies and no earlier cause does, unless memory is refused.
 //!
-//! These causes do not depend on memory: no such version, level or rule, an empty input, no such side, and an input of
-//! more than 7,089 bytes (for a series, of more than 113,425). Too few modules do not depend on memory either for
+//! These causes do not depend on memory: a version, level or rule out of range, an empty input, a side that no version
+//! has, and an input of more than 7,089 bytes (for a series, of more than 113,425). Too few modules do not depend on memory either for
 //! `qrproved_mend` and `qrproved_draw`, nor does a byte of more than 2 for `qrproved_mend`.
 #![tactic(auto)]
 

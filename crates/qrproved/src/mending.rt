@@ -59,7 +59,7 @@ pub struct QrprovedMended {
 // The byte of a module that is not known.
 const NOT_KNOWN: u8 = 2;
 
-// Returns whether each byte stands for a light module, a dark module, or a module that is not known.
+// Returns whether each byte is that of a light module, of a dark module, or of a module that is not known.
 fn are_modules(modules: &[u8]) -> bool
     ensures { MatchBool result (All (λ b. b ≤ 2) modules.now) (Any (λ b. 2 < b) modules.now) }
 {

@@ -1,4 +1,4 @@
-//! Checks the numbers that a call gets for the version, the level and the rule. C may pass any number, and numbers out
+//! Checks the numbers of a call for the version, the level and the rule. C may pass any number, and numbers out
 //! of range are refused.
 
 ghost use Rattle.std.specs.Prelude.{◌≡◌, ◌<◌, ◌≤◌, SomeIff};

@@ -29,7 +29,7 @@ pub record Writes (old new : Writer) (tried tries : ℕ) (text held : List ℕ) 
 
 -- `Stops old new tried text` holds if a prefix of the text was written, and the writer is at fault
 pub record Stops (old new : Writer) (tried : ℕ) (text : List ℕ) : Type 0 where
-  pub front : AppendsBeginning old.taken new.taken text
+  pub prefix : AppendsBeginning old.taken new.taken text
   pub most : old.counts.taken < 2 ^ 64 → new.counts.taken ≤ counted (old.counts.taken + length text)
   pub fault : IsWell old.counts tried → is_write_fault new.counts ≡ true
   pub within : IsWell old.counts tried → IsWrittenWithin new.counts

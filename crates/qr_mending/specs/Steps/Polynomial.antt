@@ -39,7 +39,7 @@ pub record HasDegrees (most : ℕ) (pool : List Polynomial) : Type 0 where
   pub each : (k : ℕ) → k < length pool → (at pool k).degree ≤ most
 
 -- `IsPool t i syndromes pool` holds if the polynomials in the pool have rising degrees of at most t and solve the first
--- i of t equations. At first there are t + 1 of them, and each equation costs at most one.
+-- i of t equations. At first the pool has t + 1 polynomials, and each equation costs at most one polynomial.
 pub record IsPool (t i : ℕ) (syndromes : List ℕ) (pool : List Polynomial) : Type 0 where
   pub count : t + 1 ≤ length pool + i
   pub degrees : HasDegrees t pool

@@ -10,15 +10,15 @@ use Rattle.qr_symbol.specs.Series.{squares_of}
 use Rattle.qr_drawing.specs.Drawing.{HaveOneSide, drawn}
 use Rattle.qrencode_cli.specs.Input.{IsInputOf}
 use Rattle.qrencode_cli.specs.Settings.{SettingsView, settings_for}
-use Rattle.qrencode_cli.specs.Picture.{AreSymbols, IsTooLong, IsTooMany}
+use Rattle.qrencode_cli.specs.Symbols.{AreSymbols, IsTooLong, IsTooMany}
 use Rattle.qrencode_cli.specs.declared.fault.Fault.{Fault}
 use Rattle.qrencode_cli.specs.declared.fault.Fault.TheVariants.{Encode, Memory, Write}
 use Rattle.qr_symbol.specs.declared.fault.EncodeFault.TheVariants.{Empty, TooLong, TooMany}
-use Rattle.qrencode_cli.specs.declared.picture.Picture.{Picture}
+use Rattle.qrencode_cli.specs.declared.drawing_job.DrawingJob.{DrawingJob}
 
--- `drawing_of p` is the drawing of the picture `p`
-abbrev pub drawing_of : Picture → List ℕ
-drawing_of p = drawn p.kind p.margin (squares_of p.symbols.items)
+-- `drawing_of_job job` is the drawing of the job's symbols
+abbrev pub drawing_of_job : DrawingJob → List ℕ
+drawing_of_job job = drawn job.kind job.margin (squares_of job.symbols.items)
 
 -- `AreDrawnFor s input symbols` holds if `symbols` are what the settings `s` ask for of the input, and can be drawn
 pub record AreDrawnFor (s : SettingsView) (input : List ℕ) (symbols : List Symbol) : Type 0 where
@@ -43,13 +43,13 @@ abbrev pub IsEarly : Fault → Type 0
 IsEarly Write = ⊥
 IsEarly _ = Unit {0}
 
--- `Prepares words old new result` holds if `result` is the picture that the command line `words` and the reader's input
+-- `Prepares words old new result` holds if `result` is the job that the command line `words` and the reader's input
 -- ask for, or a fault that occurs before any byte is written
-pub record Prepares (words : List Text) (old new : Reader) (result : Result Picture Fault) : Type 0 where
+pub record Prepares (words : List Text) (old new : Reader) (result : Result DrawingJob Fault) : Type 0 where
   pub given : List ℕ
   pub is_input : IsInputOf old.remaining given
   pub reads : InputConsumedFor (settings_for words) old new given result
-  pub answer : MatchResult result (λ p. HasDrawing words given (drawing_of p)) (λ f. IsFault words given f × IsEarly f)
+  pub answer : MatchResult result (λ p. HasDrawing words given (drawing_of_job p)) (λ f. IsFault words given f × IsEarly f)
 
 -- `Attempts words in0 in1 out0 out1 result` says what a run did before it reports a fault on standard error
 pub record Attempts (words : List Text) (in0 in1 : Reader) (out0 out1 : Writer) (result : Result (Unit {0}) Fault) : Type 0 where

@@ -1,4 +1,4 @@
-use Rattle.qr_drawing.proofs.WritingLemmas.{empty_stops}
+use Rattle.qr_drawing.proofs.lemmas.pen.WritingLemmas.{empty_stops}
 use Rattle.qr_drawing.proofs.drawing.draw.Goals as goal
 
 pub returns-clause-err : goal.returns-clause-err

@@ -1,7 +1,7 @@
 use Rattle.std.proofs.Common.{◌≤◌, ◌+◌, ◌-◌, [], length, take, drop, refl, arith}
 use Rattle.std.proofs.lemmas.Grind.{common_steps}
-use Rattle.qr_drawing.proofs.SendingLemmas.{sends_more, sends_again, refused-zero, refused-failed, refused-tried}
-use Rattle.qr_drawing.proofs.WritingLemmas.{writes_none}
+use Rattle.qr_drawing.proofs.lemmas.pen.SendingLemmas.{sends_more, sends_again, refused-zero, refused-failed, refused-tried}
+use Rattle.qr_drawing.proofs.lemmas.pen.WritingLemmas.{writes_none}
 use Rattle.qr_drawing.proofs.pen.send.Goals as goal
 
 pub offers-init : goal.offers-init

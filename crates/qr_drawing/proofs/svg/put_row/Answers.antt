@@ -1,9 +1,9 @@
 use Rattle.std.proofs.Common.{◌+◌, refl, arith}
 use Rattle.std.proofs.lemmas.Result.{err_from_is_err_and}
 use Rattle.qr_drawing.specs.Svg.{row_path}
-use Rattle.qr_drawing.proofs.LineLemmas.{put_next, put_none, put_stops}
-use Rattle.qr_drawing.proofs.PathLemmas.{dark_path, dark_run, light_run, row_begins, row_ends}
-use Rattle.qr_drawing.proofs.WritingLemmas.{formed, stops_before}
+use Rattle.qr_drawing.proofs.lemmas.text.LineLemmas.{put_next, put_none, put_stops}
+use Rattle.qr_drawing.proofs.lemmas.svg.PathLemmas.{dark_path, dark_run, light_run, row_begins, row_ends}
+use Rattle.qr_drawing.proofs.lemmas.pen.WritingLemmas.{formed, stops_before}
 use Rattle.qr_drawing.proofs.svg.put_row.Goals as goal
 
 pub loop-run-init : goal.loop-run-init

@@ -1,7 +1,7 @@
 use Rattle.std.proofs.Common.{◌+◌, arith}
-use Rattle.qr_drawing.specs.Steps.Text.{cell_at, cell_room}
-use Rattle.qr_drawing.proofs.LineLemmas.{added_next, added_none}
-use Rattle.qr_drawing.proofs.CellLemmas.{cell-length, room-left}
+use Rattle.qr_drawing.specs.Steps.Text.{cell_at}
+use Rattle.qr_drawing.proofs.lemmas.text.LineLemmas.{added_next, added_none}
+use Rattle.qr_drawing.proofs.lemmas.text.CellLemmas.{room-cells}
 use Rattle.qr_drawing.proofs.text.push_cells.Goals as goal
 
 pub loop-done-init : goal.loop-done-init
@@ -11,9 +11,8 @@ pub push_cell-requires : goal.push_cell-requires
 push_cell-requires c =
     omega (
       arith,
-      room-left c.args.text.now.items _ _ 1 c.args.count (cell_room c.args.style) 1200
-          (λ i. cell_at c.args.style c.args.margin c.args.matrix.now c.args.row (c.args.first + i)) (λ k. cell-length c.args.style _ _)
-          c.loop-done.invariant (omega arith) c.requires.room,
+      room-cells c.args.style c.args.margin c.args.matrix.now c.args.row c.args.first _ 1 c.args.count _ _ c.loop-done.invariant
+          (omega arith) c.requires.room,
     )
 
 pub loop-done-preserved : goal.loop-done-preserved

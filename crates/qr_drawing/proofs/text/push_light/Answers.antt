@@ -1,7 +1,7 @@
 use Rattle.std.proofs.Common.{false, arith}
 use Rattle.qr_drawing.specs.Steps.Text.{cell_room, cell_text}
-use Rattle.qr_drawing.proofs.LineLemmas.{added_next, added_none}
-use Rattle.qr_drawing.proofs.CellLemmas.{cell-length, room-left}
+use Rattle.qr_drawing.proofs.lemmas.text.LineLemmas.{added_next, added_none}
+use Rattle.qr_drawing.proofs.lemmas.text.CellLemmas.{cell-length, room-left}
 use Rattle.qr_drawing.proofs.text.push_light.Goals as goal
 
 pub loop-done-init : goal.loop-done-init

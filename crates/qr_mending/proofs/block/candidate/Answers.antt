@@ -4,7 +4,7 @@ use Rattle.std.proofs.lemmas.List.Elements.{All-from_get_or}
 use Rattle.qr_field.specs.Polynomial.{IsByte}
 use Rattle.qr_mending.specs.Steps.Sums.{HasValues}
 use Rattle.qr_mending.specs.Steps.Polynomial.{miss_of}
-use Rattle.qr_mending.proofs.BlockLemmas.{errors-leave}
+use Rattle.qr_mending.proofs.lemmas.block.BlockLemmas.{errors-leave}
 use Rattle.qr_mending.proofs.block.candidate.Goals as goal
 
 pub returns-clause-mended : goal.returns-clause-mended

@@ -2,7 +2,7 @@ use Rattle.std.proofs.Common.{◌-◌, length, sym, ◌∙◌}
 use Rattle.std.proofs.lemmas.Bool.Decides.{Decides-eqb}
 use Rattle.std.proofs.lemmas.List.{take_rest}
 use Rattle.std.proofs.lemmas.Slice.Eq.{slice_eq-Decides}
-use Rattle.qr_mending.proofs.BlockLemmas.{block-found, block-passes}
+use Rattle.qr_mending.proofs.lemmas.block.BlockLemmas.{block-found, block-passes}
 use Rattle.qr_mending.proofs.block.is_block.Goals as goal
 
 pub returns : goal.returns

@@ -1,5 +1,5 @@
 use Rattle.std.proofs.Common.{sym}
-use Rattle.qr_mending.proofs.BlockLemmas.{mended-same, mended-one, differences-same}
+use Rattle.qr_mending.proofs.lemmas.block.BlockLemmas.{mended-same, mended-one, differences-same}
 use Rattle.qr_mending.proofs.block.mend.Goals as goal
 
 pub returns-then-is_block-clause-mended : goal.returns-then-is_block-clause-mended

@@ -6,7 +6,7 @@ use Rattle.qr_mending.specs.Steps.Sums.{HasValues}
 use Rattle.qr_mending.specs.Steps.Polynomial.{all_of, miss_of}
 use Rattle.qr_mending.specs.Steps.Errors.{weighted, IsLocated}
 use Rattle.qr_mending.specs.Steps.Roots.{rooted}
-use Rattle.qr_mending.proofs.ErasureLemmas.{erasures-leave}
+use Rattle.qr_mending.proofs.lemmas.erasures.ErasureLemmas.{erasures-leave}
 use Rattle.qr_mending.proofs.erasures.candidate.Goals as goal
 
 pub returns-clause-mended : goal.returns-clause-mended

@@ -2,7 +2,7 @@ use Rattle.std.proofs.Common.{ℕ, List, ◌≡◌, ◌∙◌, true, length, sym
 use Rattle.qr_field.specs.Distance.{errors}
 use Rattle.qr_mending.specs.Block.{IsBlock}
 use Rattle.qr_mending.specs.Erasures.{read_of, IsMendedWithErasures}
-use Rattle.qr_mending.proofs.ErasureLemmas.{length-read, erasures-marked}
+use Rattle.qr_mending.proofs.lemmas.erasures.ErasureLemmas.{length-read, erasures-marked}
 use Rattle.qr_mending.proofs.erasures.mend_with_erasures.Goals as goal
 use Rattle.qr_mending.proofs.erasures.mend_with_erasures.Goals.{then-unread-misread-via-then-unread-misread, then-unread-misread-via-else-unread-misread+then-not-is_block}
 

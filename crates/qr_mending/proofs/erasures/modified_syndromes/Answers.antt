@@ -1,7 +1,7 @@
 use Rattle.std.proofs.Common.{ap, ◌∙◌, arith}
 use Rattle.std.proofs.lemmas.List.{take_rest}
 use Rattle.qr_mending.specs.Steps.Sums.{dot_of}
-use Rattle.qr_mending.proofs.ErasureLemmas.{modified-more}
+use Rattle.qr_mending.proofs.lemmas.erasures.ErasureLemmas.{modified-more}
 use Rattle.qr_mending.proofs.erasures.modified_syndromes.Goals as goal
 
 pub loop-i-preserved : goal.loop-i-preserved

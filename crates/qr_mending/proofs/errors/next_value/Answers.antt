@@ -1,5 +1,5 @@
 use Rattle.std.proofs.Common.{arith}
-use Rattle.qr_mending.proofs.BlockLemmas.{value-next}
+use Rattle.qr_mending.proofs.lemmas.block.BlockLemmas.{value-next}
 use Rattle.qr_mending.proofs.errors.next_value.Goals as goal
 
 pub returns : goal.returns

@@ -3,7 +3,7 @@ use Rattle.qr_layout.specs.declared.level.Level.{Level}
 use Rattle.qr_mending.specs.declared.format.FormatCopy.{FormatCopy}
 use Rattle.qr_mending.specs.declared.format.FormatCopy.TheVariants.{First, Second}
 use Rattle.qr_mending.specs.Format.{IsNearFormat}
-use Rattle.qr_mending.proofs.FormatLemmas.{each-copy, option-more}
+use Rattle.qr_mending.proofs.lemmas.format.FormatLemmas.{each-copy, option-more}
 use Rattle.qr_mending.proofs.format.near_format_of_either.Goals as goal
 
 pub returns-in-Some : goal.returns-in-Some

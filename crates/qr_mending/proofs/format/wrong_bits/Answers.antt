@@ -3,7 +3,7 @@ use Rattle.qr_layout.specs.declared.region.Module.{Module}
 use Rattle.qr_matrix.specs.Grid.{colour}
 use Rattle.qr_symbol.specs.Symbol.{word_bit}
 use Rattle.qr_mending.specs.Format.{copy_place, copy_bit}
-use Rattle.qr_mending.proofs.FormatLemmas.{count-differs, count-agrees}
+use Rattle.qr_mending.proofs.lemmas.format.FormatLemmas.{count-differs, count-agrees}
 use Rattle.qr_mending.proofs.format.wrong_bits.Goals as goal
 use Rattle.qr_mending.proofs.format.wrong_bits.Goals.{then-dark-is_bit_set, else-dark-is_bit_set}
 

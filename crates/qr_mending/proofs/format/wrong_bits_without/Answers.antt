@@ -3,7 +3,7 @@ use Rattle.qr_layout.specs.declared.region.Module.{Module}
 use Rattle.qr_matrix.specs.Grid.{colour}
 use Rattle.qr_symbol.specs.Symbol.{word_bit}
 use Rattle.qr_mending.specs.Format.{copy_place, copy_bit, wrong_bit}
-use Rattle.qr_mending.proofs.FormatLemmas.{sum-more}
+use Rattle.qr_mending.proofs.lemmas.format.FormatLemmas.{sum-more}
 use Rattle.qr_mending.proofs.format.wrong_bits_without.Goals as goal
 
 pub loop-i-preserved : goal.loop-i-preserved

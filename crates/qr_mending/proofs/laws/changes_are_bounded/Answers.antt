@@ -1,4 +1,4 @@
-use Rattle.qr_mending.proofs.BoundLemmas.{changes-few, changes-some, tolerance-bounds}
+use Rattle.qr_mending.proofs.lemmas.laws.BoundLemmas.{changes-few, changes-some, tolerance-bounds}
 use Rattle.qr_mending.proofs.laws.changes_are_bounded.Goals as goal
 
 pub returns : goal.returns

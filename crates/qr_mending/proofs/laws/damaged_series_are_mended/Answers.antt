@@ -1,6 +1,6 @@
 use Rattle.qr_symbol.specs.Series.{squares_of}
 use Rattle.qr_symbol.proofs.Facts.{series-joined}
-use Rattle.qr_mending.proofs.SeriesLemmas.{damaged-joined, mended-to}
+use Rattle.qr_mending.proofs.lemmas.series.SeriesLemmas.{damaged-joined, mended-to}
 use Rattle.qr_mending.proofs.laws.damaged_series_are_mended.Goals as goal
 
 pub returns : goal.returns

@@ -1,5 +1,5 @@
 use Rattle.std.specs.Prelude.{None}
-use Rattle.qr_mending.proofs.DamageLemmas.{symbol-counted}
+use Rattle.qr_mending.proofs.lemmas.laws.DamageLemmas.{symbol-counted}
 use Rattle.qr_mending.proofs.laws.damaged_symbols_are_mended.Goals as goal
 
 pub returns : goal.returns

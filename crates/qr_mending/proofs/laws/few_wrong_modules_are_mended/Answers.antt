@@ -1,8 +1,8 @@
 use Rattle.std.proofs.Common.{inl, arith}
 use Rattle.std.specs.Prelude.{None}
 use Rattle.qr_symbol.proofs.Facts.{symbol-format, symbol-holds}
-use Rattle.qr_mending.proofs.DamageLemmas.{symbol-mended, symbol-mended-as}
-use Rattle.qr_mending.proofs.FewModuleLemmas.{few-format, few-held}
+use Rattle.qr_mending.proofs.lemmas.laws.DamageLemmas.{symbol-mended, symbol-mended-as}
+use Rattle.qr_mending.proofs.lemmas.laws.FewModuleLemmas.{few-format, few-held}
 use Rattle.qr_mending.proofs.laws.few_wrong_modules_are_mended.Goals as goal
 
 pub returns : goal.returns

@@ -1,4 +1,4 @@
-use Rattle.qr_mending.proofs.MendingLemmas.{unmended-one}
+use Rattle.qr_mending.proofs.lemmas.mending.MendingLemmas.{unmended-one}
 use Rattle.qr_mending.proofs.laws.mending_refusals_are_one.Goals as goal
 
 pub returns : goal.returns

@@ -1,4 +1,4 @@
-use Rattle.qr_mending.proofs.FormatLemmas.{near-one}
+use Rattle.qr_mending.proofs.lemmas.format.FormatLemmas.{near-one}
 use Rattle.qr_mending.proofs.laws.near_format_is_one.Goals as goal
 
 pub returns : goal.returns

@@ -1,4 +1,4 @@
-use Rattle.qr_mending.proofs.UndamagedLemmas.{reading-mended}
+use Rattle.qr_mending.proofs.lemmas.laws.UndamagedLemmas.{reading-mended}
 use Rattle.qr_mending.proofs.laws.readings_are_mended_readings.Goals as goal
 
 pub returns : goal.returns

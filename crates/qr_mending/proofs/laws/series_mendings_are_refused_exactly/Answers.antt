@@ -2,8 +2,8 @@ use Rattle.std.specs.Prelude.{None}
 use Rattle.qr_symbol.proofs.Facts.{exactly, joined-refused, unjoined-one}
 use Rattle.qr_mending.specs.Mending.{IsUnmended}
 use Rattle.qr_mending.specs.Series.{IsMendedContent, IsMendedSeries, IsUnmendedSeries}
-use Rattle.qr_mending.proofs.MendingLemmas.{unmended-one}
-use Rattle.qr_mending.proofs.SeriesLemmas.{content-one, content-refused}
+use Rattle.qr_mending.proofs.lemmas.mending.MendingLemmas.{unmended-one}
+use Rattle.qr_mending.proofs.lemmas.series.SeriesLemmas.{content-one, content-refused}
 use Rattle.qr_mending.proofs.laws.series_mendings_are_refused_exactly.Goals as goal
 
 pub returns : goal.returns

@@ -3,7 +3,7 @@ use Rattle.std.proofs.lemmas.List.{take_rest}
 use Rattle.arrayvec.specs.ArrayVec.{array_vec_len}
 use Rattle.qr_mending.specs.declared.polynomial.Polynomial.{Polynomial}
 use Rattle.qr_mending.specs.Steps.Polynomial.{at, miss_of, IsPool, IsRelieved}
-use Rattle.qr_mending.proofs.PoolLemmas.{pool-kept, pool-next, pool-higher, refill-same}
+use Rattle.qr_mending.proofs.lemmas.locator.PoolLemmas.{pool-kept, pool-next, pool-higher, refill-same}
 use Rattle.qr_mending.proofs.locator.solve.Goals as goal
 
 pub relieve-requires-clause-higher : goal.relieve-requires-clause-higher

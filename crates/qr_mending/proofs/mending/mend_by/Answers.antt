@@ -1,7 +1,7 @@
 use Rattle.std.proofs.Common.{Err, sym, ap, subst}
 use Rattle.qr_symbol.specs.declared.fault.ReadFault.{ReadFault}
 use Rattle.qr_symbol.specs.Reading.{IsRead}
-use Rattle.qr_mending.proofs.MendingLemmas.{no-use}
+use Rattle.qr_mending.proofs.lemmas.mending.MendingLemmas.{no-use}
 use Rattle.qr_mending.proofs.mending.mend_by.Goals as goal
 
 pub returns-in-Err-Check-clause-mended : goal.returns-in-Err-Check-clause-mended

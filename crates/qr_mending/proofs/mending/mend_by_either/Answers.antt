@@ -4,8 +4,8 @@ use Rattle.qr_mending.specs.declared.format.FormatCopy.{FormatCopy}
 use Rattle.qr_mending.specs.declared.format.FormatCopy.TheVariants.{First, Second}
 use Rattle.qr_mending.specs.Format.{IsNearFormat}
 use Rattle.qr_mending.specs.Mending.{HasFormatWithout, HoldsDamagedWithout, IsOfNoUseWithout}
-use Rattle.qr_mending.proofs.FormatLemmas.{each-copy}
-use Rattle.qr_mending.proofs.MendingLemmas.{second-copy}
+use Rattle.qr_mending.proofs.lemmas.format.FormatLemmas.{each-copy}
+use Rattle.qr_mending.proofs.lemmas.mending.MendingLemmas.{second-copy}
 use Rattle.qr_mending.proofs.mending.mend_by_either.Goals as goal
 
 pub returns-in-None-clause-mended : goal.returns-in-None-clause-mended

@@ -3,7 +3,7 @@ use Rattle.std.proofs.lemmas.List.{take_rest}
 use Rattle.qr_symbol.specs.declared.interleaving.Cut.{Cut}
 use Rattle.qr_symbol.specs.Interleaving.{block_count, cut_len, data_cut, correction_cut, IsGathered}
 use Rattle.qr_mending.specs.Message.{AreMended}
-use Rattle.qr_mending.proofs.MessageLemmas.{none-received}
+use Rattle.qr_mending.proofs.lemmas.message.MessageLemmas.{none-received}
 use Rattle.qr_mending.proofs.message.mend_blocks.Goals as goal
 
 pub returns-clause-refused : goal.returns-clause-refused

@@ -2,7 +2,7 @@ use Rattle.std.proofs.Common.{◌++◌, Err, ap, ◌∙◌, arith}
 use Rattle.std.proofs.lemmas.Result.{err_from_is_err_and}
 use Rattle.qr_symbol.specs.declared.fault.ReadFault.{ReadFault}
 use Rattle.qr_symbol.specs.declared.fault.ReadFault.TheVariants.{Check}
-use Rattle.qr_mending.proofs.MessageLemmas.{push-mended, none-mended, same-fault}
+use Rattle.qr_mending.proofs.lemmas.message.MessageLemmas.{push-mended, none-mended, same-fault}
 use Rattle.qr_mending.proofs.message.mend_parts.Goals as goal
 
 pub returns-in_err-mended-clause-refused : goal.returns-in_err-mended-clause-refused

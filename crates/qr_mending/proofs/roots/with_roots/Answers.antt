@@ -2,7 +2,7 @@ use Rattle.std.proofs.Common.{◌≡◌, ◌∙◌, length, drop, ap, arith}
 use Rattle.std.proofs.lemmas.List.Elements.{All-from_get_or}
 use Rattle.qr_field.specs.Polynomial.{IsByte}
 use Rattle.qr_mending.specs.Steps.Roots.{rooted}
-use Rattle.qr_mending.proofs.RootLemmas.{length-rooted, length-rooted_rest}
+use Rattle.qr_mending.proofs.lemmas.roots.RootLemmas.{length-rooted, length-rooted_rest}
 use Rattle.qr_mending.proofs.roots.with_roots.Goals as goal
 
 pub with_root-product-requires : goal.with_root-product-requires

@@ -1,5 +1,5 @@
 use Rattle.std.proofs.Common.{arith}
-use Rattle.qr_mending.proofs.SumLemmas.{value-more}
+use Rattle.qr_mending.proofs.lemmas.sums.SumLemmas.{value-more}
 use Rattle.qr_mending.proofs.sums.syndrome.Goals as goal
 
 pub loop-codeword-preserved : goal.loop-codeword-preserved

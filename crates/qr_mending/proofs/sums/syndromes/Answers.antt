@@ -1,6 +1,6 @@
 use Rattle.std.proofs.Common.{arith, length, ap, sym, subst, List, ℕ}
 use Rattle.qr_mending.specs.Steps.Sums.{HasValues}
-use Rattle.qr_mending.proofs.SumLemmas.{values-none, values-more}
+use Rattle.qr_mending.proofs.lemmas.sums.SumLemmas.{values-none, values-more}
 use Rattle.qr_mending.proofs.sums.syndromes.Goals as goal
 
 pub loop-exponent-init : goal.loop-exponent-init

@@ -1,6 +1,6 @@
 use Rattle.std.proofs.Common.{ℕ, List, subst}
 use Rattle.qr_mending.specs.Erasures.{read_of, IsMendedWithErasures}
-use Rattle.qr_mending.proofs.UnreadLemmas.{none-erased}
+use Rattle.qr_mending.proofs.lemmas.unread.UnreadLemmas.{none-erased}
 use Rattle.qr_mending.proofs.unread.mend_block.Goals as goal
 
 pub returns-in_default-clause-refused : goal.returns-in_default-clause-refused

@@ -1,4 +1,4 @@
-use Rattle.qr_mending.proofs.UnreadLemmas.{none-in-blocks}
+use Rattle.qr_mending.proofs.lemmas.unread.UnreadLemmas.{none-in-blocks}
 use Rattle.qr_mending.proofs.unread.mend_blocks.Goals as goal
 
 pub returns-clause-refused : goal.returns-clause-refused

@@ -2,8 +2,8 @@ use Rattle.std.proofs.Common.{◌≡◌, ℕ, length, Option, Err, List, arith}
 use Rattle.std.specs.Prelude.{IfOk}
 use Rattle.qr_symbol.specs.declared.fault.ReadFault.TheVariants as fault
 use Rattle.qr_mending.specs.Unread.{IsMendedInWithout}
-use Rattle.qr_mending.proofs.MarkLemmas.{is-none, is-some, no-marks, with-marks}
-use Rattle.qr_mending.proofs.UnreadLemmas.{beside-refused}
+use Rattle.qr_mending.proofs.lemmas.unread.MarkLemmas.{is-none, is-some, no-marks, with-marks}
+use Rattle.qr_mending.proofs.lemmas.unread.UnreadLemmas.{beside-refused}
 use Rattle.qr_mending.proofs.unread.mend_codewords.Goals as goal
 
 pub returns-then-is_empty-clause-mended : goal.returns-then-is_empty-clause-mended

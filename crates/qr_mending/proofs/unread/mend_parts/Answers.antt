@@ -1,6 +1,6 @@
 use Rattle.std.proofs.Common.{◌++◌, ◌∙◌, ap, arith}
 use Rattle.qr_symbol.specs.Interleaving.{block_count}
-use Rattle.qr_mending.proofs.UnreadLemmas.{none-unread, push-unread}
+use Rattle.qr_mending.proofs.lemmas.unread.UnreadLemmas.{none-unread, push-unread}
 use Rattle.qr_mending.proofs.unread.mend_parts.Goals as goal
 
 pub returns-in_default-clause-refused : goal.returns-in_default-clause-refused

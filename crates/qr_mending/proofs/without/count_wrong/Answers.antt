@@ -3,7 +3,7 @@ use Rattle.qr_matrix.specs.Grid.{colour}
 use Rattle.qr_matrix.specs.Penalty.{sum_below}
 use Rattle.qr_mending.specs.Format.{wrong_bit}
 use Rattle.qr_mending.specs.Mending.{wrong_count}
-use Rattle.qr_mending.proofs.FormatLemmas.{sum-more}
+use Rattle.qr_mending.proofs.lemmas.format.FormatLemmas.{sum-more}
 use Rattle.qr_mending.proofs.without.count_wrong.Goals as goal
 
 pub loop-row-preserved : goal.loop-row-preserved

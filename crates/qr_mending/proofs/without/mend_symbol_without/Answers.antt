@@ -2,7 +2,7 @@ use Rattle.std.proofs.Common.{ℕ, List, Some, length, sym, ap, subst, ◌∙◌
 use Rattle.std.proofs.lemmas.Result.{err_from_is_err_and}
 use Rattle.qr_layout.proofs.Facts.{laws-of}
 use Rattle.qr_mending.specs.Mending.{IsDamagedFormWithout}
-use Rattle.qr_mending.proofs.MendingLemmas.{mended-unparsed}
+use Rattle.qr_mending.proofs.lemmas.mending.MendingLemmas.{mended-unparsed}
 use Rattle.qr_mending.proofs.without.mend_symbol_without.Goals as goal
 
 pub returns-in_default-clause-mended : goal.returns-in_default-clause-mended

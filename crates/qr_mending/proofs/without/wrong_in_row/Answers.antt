@@ -1,7 +1,7 @@
 use Rattle.std.proofs.Common.{◌≡◌, ap, ◌∙◌, arith}
 use Rattle.qr_matrix.specs.Grid.{colour}
 use Rattle.qr_mending.specs.Format.{wrong_bit}
-use Rattle.qr_mending.proofs.FormatLemmas.{sum-more}
+use Rattle.qr_mending.proofs.lemmas.format.FormatLemmas.{sum-more}
 use Rattle.qr_mending.proofs.without.wrong_in_row.Goals as goal
 
 pub loop-col-preserved : goal.loop-col-preserved

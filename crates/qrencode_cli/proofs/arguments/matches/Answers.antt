@@ -1,6 +1,6 @@
 use Rattle.std.proofs.Common.{ap, sym, ◌∙◌}
 use Rattle.clap.specs.Words.{is_simple_and_free}
-use Rattle.qrencode_cli.proofs.MatchingLemmas.{faults_are, rows_are, is_free-command, kinds_not_empty, refused_words}
+use Rattle.qrencode_cli.proofs.lemmas.arguments.MatchingLemmas.{faults_are, rows_are, is_free-command, kinds_not_empty, refused_words}
 use Rattle.qrencode_cli.proofs.arguments.matches.Goals as goal
 
 pub returns-in-Ok-clause-taken : goal.returns-in-Ok-clause-taken

@@ -1,5 +1,5 @@
 use Rattle.std.proofs.Common.{Err, refl}
-use Rattle.qrencode_cli.proofs.RunningLemmas.{tells-fault}
+use Rattle.qrencode_cli.proofs.lemmas.command.RunningLemmas.{tells-fault}
 use Rattle.qrencode_cli.proofs.command.run.Goals as goal
 
 pub returns-in-Err : goal.returns-in-Err

@@ -4,9 +4,9 @@ use Rattle.qr_symbol.specs.declared.fault.EncodeFault.{EncodeFault}
 use Rattle.qr_symbol.specs.declared.fault.EncodeFault.TheVariants.{Empty}
 use Rattle.qr_symbol.specs.VersionChoice.{HasNoVersion}
 use Rattle.qrencode_cli.specs.Settings.{SettingsView, rule_for}
-use Rattle.qrencode_cli.specs.Picture.{smallest_of}
+use Rattle.qrencode_cli.specs.Symbols.{smallest_of}
 use Rattle.qrencode_cli.specs.Steps.Command.{AreDrawnFor}
-use Rattle.qrencode_cli.proofs.AskingLemmas.{drawn-for-one, drawn-for-series, told-one}
+use Rattle.qrencode_cli.proofs.lemmas.command.AskingLemmas.{drawn-for-one, drawn-for-series, told-one}
 use Rattle.qrencode_cli.proofs.command.symbols_for.Goals as goal
 
 pub returns-then-settings : goal.returns-then-settings

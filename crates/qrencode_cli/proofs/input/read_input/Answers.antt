@@ -1,6 +1,6 @@
 use Rattle.std.proofs.Common.{arith}
 use Rattle.std.proofs.lemmas.Grind.{common_steps}
-use Rattle.qrencode_cli.proofs.ReadingLemmas.{IsInputOf-full, IsInputOf-end}
+use Rattle.qrencode_cli.proofs.lemmas.input.ReadingLemmas.{IsInputOf-full, IsInputOf-end}
 use Rattle.qrencode_cli.proofs.input.read_input.Goals as goal
 use Rattle.qrencode_cli.proofs.input.read_input.Goals.{else-reads-test, then-reads-test+in-Ok-eq0}
 

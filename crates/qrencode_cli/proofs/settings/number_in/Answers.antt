@@ -3,7 +3,7 @@ use Rattle.std.specs.Str.Parse.{ParsesUnsigned, ExplainsUnsignedError, HasUnsign
 use Rattle.clap.proofs.WalkLemmas.{one_text-rows}
 use Rattle.clap.specs.Words.{found_of, one_text}
 use Rattle.qrencode_cli.specs.Settings.{number_or}
-use Rattle.qrencode_cli.proofs.NumberLemmas.{number_some, number_none, number_err}
+use Rattle.qrencode_cli.proofs.lemmas.settings.NumberLemmas.{number_some, number_none, number_err}
 use Rattle.qrencode_cli.proofs.settings.number_in.Goals as goal
 
 pub returns-in-Ok-Some : goal.returns-in-Ok-Some

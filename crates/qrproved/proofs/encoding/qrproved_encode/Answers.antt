@@ -8,8 +8,8 @@ use Rattle.qr_symbol.specs.Reading.{IsReadBack}
 use Rattle.qrproved.specs.declared.settings.Settings.{Settings}
 use Rattle.qrproved.specs.Settings.{AreSettings, level_of, rule_of}
 use Rattle.qrproved.specs.Encoding.{HasNoRoom}
-use Rattle.qrproved.proofs.EncodingLemmas.{least-one, too-long-status, room-status}
-use Rattle.qrproved.proofs.ModuleLemmas.{one-held}
+use Rattle.qrproved.proofs.lemmas.encoding.EncodingLemmas.{least-one, too-long-status, room-status}
+use Rattle.qrproved.proofs.lemmas.modules.ModuleLemmas.{one-held}
 use Rattle.qrproved.proofs.encoding.qrproved_encode.Goals as goal
 
 pub returns-then-input-gt-INPUT_MAX-clause-too_long : goal.returns-then-input-gt-INPUT_MAX-clause-too_long

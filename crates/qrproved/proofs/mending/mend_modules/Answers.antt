@@ -3,7 +3,7 @@ use Rattle.std.specs.Prelude.{IfOk, MatchResult}
 use Rattle.qr_matrix.specs.Grid.{Grid}
 use Rattle.qr_mending.specs.Mending.{wrong_format_modules_without, HasWrongModulesWithout, IsMendedReadingWithout, IsUnmendedWithout}
 use Rattle.qrproved.specs.Modules.{square_of_bytes}
-use Rattle.qrproved.proofs.MendingLemmas.{none-unknown, some-unknown}
+use Rattle.qrproved.proofs.lemmas.mending.MendingLemmas.{none-unknown, some-unknown}
 use Rattle.qrproved.proofs.mending.mend_modules.Goals as goal
 
 pub returns-then-count_unknown-eq0-clause-mended : goal.returns-then-count_unknown-eq0-clause-mended

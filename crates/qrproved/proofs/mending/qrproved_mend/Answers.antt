@@ -8,8 +8,8 @@ use Rattle.qr_mending.specs.Message.{tolerance_of}
 use Rattle.qrproved.specs.Modules.{square_of_bytes}
 use Rattle.qrproved.specs.Reading.{IsSide}
 use Rattle.qrproved.specs.Mending.{unknown_in, AreModules, HasMoreMendedBytes}
-use Rattle.qrproved.proofs.ReadingLemmas.{side-status, room-status, format-status, check-status, segments-status}
-use Rattle.qrproved.proofs.MendingLemmas.{all-modules, few-changes, given-mended, more-bytes, no-other, not-unmended}
+use Rattle.qrproved.proofs.lemmas.reading.ReadingLemmas.{side-status, room-status, format-status, check-status, segments-status}
+use Rattle.qrproved.proofs.lemmas.mending.MendingLemmas.{all-modules, few-changes, given-mended, more-bytes, no-other, not-unmended}
 use Rattle.qrproved.proofs.mending.qrproved_mend.Goals as goal
 
 pub returns-in-Err-clause-side : goal.returns-in-Err-clause-side

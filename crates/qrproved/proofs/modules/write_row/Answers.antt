@@ -4,7 +4,7 @@ use borrow.Rule.Slice.PartMut.{put_mid}
 use Rattle.qr_matrix.specs.Grid.{colour}
 use Rattle.qrproved.specs.Modules.{byte_of}
 use Rattle.qrproved.specs.Steps.Modules.{four_bytes}
-use Rattle.qrproved.proofs.ModuleLemmas.{part-long, part-here, part-others, four-each}
+use Rattle.qrproved.proofs.lemmas.modules.ModuleLemmas.{part-long, part-here, part-others, four-each}
 use Rattle.qrproved.proofs.modules.write_row.Goals as goal
 
 pub cols-preserved-then-col-side : goal.cols-preserved-then-col-side

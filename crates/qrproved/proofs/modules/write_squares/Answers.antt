@@ -5,7 +5,7 @@ use Rattle.qr_matrix.specs.Grid.{Grid, colour, light}
 use Rattle.qr_symbol.specs.declared.symbol.Symbol.{Symbol}
 use Rattle.qr_symbol.specs.Series.{squares_of}
 use Rattle.qrproved.specs.Modules.{byte_of}
-use Rattle.qrproved.proofs.ModuleLemmas.{block-end, place-in, item-square}
+use Rattle.qrproved.proofs.lemmas.modules.ModuleLemmas.{block-end, place-in, item-square}
 use Rattle.qrproved.proofs.modules.write_squares.Goals as goal
 
 pub write_square-requires : goal.write_square-requires

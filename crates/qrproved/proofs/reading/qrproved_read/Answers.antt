@@ -5,7 +5,7 @@ use Rattle.qr_matrix.specs.Grid.{Grid}
 use Rattle.qr_symbol.specs.Reading.{IsReading, IsUnread}
 use Rattle.qrproved.specs.Modules.{square_of_bytes}
 use Rattle.qrproved.specs.Reading.{IsSide, HasMoreBytes}
-use Rattle.qrproved.proofs.ReadingLemmas.{side-status, room-status, format-status, check-status, segments-status}
+use Rattle.qrproved.proofs.lemmas.reading.ReadingLemmas.{side-status, room-status, format-status, check-status, segments-status}
 use Rattle.qrproved.proofs.reading.qrproved_read.Goals as goal
 
 pub returns-in-Err-clause-side : goal.returns-in-Err-clause-side

@@ -1,5 +1,5 @@
 use Rattle.std.proofs.Common.{arith}
-use Rattle.qr_mending.proofs.PoolLemmas.{plus-more, leading-stays, sum-all}
+use Rattle.qr_mending.proofs.lemmas.locator.PoolLemmas.{plus-more, leading-stays, sum-all}
 use Rattle.qr_mending.proofs.polynomial.Polynomial.plus.Goals as goal
 
 pub loop-j-preserved : goal.loop-j-preserved

@@ -3,7 +3,7 @@ use Rattle.std.specs.List.{All}
 use Rattle.std.proofs.lemmas.List.Elements.{All-from_get_or}
 use Rattle.qr_field.specs.Galois.{product}
 use Rattle.qr_field.specs.Polynomial.{IsByte}
-use Rattle.qr_mending.proofs.PoolLemmas.{relieves}
+use Rattle.qr_mending.proofs.lemmas.locator.PoolLemmas.{relieves}
 use Rattle.qr_mending.proofs.polynomial.Polynomial.relieved.Goals as goal
 
 pub returns : goal.returns

@@ -1,0 +1,4 @@
+-- How the written parts of a text join.
+pub mod WritingLemmas
+-- What one write does while bytes are sent.
+pub mod SendingLemmas

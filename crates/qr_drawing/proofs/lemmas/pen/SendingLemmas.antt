@@ -1,0 +1,125 @@
+-- What one write does while bytes are sent.
+use Rattle.std.proofs.Common.{◌≡◌, ◌≤◌, ◌<◌, ◌+◌, ◌^◌, ◌++◌, ◌∙◌, ℕ, zero, suc, List, [], ◌∷◌, Option, None, Some, Result, append-nil, length, Ok, Err, true, ap, refl, arith, max, take, drop}
+use Rattle.std.proofs.lemmas.List.{length-take-le, take-append-drop}
+use Rattle.std.proofs.lemmas.Bool.Decides.{nat_tests}
+use Rattle.std.proofs.Math.Seq.{take-add}
+use Rattle.std.proofs.KnownBytes.{Appends-kept, Appends-nil}
+use Rattle.std.specs.Io.KnownBytes.{Appends, Keeps}
+use Rattle.qr_devices.specs.Device.{IsWrittenWithin, Writer, counted, is_write_fault, write_counted}
+use Rattle.qr_drawing.specs.Steps.Writing.{IsWell, Stops, Writes}
+use Rattle.qr_devices.specs.declared.device.Trouble.{Trouble}
+use Rattle.qr_devices.specs.declared.device.Trouble.TheVariants.{Interrupted, Failed}
+use Rattle.qr_devices.specs.declared.device.WriteCounts.{WriteCounts}
+use Rattle.qr_drawing.proofs.lemmas.pen.WritingLemmas.{writes_on, writes_stop}
+
+-- the writer took some of the bytes that a write offered
+take-offered : (n m : ℕ) (xs : List ℕ) → n ≤ length (take m xs) → take n (take m xs) ≡ take n xs
+take-offered zero m xs le = refl
+take-offered (suc n) zero xs le = absurd (omega arith)
+take-offered (suc n) (suc m) [] le = absurd (omega arith)
+take-offered (suc n) (suc m) (x ∷ xs) le = ap (λ l. x ∷ l) (take-offered n m xs (omega arith))
+
+-- a write that took no byte changed nothing
+nothing_more : (b c : Option (List ℕ)) (buf : List ℕ) (n : ℕ) → n ≡ 0 → Appends b c (take n buf) → Keeps b c
+nothing_more None c buf n e q = tt
+nothing_more (Some y) None buf n e q = absurd q
+nothing_more (Some y) (Some z) buf n e q = q ∙ ap (λ k. y ++ take k buf) e ∙ append-nil y
+
+-- no write offered more than a piece
+offered-after : (u : ℕ) (v w : WriteCounts) (len : ℕ) (r : Result ℕ Trouble) → w ≡ write_counted len r v → len ≤ 1200
+    → v.offered ≤ max u 1200 → w.offered ≤ max u 1200
+offered-after u v w len (Ok n) e short h = rw e (omega arith)
+offered-after u v w len (Err Interrupted) e short h = rw e (omega arith)
+offered-after u v w len (Err Failed) e short h = rw e (omega arith)
+
+-- a write is no flush
+flushes-after : (v w : WriteCounts) (len : ℕ) (r : Result ℕ Trouble) → w ≡ write_counted len r v → w.flushes ≡ v.flushes
+flushes-after v w len (Ok n) e = rw e refl
+flushes-after v w len (Err Interrupted) e = rw e refl
+flushes-after v w len (Err Failed) e = rw e refl
+
+-- a write after writes without a fault is still within bounds
+within-after : (v w : WriteCounts) (len tries : ℕ) (r : Result ℕ Trouble) → w ≡ write_counted len r v → IsWell v tries → IsWrittenWithin w
+within-after v w len tries (Ok n) e h =
+    let f = h.failed in let z = h.zeros in let t = h.tried in let few = h.few in
+    rw e (record { faults = rw (f, z) (grind (arith, nat_tests)); interrupted = rw t (omega arith) })
+within-after v w len tries (Err Interrupted) e h =
+    let f = h.failed in let z = h.zeros in let t = h.tried in let few = h.few in
+    rw e (record { faults = rw (f, z) (omega arith); interrupted = rw t (omega arith) })
+within-after v w len tries (Err Failed) e h =
+    let f = h.failed in let z = h.zeros in let t = h.tried in let few = h.few in
+    rw e (record { faults = rw (f, z) (omega arith); interrupted = rw t (omega arith) })
+
+-- the writes of n bytes, and of some more
+pub sends_more : (a b c : Writer) (bytes : List ℕ) (at len n i j k : ℕ) → Writes a b i j (take at bytes) []
+    → n ≤ length (take len (drop at bytes)) → length (take len (drop at bytes)) ≤ 1200 → (n ≡ 0 → ⊥) → j ≡ k
+    → Appends b.taken c.taken (take n (take len (drop at bytes)))
+    → c.counts ≡ write_counted (length (take len (drop at bytes))) (Ok n) b.counts → Writes a c i k (take (at + n) bytes) []
+sends_more a b c bytes at len n i j k p le short some same q e =
+    let buf = take len (drop at bytes) in
+    let z : length (take n buf) ≡ n = length-take-le n buf le in
+    let one : Writes b c j k (take n buf) [] = record {
+      sends = record {
+        sent = take n buf;
+        grows = q;
+        whole = append-nil (take n buf);
+        many = λ fits. rw (e, z) (omega arith);
+      };
+      well = λ h. rw e (record { failed = h.failed; zeros = let z = h.zeros in grind (arith, nat_tests); tried = h.tried ∙ same; few = let f = h.few in omega arith });
+      offered = offered-after _ b.counts c.counts (length buf) (Ok n) e short (omega arith);
+      flushes = flushes-after b.counts c.counts (length buf) (Ok n) e;
+    } in
+    rw (take-add at n bytes, ← take-offered n len (drop at bytes) le) (writes_on a b c i j k [] [] [] (take at bytes) (take n buf) p one)
+
+-- a write was interrupted, and is tried again
+pub sends_again : (a b c : Writer) (text : List ℕ) (len i j : ℕ) → Writes a b i j text [] → len ≤ 1200 → j < 999
+    → Keeps b.taken c.taken → c.counts ≡ write_counted len (Err Interrupted) b.counts → Writes a c i (j + 1) text []
+sends_again a b c text len i j p short few q e =
+    let one : Writes b c j (j + 1) [] [] = record {
+      sends = record {
+        sent = [];
+        grows = Appends-kept b.taken b.taken c.taken [] (Appends-nil b.taken) q;
+        whole = refl;
+        many = λ fits. rw e (omega arith);
+      };
+      well = λ h. rw e (let t = h.tried in record { failed = h.failed; zeros = h.zeros; tried = omega arith; few = omega arith });
+      offered = offered-after _ b.counts c.counts len (Err Interrupted) e short (omega arith);
+      flushes = flushes-after b.counts c.counts len (Err Interrupted) e;
+    } in
+    rw (← append-nil text) (writes_on a b c i j (j + 1) [] [] [] text [] p one)
+
+-- a write took nothing and was the last
+refused : (a b c : Writer) (text : List ℕ) (at len i j : ℕ) (r : Result ℕ Trouble) → Writes a b i j (take at text) [] → len ≤ 1200
+    → Keeps b.taken c.taken → c.counts ≡ write_counted len r b.counts → (b.counts.taken < 2 ^ 64 → c.counts.taken ≤ counted b.counts.taken)
+    → (IsWell b.counts j → is_write_fault c.counts ≡ true) → Stops a c i text
+refused a b c text at len i j r p short q e most fault =
+    let one : Stops b c j ([] ++ drop at text) = record {
+      prefix = ([], (drop at text, refl), Appends-kept b.taken b.taken c.taken [] (Appends-nil b.taken) q);
+      most = λ fits. let m = most fits in omega arith;
+      fault = fault;
+      within = within-after b.counts c.counts len j r e;
+      offered = offered-after _ b.counts c.counts len r e short (omega arith);
+      flushes = flushes-after b.counts c.counts len r e;
+    } in
+    let whole = writes_stop a b c i j [] [] (take at text) (drop at text) p one in
+    rw take-append-drop at whole
+
+-- the write took no byte of a text that was not empty
+pub refused-zero : (a b c : Writer) (text buf : List ℕ) (at n i j : ℕ) → n ≡ 0 → Writes a b i j (take at text) [] → 0 < length buf → length buf ≤ 1200
+    → Appends b.taken c.taken (take n buf) → c.counts ≡ write_counted (length buf) (Ok n) b.counts → Stops a c i text
+refused-zero a b c text buf at n i j none p some short q e =
+    refused a b c text at (length buf) i j (Ok n) p short (nothing_more b.taken c.taken buf n none q) e (λ fits. rw e (omega arith))
+    (λ h. let f = h.failed in let z = h.zeros in rw (e, none, f, z) (grind (arith, nat_tests)))
+
+-- the write failed
+pub refused-failed : (a b c : Writer) (text : List ℕ) (at len i j : ℕ) → Writes a b i j (take at text) [] → len ≤ 1200
+    → Keeps b.taken c.taken → c.counts ≡ write_counted len (Err Failed) b.counts → Stops a c i text
+refused-failed a b c text at len i j p short q e =
+    refused a b c text at len i j (Err Failed) p short q e (λ fits. rw e (omega arith)) (λ h. let f = h.failed in rw (e, f) refl)
+
+-- the write was interrupted for the 1,000th time
+pub refused-tried : (a b c : Writer) (text : List ℕ) (at len i j : ℕ) → j ≡ 999 → Writes a b i j (take at text) [] → len ≤ 1200
+    → Keeps b.taken c.taken → c.counts ≡ write_counted len (Err Interrupted) b.counts → Stops a c i text
+refused-tried a b c text at len i j last p short q e =
+    refused a b c text at len i j (Err Interrupted) p short q e (λ fits. rw e (omega arith))
+    (λ h. let f = h.failed in let z = h.zeros in let i : b.counts.interrupted ≡ 999 = h.tried ∙ last in rw (e, f, z, i) refl)

@@ -1,0 +1,134 @@
+-- How the written parts of a text join.
+use Rattle.std.proofs.Common.{◌≡◌, ◌++◌, ◌∙◌, ℕ, List, [], OnErr, Option, Result, Ok, Err, append_assoc, append-nil, refl, sym, ap, arith, ◌<◌, ◌≤◌, ◌+◌, ◌^◌, length, length-append, subst}
+use Rattle.std.proofs.KnownBytes.{Appends-trans, Appends-nil}
+use Rattle.qr_devices.specs.Device.{AppendsBeginning, Writer, counted}
+use Rattle.qr_drawing.specs.Steps.Pen.{Reserves}
+use Rattle.qr_drawing.specs.Steps.Writing.{Sends, Stops, Writes}
+use Rattle.qr_drawing.specs.declared.pen.DrawFault.{DrawFault}
+use Rattle.qr_drawing.specs.declared.pen.Pen.{Pen}
+
+-- counts of bytes add up
+counted-on : (a b c x y z : ℕ) → z ≡ x + y → a < 2 ^ 64 → b ≡ counted (a + x) → (b < 2 ^ 64 → c ≡ counted (b + y)) → c ≡ counted (a + z)
+counted-on a b c x y z e fits f h = let small : b < 2 ^ 64 = omega arith in let g = h small in omega arith
+
+-- a count that grows by the length of a part, with a bound for the part
+most-on : (a b c s h l k y t : ℕ) → s + h ≡ l → k ≡ h + y → t ≡ l + y → a < 2 ^ 64 → b ≡ counted (a + s) → (b < 2 ^ 64 → c ≤ counted (b + k)) → c ≤ counted (a + t)
+most-on a b c s h l k y t e f g fits m n = let small : b < 2 ^ 64 = omega arith in let o = n small in omega arith
+
+-- a count with a bound also has every greater bound
+most-before : (a c x t y : ℕ) → t ≡ x + y → c ≤ counted (a + x) → c ≤ counted (a + t)
+most-before a c x t y e m = omega arith
+
+-- one part after another was sent
+Sends-trans : (a b c : Writer) (h0 h1 h2 x y : List ℕ)
+    → Sends a b (h0 ++ x) h1 → Sends b c (h1 ++ y) h2 → Sends a c (h0 ++ (x ++ y)) h2
+Sends-trans a b c h0 h1 h2 x y p q = record {
+  sent = p.sent ++ q.sent;
+  grows = Appends-trans a.taken b.taken c.taken p.sent q.sent p.grows q.grows;
+  whole =
+      append_assoc p.sent q.sent h2 ∙ ap (λ l. p.sent ++ l) q.whole ∙ sym (append_assoc p.sent h1 y) ∙ ap (λ l. l ++ y) p.whole
+      ∙ append_assoc h0 x y;
+  many = λ fits. counted-on _ _ _ _ _ _ (length-append p.sent q.sent) fits (p.many fits) q.many;
+}
+
+-- what was sent, followed by a prefix of the rest, is a prefix of the whole
+Sends-stops : (a b c : Writer) (h0 h1 x y : List ℕ)
+    → Sends a b (h0 ++ x) h1 → AppendsBeginning b.taken c.taken (h1 ++ y) → AppendsBeginning a.taken c.taken (h0 ++ (x ++ y))
+Sends-stops a b c h0 h1 x y p (t, (rest, f), q) = (
+  p.sent ++ t,
+  (
+    rest,
+    append_assoc p.sent t rest ∙ ap (λ l. p.sent ++ l) f ∙ sym (append_assoc p.sent h1 y) ∙ ap (λ l. l ++ y) p.whole
+        ∙ append_assoc h0 x y,
+  ),
+  Appends-trans a.taken b.taken c.taken p.sent t p.grows q,
+)
+
+-- one part after another was written
+pub writes_on : (a b c : Writer) (i j k : ℕ) (h0 h1 h2 x y : List ℕ)
+    → Writes a b i j (h0 ++ x) h1 → Writes b c j k (h1 ++ y) h2 → Writes a c i k (h0 ++ (x ++ y)) h2
+writes_on a b c i j k h0 h1 h2 x y p q = record {
+  sends = Sends-trans a b c h0 h1 h2 x y p.sends q.sends;
+  well = λ h. q.well (p.well h);
+  offered = let e = p.offered in let f = q.offered in omega arith;
+  flushes = q.flushes ∙ p.flushes;
+}
+
+-- one part was written, and the writer failed in the next
+pub writes_stop : (a b c : Writer) (i j : ℕ) (h0 h1 x y : List ℕ)
+    → Writes a b i j (h0 ++ x) h1 → Stops b c j (h1 ++ y) → Stops a c i (h0 ++ (x ++ y))
+writes_stop a b c i j h0 h1 x y p q = record {
+  prefix = Sends-stops a b c h0 h1 x y p.sends q.prefix;
+  most = λ fits. most-on _ _ _ (length p.sends.sent) (length h1) (length (h0 ++ x)) _ (length y) _
+      (sym (length-append p.sends.sent h1) ∙ ap (λ l. length l) p.sends.whole) (length-append h1 y)
+      (ap (λ l. length l) (sym (append_assoc h0 x y)) ∙ length-append (h0 ++ x) y) fits (p.sends.many fits) q.most;
+  fault = λ h. q.fault (p.well h);
+  within = λ h. q.within (p.well h);
+  offered = let e = p.offered in let f = q.offered in omega arith;
+  flushes = q.flushes ∙ p.flushes;
+}
+
+-- a prefix of a part is a prefix of the whole
+begins_before : (a b : Option (List ℕ)) (x y : List ℕ) → AppendsBeginning a b x → AppendsBeginning a b (x ++ y)
+begins_before a b x y (s, (rest, e), q) = (s, (rest ++ y, sym (append_assoc s rest y) ∙ ap (λ l. l ++ y) e), q)
+
+-- a writer that failed in a part failed in the whole text
+pub stops_before : (a b : Writer) (i : ℕ) (x y : List ℕ) → Stops a b i x → Stops a b i (x ++ y)
+stops_before a b i x y p = record {
+  prefix = begins_before a.taken b.taken x y p.prefix;
+  most = λ fits. most-before _ _ (length x) _ (length y) (length-append x y) (p.most fits);
+  fault = p.fault;
+  within = p.within;
+  offered = p.offered;
+  flushes = p.flushes;
+}
+
+-- a writer that failed in the first of two texts failed in both together
+pub stops_first : (a b : Writer) (i : ℕ) (h x y : List ℕ) → Stops a b i (h ++ x) → Stops a b i (h ++ (x ++ y))
+stops_first a b i h x y p = subst (λ l. Stops a b i l) (append_assoc h x y) (stops_before a b i (h ++ x) y p)
+
+-- nothing was written
+pub writes_none : (a : Writer) (i : ℕ) (h : List ℕ) → Writes a a i i (h ++ []) h
+writes_none a i h = record {
+  sends = record {
+    sent = [];
+    grows = Appends-nil a.taken;
+    whole = sym (append-nil h);
+    many = λ fits. omega arith;
+  };
+  well = λ p. p;
+  offered = omega arith;
+  flushes = refl;
+}
+
+-- a text was added to what is held, after some of that was written
+pub formed : (a b : Writer) (i j : ℕ) (h0 h1 h2 x : List ℕ) → Writes a b i j h0 h1 → h2 ≡ h1 ++ x → Writes a b i j (h0 ++ x) h2
+formed a b i j h0 h1 h2 x p e = record {
+  sends = record {
+    sent = p.sends.sent;
+    grows = p.sends.grows;
+    whole = ap (λ l. p.sends.sent ++ l) e ∙ sym (append_assoc p.sends.sent h1 x) ∙ ap (λ l. l ++ x) p.sends.whole;
+    many = p.sends.many;
+  };
+  well = p.well;
+  offered = p.offered;
+  flushes = p.flushes;
+}
+
+-- one part was written, and the writer failed in the held rest of it, before the next part
+pub stops_between : (a b c : Writer) (i j : ℕ) (h0 h1 x y : List ℕ) → Writes a b i j (h0 ++ x) h1 → Stops b c j h1 → Stops a c i (h0 ++ (x ++ y))
+stops_between a b c i j h0 h1 x y p q = writes_stop a b c i j h0 h1 x y p (stops_before b c j h1 y q)
+
+-- the writer failed in the part of a text that was held
+last_stops : (a b c : Writer) (held text : List ℕ) → Sends a b text held → AppendsBeginning b.taken c.taken held → AppendsBeginning a.taken c.taken text
+last_stops a b c held text p (t, (rest, f), q) = (
+  p.sent ++ t,
+  (rest, append_assoc p.sent t rest ∙ ap (λ l. p.sent ++ l) f ∙ p.whole),
+  Appends-trans a.taken b.taken c.taken p.sent t p.grows q,
+)
+
+-- if the writer failed in the last part, a prefix of the text was written
+pub empty_stops : (a b c : Writer) (before after : Pen) (text : List ℕ) (r : Result (Unit {0}) DrawFault) → Sends a b text before.piece.items
+    → Reserves b c before after r → OnErr r (AppendsBeginning a.taken c.taken text)
+empty_stops a b c before after text (Ok t) p q = tt
+empty_stops a b c before after text (Err e) p q = last_stops a b c before.piece.items text p q.prefix

@@ -1,0 +1,254 @@
+-- Which paths are in the rows of a raster, and how they join while they are written.
+use Rattle.std.proofs.Common.{◌≡◌, ◌≤◌, ◌<◌, ◌+◌, ◌-◌, ◌*◌, ◌++◌, ◌∙◌, ℕ, zero, suc, Bool, true, false, List, [], length, map, get_or, refl, sym, ap, arith, append_assoc, ⊎_elim, inl, inr}
+use Rattle.std.specs.Prelude.{codes}
+use Rattle.std.proofs.Math.Nat.{eq-or-lt_of_le, suc-mul}
+use Rattle.std.proofs.lemmas.Bool.{cases_lt}
+use Rattle.std.specs.List.{flat_map, prefix_len, range_with_len}
+use Rattle.std.proofs.lemmas.Bool.Decides.{nat_tests}
+use Rattle.std.proofs.lemmas.List.{get_or-map, length-map}
+use Rattle.std.proofs.lemmas.List.Elements.{All-get_or}
+use Rattle.qr_matrix.specs.Grid.{Grid, colour, light}
+use Rattle.qr_matrix.specs.DarkRuns.{IsFirstRun}
+use Rattle.qr_matrix.specs.declared.dark_runs.Run.{Run}
+use Rattle.qr_drawing.specs.Drawing.{HaveOneSide}
+use Rattle.qr_drawing.specs.Raster.{is_dark_at, raster_width, texts_below}
+use Rattle.qr_drawing.specs.Svg.{background, begins_run, box_path, closing, declaration, foreground, opening, row_path, run_length, run_path, square_at, stack_path, svg_document, symbol_path}
+use Rattle.qr_drawing.specs.Steps.Svg.{head, tail}
+use Rattle.qr_drawing.proofs.lemmas.text.LineLemmas.{texts_below-none, texts_below-same, texts-of-items}
+
+-- a place of the symbol has its colour
+pub is_dark_at_inside : (margin row col : ℕ) (g : Grid) → row < g.side → col < g.side
+    → is_dark_at margin g (margin + row) (margin + col) ≡ colour g row col
+unfolding is_dark_at
+is_dark_at_inside margin row col g a b =
+    let e : margin + row - margin ≡ row = omega arith in
+    let f : margin + col - margin ≡ col = omega arith in
+    rw (e, f) (grind (arith, nat_tests))
+
+-- the margin to the left is light
+pub is_dark_at_left : (margin y x : ℕ) (g : Grid) → x < margin → is_dark_at margin g y x ≡ false
+unfolding is_dark_at
+is_dark_at_left margin y x g a = grind (arith, nat_tests)
+
+-- the margin to the right is light
+pub is_dark_at_right : (margin y x : ℕ) (g : Grid) → margin + g.side ≤ x → is_dark_at margin g y x ≡ false
+unfolding is_dark_at
+is_dark_at_right margin y x g a = grind (arith, nat_tests)
+
+-- the margin above is light
+pub is_dark_at_above : (margin y x : ℕ) (g : Grid) → y < margin → is_dark_at margin g y x ≡ false
+unfolding is_dark_at
+is_dark_at_above margin y x g a = grind (arith, nat_tests)
+
+-- the margin below is light
+pub is_dark_at_below : (margin y x : ℕ) (g : Grid) → margin + g.side ≤ y → is_dark_at margin g y x ≡ false
+unfolding is_dark_at
+is_dark_at_below margin y x g a = grind (arith, nat_tests)
+
+-- no run begins at a light place
+run_path-light : (top margin y x : ℕ) (g : Grid) → is_dark_at margin g y x ≡ false → run_path top margin g y x ≡ []
+unfolding run_path begins_run
+run_path-light top margin y x g e = rw e refl
+
+-- no run begins to the right of a dark place
+run_path-inner : (top margin y x : ℕ) (g : Grid) → 0 < x → is_dark_at margin g y (x - 1) ≡ true → run_path top margin g y x ≡ []
+unfolding run_path begins_run
+run_path-inner top margin y x g some dark =
+    let e : begins_run margin g y x ≡ false = rw dark (grind (arith, nat_tests)) in
+    rw e refl
+
+-- a run begins at a dark place if the place to its left is not dark
+run_path-first : (top margin y x : ℕ) (g : Grid) → is_dark_at margin g y x ≡ true → (0 < x → is_dark_at margin g y (x - 1) ≡ false)
+    → run_path top margin g y x ≡ box_path x (top + y) (run_length margin g y x)
+unfolding run_path begins_run
+run_path-first top margin y x g dark light =
+    let e : begins_run margin g y x ≡ true = rw dark (grind (arith, nat_tests)) in
+    rw e refl
+
+-- how many numbers from x on pass a test, up to the first that does not
+prefix_len-range : (p : ℕ → Bool) (x d n : ℕ) → d ≤ n → ((k : ℕ) → x ≤ k → k < x + d → p k ≡ true) → (d < n → p (x + d) ≡ false)
+    → prefix_len p (range_with_len x n) ≡ d
+prefix_len-range p x zero zero le pass stop = refl
+prefix_len-range p x zero (suc n) le pass stop =
+    let f : x + 0 ≡ x = omega arith in
+    let e : p x ≡ false = rw (← f) (stop (omega arith)) in
+    rw e refl
+prefix_len-range p x (suc d) zero le pass stop = absurd (omega arith)
+prefix_len-range p x (suc d) (suc n) le pass stop =
+    let e : p x ≡ true = pass x (omega arith) (omega arith) in
+    let f : x + 1 + d ≡ x + suc d = omega arith in
+    let r : prefix_len p (range_with_len (x + 1) n) ≡ d =
+    prefix_len-range p (x + 1) d n (omega arith) (λ k a b. pass k (omega arith) (omega arith)) (λ lt. rw f (stop (omega arith))) in
+    rw (e, r) (omega arith)
+
+-- the first run of dark modules in row `row` of a symbol, from column `col` on
+module _ (top margin row col : ℕ) (g : Grid) (run : Run) (row_in : row < g.side) (first : IsFirstRun g row col run) where
+  -- a place of the row has its colour
+  here : (k : ℕ) → margin ≤ k → k < margin + g.side → is_dark_at margin g (margin + row) k ≡ colour g row (k - margin)
+  here k a b =
+      let e : margin + (k - margin) ≡ k = omega arith in
+      ap (is_dark_at margin g (margin + row)) (sym e) ∙ is_dark_at_inside margin row (k - margin) g row_in (omega arith)
+
+  -- the places of the run are dark
+  all-dark : (k : ℕ) → margin + run.start ≤ k → k < margin + run.end → is_dark_at margin g (margin + row) k ≡ true
+  all-dark k a b = let w = first.within in here k (omega arith) (omega arith) ∙ first.dark (k - margin) (omega arith) (omega arith)
+
+  -- the places before the run have no paths
+  pub light_run : texts_below (margin + run.start) (run_path top margin g (margin + row)) ≡ texts_below (margin + col) (run_path top margin g (margin + row))
+  light_run =
+      let v = first.after in
+      let u = first.some in
+      let w = first.within in
+      texts_below-same (margin + col) (margin + run.start) (run_path top margin g (margin + row)) (omega arith)
+      (λ k a b. run_path-light top margin (margin + row) k g (here k (omega arith) (omega arith) ∙ first.light (k - margin) (omega arith) (omega arith)))
+
+  -- the places after the run's first have no paths
+  pub dark_run : texts_below (margin + run.end) (run_path top margin g (margin + row)) ≡ texts_below (margin + run.start + 1) (run_path top margin g (margin + row))
+  dark_run =
+      let u = first.some in
+      texts_below-same (margin + run.start + 1) (margin + run.end) (run_path top margin g (margin + row)) (omega arith)
+      (λ k a b. run_path-inner top margin (margin + row) k g (omega arith) (all-dark (k - 1) (omega arith) (omega arith)))
+
+  -- the place after the run is light
+  run-stops : is_dark_at margin g (margin + row) (margin + run.end) ≡ false
+  run-stops = ⊎_elim (λ (e : run.end ≡ g.side). is_dark_at_right margin (margin + row) (margin + run.end) g (omega arith))
+      (λ (lt : run.end < g.side). is_dark_at_inside margin row run.end g row_in lt ∙ first.stops) (eq-or-lt_of_le first.within)
+
+  -- the place before the run is not dark
+  before-dark : (0 < col → colour g row col ≡ false) → 0 < margin + run.start → is_dark_at margin g (margin + row) (margin + run.start - 1) ≡ false
+  before-dark light some =
+      let v = first.after in
+      let u = first.some in
+      let w = first.within in
+      ⊎_elim (λ (e : col ≡ run.start). ⊎_elim (λ (z : 0 ≡ col). is_dark_at_left margin (margin + row) (margin + run.start - 1) g (omega arith))
+      (λ (lt : 0 < col). absurd (dark-is-light (ap (colour g row) e ∙ first.dark run.start (omega arith) u) (light lt))) (eq-or-lt_of_le (omega arith)))
+      (λ (lt : col < run.start). here (margin + run.start - 1) (omega arith) (omega arith) ∙ first.light (margin + run.start - 1 - margin) (omega arith) (omega arith))
+      (eq-or-lt_of_le v)
+    where
+      dark-is-light : {b : Bool} → b ≡ true → b ≡ false → ⊥
+      dark-is-light p q = let h : true ≡ false = sym p ∙ q in cc
+
+  -- the length of the run is that of the definition
+  dark_length : run_length margin g (margin + row) (margin + run.start) ≡ run.end - run.start
+  unfolding run_length
+  dark_length =
+      let u = first.some in
+      let w = first.within in
+      let e : margin + run.start + (run.end - run.start) ≡ margin + run.end = omega arith in
+      prefix_len-range (is_dark_at margin g (margin + row)) (margin + run.start) (run.end - run.start) (raster_width margin g - (margin + run.start)) (omega arith)
+      (λ k a b. all-dark k a (omega arith)) (λ lt. rw e run-stops)
+
+  -- the path of the run is at its first place
+  pub dark_path : (x y modules : ℕ) → x ≡ margin + run.start → y ≡ top + (margin + row) → modules ≡ run.end - run.start
+      → (0 < col → colour g row col ≡ false) → run_path top margin g (margin + row) (margin + run.start) ≡ box_path x y modules
+  dark_path x y modules ex ey em light =
+      let u = first.some in
+      rw (ex, ey, em) (run_path-first top margin (margin + row) (margin + run.start) g (all-dark (margin + run.start) (omega arith) (omega arith)) (before-dark light)
+      ∙ ap (box_path (margin + run.start) (top + (margin + row))) dark_length)
+
+-- there are no paths to the left of the symbol
+pub row_begins : (top margin y : ℕ) (g : Grid) → texts_below (margin + 0) (run_path top margin g y) ≡ []
+row_begins top margin y g =
+    texts_below-none (margin + 0) (run_path top margin g y) (λ k lt. run_path-light top margin y k g (is_dark_at_left margin y k g (omega arith)))
+
+-- there are no paths in the rest of a row if that rest is light
+pub row_ends : (top margin row col : ℕ) (g : Grid) → row < g.side → col ≤ g.side → ((c : ℕ) → col ≤ c → colour g row c ≡ false)
+    → row_path top margin g (margin + row) ≡ texts_below (margin + col) (run_path top margin g (margin + row))
+unfolding row_path
+row_ends top margin row col g row_in le light =
+    texts_below-same (margin + col) (raster_width margin g) (run_path top margin g (margin + row)) (omega arith)
+    (λ k a b. run_path-light top margin (margin + row) k g (elim (cases_lt k (margin + g.side)) [
+      | inl lt ↦
+          let e : margin + (k - margin) ≡ k = omega arith in
+          ap (is_dark_at margin g (margin + row)) (sym e) ∙ (is_dark_at_inside margin row (k - margin) g row_in (omega arith) ∙ light (k - margin) (omega arith))
+      | inr ge ↦ is_dark_at_right margin (margin + row) k g ge
+    ]))
+
+-- a light row has no paths
+row_path-light : (top margin y : ℕ) (g : Grid) → ((x : ℕ) → is_dark_at margin g y x ≡ false) → row_path top margin g y ≡ []
+unfolding row_path texts_below
+row_path-light top margin y g none =
+    texts_below-none (raster_width margin g) (run_path top margin g y) (λ k lt. run_path-light top margin y k g (none k))
+
+-- there are no paths above the square of a symbol
+pub symbol_begins : (top margin : ℕ) (g : Grid) → texts_below (margin + 0) (row_path top margin g) ≡ []
+symbol_begins top margin g =
+    texts_below-none (margin + 0) (row_path top margin g) (λ k lt. row_path-light top margin k g (λ x. is_dark_at_above margin k x g (omega arith)))
+
+-- there are no paths below the square of a symbol
+pub symbol_ends : (top margin row : ℕ) (g : Grid) → row ≡ g.side → symbol_path top margin g ≡ texts_below (margin + row) (row_path top margin g)
+unfolding symbol_path
+symbol_ends top margin row g e =
+    rw e (texts_below-same (margin + g.side) (raster_width margin g) (row_path top margin g) (omega arith)
+    (λ k a b. row_path-light top margin k g (λ x. is_dark_at_below margin k x g a)))
+
+-- the square of the symbol at k
+pub square_at-item : {T : Type 0} (grid : T → Grid) (xs : List T) (k : ℕ) (x : T) → k < length xs → x ≡ get_or xs k x → square_at (map grid xs) k ≡ grid x
+square_at-item grid xs k x lt is = get_or-map grid xs k x (light 0) lt ∙ ap grid (sym is)
+
+-- the rasters of symbols of one side are as wide as the first
+pub one_width : {T : Type 0} (grid : T → Grid) (margin k : ℕ) (xs : List T) (x : T) → HaveOneSide (map grid xs) → k < length xs → x ≡ get_or xs k x
+    → raster_width margin (grid x) ≡ raster_width margin (square_at (map grid xs) 0)
+one_width grid margin k xs x one lt is =
+    let n : length (map grid xs) ≡ length xs = length-map xs grid in
+    let here : (square_at (map grid xs) k).side ≡ (square_at (map grid xs) 0).side =
+    All-get_or (λ g. g.side ≡ (square_at (map grid xs) 0).side) (map grid xs) k (light 0) (omega arith) one in
+    ap (λ m. 2 * margin + m) (ap (λ g. g.side) (sym (square_at-item grid xs k x lt is)) ∙ here)
+
+-- the texts of a list of k symbols
+pub texts-of-symbols : {T : Type 0} (grid : T → Grid) (text : Grid → List ℕ) (xs : List T) (k : ℕ) → k ≡ length xs
+    → flat_map text (map grid xs) ≡ texts_below k (λ n. text (square_at (map grid xs) n))
+texts-of-symbols grid text xs k e =
+    texts-of-items text (map grid xs) (light 0)
+    ∙ ap (λ m. texts_below m (λ n. text (square_at (map grid xs) n))) (length-map xs grid ∙ sym e)
+
+-- the paths of a list of k symbols
+pub stack_ends : {T : Type 0} (grid : T → Grid) (margin k : ℕ) (xs : List T) → k ≡ length xs → stack_path margin (map grid xs)
+    ≡ texts_below k (λ n. symbol_path (n * raster_width margin (square_at (map grid xs) n)) margin (square_at (map grid xs) n))
+unfolding stack_path
+stack_ends grid margin k xs e =
+    let n : length (map grid xs) ≡ k = length-map xs grid ∙ sym e in
+    ap (λ m. texts_below m (λ n. symbol_path (n * raster_width margin (square_at (map grid xs) n)) margin (square_at (map grid xs) n))) n
+
+-- the paths of the symbol at k
+pub stack_at : {T : Type 0} (grid : T → Grid) (margin k top : ℕ) (xs : List T) (x : T) → HaveOneSide (map grid xs) → k < length xs → x ≡ get_or xs k x
+    → top ≡ k * raster_width margin (square_at (map grid xs) 0)
+    → symbol_path (k * raster_width margin (square_at (map grid xs) k)) margin (square_at (map grid xs) k) ≡ symbol_path top margin (grid x)
+stack_at grid margin k top xs x one lt is e =
+    let s = square_at-item grid xs k x lt is in
+    rw (s, one_width grid margin k xs x one lt is, e) refl
+
+-- k + 1 times a number is k times the number and once more
+next-multiple : (k w : ℕ) → k * w + w ≡ (k + 1) * w
+next-multiple k w = let e : k + 1 ≡ suc k = omega arith in rw e (sym (suc-mul k w))
+
+-- the top of the next symbol
+pub next_top : {T : Type 0} (grid : T → Grid) (margin k top width : ℕ) (xs : List T) (x : T) → HaveOneSide (map grid xs) → k < length xs → x ≡ get_or xs k x
+    → top ≡ k * raster_width margin (square_at (map grid xs) 0) → width ≡ raster_width margin (grid x)
+    → top + width ≡ (k + 1) * raster_width margin (square_at (map grid xs) 0)
+next_top grid margin k top width xs x one lt is e f =
+    let w = f ∙ one_width grid margin k xs x one lt is in
+    rw (e, w) (next-multiple k (raster_width margin (square_at (map grid xs) 0)))
+
+-- the seven pieces of a document, grouped as in the definition and as they are written
+pieces : (a b c d e f g : List ℕ) → a ++ b ++ c ++ (d ++ e ++ f) ++ g ≡ ((a ++ b ++ c ++ d) ++ e) ++ (f ++ g)
+pieces a b c d e f g = simp append_assoc
+
+-- the document of this width and height
+lines_of : ℕ → ℕ → ℕ → List Grid → List ℕ
+lines_of width height margin squares =
+    declaration ++ opening width height ++ background width height ++ foreground margin squares ++ closing
+
+-- the parts of the document
+pub document-parts : {T : Type 0} (grid : T → Grid) (margin width height : ℕ) (xs : List T) (x : T) → 0 < length xs
+    → width ≡ raster_width margin (grid (get_or xs 0 x)) → height ≡ width * length xs
+    → svg_document margin (map grid xs) ≡ (head width height ++ stack_path margin (map grid xs)) ++ tail
+unfolding svg_document foreground head tail lines_of
+document-parts grid margin width height xs x some e f =
+    let n : length (map grid xs) ≡ length xs = length-map xs grid in
+    let w : raster_width margin (square_at (map grid xs) 0) ≡ width =
+    ap (raster_width margin) (get_or-map grid xs 0 x (light 0) some) ∙ sym e in
+    let h : raster_width margin (square_at (map grid xs) 0) * length (map grid xs) ≡ height = (λ i. w i * n i) ∙ sym f in
+    (λ i. lines_of (w i) (h i) margin (map grid xs))
+    ∙ pieces declaration (opening width height) (background width height) (codes "<path fill=\"#000000\" d=\"") (stack_path margin (map grid xs))
+    (codes "\"/>\n") closing

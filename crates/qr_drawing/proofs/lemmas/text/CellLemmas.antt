@@ -1,0 +1,220 @@
+-- The cells of a line by the bits of their modules, and the room that they take.
+use Rattle.std.proofs.Common.{◌≡◌, ◌++◌, ◌∙◌, ◌<◌, ◌≤◌, ◌+◌, ◌-◌, ◌*◌, ◌/◌, ◌%◌, ◌^◌, ◌&&◌, ℕ, Bool, true, false, not, List, [], ◌∷◌, length, get_or, nat_eq, length-append, append-nil, append_assoc, length-drop, take, drop, refl, sym, ap, arith}
+use Rattle.std.proofs.Math.Nat.{add-mul, mul-le-mul_right}
+use Rattle.std.specs.Cmp.Lexicographic.{pointwise, same_text}
+use Rattle.qr_matrix.specs.Grid.{Grid, colour}
+use Rattle.qr_matrix.specs.BitRow.{has_bit}
+use Rattle.qr_matrix.specs.Penalty.{is_same, all_below}
+use Rattle.qr_matrix.proofs.Facts.{&&-left, &&-right, below-at, has_bit-shr, low-bits, same-same}
+use Rattle.qr_drawing.specs.Raster.{is_dark_at, raster_width, texts_below}
+use Rattle.qr_drawing.specs.Text.{cell_of, cells_of_line, half_blocks}
+use Rattle.qr_drawing.specs.Steps.Text.{AreDark, bits_text, cell_at, cell_room, cell_text, pair_text, top_row}
+use Rattle.qr_drawing.specs.declared.text.TheConstants.{ASCII_QUADS}
+use Rattle.qr_drawing.specs.declared.text.TextStyle.{TextStyle}
+use Rattle.qr_drawing.specs.declared.text.TextStyle.TheVariants.{Plain, Inverse, HalfBlocks}
+use Rattle.std.proofs.Math.Seq.{take-append_seam}
+use Rattle.std.proofs.lemmas.List.{drop_all}
+use borrow.Rule.Slice.PartMut.{put_mid}
+use Rattle.qr_drawing.proofs.lemmas.text.LineLemmas.{added_more, texts_below-add, texts_below-alike, texts_below-length}
+use Rattle.qr_drawing.proofs.lemmas.svg.PathLemmas.{is_dark_at_inside, is_dark_at_left, is_dark_at_right}
+
+-- no bit of 0 is set: computed
+none-set : all_below 8 (λ k. is_same (has_bit 0 k) false) ≡ true
+unfolding has_bit
+none-set = refl
+
+-- eight places of a row of the raster that shows no row of the square
+pub dark_none : (margin : ℕ) (g : Grid) (y col : ℕ) → ((x : ℕ) → is_dark_at margin g y x ≡ false) → AreDark margin g y col 0
+dark_none margin g y col h k lt inside =
+    same-same (has_bit 0 k) false (below-at 8 (λ k. is_same (has_bit 0 k) false) none-set k lt) ∙ sym (h (margin + (col + k)))
+
+-- eight places of a row of the raster that shows a row of the square
+pub dark_eight : (margin : ℕ) (g : Grid) (y row col bits : ℕ) → margin + row ≡ y → row < g.side
+    → ((k : ℕ) → k < 8 → has_bit bits k ≡ colour g row (col + k)) → AreDark margin g y col bits
+dark_eight margin g y row col bits e inside h k lt col_in =
+    h k lt ∙ sym (ap (λ r. is_dark_at margin g r (margin + (col + k))) (sym e) ∙ is_dark_at_inside margin row (col + k) g inside col_in)
+
+-- n cells of columns of the square that are added to the cells before them
+pub added-cells : (style : TextStyle) (margin : ℕ) (g : Grid) (row col n upper lower : ℕ) (h t u : List ℕ) → n ≤ 8 → col + n ≤ g.side
+    → AreDark margin g row col upper → AreDark margin g (row + 1) col lower → t ≡ h ++ texts_below col (λ i. cell_at style margin g row (margin + i))
+    → u ≡ t ++ bits_text n style upper lower → u ≡ h ++ texts_below (col + n) (λ i. cell_at style margin g row (margin + i))
+added-cells style margin g row col n upper lower h t u few fits up down p q =
+    added_more h t u col n (λ i. cell_at style margin g row (margin + i)) (λ k. cell_text style (has_bit upper k) (has_bit lower k)) p q
+    (texts_below-alike n (λ k. cell_text style (has_bit upper k) (has_bit lower k)) (λ k. cell_at style margin g row (margin + (col + k)))
+    (λ k lt. λ i. cell_text style (up k (omega arith) (omega arith) i) (down k (omega arith) (omega arith) i)))
+
+-- the texts of n + d cells are those of the n lowest bits and of the d bits after them
+bits-split : (n d : ℕ) (style : TextStyle) (upper lower : ℕ)
+    → bits_text (n + d) style upper lower ≡ bits_text n style upper lower ++ bits_text d style (upper / 2 ^ n) (lower / 2 ^ n)
+bits-split n d style upper lower =
+    let up : (b k : ℕ) → has_bit b (n + k) ≡ has_bit (b / 2 ^ n) k = λ b k. let e : n + k ≡ k + n = omega arith in ap (has_bit b) e ∙ sym (has_bit-shr b n k) in
+    texts_below-add n d (λ k. cell_text style (has_bit upper k) (has_bit lower k))
+    ∙ ap (λ l. bits_text n style upper lower ++ l) (texts_below-alike d (λ k. cell_text style (has_bit upper (n + k)) (has_bit lower (n + k)))
+    (λ k. cell_text style (has_bit (upper / 2 ^ n) k) (has_bit (lower / 2 ^ n) k)) (λ k lt. λ i. cell_text style (up upper k i) (up lower k i)))
+
+-- eight cells that are added as four and four
+pub eight_quads : (h t u : List ℕ) (style : TextStyle) (upper lower : ℕ) → t ≡ h ++ bits_text 4 style upper lower
+    → u ≡ t ++ bits_text 4 style (upper / 16) (lower / 16) → u ≡ h ++ bits_text 8 style upper lower
+eight_quads h t u style upper lower p q =
+    q ∙ ap (λ l. l ++ bits_text 4 style (upper / 16) (lower / 16)) p
+    ∙ append_assoc h (bits_text 4 style upper lower) (bits_text 4 style (upper / 16) (lower / 16))
+    ∙ ap (λ l. h ++ l) (sym (bits-split 4 4 style upper lower))
+
+-- each text of the table is that of its four modules: computed
+all-quads : all_below 16 (λ b. pointwise nat_eq (get_or ASCII_QUADS b []) (bits_text 4 Plain b 0)) ≡ true
+unfolding has_bit texts_below
+all-quads = refl
+
+-- a text of the table
+pub quad-at : (b : ℕ) → b < 16 → get_or ASCII_QUADS b [] ≡ bits_text 4 Plain b 0
+quad-at b lt = same_text _ _ (sym (below-at 16 (λ b. pointwise nat_eq (get_or ASCII_QUADS b []) (bits_text 4 Plain b 0)) all-quads b lt))
+
+-- four modules by the four lowest bits
+pub quad_plain : (upper lower : ℕ) → bits_text 4 Plain (upper % 16) 0 ≡ bits_text 4 Plain upper lower
+quad_plain upper lower =
+    texts_below-alike 4 (λ k. cell_text Plain (has_bit (upper % 16) k) (has_bit 0 k)) (λ k. cell_text Plain (has_bit upper k) (has_bit lower k))
+    (λ k lt. ap (λ b. cell_text Plain b false) (low-bits 4 upper k lt))
+
+-- if the first eight of 16 bytes are the text of four modules, and the last eight that of the next four, the 16 bytes are
+-- the text of eight modules
+pub eight-joined : (bits : ℕ) (a b : List ℕ) → length a ≡ 8 → a ≡ bits_text 4 Plain (bits % 16) 0 → b ≡ bits_text 4 Plain (bits / 16) 0
+    → put_mid 8 8 (a ++ 32 ∷ 32 ∷ 32 ∷ 32 ∷ 32 ∷ 32 ∷ 32 ∷ 32 ∷ []) b ≡ bits_text 8 Plain bits 0
+eight-joined bits a b l p q =
+    let light = 32 ∷ 32 ∷ 32 ∷ 32 ∷ 32 ∷ 32 ∷ 32 ∷ 32 ∷ [] in
+    let first : take 8 (a ++ light) ≡ a = ap (λ n. take n (a ++ light)) (sym l) ∙ take-append_seam a light in
+    let rest : drop 8 (drop 8 (a ++ light)) ≡ [] = drop_all 8 (drop 8 (a ++ light)) (omega (arith, length-drop 8 (a ++ light), length-append a light, l)) in
+    let whole : put_mid 8 8 (a ++ light) b ≡ a ++ b = rw first (ap (λ t. a ++ (b ++ t)) rest ∙ ap (λ t. a ++ t) (append-nil b)) in
+    whole ∙ ap (λ t. t ++ b) p ∙ ap (λ t. bits_text 4 Plain (bits % 16) 0 ++ t) q
+    ∙ ap (λ t. t ++ bits_text 4 Plain (bits / 16) 0) (quad_plain bits 0)
+    ∙ sym (bits-split 4 4 Plain bits 0)
+
+-- each of the four lowest bits of `15 - bits` is the opposite bit: computed
+all-others : all_below 16 (λ b. all_below 4 (λ k. is_same (has_bit (15 - b) k) (not (has_bit b k)))) ≡ true
+unfolding has_bit
+all-others = refl
+
+-- each bit of `15 - bits` is the opposite bit
+other-bit : (b k : ℕ) → b < 16 → k < 4 → has_bit (15 - b) k ≡ not (has_bit b k)
+other-bit b k l m = same-same (has_bit (15 - b) k) (not (has_bit b k)) (below-at 4 (λ k. is_same (has_bit (15 - b) k) (not (has_bit b k))) (below-at 16 (λ b. all_below 4 (λ k. is_same (has_bit (15 - b) k) (not (has_bit b k)))) all-others b l) k m)
+
+-- four modules of an inverse text
+pub quad_inverse : (upper lower : ℕ) → bits_text 4 Plain (15 - upper % 16) 0 ≡ bits_text 4 Inverse upper lower
+quad_inverse upper lower =
+    texts_below-alike 4 (λ k. cell_text Plain (has_bit (15 - upper % 16) k) (has_bit 0 k)) (λ k. cell_text Inverse (has_bit upper k) (has_bit lower k))
+    (λ k lt. ap (λ b. cell_text Plain b false) (other-bit (upper % 16) k (omega arith) lt ∙ ap (λ b. not b) (low-bits 4 upper k lt)))
+
+-- the same of eight bits: computed
+all-eight-others : all_below 256 (λ b. all_below 8 (λ k. is_same (has_bit (255 - b) k) (not (has_bit b k)))) ≡ true
+unfolding has_bit
+all-eight-others = refl
+
+-- eight cells of a plain text show the upper modules
+pub eight_plain : (upper lower : ℕ) → bits_text 8 Plain upper 0 ≡ bits_text 8 Plain upper lower
+eight_plain upper lower = texts_below-alike 8 (λ k. cell_text Plain (has_bit upper k) (has_bit 0 k)) (λ k. cell_text Plain (has_bit upper k) (has_bit lower k)) (λ k lt. refl)
+
+-- eight cells of an inverse text show the opposite of the upper modules
+pub eight_inverse : (upper lower : ℕ) → upper < 256 → bits_text 8 Plain (255 - upper) 0 ≡ bits_text 8 Inverse upper lower
+eight_inverse upper lower l =
+    texts_below-alike 8 (λ k. cell_text Plain (has_bit (255 - upper) k) (has_bit 0 k)) (λ k. cell_text Inverse (has_bit upper k) (has_bit lower k))
+    (λ k lt. ap (λ b. cell_text Plain b false) (same-same (has_bit (255 - upper) k) (not (has_bit upper k)) (below-at 8 (λ k. is_same (has_bit (255 - upper) k) (not (has_bit upper k)))
+    (below-at 256 (λ b. all_below 8 (λ k. is_same (has_bit (255 - b) k) (not (has_bit b k)))) all-eight-others upper l) k lt)))
+
+-- the bits of two modules and of the two below them, as one number: computed
+all-pairs : all_below 4 (λ a. all_below 4 (λ b. all_below 2 (λ k. is_same (has_bit (a + b * 4) k) (has_bit a k) && is_same (has_bit (a + b * 4) (2 + k)) (has_bit b k)))) ≡ true
+unfolding has_bit
+all-pairs = refl
+
+-- two modules and the two below them as two characters of half blocks
+half-pair : (upper lower : ℕ) → pair_text (upper % 4 + lower % 4 * 4) ≡ bits_text 2 HalfBlocks upper lower
+half-pair upper lower =
+    let a = upper % 4 in
+    let b = lower % 4 in
+    let test = λ (a b k : ℕ). is_same (has_bit (a + b * 4) k) (has_bit a k) && is_same (has_bit (a + b * 4) (2 + k)) (has_bit b k) in
+    let both : (k : ℕ) → k < 2 → test a b k ≡ true = below-at 2 (test a b)
+    (below-at 4 (λ b. all_below 2 (test a b)) (below-at 4 (λ a. all_below 4 (λ b. all_below 2 (test a b))) all-pairs a (omega arith)) b (omega arith)) in
+    let up : (k : ℕ) → k < 2 → has_bit (a + b * 4) k ≡ has_bit upper k = λ k lt. same-same _ _ (&&-left _ _ (both k lt)) ∙ low-bits 2 upper k lt in
+    let down : (k : ℕ) → k < 2 → has_bit (a + b * 4) (2 + k) ≡ has_bit lower k = λ k lt. same-same _ _ (&&-right _ _ (both k lt)) ∙ low-bits 2 lower k lt in
+    texts_below-alike 2 (λ k. half_blocks (has_bit (a + b * 4) k) (has_bit (a + b * 4) (2 + k))) (λ k. cell_text HalfBlocks (has_bit upper k) (has_bit lower k))
+    (λ k lt. λ i. half_blocks (up k lt i) (down k lt i))
+
+-- four characters of half blocks that are added as two and two
+pub half_block_pairs : (h t u : List ℕ) (upper lower : ℕ) → t ≡ h ++ pair_text (upper % 4 + lower % 4 * 4)
+    → u ≡ t ++ pair_text (upper / 4 % 4 + lower / 4 % 4 * 4) → u ≡ h ++ bits_text 4 HalfBlocks upper lower
+half_block_pairs h t u upper lower p q =
+    let low = bits_text 2 HalfBlocks upper lower in
+    let high = bits_text 2 HalfBlocks (upper / 4) (lower / 4) in
+    q ∙ (λ i. p i ++ half-pair (upper / 4) (lower / 4) i) ∙ ap (λ l. (h ++ l) ++ high) (half-pair upper lower) ∙ append_assoc h low high
+    ∙ ap (λ l. h ++ l) (sym (bits-split 2 2 HalfBlocks upper lower))
+
+-- a cell takes at most its room
+pub cell-length : (style : TextStyle) (upper lower : Bool) → length (cell_text style upper lower) ≤ cell_room style
+cell-length Plain true lower = omega arith
+cell-length Plain false lower = omega arith
+cell-length Inverse true lower = omega arith
+cell-length Inverse false lower = omega arith
+cell-length HalfBlocks true true = omega arith
+cell-length HalfBlocks true false = omega arith
+cell-length HalfBlocks false true = omega arith
+cell-length HalfBlocks false false = omega arith
+
+-- if there was room for `o` bytes, then after n texts of at most b bytes there is room for d bytes
+pub room-left : (h t : List ℕ) (n d o b room : ℕ) (text : ℕ → List ℕ) → ((k : ℕ) → length (text k) ≤ b) → t ≡ h ++ texts_below n text
+    → n + d ≤ o → length h + o * b ≤ room → length t + d * b ≤ room
+room-left h t n d o b room text most e le fits =
+    let l : length t ≡ length h + length (texts_below n text) = ap (λ l. length l) e ∙ length-append h (texts_below n text) in
+    let m = texts_below-length n b text most in
+    let p : (n + d) * b ≡ n * b + d * b = add-mul n d b in
+    let q : (n + d) * b ≤ o * b = mul-le-mul_right b le in
+    omega arith
+
+-- if there was room for `count` cells of a row, then after `done` of them there is room for n more
+pub room-cells : (style : TextStyle) (margin : ℕ) (g : Grid) (row first done n count : ℕ) (h t : List ℕ)
+    → t ≡ h ++ texts_below done (λ i. cell_at style margin g row (first + i)) → done + n ≤ count → length h + count * cell_room style ≤ 1200
+    → length t + n * cell_room style ≤ 1200
+room-cells style margin g row first done n count h t e le fits =
+    room-left h t done n count (cell_room style) 1200 (λ i. cell_at style margin g row (first + i)) (λ k. cell-length style _ _) e le fits
+
+-- if there was room for `last` cells, `first` cells and a newline, then after the `last` cells there is room for the rest
+pub room-light : (h t : List ℕ) (r last first room b : ℕ) (text : ℕ → List ℕ) → ((k : ℕ) → length (text k) ≤ b) → t ≡ h ++ texts_below last text
+    → r ≡ last + first → room ≡ b → length h + (r * room + 1) ≤ 1200 → length t + first * b ≤ 1199
+room-light h t r last first room b text most e sum same fits =
+    let p : r * room ≡ (last + first) * b = λ i. sum i * same i in
+    room-left h t last first (last + first) b 1199 text most e (omega arith) (omega arith)
+
+-- a cell of a line
+cell-of : (style : TextStyle) (margin : ℕ) (g : Grid) (y x : ℕ) → cell_of style margin g y x ≡ cell_at style margin g (top_row style y) x
+cell-of Plain margin g y x = refl
+cell-of Inverse margin g y x = refl
+cell-of HalfBlocks margin g y x = refl
+
+-- the cells of columns that are light
+light-cells : (style : TextStyle) (margin : ℕ) (g : Grid) (row first n : ℕ) → ((y k : ℕ) → k < n → is_dark_at margin g y (first + k) ≡ false)
+    → texts_below n (λ i. cell_at style margin g row (first + i)) ≡ texts_below n (λ _. cell_text style false false)
+light-cells style margin g row first n light =
+    texts_below-alike n (λ i. cell_at style margin g row (first + i)) (λ _. cell_text style false false)
+    (λ k lt. λ i. cell_text style (light row k lt i) (light (row + 1) k lt i))
+
+-- a line is the light cells of the margin, the cells of the square's columns by fours, those of the remaining columns,
+-- the light cells of the margin, and a newline
+pub line-parts : (style : TextStyle) (margin : ℕ) (g : Grid) (y : ℕ) → cells_of_line style margin g y ++ 10 ∷ []
+    ≡ (texts_below margin (λ _. cell_text style false false)
+    ++ texts_below (g.side / 4 * 4) (λ i. cell_at style margin g (top_row style y) (margin + i)))
+    ++ (texts_below (g.side % 4) (λ i. cell_at style margin g (top_row style y) (margin + g.side / 4 * 4 + i))
+    ++ (texts_below margin (λ _. cell_text style false false) ++ 10 ∷ []))
+line-parts style margin g y =
+    let row = top_row style y in
+    let cell = λ (x : ℕ). cell_at style margin g row x in
+    let fours = g.side / 4 * 4 in
+    let light = texts_below margin (λ _. cell_text style false false) in
+    let columns = texts_below fours (λ i. cell (margin + i)) in
+    let rest = texts_below (g.side % 4) (λ i. cell (margin + fours + i)) in
+    let e : raster_width margin g ≡ margin + fours + g.side % 4 + margin = omega arith in
+    let left : texts_below margin cell ≡ light =
+    texts_below-alike margin cell (λ k. cell (0 + k)) (λ k lt. ap cell (omega arith)) ∙ light-cells style margin g row 0 margin (λ y k lt. is_dark_at_left margin y (0 + k) g (omega arith)) in
+    let right : texts_below margin (λ i. cell (margin + fours + g.side % 4 + i)) ≡ light =
+    light-cells style margin g row (margin + fours + g.side % 4) margin (λ y k lt. is_dark_at_right margin y (margin + fours + g.side % 4 + k) g (omega arith)) in
+    ap (λ l. l ++ 10 ∷ []) (texts_below-alike (raster_width margin g) (cell_of style margin g y) cell (λ k lt. cell-of style margin g y k)
+    ∙ ap (λ n. texts_below n cell) e ∙ texts_below-add (margin + fours + g.side % 4) margin cell
+    ∙ (λ i. (texts_below-add (margin + fours) (g.side % 4) cell ∙ ap (λ l. l ++ rest) (texts_below-add margin fours cell ∙ ap (λ l. l ++ columns) left)) i ++ right i)
+    ∙ append_assoc (light ++ columns) rest light)
+    ∙ append_assoc (light ++ columns) (rest ++ light) (10 ∷ []) ∙ ap (λ l. (light ++ columns) ++ l) (append_assoc rest light (10 ∷ []))

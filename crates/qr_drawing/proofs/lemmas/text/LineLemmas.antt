@@ -1,0 +1,139 @@
+-- How the texts of places join while they are added and written.
+use Rattle.std.proofs.Common.{◌≡◌, ◌++◌, ◌∙◌, ◌<◌, ◌≤◌, ◌+◌, ◌-◌, ◌*◌, ℕ, zero, suc, List, [], ◌∷◌, refl, sym, ap, arith, append_assoc, append-nil, take, length, length-append, get_or}
+use Rattle.std.proofs.Math.Nat.{suc-mul}
+use Rattle.std.specs.List.{flat_map, range_with_len}
+use Rattle.std.proofs.lemmas.Grind.{flat_map-append}
+use Rattle.std.proofs.lemmas.List.{take_all, take_more}
+use Rattle.qr_devices.specs.Device.{Writer}
+use Rattle.qr_drawing.specs.Raster.{texts_below}
+use Rattle.qr_drawing.specs.Steps.Writing.{Stops, Writes}
+use Rattle.qr_drawing.proofs.lemmas.pen.WritingLemmas.{stops_first, writes_none, writes_on, writes_stop}
+
+-- n + 1 numbers are n numbers and one more
+range-more : (a n : ℕ) → range_with_len a (n + 1) ≡ range_with_len a n ++ (a + n) ∷ []
+range-more a zero = let e : a ≡ a + 0 = omega arith in rw (← e) refl
+range-more a (suc n) =
+    let e : a + suc n ≡ a + 1 + n = omega arith in
+    let f : suc n + 1 ≡ suc (n + 1) = omega arith in
+    rw (e, f) (ap (λ l. a ∷ l) (range-more (a + 1) n))
+
+-- the texts of n + 1 places are those of n places and one more
+texts_below-more : (n : ℕ) (text : ℕ → List ℕ) → texts_below (n + 1) text ≡ texts_below n text ++ text n
+unfolding texts_below
+texts_below-more n text =
+    let e : 0 + n ≡ n = omega arith in
+    rw (range-more 0 n, e) (flat_map-append text (range_with_len 0 n) (n ∷ []) ∙ ap (λ l. flat_map text (range_with_len 0 n) ++ l) (append-nil (text n)))
+
+-- the same lemma with the successor in the form that a match yields
+texts_below-suc : (n : ℕ) (text : ℕ → List ℕ) → texts_below (suc n) text ≡ texts_below n text ++ text n
+texts_below-suc n text = let e : suc n ≡ n + 1 = omega arith in ap (λ k. texts_below k text) e ∙ texts_below-more n text
+
+-- the texts of n + d places are those of n places and of d more
+pub texts_below-add : (n d : ℕ) (text : ℕ → List ℕ) → texts_below (n + d) text ≡ texts_below n text ++ texts_below d (λ i. text (n + i))
+unfolding texts_below
+texts_below-add n zero text =
+    let e : n + 0 ≡ n = omega arith in
+    rw e (sym (append-nil (texts_below n text)))
+texts_below-add n (suc d) text =
+    let e : n + suc d ≡ n + d + 1 = omega arith in
+    ap (λ k. texts_below k text) e ∙ (texts_below-more (n + d) text
+    ∙ (ap (λ l. l ++ text (n + d)) (texts_below-add n d text)
+    ∙ (append_assoc (texts_below n text) (texts_below d (λ i. text (n + i))) (text (n + d))
+    ∙ ap (λ l. texts_below n text ++ l) (sym (texts_below-suc d (λ i. text (n + i)))))))
+
+-- texts that are all empty are empty together
+pub texts_below-none : (n : ℕ) (text : ℕ → List ℕ) → ((k : ℕ) → k < n → text k ≡ []) → texts_below n text ≡ []
+unfolding texts_below
+texts_below-none zero text none = refl
+texts_below-none (suc n) text none =
+    texts_below-suc n text ∙ (λ i. texts_below-none n text (λ k lt. none k (omega arith)) i ++ none n (omega arith) i)
+
+-- if the texts from m to n are empty, the texts below n are those below m
+pub texts_below-same : (m n : ℕ) (text : ℕ → List ℕ) → m ≤ n → ((k : ℕ) → m ≤ k → k < n → text k ≡ []) → texts_below n text ≡ texts_below m text
+texts_below-same m n text le none =
+    let e : n ≡ m + (n - m) = omega arith in
+    ap (λ k. texts_below k text) e ∙ texts_below-add m (n - m) text
+    ∙ ap (λ l. texts_below m text ++ l) (texts_below-none (n - m) (λ i. text (m + i)) (λ k lt. none (m + k) (omega arith) (omega arith)))
+    ∙ append-nil (texts_below m text)
+
+-- texts that are equal place by place are equal as a whole
+pub texts_below-alike : (n : ℕ) (f g : ℕ → List ℕ) → ((k : ℕ) → k < n → f k ≡ g k) → texts_below n f ≡ texts_below n g
+unfolding texts_below
+texts_below-alike zero f g h = refl
+texts_below-alike (suc n) f g h =
+    texts_below-suc n f ∙ (λ i. texts_below-alike n f g (λ k lt. h k (omega arith)) i ++ h n (omega arith) i) ∙ sym (texts_below-suc n g)
+
+-- n texts of at most b bytes are at most n * b bytes long
+pub texts_below-length : (n b : ℕ) (text : ℕ → List ℕ) → ((k : ℕ) → length (text k) ≤ b) → length (texts_below n text) ≤ n * b
+unfolding texts_below
+texts_below-length zero b text most = omega arith
+texts_below-length (suc n) b text most =
+    let l = ap (λ l. length l) (texts_below-suc n text) ∙ length-append (texts_below n text) (text n) in
+    let m = most n in
+    let r = texts_below-length n b text most in
+    let p : suc n * b ≡ n * b + b = suc-mul n b in
+    omega arith
+
+-- the texts of the first n items of a list
+texts-of-first : {A : Type 0} (text : A → List ℕ) (xs : List A) (d : A) (n : ℕ) → n ≤ length xs
+    → flat_map text (take n xs) ≡ texts_below n (λ k. text (get_or xs k d))
+unfolding texts_below
+texts-of-first text xs d zero le = refl
+texts-of-first text xs d (suc n) le =
+    let e : suc n ≡ n + 1 = omega arith in
+    ap (λ k. flat_map text (take k xs)) e ∙ ap (λ l. flat_map text l) (take_more xs n d (omega arith))
+    ∙ flat_map-append text (take n xs) (get_or xs n d ∷ [])
+    ∙ (λ i. texts-of-first text xs d n (omega arith) i ++ append-nil (text (get_or xs n d)) i)
+    ∙ sym (texts_below-suc n (λ k. text (get_or xs k d)))
+
+-- the texts of a list's items, place by place
+pub texts-of-items : {A : Type 0} (text : A → List ℕ) (xs : List A) (d : A) → flat_map text xs ≡ texts_below (length xs) (λ k. text (get_or xs k d))
+texts-of-items text xs d =
+    ap (λ l. flat_map text l) (sym (take_all (length xs) xs (omega arith))) ∙ texts-of-first text xs d (length xs) (omega arith)
+
+-- ---- texts that are added
+
+-- before the first place nothing was added
+pub added_none : (h : List ℕ) (f : ℕ → List ℕ) → h ≡ h ++ texts_below 0 f
+unfolding texts_below
+added_none h f = sym (append-nil h)
+
+-- the texts of d places more were added
+pub added_more : (h t u : List ℕ) (n d : ℕ) (f g : ℕ → List ℕ) → t ≡ h ++ texts_below n f → u ≡ t ++ texts_below d g
+    → texts_below d g ≡ texts_below d (λ i. f (n + i)) → u ≡ h ++ texts_below (n + d) f
+added_more h t u n d f g p q same =
+    q ∙ ap (λ l. l ++ texts_below d g) p ∙ append_assoc h (texts_below n f) (texts_below d g)
+    ∙ ap (λ l. h ++ (texts_below n f ++ l)) same ∙ ap (λ l. h ++ l) (sym (texts_below-add n d f))
+
+-- the text of the next place was added
+pub added_next : (h t u : List ℕ) (n : ℕ) (f : ℕ → List ℕ) → t ≡ h ++ texts_below n f → u ≡ t ++ f n → u ≡ h ++ texts_below (n + 1) f
+added_next h t u n f p q =
+    q ∙ ap (λ l. l ++ f n) p ∙ append_assoc h (texts_below n f) (f n) ∙ ap (λ l. h ++ l) (sym (texts_below-more n f))
+
+-- ---- texts that are written through the pen
+
+-- before the first text that is not empty nothing was written
+pub put_none : (a : Writer) (i n : ℕ) (h : List ℕ) (text : ℕ → List ℕ) → texts_below n text ≡ [] → Writes a a i i (h ++ texts_below n text) h
+put_none a i n h text e = rw e (writes_none a i h)
+
+-- without places there is no text
+pub no-texts : (text : ℕ → List ℕ) → texts_below 0 text ≡ []
+unfolding texts_below
+no-texts text = refl
+
+-- the text of place m was written, and the texts from there to n are empty
+pub put_next : (a b c : Writer) (i j k m n : ℕ) (h0 h1 h2 piece : List ℕ) (text : ℕ → List ℕ) → text m ≡ piece
+    → texts_below n text ≡ texts_below (m + 1) text
+    → Writes a b i j (h0 ++ texts_below m text) h1 → Writes b c j k (h1 ++ piece) h2 → Writes a c i k (h0 ++ texts_below n text) h2
+put_next a b c i j k m n h0 h1 h2 piece text here same p q =
+    rw (same, texts_below-more m text) (writes_on a b c i j k h0 h1 h2 (texts_below m text) (text m) p (rw here q))
+
+-- the writer failed in the text of place m of n
+pub put_stops : (a b c : Writer) (i j m n : ℕ) (h0 h1 piece : List ℕ) (text : ℕ → List ℕ) → text m ≡ piece → m < n
+    → Writes a b i j (h0 ++ texts_below m text) h1 → Stops b c j (h1 ++ piece) → Stops a c i (h0 ++ texts_below n text)
+put_stops a b c i j m n h0 h1 piece text here lt p q =
+    let rest = texts_below (n - (m + 1)) (λ i. text (m + 1 + i)) in
+    let e : m + 1 + (n - (m + 1)) ≡ n = omega arith in
+    let whole : (texts_below m text ++ text m) ++ rest ≡ texts_below n text =
+    ap (λ l. l ++ rest) (sym (texts_below-more m text)) ∙ sym (texts_below-add (m + 1) (n - (m + 1)) text) ∙ ap (λ k. texts_below k text) e in
+    rw (← whole) (stops_first a c i h0 (texts_below m text ++ text m) rest (writes_stop a b c i j h0 h1 (texts_below m text) (text m) p (rw here q)))

@@ -1,0 +1,280 @@
+-- The errors of a damaged block are located by any polynomial that solves the equations. Adding the errors to the
+-- damaged codewords gives the true block.
+use Rattle.std.proofs.Common.{◌≡◌, ℕ, zero, suc, ◌+◌, ◌-◌, ◌*◌, ◌/◌, ◌<◌, ◌≤◌, Option, Some, List, [], ◌∷◌, ◌++◌, length, map, take, drop, get_or, refl, sym, ap, ◌∙◌, subst, arith, bit_xor, length-append}
+use Rattle.std.specs.List.{All}
+use Rattle.std.specs.Int.Bits.{xor_zero_r}
+use Rattle.std.proofs.lemmas.List.{length-map, length-take, length-take-le, length_push, take_more, take_at, take_rest, take-append-drop, drop_at}
+use Rattle.qr_field.specs.Galois.{product}
+use Rattle.qr_field.specs.Polynomial.{IsByte, plus, power, IsCorrection}
+use Rattle.qr_field.specs.Distance.{differences, erasures, errors}
+use Rattle.qr_field.specs.Steps.Polynomial.{value_at}
+use Rattle.qr_field.proofs.BitLemmas.{xor-cancel}
+use Rattle.qr_field.proofs.ByteLemmas.{product-by_one}
+use Rattle.qr_field.proofs.FieldLemmas.{sum-none}
+use Rattle.qr_field.proofs.PowerLemmas.{power-round}
+use Rattle.qr_field.proofs.ListLemmas.{length-plus, bytes-plus}
+use Rattle.qr_field.proofs.ValueLemmas.{value-lt, value-plus, block-bytes, block-root}
+use Rattle.qr_field.proofs.DistanceLemmas.{weight, weight-plus, difference-same, unambiguous-known, erasures-read, errors-read}
+use Rattle.qr_field.proofs.PolynomialLemmas.{correction-one}
+use Rattle.qr_mending.specs.Block.{IsBlock, IsMended}
+use Rattle.qr_mending.specs.Erasures.{IsMendedWithErasures}
+use Rattle.qr_mending.specs.declared.polynomial.Polynomial.{Polynomial}
+use Rattle.qr_mending.specs.Steps.Sums.{dot_of, eval, blend, HasValues}
+use Rattle.qr_mending.specs.Steps.Polynomial.{all_of, miss_of, IsMonic}
+use Rattle.qr_mending.specs.Steps.Errors.{coefficient, low, IsLocated}
+use Rattle.qr_mending.proofs.lemmas.sums.SumLemmas.{dot-blend, blend-push}
+use Rattle.qr_mending.proofs.lemmas.errors.WeightLemmas.{root-blends, errors-root, coefficient-head, coefficient-tail}
+use Rattle.qr_mending.proofs.lemmas.errors.SpectrumLemmas.{eval-coefficient}
+
+-- ---- blocks
+
+-- a block consists of bytes
+pub bytes-block : (n : ℕ) (b : List ℕ) → IsBlock n b → All IsByte b
+bytes-block n b h =
+    subst (λ (t : List ℕ). All IsByte t) (sym h.whole) (block-bytes h.message n h.correction h.corrects)
+
+-- the first n values of a block are 0
+root-block : (n : ℕ) (b : List ℕ) → IsBlock n b → (i : ℕ) → i < n → value_at i b ≡ 0
+root-block n b h i l = ap (value_at i) h.whole ∙ block-root h.message n h.correction h.corrects i l
+
+-- the data codewords of a block are all of its codewords but the last n
+start-block : (n : ℕ) (b : List ℕ) → (h : IsBlock n b) → length h.message ≡ length b - n
+start-block n b h = omega (arith, length-append h.message h.correction, ap length h.whole, h.corrects.count)
+
+-- the last n codewords of a block are the error correction codewords of its data codewords
+pub block-corrects : (n : ℕ) (b : List ℕ) → IsBlock n b → IsCorrection (take (length b - n) b) n (drop (length b - n) b)
+block-corrects n b h =
+    let k = length b - n in
+    let s = start-block n b h in
+    let first : h.message ≡ take k b = sym (ap (take k) h.whole ∙ take_at h.message h.correction k s) in
+    let last : h.correction ≡ drop k b = sym (ap (drop k) h.whole ∙ drop_at h.message h.correction k s) in
+    subst (λ (t : List ℕ). IsCorrection t n (drop k b)) first
+    (subst (λ (t : List ℕ). IsCorrection h.message n t) last h.corrects)
+
+-- ---- errors
+
+-- item k of the sum of two lists
+get_or-plus : (xs ys : List ℕ) (k : ℕ) → length xs ≡ length ys → k < length xs →
+    get_or (plus xs ys) k 0 ≡ bit_xor (get_or xs k 0) (get_or ys k 0)
+get_or-plus [] ys k e l = absurd (omega arith)
+get_or-plus (x ∷ xs) [] k e l = absurd (omega arith)
+get_or-plus (x ∷ xs) (y ∷ ys) zero e l = refl
+get_or-plus (x ∷ xs) (y ∷ ys) (suc k) e l = get_or-plus xs ys k (omega arith) (omega arith)
+
+-- the coefficient at item k of a list, counted from the last item
+coefficient-at : (e : List ℕ) (k : ℕ) → k < length e → coefficient (length e - 1 - k) e ≡ get_or e k 0
+coefficient-at [] k l = absurd (omega arith)
+coefficient-at (c ∷ e) zero l = coefficient-head (length (c ∷ e) - 1 - zero) c e (omega arith)
+coefficient-at (c ∷ e) (suc k) l =
+    let m = length (c ∷ e) - 1 - suc k in
+    let h : m ≡ length e - 1 - k = omega arith in
+    coefficient-tail m c e (λ g. omega (arith, g)) ∙ (ap (λ t. coefficient t e) h ∙ coefficient-at e k (omega arith))
+
+-- the first n values of the errors are those of the damaged block
+errors-value : (n : ℕ) (damaged b : List ℕ) → IsBlock n b → length b ≡ length damaged → All IsByte damaged →
+    (i : ℕ) → i < n → value_at i (plus damaged b) ≡ value_at i damaged
+errors-value n damaged b h s a i l =
+    let v = value_at i damaged in
+    let none : i * 0 ≡ 0 = omega arith in
+    value-plus i 0 damaged b (omega (arith, s)) a (bytes-block n b h)
+    ∙ (ap (λ t. bit_xor (product v (power t)) (value_at i b)) none
+    ∙ (ap (λ t. bit_xor t (value_at i b)) (product-by_one v (value-lt i damaged a))
+    ∙ (ap (bit_xor v) (root-block n b h i l) ∙ xor_zero_r v)))
+
+-- so the first n values of the errors are the syndromes
+pub errors-values : (n : ℕ) (damaged b first : List ℕ) → IsBlock n b → length b ≡ length damaged → All IsByte damaged →
+    HasValues first damaged → length first ≡ n → HasValues first (plus damaged b)
+errors-values n damaged b first block long a h l = record {
+  each = λ k g. h.each k g ∙ sym (errors-value n damaged b block long a k (omega (arith, l, g)));
+}
+
+-- the list of all coefficients ends with the leading 1
+pub all-low : (p : Polynomial) → IsMonic p → p.degree < length p.terms → all_of p ≡ take p.degree p.terms ++ 1 ∷ []
+all-low p m l = take_more p.terms p.degree 0 l ∙ ap (λ z. take p.degree p.terms ++ z ∷ []) m
+
+-- if a polynomial has a root for each error, it locates the errors
+pub roots-locate : (q w e : List ℕ) → q ≡ w ++ 1 ∷ [] → All IsByte q → All IsByte e → length e ≤ 255 →
+    ((m : ℕ) → m < length e → (eval (power m) q ≡ 0 → ⊥) → coefficient m e ≡ 0) → IsLocated q e
+roots-locate q w e split bytes le small roots =
+    let below : length q - 1 ≡ length w = omega (arith, ap length split, length_push w 1) in
+    let rest : low q ≡ w = ap (take (length q - 1)) split ∙ take_at w (1 ∷ []) (length q - 1) (sym below) in
+    let all = root-blends q e bytes le roots in
+    record {
+      bytes = le;
+      most = small;
+      recurrence = λ i.
+          let joined : bit_xor (blend w i e) (value_at (i + length w) e) ≡ 0 =
+          sym (blend-push w i e le) ∙ (ap (λ z. blend z i e) (sym split) ∙ all i) in
+          ap (λ z. value_at (i + z) e) below
+          ∙ (sym (sum-none (blend w i e) (value_at (i + length w) e) joined) ∙ ap (λ z. blend z i e) (sym rest));
+      roots = roots;
+    }
+
+-- if there are at most t errors, a polynomial that solves the first t equations of their values has a root for each of
+-- them
+pub solved-root : (t : ℕ) (e first q : List ℕ) (p : Polynomial) → All IsByte e → length e ≤ 255 → weight e ≤ t →
+    HasValues first e → 2 * t ≤ length first → p.degree ≤ t → p.degree < length p.terms → All IsByte q → q ≡ all_of p →
+    ((i : ℕ) → i < t → miss_of p (drop i first) ≡ 0) → (m : ℕ) → m < length e → (eval (power m) q ≡ 0 → ⊥) →
+    coefficient m e ≡ 0
+solved-root t e first q p le small few values long d fits bytes same solved =
+    let count : length q ≡ p.degree + 1 = omega (arith, ap length same, length-take-le (p.degree + 1) p.terms (omega (arith, fits))) in
+    errors-root t q e bytes le small few
+    (λ i g.
+    sym (dot-blend q i first e values (omega (arith, g, count, long, d)))
+    ∙ (ap (λ z. dot_of z (drop i first)) same ∙ solved i g))
+
+-- adding the difference of two lists to the first list gives the second list
+pub plus-cancel : (xs ys : List ℕ) → length xs ≡ length ys → plus xs (plus xs ys) ≡ ys
+plus-cancel [] ys h = refl
+plus-cancel (x ∷ xs) [] h = absurd (omega arith)
+plus-cancel (x ∷ xs) (y ∷ ys) h =
+    ap (λ z. z ∷ plus xs (plus xs ys)) (xor-cancel x y) ∙ ap (λ z. y ∷ z) (plus-cancel xs ys (omega arith))
+
+-- one codeword more, without its error
+pub sum-more : (xs errors items new : List ℕ) (k error : ℕ) → length errors ≡ length xs → k < length xs →
+    error ≡ coefficient (length xs - 1 - k) errors → items ≡ take k (plus xs errors) →
+    new ≡ items ++ bit_xor (get_or xs k 0) error ∷ [] → new ≡ take (k + 1) (plus xs errors)
+sum-more xs errors items new k error long l h same push =
+    let count : length (plus xs errors) ≡ length errors = length-plus xs errors (omega (arith, long)) in
+    let place : length xs - 1 - k ≡ length errors - 1 - k = omega (arith, long) in
+    let read : error ≡ get_or errors k 0 =
+    h ∙ (ap (λ z. coefficient z errors) place ∙ coefficient-at errors k (omega (arith, long, l))) in
+    let here : bit_xor (get_or xs k 0) error ≡ get_or (plus xs errors) k 0 =
+    ap (bit_xor (get_or xs k 0)) read ∙ sym (get_or-plus xs errors k (sym long) l) in
+    push
+    ∙ (ap (λ z. z ++ bit_xor (get_or xs k 0) error ∷ []) same
+    ∙ (ap (λ z. take k (plus xs errors) ++ z ∷ []) here
+    ∙ sym (take_more (plus xs errors) k 0 (omega (arith, l, long, count)))))
+
+-- ---- the values of the errors
+
+-- the next value of located errors follows from the values before it
+pub value-next : (p series e : List ℕ) (v : ℕ) → IsLocated p e → HasValues series e → length p ≤ length series + 1 →
+    v ≡ dot_of (low p) (take (length series - (length series - (length p - 1))) (drop (length series - (length p - 1)) series)) →
+    v ≡ value_at (length series) e
+value-next p series e v h s l d =
+    let i = length series - (length p - 1) in
+    let room : i + length (low p) ≤ length series = omega (arith, length-take (length p - 1) p) in
+    let whole : i + (length p - 1) ≡ length series = omega arith in
+    d
+    ∙ (ap (dot_of (low p)) (take_rest series i)
+    ∙ (dot-blend (low p) i series e s room ∙ (sym (h.recurrence i) ∙ ap (λ z. value_at z e) whole)))
+
+-- the error at index `place` is the value of the series at the inverse of its power
+pub inverse-coefficient : (place inverse v x : ℕ) (p series e : List ℕ) → IsLocated p e →
+    HasValues series e → length series ≡ 255 → place < 255 → x ≡ power inverse → v ≡ eval x series →
+    power inverse ≡ power (255 - place) → v ≡ coefficient place e
+inverse-coefficient place inverse v x p series e h s l m ex ev turn =
+    ev
+    ∙ (ap (λ z. eval z series) (ex ∙ turn) ∙ eval-coefficient place series e m h.most h.bytes l s)
+
+-- the inverse of 2 to the power 0
+pub inverse-one : (place inverse : ℕ) → place ≡ 0 → inverse ≡ 0 → power inverse ≡ power (255 - place)
+inverse-one place inverse e f =
+    let turn : 255 - place ≡ 255 = omega arith in
+    ap power f ∙ sym (ap power turn ∙ power-round)
+
+-- ---- the whole list
+
+-- the damaged codewords without their located errors are the true block
+pub errors-leave : (n t : ℕ) (damaged first q items : List ℕ) (p : Polynomial) → 2 * t ≤ n → length damaged ≤ 255 →
+    All IsByte damaged → HasValues first damaged → length first ≡ n → p.degree ≤ t → IsMonic p →
+    p.degree < length p.terms → All IsByte q → q ≡ all_of p → ((i : ℕ) → i < t → miss_of p (drop i first) ≡ 0) →
+    ((e : List ℕ) → length e ≡ length damaged → IsLocated q e → HasValues first e → items ≡ plus damaged e) →
+    (b : List ℕ) → IsMended n t damaged b → items ≡ b
+errors-leave n t damaged first q items p half most a h l d monic fits bytes same solved sum b m =
+    let e = plus damaged b in
+    let count : length e ≡ length b = length-plus damaged b (omega (arith, m.long)) in
+    let le : All IsByte e = bytes-plus damaged b a (bytes-block n b m.block) in
+    let ve = errors-values n damaged b first m.block m.long a h l in
+    let small : length e ≤ 255 = omega (arith, count, m.long) in
+    let few : weight e ≤ t = omega (arith, weight-plus damaged b (sym m.long), m.near) in
+    let roots = solved-root t e first q p le small few ve (omega (arith, half, l)) d fits bytes same solved in
+    let located = roots-locate q (take p.degree p.terms) e (same ∙ all-low p monic fits) bytes le small roots in
+    sum e (omega (arith, count, m.long)) located ve ∙ plus-cancel damaged b (sym m.long)
+
+-- ---- the checks
+
+-- codewords with the correction that follows from them are a block
+pub block-found : (n k : ℕ) (b correction : List ℕ) → IsCorrection (take k b) n correction → correction ≡ drop k b → IsBlock n b
+block-found n k b correction c e = record {
+  message = take k b;
+  correction = drop k b;
+  whole = sym (take-append-drop k b);
+  corrects = subst (λ (z : List ℕ). IsCorrection (take k b) n z) e c;
+}
+
+-- a block ends in the correction that follows from its data codewords
+pub block-passes : (n m : ℕ) (b correction : List ℕ) → m ≡ n → IsBlock n b →
+    ((e : List ℕ) → IsCorrection (take (length b - m) b) n e → e ≡ correction) → correction ≡ drop (length b - m) b
+block-passes n m b correction e h only =
+    sym (only (drop (length b - m) b)
+    (subst (λ (z : ℕ). IsCorrection (take (length b - z) b) n (drop (length b - z) b)) (sym e) (block-corrects n b h)))
+
+-- a list differs from itself in no item
+pub differences-same : (xs : List ℕ) → differences xs xs ≡ 0
+differences-same [] = refl
+differences-same (x ∷ xs) =
+    let e = difference-same x x refl in
+    let f = differences-same xs in
+    omega (arith, e, f)
+
+-- a block is a damaged form of itself
+pub mended-same : (n t : ℕ) (b : List ℕ) → IsBlock n b → IsMended n t b b
+mended-same n t b h = record { block = h; long = refl; near = omega (arith, differences-same b) }
+
+-- two blocks of the same length with the same data codewords are equal
+blocks-one : (n : ℕ) (b c : List ℕ) → (g : IsBlock n b) → (h : IsBlock n c) → g.message ≡ h.message → b ≡ c
+blocks-one n b c g h e =
+    let f : g.correction ≡ h.correction =
+    correction-one h.message n g.correction h.correction
+    (subst (λ (z : List ℕ). IsCorrection z n g.correction) e g.corrects) h.corrects in
+    g.whole ∙ (ap (λ z. z ++ g.correction) e ∙ (ap (λ z. h.message ++ z) f ∙ sym h.whole))
+
+-- the law of mended blocks with erasures
+pub erasures-one : (n spare : ℕ) (read : List (Option ℕ)) (b c : List ℕ) → length read ≤ 255 → spare ≤ n →
+    IsMendedWithErasures n spare read b → IsMendedWithErasures n spare read c → b ≡ c
+erasures-one n spare read b c most enough g h =
+    let x = g.block in
+    let y = h.block in
+    let lx = start-block n b x in
+    let ly = start-block n c y in
+    let all = length-append x.message x.correction in
+    let t = (spare - erasures read) / 2 in
+    let gt : errors read b ≤ t = omega (arith, g.near) in
+    let ht : errors read c ≤ t = omega (arith, h.near) in
+    let e : x.message ≡ y.message =
+    unambiguous-known n t x.message x.correction y.message y.correction read x.corrects y.corrects
+    (omega (arith, lx, ly, g.long, h.long))
+    (omega (arith, all, ap length x.whole, x.corrects.count, g.long)) (omega (arith, g.near, enough))
+    (subst (λ (z : List ℕ). errors read z ≤ t) x.whole gt)
+    (subst (λ (z : List ℕ). errors read z ≤ t) y.whole ht) in
+    blocks-one n b c x y e
+
+-- a block of which all codewords were read is mended with erasures as it is without
+pub read-mended : (n spare : ℕ) (damaged b : List ℕ) → IsMended n (spare / 2) damaged b →
+    IsMendedWithErasures n spare (map (λ x. Some x) damaged) b
+read-mended n spare damaged b m = record {
+  block = m.block;
+  long = m.long ∙ sym (length-map damaged (λ x. Some x));
+  near = omega (arith, m.near, erasures-read damaged, errors-read damaged b);
+}
+
+-- and the other way round: what is mended with erasures, if there are none, is mended without
+pub mended-read : (n spare : ℕ) (damaged b : List ℕ) →
+    IsMendedWithErasures n spare (map (λ x. Some x) damaged) b → IsMended n (spare / 2) damaged b
+mended-read n spare damaged b m = record {
+  block = m.block;
+  long = m.long ∙ length-map damaged (λ x. Some x);
+  near = omega (arith, m.near, erasures-read damaged, errors-read damaged b);
+}
+
+-- the law of mended blocks
+pub mended-one : (n t : ℕ) (damaged b c : List ℕ) → length damaged ≤ 255 → 2 * t ≤ n → IsMended n t damaged b →
+    IsMended n t damaged c → b ≡ c
+mended-one n t damaged b c most half g h =
+    let turn : t ≡ 2 * t / 2 = omega arith in
+    let known : (z : List ℕ) → IsMended n t damaged z → IsMendedWithErasures n (2 * t) (map (λ x. Some x) damaged) z =
+    λ z m. read-mended n (2 * t) damaged z (subst (λ (k : ℕ). IsMended n k damaged z) turn m) in
+    erasures-one n (2 * t) (map (λ x. Some x) damaged) b c (omega (arith, most, length-map damaged (λ x. Some x))) half
+    (known b g) (known c h)

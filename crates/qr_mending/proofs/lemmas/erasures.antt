@@ -1,0 +1,2 @@
+-- Erased codewords.
+pub mod ErasureLemmas

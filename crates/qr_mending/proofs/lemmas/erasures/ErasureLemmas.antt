@@ -1,0 +1,186 @@
+-- Erased codewords. Each error is multiplied by the value of a polynomial that has a root for each erased codeword. Then
+-- only as many errors are left as codewords were misread. A polynomial that locates the errors left, times those roots,
+-- locates all errors.
+use Rattle.std.proofs.Common.{◌≡◌, ℕ, zero, suc, ◌+◌, ◌-◌, ◌*◌, ◌/◌, ◌<◌, ◌≤◌, Bool, true, false, Some, List, [], ◌∷◌, ◌++◌, length, map, replicate, take, drop, get_or, refl, sym, ap, ◌∙◌, subst, arith, lit<, bit_xor}
+use Rattle.std.specs.List.{All, count_by}
+use Rattle.std.specs.Int.Bits.{xor_self}
+use Rattle.std.proofs.lemmas.List.{drop_more}
+use Rattle.std.proofs.lemmas.List.Elements.{All-nil, All-cons, All-head, All-tail}
+use Rattle.qr_field.specs.Galois.{product}
+use Rattle.qr_field.specs.Polynomial.{IsByte, plus, power}
+use Rattle.qr_field.specs.Distance.{difference, erasures, errors}
+use Rattle.qr_field.proofs.ByteLemmas.{product-by_zero, product-of_zero}
+use Rattle.qr_field.proofs.PowerLemmas.{power-lt}
+use Rattle.qr_field.proofs.FieldLemmas.{product-factor, sum-none}
+use Rattle.qr_field.proofs.ListLemmas.{length-plus, bytes-plus}
+use Rattle.qr_field.proofs.DistanceLemmas.{weight, difference-same, difference-alike}
+use Rattle.qr_mending.specs.Erasures.{read_of, IsMendedWithErasures}
+use Rattle.qr_mending.specs.declared.polynomial.Polynomial.{Polynomial}
+use Rattle.qr_mending.specs.Steps.Sums.{dot_of, eval, HasValues}
+use Rattle.qr_mending.specs.Steps.Polynomial.{all_of, miss_of, IsMonic}
+use Rattle.qr_mending.specs.Steps.Errors.{coefficient, weighted, IsLocated}
+use Rattle.qr_mending.specs.Steps.Roots.{rooted}
+use Rattle.qr_mending.proofs.lemmas.sums.SumLemmas.{dot-blend, eval-lt, values-more}
+use Rattle.qr_mending.proofs.lemmas.errors.WeightLemmas.{length-weighted, bytes-weighted, difference-product, weighted-value, coefficient-lt, coefficient-weighted}
+use Rattle.qr_mending.proofs.lemmas.roots.RootLemmas.{count-more, bytes-rooted, monic-rooted, eval-rooted, has-roots, rooted-roots}
+use Rattle.qr_mending.proofs.lemmas.block.BlockLemmas.{bytes-block, errors-values, all-low, roots-locate, solved-root, plus-cancel}
+
+-- ---- what was read
+
+-- what was read has an item for each codeword, whether it was read or erased
+pub length-read : (xs : List ℕ) (es : List Bool) → length (read_of xs es) ≡ length xs
+length-read [] es = refl
+length-read (x ∷ xs) [] = ap suc (length-read xs [])
+length-read (x ∷ xs) (true ∷ es) = ap suc (length-read xs es)
+length-read (x ∷ xs) (false ∷ es) = ap suc (length-read xs es)
+
+-- if no codeword is marked, all codewords were read
+pub read-unmarked : (xs : List ℕ) (k : ℕ) → read_of xs (replicate k false) ≡ map (λ x. Some x) xs
+read-unmarked [] k = refl
+read-unmarked (x ∷ xs) zero = ap (λ z. Some x ∷ z) (read-unmarked xs zero)
+read-unmarked (x ∷ xs) (suc k) = ap (λ z. Some x ∷ z) (read-unmarked xs k)
+
+-- the number of erased codewords is the number of marked ones
+pub erasures-marked : (xs : List ℕ) (es : List Bool) → length es ≡ length xs →
+    erasures (read_of xs es) ≡ count_by (λ e. e) es
+erasures-marked [] [] h = refl
+erasures-marked [] (e ∷ es) h = absurd (omega arith)
+erasures-marked (x ∷ xs) [] h = absurd (omega arith)
+erasures-marked (x ∷ xs) (true ∷ es) h =
+    let rest = erasures-marked xs es (omega (arith, h)) in
+    let more = count-more true es in
+    omega (arith, rest, more)
+erasures-marked (x ∷ xs) (false ∷ es) h =
+    let rest = erasures-marked xs es (omega (arith, h)) in
+    let more = count-more false es in
+    omega (arith, rest, more)
+
+-- 1 if a codeword is misread, 0 if it is read as it should be or is erased
+abbrev pub misread : Bool → ℕ → ℕ → ℕ
+misread true x y = 0
+misread false x y = difference x y
+
+-- one codeword more
+errors-cons : (b : Bool) (x y : ℕ) (xs ys : List ℕ) (es : List Bool) →
+    errors (read_of (x ∷ xs) (b ∷ es)) (y ∷ ys) ≡ misread b x y + errors (read_of xs es) ys
+errors-cons true x y xs ys es = omega arith
+errors-cons false x y xs ys es = refl
+
+-- one codeword more, from the last on
+pub errors-more : (xs ys : List ℕ) (es : List Bool) (k : ℕ) (b : Bool) → 0 < k → k ≤ length xs → length es ≡ length xs →
+    length ys ≡ length xs → get_or es (k - 1) false ≡ b →
+    errors (read_of (drop (k - 1) xs) (drop (k - 1) es)) (drop (k - 1) ys) ≡ misread b (get_or xs (k - 1) 0) (get_or ys (k - 1) 0) + errors (read_of (drop k xs) (drop k es)) (drop k ys)
+errors-more xs ys es k b some l he hy h =
+    let i = k - 1 in
+    let next : i + 1 ≡ k = omega (arith, some) in
+    let x = get_or xs i 0 in
+    let y = get_or ys i 0 in
+    let dx : drop i xs ≡ x ∷ drop k xs = drop_more xs i 0 (omega (arith, some, l)) ∙ ap (λ z. x ∷ drop z xs) next in
+    let dy : drop i ys ≡ y ∷ drop k ys = drop_more ys i 0 (omega (arith, some, l, hy)) ∙ ap (λ z. y ∷ drop z ys) next in
+    let de : drop i es ≡ b ∷ drop k es =
+    drop_more es i false (omega (arith, some, l, he))
+    ∙ (ap (λ z. z ∷ drop (i + 1) es) h ∙ ap (λ z. b ∷ drop z es) next) in
+    ap (λ z. errors (read_of z (drop i es)) (drop i ys)) dx
+    ∙ (ap (λ z. errors (read_of (x ∷ drop k xs) z) (drop i ys)) de
+    ∙ (ap (λ z. errors (read_of (x ∷ drop k xs) (b ∷ drop k es)) z) dy
+    ∙ errors-cons b x y (drop k xs) (drop k ys) (drop k es)))
+
+-- ---- the errors that are left
+
+-- the polynomial whose roots are those for the erased codewords
+abbrev pub unread : List Bool → List ℕ
+unread es = rooted es (1 ∷ [])
+
+-- the coefficients of this polynomial are bytes
+pub bytes-unread : (es : List Bool) → All IsByte (unread es)
+bytes-unread es = bytes-rooted es (1 ∷ []) (All-cons IsByte 1 [] (lit< tt) (All-nil IsByte))
+
+-- if a polynomial has a root for each erased codeword, at most one error is left for each misread codeword
+weighted-few : (g xs ys : List ℕ) (es : List Bool) → All IsByte g → All IsByte (plus xs ys) → length xs ≡ length ys →
+    length es ≡ length xs → has-roots es g → weight (weighted g (plus xs ys)) ≤ errors (read_of xs es) ys
+weighted-few g [] [] es lg le h k r = omega arith
+weighted-few g [] (y ∷ ys) es lg le h k r = absurd (omega arith)
+weighted-few g (x ∷ xs) [] es lg le h k r = absurd (omega arith)
+weighted-few g (x ∷ xs) (y ∷ ys) [] lg le h k r = absurd (omega arith)
+weighted-few g (x ∷ xs) (y ∷ ys) (true ∷ es) lg le h k r =
+    let c = bit_xor x y in
+    let e = plus xs ys in
+    let count = length-plus xs ys (omega (arith, h)) in
+    let same : length e ≡ length es = omega (arith, count, h, k) in
+    let none : product c (eval (power (length e)) g) ≡ 0 =
+    ap (λ t. product c (eval (power t) g)) same ∙ (ap (product c) r.0 ∙ product-by_zero c (All-head IsByte c e le)) in
+    let one = difference-same (product c (eval (power (length e)) g)) 0 none in
+    let rest = weighted-few g xs ys es lg (All-tail IsByte c e le) (omega (arith, h)) (omega (arith, k)) r.1 in
+    omega (arith, one, rest)
+weighted-few g (x ∷ xs) (y ∷ ys) (false ∷ es) lg le h k r =
+    let c = bit_xor x y in
+    let e = plus xs ys in
+    let z = eval (power (length e)) g in
+    let lz = eval-lt (power (length e)) g (power-lt (length e)) lg in
+    let head = difference-product c z lz in
+    let same : difference c 0 ≡ difference x y =
+    difference-alike c 0 x y (sum-none x y) (λ f. ap (λ t. bit_xor t y) f ∙ xor_self y) in
+    let rest = weighted-few g xs ys es lg (All-tail IsByte c e le) (omega (arith, h)) (omega (arith, k)) r in
+    omega (arith, head, same, rest)
+
+-- the next value of the errors that are left
+pub modified-more : (p s e items new : List ℕ) (i v : ℕ) → All IsByte p → All IsByte e → HasValues s e →
+    i + length p ≤ length s → length items ≡ i → HasValues items (weighted p e) → v ≡ dot_of p (drop i s) →
+    new ≡ items ++ v ∷ [] → HasValues new (weighted p e)
+modified-more p s e items new i v lp le h l count now value push =
+    subst (λ (z : List ℕ). HasValues z (weighted p e)) (sym push)
+    (values-more items i v (weighted p e) count now (value ∙ (dot-blend p i s e h l ∙ sym (weighted-value p i e lp le))))
+
+-- ---- all errors
+
+-- if a polynomial has a root for each error left, its product with the roots for erased codewords has a root for each
+-- error
+joined-root : (es : List Bool) (q e : List ℕ) → All IsByte q → All IsByte e →
+    ((m : ℕ) → m < length (weighted (unread es) e) → (eval (power m) q ≡ 0 → ⊥) → coefficient m (weighted (unread es) e) ≡ 0) →
+    (m : ℕ) → m < length e → (eval (power m) (rooted es q) ≡ 0 → ⊥) → coefficient m e ≡ 0
+joined-root es q e lq le roots m l n =
+    let x = power m in
+    let lx = power-lt m in
+    let g = unread es in
+    let z = eval x g in
+    let lz = eval-lt x g lx (bytes-unread es) in
+    let w = eval x q in
+    let lw = eval-lt x q lx lq in
+    let split = eval-rooted x es q lx lq in
+    let some : z ≡ 0 → ⊥ = λ h. n (split ∙ (ap (λ t. product t w) h ∙ product-of_zero w lw)) in
+    let other : w ≡ 0 → ⊥ = λ h. n (split ∙ (ap (product z) h ∙ product-by_zero z lz)) in
+    product-factor (coefficient m e) z (coefficient-lt m e le) lz some
+    (sym (coefficient-weighted m g e (bytes-unread es)) ∙ roots m (omega (arith, length-weighted g e, l)) other)
+
+-- the damaged codewords with erasures, without their located errors, are the true block
+pub erasures-leave : (n spare t : ℕ) (damaged first modified items : List ℕ) (es : List Bool) (p : Polynomial) →
+    length damaged ≤ 255 → length es ≡ length damaged → All IsByte damaged → HasValues first damaged → length first ≡ n →
+    ((e : List ℕ) → All IsByte e → HasValues first e → HasValues modified (weighted (unread es) e)) →
+    2 * t ≤ length modified → p.degree ≤ t → IsMonic p → p.degree < length p.terms → All IsByte (all_of p) →
+    ((i : ℕ) → i < t → miss_of p (drop i modified) ≡ 0) →
+    ((e : List ℕ) → length e ≡ length damaged → IsLocated (rooted es (all_of p)) e → HasValues first e →
+    items ≡ plus damaged e) →
+    t ≡ (spare - count_by (λ e. e) es) / 2 → (b : List ℕ) → IsMendedWithErasures n spare (read_of damaged es) b → items ≡ b
+erasures-leave n spare t damaged first modified items es p most marks a h l left half d monic fits bytes solved sum tolerance b m =
+    let block = m.block in
+    let long : length b ≡ length damaged = m.long ∙ length-read damaged es in
+    let near : errors (read_of damaged es) b ≤ t =
+    omega (arith, m.near, erasures-marked damaged es marks, tolerance) in
+    let e = plus damaged b in
+    let q = all_of p in
+    let count : length e ≡ length b = length-plus damaged b (omega (arith, long)) in
+    let le : All IsByte e = bytes-plus damaged b a (bytes-block n b block) in
+    let ve = errors-values n damaged b first block long a h l in
+    let small : length e ≤ 255 = omega (arith, count, long, most) in
+    let g = unread es in
+    let lg = bytes-unread es in
+    let rest = weighted g e in
+    let none = rooted-roots es (1 ∷ []) (All-cons IsByte 1 [] (lit< tt) (All-nil IsByte)) in
+    let few : weight rest ≤ t = omega (arith, weighted-few g damaged b es lg le (sym long) marks none, near) in
+    let roots = solved-root t rest modified q p (bytes-weighted g e le) (omega (arith, length-weighted g e, small)) few
+    (left e le ve) half d fits bytes refl solved in
+    let all = monic-rooted es (take p.degree p.terms) in
+    let split : rooted es q ≡ all.0 ++ 1 ∷ [] = ap (rooted es) (all-low p monic fits) ∙ all.1 in
+    let located = roots-locate (rooted es q) all.0 e split (bytes-rooted es q bytes) le small
+    (joined-root es q e bytes le roots) in
+    sum e (omega (arith, count, long)) located ve ∙ plus-cancel damaged b (sym long)

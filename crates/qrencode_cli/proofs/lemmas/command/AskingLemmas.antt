@@ -1,0 +1,221 @@
+-- The drawing that a command line and an input ask for, or the fault that occurs before any byte is written.
+use Rattle.std.proofs.Common.{◌≡◌, ◌∙◌, ◌≤◌, ℕ, Bool, true, false, List, [], ◌∷◌, take, Option, None, Some, Result, Ok, Err, MatchOption, MatchResult, refl, sym, subst, min, length, append-nil, arith, inl, inr, ◌⊎◌}
+use Rattle.std.proofs.lemmas.Bool.{cases_lt}
+use Rattle.std.proofs.lemmas.List.{take_min}
+use Rattle.std.specs.List.{All}
+use Rattle.std.proofs.lemmas.List.Elements.{All-cons, All-head, All-nil}
+use Rattle.qr_drawing.specs.Drawing.{HaveOneSide}
+use Rattle.clap.specs.Walk.{Text}
+use Rattle.qr_bits.specs.declared.modes.TheConstants.{INPUT_MAX}
+use Rattle.qr_bits.specs.declared.modes.Rule.{Rule}
+use Rattle.qr_bits.specs.Folding.{folded}
+use Rattle.qr_layout.specs.Version.{side_of}
+use Rattle.qr_symbol.specs.declared.fault.EncodeFault.{EncodeFault}
+use Rattle.qr_symbol.specs.declared.fault.EncodeFault.TheVariants as encode
+use Rattle.qr_symbol.specs.declared.symbol.Symbol.{Symbol}
+use Rattle.qr_matrix.specs.Grid.{Grid}
+use Rattle.qr_symbol.specs.Joining.{AreReadBy, IsJoined}
+use Rattle.qr_symbol.specs.Reading.{IsReadBack}
+use Rattle.qr_symbol.specs.Series.{IsSeries, squares_of}
+use Rattle.qr_symbol.proofs.Facts.{long-has-no-series, series-few, series-side, series-some}
+use Rattle.qrencode_cli.specs.Command.{AllRead, HasDrawing, InputConsumed, InputConsumedFor, IsDrawing, IsFault, held, input_for}
+use Rattle.qr_devices.specs.Device.{Reader}
+use Rattle.qrencode_cli.specs.Steps.Fault.{fault_of_input, fault_of_words}
+use Rattle.qrencode_cli.specs.Input.{IsInputOf}
+use Rattle.qrencode_cli.specs.Settings.{IsUsageFault, Reason, SettingsView, rule_for, settings_for}
+use Rattle.qrencode_cli.specs.Steps.Command.{AreDrawnFor, IsEarly, IsInputFault, Prepares, drawing_of_job}
+use Rattle.qr_symbol.specs.Encoding.{IsSymbol}
+use Rattle.qr_symbol.specs.VersionChoice.{HasNoVersion}
+use Rattle.qr_bits.proofs.Facts.{fitting_short}
+use Rattle.std.proofs.lemmas.Grind.{common_steps}
+use Rattle.qrencode_cli.specs.Symbols.{AreSquares, IsSquareOf, smallest_of}
+use Rattle.qrencode_cli.specs.declared.fault.Fault.{Fault}
+use Rattle.qrencode_cli.specs.declared.fault.Fault.TheVariants as fault
+use Rattle.qrencode_cli.specs.declared.drawing_job.DrawingJob.{DrawingJob}
+use Rattle.qrencode_cli.specs.declared.settings.UsageFault.{UsageFault}
+use Rattle.qrencode_cli.specs.declared.settings.UsageFault.TheVariants as usage
+
+-- there is always an input that the reader may return
+any_input : (remaining : Option (List ℕ)) → (given : List ℕ) × IsInputOf remaining given
+any_input None = ([], tt)
+any_input (Some xs) = (take INPUT_MAX xs, refl)
+
+-- if the command line contains a string, the input is this string, cut after `INPUT_MAX` bytes
+pub input_for-string : (s : SettingsView) (text given buf : List ℕ) (n : ℕ) → s.string ≡ Some text → buf ≡ text → n ≡ min INPUT_MAX (length buf)
+    → input_for s given ≡ take n buf
+input_for-string s text given buf n e is cut =
+    let whole : take n buf ≡ take INPUT_MAX text = rw (cut, is) (take_min INPUT_MAX text) in
+    rw e (sym whole)
+
+-- if the command line contains no string, the input is what the reader returned
+pub input_for-reader : (s : SettingsView) (given : List ℕ) → s.string ≡ None → input_for s given ≡ given
+input_for-reader s given e = rw e refl
+
+-- under -i the symbols contain the folded input
+pub held-folded : (s : SettingsView) (rule : Rule) (input bytes : List ℕ) → s.fold ≡ true → rule ≡ rule_for s → bytes ≡ folded rule input → held s input ≡ bytes
+held-folded s rule input bytes fold same e = rw (fold, ← same) (sym e)
+
+-- without -i the symbols contain the input itself
+pub held-plain : (s : SettingsView) (input : List ℕ) → s.fold ≡ false → held s input ≡ input
+held-plain s input fold = rw fold refl
+
+-- if a symbol is read as the input, it is joined to the input
+joined-one : (input : List ℕ) (v : ℕ) (b : Rule) (g : Grid) → IsReadBack v b input g → IsJoined (g ∷ []) input
+unfolding AreReadBy
+joined-one input v b g h = record {
+  contents = record { header = None; segments = h.0; bytes = input } ∷ [];
+  read = (h.2, tt);
+  together = inl (record { header = None; segments = h.0; bytes = input }, refl, refl);
+  joined = sym (append-nil input);
+}
+
+-- squares that all have this side are of one side
+one-side : (squares : List Grid) (side : ℕ) → All (λ g. g.side ≡ side) squares → HaveOneSide squares
+one-side [] side h = All-nil (λ k. k.side ≡ 0)
+one-side (g ∷ gs) side h =
+    let e : g.side ≡ side = All-head (λ k. k.side ≡ side) g gs h in
+    subst (λ (n : ℕ). All (λ k. k.side ≡ n) (g ∷ gs)) (sym e) h
+
+-- if a single symbol is asked for, the symbol of the input is what the settings ask for
+pub drawn-for-one : (s : SettingsView) (rule : Rule) (input : List ℕ) (version : ℕ) (symbol : Symbol) (symbols : List Symbol) → s.structured ≡ false → 1 ≤ version
+    → version ≡ smallest_of s → rule ≡ rule_for s → (input ≡ [] → ⊥) → IsSymbol version s.level rule input symbol.version symbol.mask symbol.matrix
+    → IsReadBack symbol.version rule input symbol.matrix → symbols ≡ symbol ∷ [] → AreDrawnFor s input symbols
+drawn-for-one s rule input version symbol symbols one least e same some made read alone =
+    let from = made.version.least in
+    let few : length input ≤ 7089 = fitting_short symbol.version s.level rule input (omega arith) made.version.most made.version.fits in
+    let square : IsSquareOf s input symbol.matrix = record { version = symbol.version; mask = symbol.mask; symbol = rw (← e, ← same) made } in
+    rw alone (record {
+      asked = subst (λ (b : Bool). AreSquares b s input (symbol.matrix ∷ [])) (sym one) (symbol.matrix, square, refl);
+      joined = joined-one input symbol.version rule symbol.matrix read;
+      nonempty = grind (arith, common_steps);
+      short = omega arith;
+      some = omega arith;
+      few = omega arith;
+      one_side = All-cons (λ g. g.side ≡ symbol.matrix.side) symbol.matrix [] refl (All-nil (λ g. g.side ≡ symbol.matrix.side));
+    })
+
+-- if a single symbol is asked for, a fault of `encode` is a correct reason why the input has no drawing
+pub told-one : (s : SettingsView) (input : List ℕ) (e : EncodeFault) → s.structured ≡ false → (e ≡ encode.Empty → input ≡ [])
+    → (e ≡ encode.TooLong → HasNoVersion (smallest_of s) s.level (rule_for s) input)
+    → (e ≡ encode.Empty) ⊎ ((e ≡ encode.TooLong) ⊎ (e ≡ encode.Memory)) → IsInputFault s input (fault_of_input e)
+told-one s input encode.Empty one empty long only = empty refl
+told-one s input encode.TooLong one empty long only = (one, long refl)
+told-one s input encode.TooMany one empty long only = elim only [ inl e ↦ absurd (cc) | inr w ↦ elim w [ inl e ↦ absurd (cc) | inr e ↦ absurd (cc) ] ]
+told-one s input encode.Memory one empty long only = tt
+
+-- if a series is asked for, the series of the input is what the settings ask for
+pub drawn-for-series : (s : SettingsView) (rule : Rule) (input : List ℕ) (version : ℕ) (symbols : List Symbol) → s.structured ≡ true → 1 ≤ version → version ≤ 40
+    → version ≡ smallest_of s → rule ≡ rule_for s → (input ≡ [] → ⊥) → IsSeries version s.level rule input symbols
+    → IsJoined (squares_of symbols) input → AreDrawnFor s input symbols
+drawn-for-series s rule input version symbols many least most e same some series joined = record {
+  asked = subst (λ (b : Bool). AreSquares b s input (squares_of symbols)) (sym many) (record { symbols = symbols; series = rw (← e, ← same) series; theirs = refl });
+  joined = joined;
+  nonempty = grind (arith, common_steps);
+  short = elim (cases_lt (length input) INPUT_MAX) [
+    | inl i ↦ i
+    | inr i ↦ absurd (long-has-no-series input s.level rule version symbols least most (omega arith) series)
+  ];
+  some = series-some input s.level rule version symbols series;
+  few = series-few input s.level rule version symbols series;
+  one_side = one-side (squares_of symbols) (side_of version) (series-side input s.level rule version symbols series);
+}
+
+-- if nothing was read, and the outcome is lack of memory, `InputConsumedFor` holds
+reads-nothing : (o : Result SettingsView Reason) (in0 : Reader) (given : List ℕ)
+    → InputConsumedFor o in0 in0 given {T = DrawingJob} (Err fault.Memory)
+reads-nothing (Err r) in0 given = refl
+reads-nothing (Ok s) in0 given = nothing s.string
+  where
+    nothing : (o : Option Text) → MatchOption o (Unit {0}) (λ _. in0 ≡ in0)
+    nothing None = tt
+    nothing (Some t) = refl
+
+-- a command line without settings is refused
+refused : (words : List Text) (in0 : Reader) (why : Reason) (u : UsageFault) → settings_for words ≡ Err why
+    → (settings_for words ≡ Err why → IsFault words (any_input in0.remaining).0 (fault.Usage u))
+    → Prepares words in0 in0 (Err (fault.Usage u))
+refused words in0 why u e is = let i = any_input in0.remaining in record {
+  given = i.0;
+  is_input = i.1;
+  reads = rw e refl;
+  answer = (is e, tt);
+}
+
+-- every fault of the command line is a correct result
+pub prepares-usage : (words : List Text) (in0 : Reader) (u : UsageFault) → IsUsageFault (settings_for words) u
+    → Prepares words in0 in0 (Err (fault_of_words u))
+prepares-usage words in0 (usage.Words text) h = refused words in0 _ (usage.Words text) h (λ e. e)
+prepares-usage words in0 usage.Level h = refused words in0 _ usage.Level h (λ e. e)
+prepares-usage words in0 usage.Kind h = refused words in0 _ usage.Kind h (λ e. e)
+prepares-usage words in0 usage.NeedsVersion h = refused words in0 _ usage.NeedsVersion h (λ e. e)
+prepares-usage words in0 usage.Memory h = let i = any_input in0.remaining in record {
+  given = i.0;
+  is_input = i.1;
+  reads = reads-nothing (settings_for words) in0 i.0;
+  answer = (tt, tt);
+}
+
+module _ (words : List Text) (s : SettingsView) (taken : settings_for words ≡ Ok s) where
+  -- a correct result for the input that is encoded is correct for the command line
+  answer-for : (given input : List ℕ) (r : Result DrawingJob Fault) → input_for s given ≡ input
+      → MatchResult r (λ p. IsDrawing s (held s input) (drawing_of_job p)) (IsInputFault s (held s input))
+      → MatchResult r (λ p. HasDrawing words given (drawing_of_job p)) (λ f. IsFault words given f × IsEarly f)
+  answer-for given input (Ok p) e h = record { settings = s; taken = taken; holds = rw e h }
+  answer-for given input (Err (fault.Encode encode.Empty)) e h = (record { settings = s; taken = taken; holds = rw e h }, tt)
+  answer-for given input (Err (fault.Encode encode.TooLong)) e h = (record { settings = s; taken = taken; holds = rw e h }, tt)
+  answer-for given input (Err (fault.Encode encode.TooMany)) e h = (record { settings = s; taken = taken; holds = rw e h }, tt)
+  answer-for given input (Err fault.Memory) e h = (tt, tt)
+  answer-for given input (Err _) e h = absurd h
+
+  -- what was done to the reader is stated by the settings, if the command line has settings
+  reads-taken : (in0 in1 : Reader) (given : List ℕ) (r : Result DrawingJob Fault) → InputConsumedFor (Ok s) in0 in1 given r → InputConsumedFor (settings_for words) in0 in1 given r
+  reads-taken in0 in1 given r h = rw taken h
+
+  -- the case that the input is the string of the command line
+  pub prepares-string : (in0 : Reader) (text buf : List ℕ) (n : ℕ) (r : Result DrawingJob Fault) → s.string ≡ Some text → buf ≡ text → n ≡ min INPUT_MAX (length buf)
+      → MatchResult r (λ p. IsDrawing s (held s (take n buf)) (drawing_of_job p)) (IsInputFault s (held s (take n buf)))
+      → Prepares words in0 in0 r
+  prepares-string in0 text buf n r string is cut h = let i = any_input in0.remaining in record {
+    given = i.0;
+    is_input = i.1;
+    reads = reads-taken in0 in0 i.0 r (rw string refl);
+    answer = answer-for i.0 (take n buf) r (input_for-string s text i.0 buf n string is cut) h;
+  }
+
+  -- the case that the input is what the reader returned
+  pub prepares-reader : (in0 in1 : Reader) (bytes buf : List ℕ) (r : Result DrawingJob Fault) → s.string ≡ None → buf ≡ bytes
+      → IsInputOf in0.remaining bytes → AllRead in0 in1 bytes
+      → MatchResult r (λ p. IsDrawing s (held s buf) (drawing_of_job p)) (IsInputFault s (held s buf))
+      → Prepares words in0 in1 r
+  prepares-reader in0 in1 bytes buf r string is input gives h = record {
+    given = bytes;
+    is_input = input;
+    reads = reads-taken in0 in1 bytes r (rw string (gives-for r h));
+    answer = answer-for bytes buf r (input_for-reader s bytes string ∙ sym is) h;
+  }
+    where
+      gives-for : (r : Result DrawingJob Fault) → MatchResult r (λ p. IsDrawing s (held s buf) (drawing_of_job p)) (IsInputFault s (held s buf))
+          → InputConsumed in0 in1 bytes r
+      gives-for (Ok p) h = gives
+      gives-for (Err fault.Read) h = tt
+      gives-for (Err fault.Memory) h = tt
+      gives-for (Err _) h = gives
+
+  -- the case that the reader was at fault, or memory for the input was refused
+  pub prepares-unread : (in0 in1 : Reader) (f : Fault) → s.string ≡ None → (f ≡ fault.Read) ⊎ (f ≡ fault.Memory)
+      → Prepares words in0 in1 (Err f)
+  prepares-unread in0 in1 fault.Read string only = let i = any_input in0.remaining in record {
+    given = i.0;
+    is_input = i.1;
+    reads = reads-taken in0 in1 i.0 (Err fault.Read) (rw string tt);
+    answer = (record { settings = s; taken = taken; holds = string }, tt);
+  }
+  prepares-unread in0 in1 fault.Memory string only = let i = any_input in0.remaining in record {
+    given = i.0;
+    is_input = i.1;
+    reads = reads-taken in0 in1 i.0 (Err fault.Memory) (rw string tt);
+    answer = (tt, tt);
+  }
+  prepares-unread in0 in1 (fault.Usage u) string only = absurd (elim only [ inl e ↦ cc | inr e ↦ cc ])
+  prepares-unread in0 in1 (fault.Encode e) string only = absurd (elim only [ inl e ↦ cc | inr e ↦ cc ])
+  prepares-unread in0 in1 fault.Write string only = absurd (elim only [ inl e ↦ cc | inr e ↦ cc ])

@@ -1,0 +1,2 @@
+-- The invariant of the loop that reads the input.
+pub mod ReadingLemmas

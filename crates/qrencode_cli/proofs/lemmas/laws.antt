@@ -1,0 +1,2 @@
+-- A command line and an input have at most one drawing and at most one reason to be refused, and not both.
+pub mod AnswerLemmas

@@ -1,0 +1,19 @@
+//! The work of a run after its input is encoded: which symbols are drawn, and how.
+
+ghost use Rattle.std.specs.Prelude.{◌<◌, ◌≤◌, length};
+ghost use Rattle.qr_symbol.specs.Series.{squares_of};
+ghost use Rattle.qr_drawing.specs.Drawing.{HaveOneSide};
+
+use qr_drawing::Drawing;
+use qr_symbol::Symbol;
+
+/// One symbol, or the symbols of a series, with the type and the margin of their drawing.
+#[derive(Drop)]
+pub(crate) struct DrawingJob {
+    pub symbols: Vec<Symbol>,
+    pub kind: Drawing,
+    pub margin: u8,
+    ghost some: { 0 < length symbols.items },
+    ghost few: { length symbols.items ≤ 16 },
+    ghost one_side: { HaveOneSide (squares_of symbols.items) },
+}

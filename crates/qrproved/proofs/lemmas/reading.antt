@@ -1,0 +1,2 @@
+-- What the statuses mean for a square that is refused.
+pub mod ReadingLemmas
