@@ -126,7 +126,7 @@ fn is_on_centre(centres: &[u8], side: u8, row: u8, col: u8) -> bool
 }
 
 // Returns whether a place is in an alignment pattern.
-#[tactic(auto, using(crate::proofs::AlignmentLemmas::alignment_parts))]
+#[tactic(auto, using(crate::proofs::lemmas::alignment::AlignmentLemmas::alignment_parts))]
 pub(crate) fn is_in_alignment(v: Version, row: u8, col: u8) -> bool
     ensures { result ≡ is_alignment v row col }
 {

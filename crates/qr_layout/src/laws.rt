@@ -46,7 +46,7 @@ pub fn region_is_counted(v: Version)
 {}
 
 /// The encoding region is the square without the rectangles of `fixed_rectangles` and without the alignment patterns.
-#[tactic(auto, using(crate::proofs::AlignmentLemmas::region_outside))]
+#[tactic(auto, using(crate::proofs::lemmas::alignment::AlignmentLemmas::region_outside))]
 pub fn region_is_outside(v: Version)
     ensures { (r c : ℕ) → r < side_of v → c < side_of v → is_in_region v r c
         ≡ not (list_any (is_in_rectangle r c) (fixed_rectangles v) || is_alignment v r c) }

@@ -1,7 +1,7 @@
 -- The lemmas that other crates use.
-pub use Rattle.qr_matrix.proofs.GridLemmas.{square-same, colour-square, same-place, colour-painted-here, colour-painted-there, passed, filled, fill-none, fill-line, fill-row, fill-step, fill-all, transposed-square, colour-transposed, transposed-painted, transposed-twice}
-pub use Rattle.qr_matrix.proofs.PlaceLemmas.{has_bit-and, has_bit-ones, has_bit-shl-high, has_bit-shr, low-bits}
-pub use Rattle.qr_matrix.proofs.RepeatLemmas.{below-at, same-same, &&-left, &&-right}
-pub use Rattle.qr_matrix.proofs.DifferenceLemmas.{no-difference}
-pub use Rattle.qr_matrix.proofs.MatrixLemmas.{with_row-same}
-pub use Rattle.qr_matrix.proofs.FourLemmas.{row-four}
+pub use Rattle.qr_matrix.proofs.lemmas.matrix.GridLemmas.{square-same, colour-square, same-place, colour-painted-here, colour-painted-there, passed, filled, fill-none, fill-line, fill-row, fill-step, fill-all, transposed-square, colour-transposed, transposed-painted, transposed-twice}
+pub use Rattle.qr_matrix.proofs.lemmas.bit_row.PlaceLemmas.{has_bit-and, has_bit-ones, has_bit-shl-high, has_bit-shr, low-bits}
+pub use Rattle.qr_matrix.proofs.lemmas.bit_row.RepeatLemmas.{below-at, same-same, &&-left, &&-right}
+pub use Rattle.qr_matrix.proofs.lemmas.difference.DifferenceLemmas.{no-difference}
+pub use Rattle.qr_matrix.proofs.lemmas.matrix.MatrixLemmas.{with_row-same}
+pub use Rattle.qr_matrix.proofs.lemmas.matrix.FourLemmas.{row-four}

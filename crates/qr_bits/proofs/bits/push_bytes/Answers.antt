@@ -2,7 +2,7 @@ use Rattle.std.proofs.Common.{◌≡◌, ◌+◌, ◌*◌, ◌++◌, ◌∙◌, 
 use Rattle.std.proofs.Math.Nat.{mod-lt}
 use Rattle.std.proofs.lemmas.Nat.{pow_pos}
 use Rattle.qr_bits.specs.Bits.{bits_of, field}
-use Rattle.qr_bits.proofs.BitLemmas.{bits_of-take, byte-behind, power-fits}
+use Rattle.qr_bits.proofs.lemmas.bits.BitLemmas.{bits_of-take, byte-behind, power-fits}
 use Rattle.qr_bits.proofs.bits.push_bytes.Goals as goal
 
 pub loop-byte-init : goal.loop-byte-init

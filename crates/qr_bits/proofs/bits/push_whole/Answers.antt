@@ -1,6 +1,6 @@
 use Rattle.std.proofs.Common.{◌≡◌, ◌+◌, ◌-◌, ◌++◌, ◌∙◌, ap, arith}
 use Rattle.qr_bits.specs.Bits.{bits_of, field}
-use Rattle.qr_bits.proofs.BitLemmas.{byte-first}
+use Rattle.qr_bits.proofs.lemmas.bits.BitLemmas.{byte-first}
 use Rattle.qr_bits.proofs.bits.push_whole.Goals as goal
 
 pub loop-left-preserved : goal.loop-left-preserved

@@ -1,6 +1,6 @@
 use Rattle.std.proofs.Common.{ℕ, ◌<◌, List, ◌++◌, length, sym, ◌∙◌, ap, arith, append-nil}
 use Rattle.std.proofs.lemmas.Bool.{eqb-true, eqb-false}
-use Rattle.qr_bits.proofs.FoldingLemmas.{begun_with_pair, folded_pair, folded_one, folded_none, length-folded_around_pairs, more_folded}
+use Rattle.qr_bits.proofs.lemmas.folding.FoldingLemmas.{begun_with_pair, folded_pair, folded_one, folded_none, length-folded_around_pairs, more_folded}
 use Rattle.qr_bits.proofs.folding.fold_around_pairs.Goals as goal
 
 pub split_at-requires : goal.split_at-requires

@@ -1,4 +1,4 @@
-use Rattle.qr_bits.proofs.BitLemmas.{bits_at}
+use Rattle.qr_bits.proofs.lemmas.bits.BitLemmas.{bits_at}
 use Rattle.qr_bits.proofs.laws.bits_are_codeword_bits.Goals as goal
 
 pub returns : goal.returns

@@ -1,4 +1,4 @@
-use Rattle.qr_bits.proofs.CountLemmas.{counts_fit}
+use Rattle.qr_bits.proofs.lemmas.padding.CountLemmas.{counts_fit}
 use Rattle.qr_bits.proofs.laws.counts_fit_where_bits_fit.Goals as goal
 
 pub returns : goal.returns

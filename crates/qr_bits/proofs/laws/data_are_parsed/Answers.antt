@@ -1,4 +1,4 @@
-use Rattle.qr_bits.proofs.DataLemmas.{data_again}
+use Rattle.qr_bits.proofs.lemmas.laws.DataLemmas.{data_again}
 use Rattle.qr_bits.proofs.laws.data_are_parsed.Goals as goal
 
 pub returns : goal.returns

@@ -1,4 +1,4 @@
-use Rattle.qr_bits.proofs.SegmentLemmas.{least_fits}
+use Rattle.qr_bits.proofs.lemmas.segment.SegmentLemmas.{least_fits}
 use Rattle.qr_bits.proofs.laws.least_segmentations_fit.Goals as goal
 
 pub returns : goal.returns

@@ -1,6 +1,6 @@
 use Rattle.std.proofs.Common.{◌∙◌, ap}
 use Rattle.qr_bits.specs.Parsing.{parse}
-use Rattle.qr_bits.proofs.StreamReadingLemmas.{parse_again, parse_takes}
+use Rattle.qr_bits.proofs.lemmas.parsing.StreamReadingLemmas.{parse_again, parse_takes}
 use Rattle.qr_bits.proofs.laws.streams_are_parsed.Goals as goal
 
 pub returns : goal.returns

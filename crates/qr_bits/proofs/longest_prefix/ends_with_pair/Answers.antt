@@ -1,6 +1,6 @@
 use Rattle.std.proofs.Common.{Bool, ◌&&◌, ◌-◌, length, get_or, sym, ◌∙◌, ap, arith}
 use Rattle.qr_bits.specs.Modes.{is_kanji_pair}
-use Rattle.qr_bits.proofs.MirrorLemmas.{ends_at, ends_short}
+use Rattle.qr_bits.proofs.lemmas.longest_prefix.MirrorLemmas.{ends_at, ends_short}
 use Rattle.qr_bits.proofs.longest_prefix.ends_with_pair.Goals as goal
 
 pub returns-then-len-lt2 : goal.returns-then-len-lt2

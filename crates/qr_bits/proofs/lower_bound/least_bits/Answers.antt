@@ -2,7 +2,7 @@ use Rattle.std.proofs.Common.{◌∙◌, ◌/◌, ℕ, sum_by, ap, arith}
 use Rattle.std.proofs.lemmas.List.{take_all}
 use Rattle.std.proofs.lemmas.List.Sums.{sum_by_more}
 use Rattle.qr_bits.specs.Segmentation.{least_sixths, least_bits}
-use Rattle.qr_bits.proofs.LeastLemmas.{least_held}
+use Rattle.qr_bits.proofs.lemmas.lower_bound.LeastLemmas.{least_held}
 use Rattle.qr_bits.proofs.lower_bound.least_bits.Goals as goal
 
 pub loop-byte-preserved : goal.loop-byte-preserved

@@ -1,6 +1,6 @@
 use Rattle.std.proofs.Common.{◌≡◌, ◌∙◌, refl, sym, arith}
 use Rattle.qr_bits.specs.Modes.{character_value}
-use Rattle.qr_bits.proofs.CharacterLemmas.{character_found, character_place, same_some}
+use Rattle.qr_bits.proofs.lemmas.modes.CharacterLemmas.{character_found, character_place, same_some}
 use Rattle.qr_bits.proofs.modes.character_value.Goals as goal
 
 pub unwrap-requires : goal.unwrap-requires

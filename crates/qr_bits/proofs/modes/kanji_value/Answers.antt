@@ -1,5 +1,5 @@
 use Rattle.std.proofs.Common.{arith}
-use Rattle.qr_bits.proofs.KanjiLemmas.{least_first, least_second}
+use Rattle.qr_bits.proofs.lemmas.modes.KanjiLemmas.{least_first, least_second}
 use Rattle.qr_bits.proofs.modes.kanji_value.Goals as goal
 
 pub overflow_sub-rest : goal.overflow_sub-rest

@@ -1,5 +1,5 @@
 use Rattle.std.proofs.Common.{arith}
-use Rattle.qr_bits.proofs.CountLemmas.{capacity_least}
+use Rattle.qr_bits.proofs.lemmas.padding.CountLemmas.{capacity_least}
 use Rattle.qr_bits.proofs.padding.capacity.Goals as goal
 
 pub returns-clause-least : goal.returns-clause-least

@@ -5,11 +5,11 @@ use Rattle.qr_bits.specs.Stream.{segments_stream, IsStream}
 use Rattle.qr_bits.specs.Padding.{capacity_of, filled, pads}
 use Rattle.qr_layout.specs.Blocks.{data_codewords_of}
 use Rattle.std.proofs.lemmas.List.Elements.{All-from_get_or}
-use Rattle.qr_bits.proofs.SegmentLemmas.{covers_all, bits_most, bits_least}
-use Rattle.qr_bits.proofs.WritingLemmas.{length-segments_stream}
-use Rattle.qr_bits.proofs.CoverLemmas.{covers_suits}
-use Rattle.qr_bits.proofs.PaddingLemmas.{is_data, length-header_stream, header_fits, header_most}
-use Rattle.qr_bits.proofs.CountLemmas.{capacity_most, counts_fit}
+use Rattle.qr_bits.proofs.lemmas.segment.SegmentLemmas.{covers_all, bits_most, bits_least}
+use Rattle.qr_bits.proofs.lemmas.stream.WritingLemmas.{length-segments_stream}
+use Rattle.qr_bits.proofs.lemmas.segment.CoverLemmas.{covers_suits}
+use Rattle.qr_bits.proofs.lemmas.padding.PaddingLemmas.{is_data, length-header_stream, header_fits, header_most}
+use Rattle.qr_bits.proofs.lemmas.padding.CountLemmas.{capacity_most, counts_fit}
 use Rattle.qr_bits.proofs.padding.codewords.Goals as goal
 
 pub bit_len-requires-clause-nonempty : goal.bit_len-requires-clause-nonempty

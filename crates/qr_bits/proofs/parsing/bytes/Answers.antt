@@ -1,6 +1,6 @@
 use Rattle.std.proofs.Common.{◌≡◌, ℕ, ◌+◌, ◌-◌, ◌*◌, List, ◌++◌, drop, sym, ◌∙◌, ap, arith}
 use Rattle.std.proofs.lemmas.List.{length-drop, drop-drop, append-nil}
-use Rattle.qr_bits.proofs.PayloadLemmas.{bytes_more, bytes_none}
+use Rattle.qr_bits.proofs.lemmas.parsing.PayloadLemmas.{bytes_more, bytes_none}
 use Rattle.qr_bits.proofs.parsing.bytes.Goals as goal
 
 pub loop-preserved : goal.loop-preserved

@@ -4,7 +4,7 @@ use Rattle.qr_bits.specs.declared.modes.Mode.TheVariants.{Alphanumeric}
 use Rattle.qr_bits.specs.declared.fault.ParseFault.TheVariants.{BadValue}
 use Rattle.qr_bits.specs.Bits.{value}
 use Rattle.qr_bits.specs.Modes.{payload_bits}
-use Rattle.qr_bits.proofs.PayloadLemmas.{payload_two_less, characters_more, characters_bad, characters_one, characters_one_bad, characters_none, finish, fails}
+use Rattle.qr_bits.proofs.lemmas.parsing.PayloadLemmas.{payload_two_less, characters_more, characters_bad, characters_one, characters_one_bad, characters_none, finish, fails}
 use Rattle.qr_bits.proofs.parsing.characters.Goals as goal
 
 pub returns-then-pair-ge-PAIRS-clause-err : goal.returns-then-pair-ge-PAIRS-clause-err

@@ -4,7 +4,7 @@ use Rattle.qr_bits.specs.declared.modes.Mode.TheVariants.{Numeric}
 use Rattle.qr_bits.specs.declared.fault.ParseFault.TheVariants.{BadValue}
 use Rattle.qr_bits.specs.Bits.{value}
 use Rattle.qr_bits.specs.Modes.{payload_bits}
-use Rattle.qr_bits.proofs.PayloadLemmas.{payload_less, digits_more, digits_bad, digits_two, digits_two_bad, digits_one, digits_one_bad, digits_none, finish, fails}
+use Rattle.qr_bits.proofs.lemmas.parsing.PayloadLemmas.{payload_less, digits_more, digits_bad, digits_two, digits_two_bad, digits_one, digits_one_bad, digits_none, finish, fails}
 use Rattle.qr_bits.proofs.parsing.digits.Goals as goal
 
 pub returns-then-group-ge-THREE_DIGITS-clause-err : goal.returns-then-group-ge-THREE_DIGITS-clause-err

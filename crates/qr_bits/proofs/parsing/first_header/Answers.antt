@@ -1,5 +1,5 @@
 use Rattle.std.proofs.Common.{sym, ◌∙◌}
-use Rattle.qr_bits.proofs.ParsingLemmas.{begun}
+use Rattle.qr_bits.proofs.lemmas.parsing.ParsingLemmas.{begun}
 use Rattle.qr_bits.proofs.parsing.first_header.Goals as goal
 
 pub take-requires-clause-there : goal.take-requires-clause-there

@@ -2,8 +2,8 @@ use Rattle.std.proofs.Common.{◌≡◌, ℕ, ◌+◌, ◌-◌, ◌*◌, ◌%◌
 use Rattle.std.proofs.lemmas.List.{length-drop, drop-drop, append-nil}
 use Rattle.qr_bits.specs.declared.fault.ParseFault.TheVariants.{BadValue}
 use Rattle.qr_bits.specs.Bits.{value}
-use Rattle.qr_bits.proofs.PayloadLemmas.{value_take_below, finish, fails}
-use Rattle.qr_bits.proofs.KanjiLemmas.{pairs_more, pairs_bad, pairs_none}
+use Rattle.qr_bits.proofs.lemmas.parsing.PayloadLemmas.{value_take_below, finish, fails}
+use Rattle.qr_bits.proofs.lemmas.modes.KanjiLemmas.{pairs_more, pairs_bad, pairs_none}
 use Rattle.qr_bits.proofs.parsing.kanji.Goals as goal
 
 pub returns-then-value-gt-LOW_MAX-clause-err : goal.returns-then-value-gt-LOW_MAX-clause-err

@@ -1,6 +1,6 @@
 use Rattle.std.proofs.Common.{sym, ◌∙◌, arith}
 use Rattle.std.proofs.lemmas.Result.{err_from_is_err_and}
-use Rattle.qr_bits.proofs.ParsingLemmas.{not_ended, segment_shorter, behind_more, fault_all, end_all}
+use Rattle.qr_bits.proofs.lemmas.parsing.ParsingLemmas.{not_ended, segment_shorter, behind_more, fault_all, end_all}
 use Rattle.qr_bits.proofs.parsing.segments.Goals as goal
 
 pub segment-requires : goal.segment-requires

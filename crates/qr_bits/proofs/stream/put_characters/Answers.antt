@@ -2,7 +2,7 @@ use Rattle.std.proofs.Common.{List, Bool, ◌++◌, drop, sym, ◌∙◌, ap, ap
 use Rattle.std.proofs.lemmas.List.{take_rest}
 use Rattle.qr_bits.specs.Modes.{is_alphanumeric}
 use Rattle.qr_bits.specs.Stream.{character_bits}
-use Rattle.qr_bits.proofs.WritingLemmas.{all_rest, characters_two}
+use Rattle.qr_bits.proofs.lemmas.stream.WritingLemmas.{all_rest, characters_two}
 use Rattle.qr_bits.proofs.stream.put_characters.Goals as goal
 
 pub loop-rest-preserved : goal.loop-rest-preserved

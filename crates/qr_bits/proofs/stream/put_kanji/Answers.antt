@@ -2,7 +2,7 @@ use Rattle.std.proofs.Common.{List, Bool, ◌++◌, drop, sym, ◌∙◌, ap, ap
 use Rattle.std.proofs.lemmas.List.{take_rest}
 use Rattle.qr_bits.specs.Modes.{is_kanji_pair}
 use Rattle.qr_bits.specs.Stream.{kanji_bits}
-use Rattle.qr_bits.proofs.WritingLemmas.{in_twos-first, kanji_two}
+use Rattle.qr_bits.proofs.lemmas.stream.WritingLemmas.{in_twos-first, kanji_two}
 use Rattle.qr_bits.proofs.stream.put_kanji.Goals as goal
 
 pub loop-rest-preserved : goal.loop-rest-preserved

@@ -1,8 +1,8 @@
 use Rattle.std.proofs.Common.{List, Bool, ◌++◌, ap, sym, ◌∙◌, arith, append-nil}
 use Rattle.qr_bits.specs.declared.modes.Mode.TheVariants.{Numeric}
 use Rattle.qr_bits.specs.declared.segment.Segment.{Segment}
-use Rattle.qr_bits.proofs.SegmentLemmas.{covers_next}
-use Rattle.qr_bits.proofs.WritingLemmas.{stream_next, stream_end, append_next}
+use Rattle.qr_bits.proofs.lemmas.segment.SegmentLemmas.{covers_next}
+use Rattle.qr_bits.proofs.lemmas.stream.WritingLemmas.{stream_next, stream_end, append_next}
 use Rattle.qr_bits.proofs.stream.put_segments.Goals as goal
 
 -- what stands past the end

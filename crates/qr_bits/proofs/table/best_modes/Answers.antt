@@ -4,7 +4,7 @@ use Rattle.std.proofs.lemmas.List.{reverse-append, take_all, length-drop}
 use Rattle.qr_bits.specs.Modes.{is_kanji_pair}
 use Rattle.qr_bits.specs.Steps.RunState.{begins_with_pair}
 use Rattle.qr_bits.specs.Steps.Table.{bits_at, IsRow}
-use Rattle.qr_bits.proofs.TableLemmas.{best_none, best_more, small_more, small_row, zeros}
+use Rattle.qr_bits.proofs.lemmas.table.TableLemmas.{best_none, best_more, small_more, small_row, zeros}
 use Rattle.qr_bits.proofs.table.best_modes.Goals as goal
 
 pub loop-i-init : goal.loop-i-init

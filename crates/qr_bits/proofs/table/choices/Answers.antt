@@ -5,8 +5,8 @@ use Rattle.qr_bits.specs.declared.run_state.RunState.{RunState}
 use Rattle.qr_bits.specs.declared.run_state.RunState.TheVariants.{Start, Digit1, Digit2, Digit3, Character1, Character2, InBytes, WholePair}
 use Rattle.qr_bits.specs.Steps.RunState.{state_after, byte_cost, may_begin, may_end, choice_number}
 use Rattle.qr_bits.specs.Steps.Table.{in_state, bits_at}
-use Rattle.qr_bits.proofs.ChoiceLemmas.{byte_used, half_choice, least_choice, number_less, own_beside, own_first, own_second, own_third, own_last}
-use Rattle.qr_bits.proofs.TableLemmas.{row_of}
+use Rattle.qr_bits.proofs.lemmas.table.ChoiceLemmas.{byte_used, half_choice, least_choice, number_less, own_beside, own_first, own_second, own_third, own_last}
+use Rattle.qr_bits.proofs.lemmas.table.TableLemmas.{row_of}
 use Rattle.qr_bits.proofs.table.choices.Goals as goal
 
 pub returns : goal.returns

@@ -1,4 +1,4 @@
-use Rattle.qr_bits.proofs.TableLemmas.{packed-mode}
+use Rattle.qr_bits.proofs.lemmas.table.TableLemmas.{packed-mode}
 use Rattle.qr_bits.proofs.table.modes_of.Goals as goal
 
 pub returns : goal.returns

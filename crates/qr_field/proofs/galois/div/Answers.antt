@@ -1,8 +1,8 @@
 use Rattle.std.proofs.Common.{◌≡◌, ◌+◌, ◌%◌, ◌<◌, ◌∙◌, sym, ap, refl, arith}
 use Rattle.qr_field.specs.Galois.{product}
 use Rattle.qr_field.specs.Polynomial.{power}
-use Rattle.qr_field.proofs.ByteLemmas.{product-of_zero}
-use Rattle.qr_field.proofs.PowerLemmas.{product-of_powers}
+use Rattle.qr_field.proofs.lemmas.galois.ByteLemmas.{product-of_zero}
+use Rattle.qr_field.proofs.lemmas.logarithm.PowerLemmas.{product-of_powers}
 use Rattle.qr_field.proofs.galois.div.Goals as goal
 use Rattle.qr_field.proofs.galois.div.Goals.{then-rest-lt255, else-rest-lt255}
 

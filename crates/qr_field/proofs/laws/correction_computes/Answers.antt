@@ -1,7 +1,7 @@
 use Rattle.std.proofs.Common.{ℕ, List, [], ◌∷◌, refl}
 use Rattle.qr_field.specs.Galois.{product, remainder_of, carryless}
 use Rattle.qr_field.specs.Laws.{eight_digits_correction}
-use Rattle.qr_field.proofs.ListLemmas.{bytes-computed}
+use Rattle.qr_field.proofs.lemmas.polynomial.ListLemmas.{bytes-computed}
 use Rattle.qr_field.proofs.laws.correction_computes.Goals as goal
 
 -- the quotient of the division

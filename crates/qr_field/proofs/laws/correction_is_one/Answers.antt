@@ -1,4 +1,4 @@
-use Rattle.qr_field.proofs.PolynomialLemmas.{correction-some, correction-one}
+use Rattle.qr_field.proofs.lemmas.polynomial.PolynomialLemmas.{correction-some, correction-one}
 use Rattle.qr_field.proofs.laws.correction_is_one.Goals as goal
 
 pub returns-clause-some : goal.returns-clause-some

@@ -1,4 +1,4 @@
-use Rattle.qr_field.proofs.ProductLemmas.{product-is, product-one}
+use Rattle.qr_field.proofs.lemmas.galois.ProductLemmas.{product-is, product-one}
 use Rattle.qr_field.proofs.laws.product_is_one.Goals as goal
 
 pub returns-clause-named : goal.returns-clause-named

@@ -1,5 +1,5 @@
 use Rattle.std.proofs.Common.{◌-◌, arith}
-use Rattle.qr_field.proofs.PowerLemmas.{logarithms-lt, logarithms-at}
+use Rattle.qr_field.proofs.lemmas.logarithm.PowerLemmas.{logarithms-lt, logarithms-at}
 use Rattle.qr_field.proofs.logarithm.logarithm.Goals as goal
 
 pub returns-clause-exponent : goal.returns-clause-exponent

@@ -1,5 +1,5 @@
 use Rattle.std.proofs.Common.{ap, ◌∙◌, ◌∷◌, length, arith}
-use Rattle.qr_field.proofs.PolynomialLemmas.{generator-next, length-carried, power-next}
+use Rattle.qr_field.proofs.lemmas.polynomial.PolynomialLemmas.{generator-next, length-carried, power-next}
 use Rattle.qr_field.proofs.polynomial.generator.Goals as goal
 
 pub loop-i-preserved : goal.loop-i-preserved

@@ -1,5 +1,5 @@
 use Rattle.std.proofs.Common.{[], ◌∷◌, ◌++◌, length, ap, ◌∙◌, arith}
-use Rattle.qr_field.proofs.ListLemmas.{refill_same}
+use Rattle.qr_field.proofs.lemmas.polynomial.ListLemmas.{refill_same}
 use Rattle.qr_field.specs.Steps.Polynomial.{carried}
 use Rattle.qr_field.proofs.polynomial.multiply.Goals as goal
 

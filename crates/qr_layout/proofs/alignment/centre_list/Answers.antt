@@ -1,6 +1,6 @@
 use Rattle.std.proofs.Common.{◌≡◌, ◌≤◌, ◌-◌, ◌+◌, cond, eqb, ◌/◌, ℕ, arith}
 use Rattle.std.proofs.lemmas.Bool.Decides.{nat_tests}
-use Rattle.qr_layout.proofs.TableLemmas.{centres-agree}
+use Rattle.qr_layout.proofs.lemmas.alignment.TableLemmas.{centres-agree}
 use Rattle.qr_layout.proofs.alignment.centre_list.Goals as goal
 use Rattle.qr_layout.proofs.alignment.centre_list.Goals.{then-number-eq1, else-number-eq1}
 

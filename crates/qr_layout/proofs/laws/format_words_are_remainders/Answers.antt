@@ -1,4 +1,4 @@
-use Rattle.qr_layout.proofs.WordLemmas.{format-word-remainder}
+use Rattle.qr_layout.proofs.lemmas.format.WordLemmas.{format-word-remainder}
 use Rattle.qr_layout.proofs.laws.format_words_are_remainders.Goals as goal
 
 pub returns : goal.returns

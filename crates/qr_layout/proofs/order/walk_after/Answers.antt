@@ -1,5 +1,5 @@
 use Rattle.std.proofs.Common.{arith}
-use Rattle.qr_layout.proofs.WalkLemmas.{after-order, after-strips, after-row, after-cursor}
+use Rattle.qr_layout.proofs.lemmas.order.WalkLemmas.{after-order, after-strips, after-row, after-cursor}
 use Rattle.qr_layout.proofs.order.walk_after.Goals as goal
 
 pub next-next-requires-clause-strips_left : goal.next-next-requires-clause-strips_left

@@ -1,4 +1,4 @@
-use Rattle.qr_layout.proofs.RoleLemmas.{format-off}
+use Rattle.qr_layout.proofs.lemmas.role.RoleLemmas.{format-off}
 use Rattle.qr_layout.proofs.role.format_bit.Goals as goal
 
 pub returns-else-row-eq8 : goal.returns-else-row-eq8

@@ -1,5 +1,5 @@
 use Rattle.std.proofs.Common.{inl, inr, arith}
-use Rattle.qr_layout.proofs.RoleLemmas.{format-left, format-seven, format-right, format-no_column}
+use Rattle.qr_layout.proofs.lemmas.role.RoleLemmas.{format-left, format-seven, format-right, format-no_column}
 use Rattle.qr_layout.proofs.role.format_bit_across.Goals as goal
 
 pub returns-then-col-lt6 : goal.returns-then-col-lt6

@@ -1,5 +1,5 @@
 use Rattle.std.proofs.Common.{inl, inr, arith}
-use Rattle.qr_layout.proofs.RoleLemmas.{format-top, format-bend, format-foot, format-no_row}
+use Rattle.qr_layout.proofs.lemmas.role.RoleLemmas.{format-top, format-bend, format-foot, format-no_row}
 use Rattle.qr_layout.proofs.role.format_bit_down.Goals as goal
 
 pub returns-then-row-lt6 : goal.returns-then-row-lt6

@@ -1,4 +1,4 @@
-use Rattle.qr_layout.proofs.AlignmentLemmas.{light-parts}
+use Rattle.qr_layout.proofs.lemmas.alignment.AlignmentLemmas.{light-parts}
 use Rattle.qr_layout.proofs.role.is_alignment_light.Goals as goal
 
 pub returns : goal.returns

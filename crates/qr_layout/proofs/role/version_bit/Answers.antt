@@ -1,5 +1,5 @@
 use Rattle.std.proofs.Common.{arith}
-use Rattle.qr_layout.proofs.RoleLemmas.{version-small, version-right, version-below, version-neither}
+use Rattle.qr_layout.proofs.lemmas.role.RoleLemmas.{version-small, version-right, version-below, version-neither}
 use Rattle.qr_layout.proofs.role.version_bit.Goals as goal
 
 pub returns-then-number-lt7 : goal.returns-then-number-lt7

@@ -1,4 +1,4 @@
-use Rattle.qr_layout.proofs.StripLemmas.{strips-order, strips-inside}
+use Rattle.qr_layout.proofs.lemmas.strips.StripLemmas.{strips-order, strips-inside}
 use Rattle.qr_layout.proofs.strips.all_strips.Goals as goal
 
 pub returns-clause-order : goal.returns-clause-order

@@ -1,8 +1,8 @@
 use Rattle.std.proofs.Common.{arith, ap, ◌∙◌, refl}
 use Rattle.qr_matrix.specs.Difference.{differs, difference_count}
 use Rattle.qr_matrix.specs.Penalty.{count_below, sum_below}
-use Rattle.qr_matrix.proofs.SumLemmas.{sum_below-more}
-use Rattle.qr_matrix.proofs.DifferenceLemmas.{row-differs}
+use Rattle.qr_matrix.proofs.lemmas.bit_row.SumLemmas.{sum_below-more}
+use Rattle.qr_matrix.proofs.lemmas.difference.DifferenceLemmas.{row-differs}
 use Rattle.qr_matrix.proofs.difference.differences.Goals as goal
 
 pub loop-row-preserved : goal.loop-row-preserved

@@ -1,8 +1,8 @@
 use Rattle.std.proofs.Common.{arith, ap, sym, ◌∙◌, refl}
 use Rattle.qr_matrix.specs.Grid.{colour}
 use Rattle.qr_matrix.specs.Penalty.{count_below, dark_count, sum_below}
-use Rattle.qr_matrix.proofs.SumLemmas.{sum_below-more}
-use Rattle.qr_matrix.proofs.RowLemmas.{size-is}
+use Rattle.qr_matrix.proofs.lemmas.bit_row.SumLemmas.{sum_below-more}
+use Rattle.qr_matrix.proofs.lemmas.runs.RowLemmas.{size-is}
 use Rattle.qr_matrix.proofs.penalties.dark_count.Goals as goal
 
 pub loop-row-preserved : goal.loop-row-preserved

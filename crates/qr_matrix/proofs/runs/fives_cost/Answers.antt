@@ -1,6 +1,6 @@
 use Rattle.std.proofs.Common.{not, ◌&&◌, arith}
 use Rattle.qr_matrix.specs.BitRow.{has}
-use Rattle.qr_matrix.proofs.RowLemmas.{size-counts}
+use Rattle.qr_matrix.proofs.lemmas.runs.RowLemmas.{size-counts}
 use Rattle.qr_matrix.proofs.runs.fives_cost.Goals as goal
 
 pub returns-clause-value : goal.returns-clause-value

@@ -2,7 +2,7 @@ use Rattle.std.proofs.Common.{not, ltb, ap, ◌∙◌, arith}
 use Rattle.qr_matrix.specs.Grid.{colour}
 use Rattle.qr_matrix.specs.BitRow.{has}
 use Rattle.qr_matrix.specs.Penalty.{is_same}
-use Rattle.qr_matrix.proofs.ColumnLemmas.{has-nothing, joins-down-bit, joins-down-none}
+use Rattle.qr_matrix.proofs.lemmas.runs.ColumnLemmas.{has-nothing, joins-down-bit, joins-down-none}
 use Rattle.qr_matrix.proofs.runs.joined_in_column.Goals as goal
 
 pub returns-then-row-from : goal.returns-then-row-from

@@ -6,11 +6,11 @@ use Rattle.qr_matrix.specs.Runs.{joins, place_cost}
 use Rattle.qr_matrix.specs.Steps.{row_share}
 use Rattle.std.proofs.lemmas.Bool.Decides.{nat_tests}
 use Rattle.std.proofs.Math.Nat.{mul-suc}
-use Rattle.qr_matrix.proofs.SumLemmas.{sum_below-more, sum_below-same}
-use Rattle.qr_matrix.proofs.RowLemmas.{row_cost}
-use Rattle.qr_matrix.proofs.RunLemmas.{runs-by-places}
-use Rattle.qr_matrix.proofs.SquareLemmas.{square-bit, squares-row}
-use Rattle.qr_matrix.proofs.ColumnLemmas.{has-nothing, five-down-bit, share-of, shares-are-columns}
+use Rattle.qr_matrix.proofs.lemmas.bit_row.SumLemmas.{sum_below-more, sum_below-same}
+use Rattle.qr_matrix.proofs.lemmas.runs.RowLemmas.{row_cost}
+use Rattle.qr_matrix.proofs.lemmas.runs.RunLemmas.{runs-by-places}
+use Rattle.qr_matrix.proofs.lemmas.squares.SquareLemmas.{square-bit, squares-row}
+use Rattle.qr_matrix.proofs.lemmas.runs.ColumnLemmas.{has-nothing, five-down-bit, share-of, shares-are-columns}
 use Rattle.qr_matrix.proofs.runs.runs_and_squares.Goals as goal
 
 pub loop-row-init : goal.loop-row-init

@@ -1,6 +1,6 @@
 use Rattle.std.proofs.Common.{◌*◌, ◌∙◌, inr, arith}
 use Rattle.std.proofs.Math.Nat.{mul-mod_right}
-use Rattle.qr_matrix.proofs.TranspositionLemmas.{group-more}
+use Rattle.qr_matrix.proofs.lemmas.transposition.TranspositionLemmas.{group-more}
 use Rattle.qr_matrix.proofs.transposition.exchange.Goals as goal
 
 pub exchange_rows-requires-clause-whole : goal.exchange_rows-requires-clause-whole

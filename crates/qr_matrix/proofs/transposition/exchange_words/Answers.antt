@@ -1,4 +1,4 @@
-use Rattle.qr_matrix.proofs.TranspositionLemmas.{upper-word, lower-word}
+use Rattle.qr_matrix.proofs.lemmas.transposition.TranspositionLemmas.{upper-word, lower-word}
 use Rattle.qr_matrix.proofs.transposition.exchange_words.Goals as goal
 
 pub returns-clause-upper : goal.returns-clause-upper

@@ -1,7 +1,7 @@
 use Rattle.std.proofs.Common.{◌≡◌, ◌+◌, ◌*◌, ◌/◌, ◌%◌, ◌&&◌, eqb, ltb}
 use Rattle.qr_matrix.specs.Grid.{colour}
 use Rattle.qr_matrix.specs.Steps.{bit_in}
-use Rattle.qr_matrix.proofs.TranspositionLemmas.{chosen}
+use Rattle.qr_matrix.proofs.lemmas.transposition.TranspositionLemmas.{chosen}
 use Rattle.qr_matrix.proofs.transposition.set_tile.Given as goal
 
 abbrev pub invariant-loop-row : goal.invariant-loop-row

@@ -1,6 +1,6 @@
 use Rattle.std.proofs.Common.{◌+◌, ◌/◌, ◌&&◌, ◌∙◌, eqb, ltb, refl, arith}
 use Rattle.qr_matrix.specs.Grid.{colour}
-use Rattle.qr_matrix.proofs.TranspositionLemmas.{chosen-none, chosen-square, chosen-more, chosen-same, word-none, word-more, word-all}
+use Rattle.qr_matrix.proofs.lemmas.transposition.TranspositionLemmas.{chosen-none, chosen-square, chosen-more, chosen-same, word-none, word-more, word-all}
 use Rattle.qr_matrix.proofs.transposition.set_transposed_band.Goals as goal
 
 pub loop-word-init : goal.loop-word-init

@@ -1,7 +1,7 @@
 use Rattle.std.proofs.Common.{ℕ, ◌/◌, ◌%◌, ◌&&◌, ◌∙◌, eqb, refl, arith}
 use Rattle.qr_matrix.specs.Grid.{colour}
 use Rattle.qr_matrix.specs.Steps.{bit_in}
-use Rattle.qr_matrix.proofs.TranspositionLemmas.{chosen-same, tile-bit, tile-past}
+use Rattle.qr_matrix.proofs.lemmas.transposition.TranspositionLemmas.{chosen-same, tile-bit, tile-past}
 use Rattle.qr_matrix.proofs.transposition.set_transposed_tile.Goals as goal
 
 pub set_tile-requires-clause-past : goal.set_tile-requires-clause-past

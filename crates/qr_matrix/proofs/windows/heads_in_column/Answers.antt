@@ -1,8 +1,8 @@
 use Rattle.std.proofs.Common.{◌≡◌, ◌+◌, not, ◌&&◌, ◌||◌, ltb, sym, ap, ◌∙◌}
 use Rattle.qr_matrix.specs.Grid.{colour}
 use Rattle.qr_matrix.specs.BitRow.{has}
-use Rattle.qr_matrix.proofs.ColumnLemmas.{guarded}
-use Rattle.qr_matrix.proofs.ReadingLemmas.{head-order, head-down}
+use Rattle.qr_matrix.proofs.lemmas.runs.ColumnLemmas.{guarded}
+use Rattle.qr_matrix.proofs.lemmas.windows.ReadingLemmas.{head-order, head-down}
 use Rattle.qr_matrix.proofs.windows.heads_in_column.Goals as goal
 
 pub returns : goal.returns

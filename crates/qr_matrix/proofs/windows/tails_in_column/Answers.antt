@@ -1,8 +1,8 @@
 use Rattle.std.proofs.Common.{◌≡◌, ◌+◌, not, ◌&&◌, ◌||◌, ltb, sym, ap, ◌∙◌}
 use Rattle.qr_matrix.specs.Grid.{colour}
 use Rattle.qr_matrix.specs.BitRow.{has}
-use Rattle.qr_matrix.proofs.ColumnLemmas.{guarded}
-use Rattle.qr_matrix.proofs.ReadingLemmas.{four-light, tail-down}
+use Rattle.qr_matrix.proofs.lemmas.runs.ColumnLemmas.{guarded}
+use Rattle.qr_matrix.proofs.lemmas.windows.ReadingLemmas.{four-light, tail-down}
 use Rattle.qr_matrix.proofs.windows.tails_in_column.Goals as goal
 
 pub returns : goal.returns

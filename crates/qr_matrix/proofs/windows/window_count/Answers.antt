@@ -1,8 +1,8 @@
 use Rattle.std.proofs.Common.{arith, ◌≡◌, ap, ◌∙◌, refl}
 use Rattle.qr_matrix.specs.Grid.{colour}
 use Rattle.qr_matrix.specs.Penalty.{count_below, over_lines, is_window, window_count, sum_below}
-use Rattle.qr_matrix.proofs.SumLemmas.{sum_below-more}
-use Rattle.qr_matrix.proofs.WindowLemmas.{windows-down-row, windows-are-columns}
+use Rattle.qr_matrix.proofs.lemmas.bit_row.SumLemmas.{sum_below-more}
+use Rattle.qr_matrix.proofs.lemmas.windows.WindowLemmas.{windows-down-row, windows-are-columns}
 use Rattle.qr_matrix.proofs.windows.window_count.Goals as goal
 
 pub loop-row-preserved : goal.loop-row-preserved

@@ -1,5 +1,5 @@
 use Rattle.std.proofs.Common.{◌-◌, true, false, get_or, arith}
-use Rattle.qr_field.proofs.DistanceLemmas.{difference-same}
+use Rattle.qr_field.proofs.lemmas.laws.DistanceLemmas.{difference-same}
 use Rattle.qr_mending.proofs.lemmas.erasures.ErasureLemmas.{errors-more}
 use Rattle.qr_mending.proofs.erasures.count_misread.Goals as goal
 use Rattle.qr_mending.proofs.erasures.count_misread.Goals.{else-not-erased-k-via-then-not-erased-k+else-codewords-k, else-not-erased-k-via-else-not-erased-k}

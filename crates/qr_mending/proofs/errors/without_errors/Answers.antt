@@ -2,7 +2,7 @@ use Rattle.std.proofs.Common.{ℕ, List, ◌∙◌, sym, subst, arith}
 use Rattle.std.proofs.lemmas.List.{take_all}
 use Rattle.std.proofs.lemmas.List.Elements.{All-from_get_or}
 use Rattle.qr_field.specs.Polynomial.{IsByte, plus}
-use Rattle.qr_field.proofs.ListLemmas.{length-plus}
+use Rattle.qr_field.proofs.lemmas.polynomial.ListLemmas.{length-plus}
 use Rattle.qr_mending.specs.Steps.Sums.{HasValues}
 use Rattle.qr_mending.proofs.lemmas.block.BlockLemmas.{sum-more}
 use Rattle.qr_mending.proofs.errors.without_errors.Goals as goal

@@ -8,14 +8,14 @@ use Rattle.qr_field.specs.Galois.{product}
 use Rattle.qr_field.specs.Polynomial.{IsByte, plus, power, IsCorrection}
 use Rattle.qr_field.specs.Distance.{differences, erasures, errors}
 use Rattle.qr_field.specs.Steps.Polynomial.{value_at}
-use Rattle.qr_field.proofs.BitLemmas.{xor-cancel}
-use Rattle.qr_field.proofs.ByteLemmas.{product-by_one}
-use Rattle.qr_field.proofs.FieldLemmas.{sum-none}
-use Rattle.qr_field.proofs.PowerLemmas.{power-round}
-use Rattle.qr_field.proofs.ListLemmas.{length-plus, bytes-plus}
-use Rattle.qr_field.proofs.ValueLemmas.{value-lt, value-plus, block-bytes, block-root}
-use Rattle.qr_field.proofs.DistanceLemmas.{weight, weight-plus, difference-same, unambiguous-known, erasures-read, errors-read}
-use Rattle.qr_field.proofs.PolynomialLemmas.{correction-one}
+use Rattle.qr_field.proofs.lemmas.galois.BitLemmas.{xor-cancel}
+use Rattle.qr_field.proofs.lemmas.galois.ByteLemmas.{product-by_one}
+use Rattle.qr_field.proofs.lemmas.galois.FieldLemmas.{sum-none}
+use Rattle.qr_field.proofs.lemmas.logarithm.PowerLemmas.{power-round}
+use Rattle.qr_field.proofs.lemmas.polynomial.ListLemmas.{length-plus, bytes-plus}
+use Rattle.qr_field.proofs.lemmas.laws.ValueLemmas.{value-lt, value-plus, block-bytes, block-root}
+use Rattle.qr_field.proofs.lemmas.laws.DistanceLemmas.{weight, weight-plus, difference-same, unambiguous-known, erasures-read, errors-read}
+use Rattle.qr_field.proofs.lemmas.polynomial.PolynomialLemmas.{correction-one}
 use Rattle.qr_mending.specs.Block.{IsBlock, IsMended}
 use Rattle.qr_mending.specs.Erasures.{IsMendedWithErasures}
 use Rattle.qr_mending.specs.declared.polynomial.Polynomial.{Polynomial}

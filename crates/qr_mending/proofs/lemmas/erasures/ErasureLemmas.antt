@@ -9,11 +9,11 @@ use Rattle.std.proofs.lemmas.List.Elements.{All-nil, All-cons, All-head, All-tai
 use Rattle.qr_field.specs.Galois.{product}
 use Rattle.qr_field.specs.Polynomial.{IsByte, plus, power}
 use Rattle.qr_field.specs.Distance.{difference, erasures, errors}
-use Rattle.qr_field.proofs.ByteLemmas.{product-by_zero, product-of_zero}
-use Rattle.qr_field.proofs.PowerLemmas.{power-lt}
-use Rattle.qr_field.proofs.FieldLemmas.{product-factor, sum-none}
-use Rattle.qr_field.proofs.ListLemmas.{length-plus, bytes-plus}
-use Rattle.qr_field.proofs.DistanceLemmas.{weight, difference-same, difference-alike}
+use Rattle.qr_field.proofs.lemmas.galois.ByteLemmas.{product-by_zero, product-of_zero}
+use Rattle.qr_field.proofs.lemmas.logarithm.PowerLemmas.{power-lt}
+use Rattle.qr_field.proofs.lemmas.galois.FieldLemmas.{product-factor, sum-none}
+use Rattle.qr_field.proofs.lemmas.polynomial.ListLemmas.{length-plus, bytes-plus}
+use Rattle.qr_field.proofs.lemmas.laws.DistanceLemmas.{weight, difference-same, difference-alike}
 use Rattle.qr_mending.specs.Erasures.{read_of, IsMendedWithErasures}
 use Rattle.qr_mending.specs.declared.polynomial.Polynomial.{Polynomial}
 use Rattle.qr_mending.specs.Steps.Sums.{dot_of, eval, HasValues}

@@ -10,12 +10,12 @@ use Rattle.std.proofs.lemmas.List.Elements.{All-head, All-tail}
 use Rattle.qr_field.specs.Galois.{product, remainder_of, carryless}
 use Rattle.qr_field.specs.Polynomial.{IsByte, power}
 use Rattle.qr_field.specs.Steps.Polynomial.{value_at}
-use Rattle.qr_field.proofs.BitLemmas.{xor-swap, xor-cancel}
-use Rattle.qr_field.proofs.ByteLemmas.{product-by_zero, product-by_one, product-of_one}
-use Rattle.qr_field.proofs.ProductLemmas.{product-lt}
-use Rattle.qr_field.proofs.PowerLemmas.{power-lt, power-add, power-round, power-mod, powers-apart}
-use Rattle.qr_field.proofs.FieldLemmas.{product-comm, product-assoc, product-front, product-by_sum, product-factor, sum-none}
-use Rattle.qr_field.proofs.ValueLemmas.{value-lt}
+use Rattle.qr_field.proofs.lemmas.galois.BitLemmas.{xor-swap, xor-cancel}
+use Rattle.qr_field.proofs.lemmas.galois.ByteLemmas.{product-by_zero, product-by_one, product-of_one}
+use Rattle.qr_field.proofs.lemmas.galois.ProductLemmas.{product-lt}
+use Rattle.qr_field.proofs.lemmas.logarithm.PowerLemmas.{power-lt, power-add, power-round, power-mod, powers-apart}
+use Rattle.qr_field.proofs.lemmas.galois.FieldLemmas.{product-comm, product-assoc, product-front, product-by_sum, product-factor, sum-none}
+use Rattle.qr_field.proofs.lemmas.laws.ValueLemmas.{value-lt}
 use Rattle.qr_mending.specs.Steps.Sums.{eval, HasValues}
 use Rattle.qr_mending.specs.Steps.Errors.{coefficient}
 use Rattle.qr_mending.proofs.lemmas.errors.WeightLemmas.{coefficient-head, coefficient-tail}

@@ -10,13 +10,13 @@ use Rattle.qr_field.specs.Galois.{product}
 use Rattle.qr_field.specs.Polynomial.{IsByte, power}
 use Rattle.qr_field.specs.Steps.Polynomial.{value_at}
 use Rattle.qr_field.specs.Distance.{difference}
-use Rattle.qr_field.proofs.BitLemmas.{xor-swap}
-use Rattle.qr_field.proofs.ByteLemmas.{product-by_zero, product-of_zero}
-use Rattle.qr_field.proofs.ProductLemmas.{product-lt, product-xor}
-use Rattle.qr_field.proofs.PowerLemmas.{power-lt, power-add}
-use Rattle.qr_field.proofs.FieldLemmas.{product-assoc, product-front, product-by_sum, product-factor}
-use Rattle.qr_field.proofs.ValueLemmas.{value-lt}
-use Rattle.qr_field.proofs.DistanceLemmas.{weight, weight-none, value-none, difference-same, difference-other, difference-most}
+use Rattle.qr_field.proofs.lemmas.galois.BitLemmas.{xor-swap}
+use Rattle.qr_field.proofs.lemmas.galois.ByteLemmas.{product-by_zero, product-of_zero}
+use Rattle.qr_field.proofs.lemmas.galois.ProductLemmas.{product-lt, product-xor}
+use Rattle.qr_field.proofs.lemmas.logarithm.PowerLemmas.{power-lt, power-add}
+use Rattle.qr_field.proofs.lemmas.galois.FieldLemmas.{product-assoc, product-front, product-by_sum, product-factor}
+use Rattle.qr_field.proofs.lemmas.laws.ValueLemmas.{value-lt}
+use Rattle.qr_field.proofs.lemmas.laws.DistanceLemmas.{weight, weight-none, value-none, difference-same, difference-other, difference-most}
 use Rattle.qr_mending.specs.Steps.Sums.{eval, blend}
 use Rattle.qr_mending.specs.Steps.Errors.{coefficient, weighted}
 use Rattle.qr_mending.proofs.lemmas.sums.SumLemmas.{eval-lt}

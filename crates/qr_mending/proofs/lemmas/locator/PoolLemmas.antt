@@ -9,8 +9,8 @@ use Rattle.std.proofs.lemmas.List.Elements.{All-from_get_or}
 use Rattle.std.proofs.Math.Numerals.{suc-eq-add-one}
 use Rattle.qr_field.specs.Galois.{product}
 use Rattle.qr_field.specs.Polynomial.{IsByte, plus, scaled}
-use Rattle.qr_field.proofs.ByteLemmas.{product-by_zero}
-use Rattle.qr_field.proofs.ListLemmas.{take-plus}
+use Rattle.qr_field.proofs.lemmas.galois.ByteLemmas.{product-by_zero}
+use Rattle.qr_field.proofs.lemmas.polynomial.ListLemmas.{take-plus}
 use Rattle.qr_mending.specs.declared.polynomial.Polynomial.{Polynomial}
 use Rattle.qr_mending.specs.Steps.Sums.{dot_of}
 use Rattle.qr_mending.specs.Steps.Polynomial.{all_of, IsMonic, miss_of, blank, at, IsRelieved, IsPool}

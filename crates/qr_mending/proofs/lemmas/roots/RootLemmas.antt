@@ -7,10 +7,10 @@ use Rattle.std.proofs.lemmas.List.Sums.{sum_by-cons, sum_by-take-drop, sum_by-dr
 use Rattle.std.proofs.lemmas.List.Elements.{All-nil, All-cons, All-head, All-tail}
 use Rattle.qr_field.specs.Galois.{product}
 use Rattle.qr_field.specs.Polynomial.{IsByte, power}
-use Rattle.qr_field.proofs.ByteLemmas.{product-by_zero, product-of_zero, product-of_one}
-use Rattle.qr_field.proofs.ProductLemmas.{product-lt, product-xor}
-use Rattle.qr_field.proofs.PowerLemmas.{power-lt}
-use Rattle.qr_field.proofs.FieldLemmas.{product-assoc, product-front, product-by_sum}
+use Rattle.qr_field.proofs.lemmas.galois.ByteLemmas.{product-by_zero, product-of_zero, product-of_one}
+use Rattle.qr_field.proofs.lemmas.galois.ProductLemmas.{product-lt, product-xor}
+use Rattle.qr_field.proofs.lemmas.logarithm.PowerLemmas.{power-lt}
+use Rattle.qr_field.proofs.lemmas.galois.FieldLemmas.{product-assoc, product-front, product-by_sum}
 use Rattle.qr_mending.specs.Steps.Sums.{eval}
 use Rattle.qr_mending.specs.Steps.Roots.{times_root, rooted}
 use Rattle.qr_mending.proofs.lemmas.sums.SumLemmas.{eval-lt}

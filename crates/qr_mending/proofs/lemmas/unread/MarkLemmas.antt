@@ -11,7 +11,7 @@ use Rattle.qr_layout.proofs.Facts.{order-length, below, below-at}
 use Rattle.qr_bits.specs.Bits.{field, bits_of}
 use Rattle.qr_bits.proofs.Facts.{length-field, length-bits_of}
 use Rattle.qr_matrix.specs.Grid.{Grid, colour}
-use Rattle.qr_symbol.proofs.MessageLemmas.{append-front}
+use Rattle.qr_symbol.proofs.lemmas.interleaving.MessageLemmas.{append-front}
 use Rattle.qr_mending.specs.Unread.{colour_at, AreMarks}
 use Rattle.qr_mending.specs.Steps.Marks.{HasMarks}
 

@@ -13,7 +13,7 @@ use Rattle.qr_layout.proofs.Facts.{only_order}
 use Rattle.qr_matrix.specs.Grid.{Grid}
 use Rattle.qr_symbol.specs.Interleaving.{block_count, block_len, cut_len, data_cut, correction_cut, part_of}
 use Rattle.qr_symbol.proofs.Facts.{bits-one, check-len, len-most, parts-same, start-next}
-use Rattle.qr_field.proofs.DistanceLemmas.{unambiguous-known}
+use Rattle.qr_field.proofs.lemmas.laws.DistanceLemmas.{unambiguous-known}
 use Rattle.qr_field.proofs.Facts.{correction-one}
 use Rattle.qr_mending.specs.Erasures.{read_of, IsMendedWithErasures}
 use Rattle.qr_mending.specs.Message.{received}

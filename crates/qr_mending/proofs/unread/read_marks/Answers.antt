@@ -7,7 +7,7 @@ use Rattle.qr_layout.specs.Order.{IsOrder}
 use Rattle.qr_bits.specs.Bits.{bits_of, field}
 use Rattle.qr_bits.proofs.Facts.{bool_byte-bit, field-more, bits_of-more}
 use Rattle.qr_mending.specs.Unread.{colour_at}
-use Rattle.qr_symbol.proofs.DrawingLemmas.{whole-next, whole-push, in-square}
+use Rattle.qr_symbol.proofs.lemmas.drawing.DrawingLemmas.{whole-next, whole-push, in-square}
 use Rattle.qr_mending.proofs.lemmas.unread.MarkLemmas.{mark-read, marks-many, marks-whole}
 use Rattle.qr_mending.proofs.unread.read_marks.Goals as goal
 

@@ -4,7 +4,7 @@ use Rattle.qr_layout.specs.Format.{format_word_of}
 use Rattle.qr_matrix.specs.Grid.{Grid, colour}
 use Rattle.qr_matrix.specs.Penalty.{penalty_of}
 use Rattle.qr_symbol.specs.Steps.Drawing.{masked_colour}
-use Rattle.qr_symbol.proofs.DrawingLemmas.{square-is}
+use Rattle.qr_symbol.proofs.lemmas.drawing.DrawingLemmas.{square-is}
 use Rattle.qr_symbol.proofs.choice.mask_penalty.Goals as goal
 
 pub returns : goal.returns

@@ -1,6 +1,6 @@
 use Rattle.std.proofs.Common.{sym, subst, arith}
 use Rattle.qr_layout.specs.Order.{IsOrder}
-use Rattle.qr_symbol.proofs.WalkLemmas.{walked-start, walked-in, walked-step, walked-small, walked-end}
+use Rattle.qr_symbol.proofs.lemmas.drawing.WalkLemmas.{walked-start, walked-in, walked-step, walked-small, walked-end}
 use Rattle.qr_symbol.proofs.drawing.draw_along_walk.Goals as goal
 
 pub loop-module-init : goal.loop-module-init

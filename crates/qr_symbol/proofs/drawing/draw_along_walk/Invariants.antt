@@ -1,4 +1,4 @@
-use Rattle.qr_symbol.proofs.WalkLemmas.{IsWalked}
+use Rattle.qr_symbol.proofs.lemmas.drawing.WalkLemmas.{IsWalked}
 use Rattle.qr_symbol.proofs.drawing.draw_along_walk.Given as goal
 
 abbrev pub invariant-loop-module : goal.invariant-loop-module

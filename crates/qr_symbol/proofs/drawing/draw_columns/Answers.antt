@@ -3,7 +3,7 @@ use Rattle.qr_bits.proofs.Facts.{bool_byte-bit}
 use Rattle.qr_layout.specs.Version.{side_of}
 use Rattle.qr_symbol.specs.Steps.Drawing.{AreDrawn, IsCodewordBits}
 use Rattle.qr_symbol.specs.declared.drawing.CodewordBits.{CodewordBits}
-use Rattle.qr_symbol.proofs.ColumnLemmas.{rows-drawn}
+use Rattle.qr_symbol.proofs.lemmas.drawing.ColumnLemmas.{rows-drawn}
 use Rattle.qr_symbol.proofs.drawing.draw_columns.Goals as goal
 use Rattle.qr_symbol.proofs.drawing.draw_columns.Goals.{then-number-next, else-number-next}
 

@@ -8,9 +8,9 @@ use Rattle.qr_matrix.specs.BitRow.{has, has_bit}
 use Rattle.qr_matrix.proofs.Facts.{has_bit-ones, &&-left, &&-right}
 use Rattle.qr_symbol.specs.Steps.Drawing.{with_columns}
 use Rattle.qr_symbol.specs.declared.drawing.Columns.{Columns}
-use Rattle.qr_symbol.proofs.AcrossLemmas.{four-drawn, rank_of}
-use Rattle.qr_symbol.proofs.ColumnLemmas.{columns-square, left-four, right-four, still-light-four}
-use Rattle.qr_symbol.proofs.SplitLemmas.{split, split-high, split-low}
+use Rattle.qr_symbol.proofs.lemmas.drawing.AcrossLemmas.{four-drawn, rank_of}
+use Rattle.qr_symbol.proofs.lemmas.drawing.ColumnLemmas.{columns-square, left-four, right-four, still-light-four}
+use Rattle.qr_symbol.proofs.lemmas.drawing.SplitLemmas.{split, split-high, split-low}
 use Rattle.qr_symbol.proofs.drawing.draw_four.Goals as goal
 use Rattle.qr_symbol.proofs.drawing.draw_four.Goals.{then-strip, else-strip}
 

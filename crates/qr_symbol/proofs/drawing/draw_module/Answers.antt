@@ -1,6 +1,6 @@
 use Rattle.std.proofs.Common.{◌-◌, cond, eqb, sym, ap, ◌∙◌}
 use Rattle.qr_matrix.specs.BitRow.{has}
-use Rattle.qr_symbol.proofs.BitLemmas.{one-bit}
+use Rattle.qr_symbol.proofs.lemmas.drawing.BitLemmas.{one-bit}
 use Rattle.qr_symbol.proofs.drawing.draw_module.Goals as goal
 
 pub returns-clause-column : goal.returns-clause-column

@@ -4,8 +4,8 @@ use Rattle.qr_matrix.specs.BitRow.{has, has_bit}
 use Rattle.qr_matrix.specs.Grid.{painted}
 use Rattle.qr_symbol.specs.Steps.Drawing.{AreDrawn, with_columns}
 use Rattle.qr_symbol.specs.declared.drawing.Columns.{Columns}
-use Rattle.qr_symbol.proofs.AcrossLemmas.{after-plus, drawn-row}
-use Rattle.qr_symbol.proofs.ColumnLemmas.{columns-square, left-drawn, right-drawn, rows-drawn, rows-none, still-light}
+use Rattle.qr_symbol.proofs.lemmas.drawing.AcrossLemmas.{after-plus, drawn-row}
+use Rattle.qr_symbol.proofs.lemmas.drawing.ColumnLemmas.{columns-square, left-drawn, right-drawn, rows-drawn, rows-none, still-light}
 use Rattle.qr_symbol.proofs.drawing.draw_rows.Goals as goal
 use Rattle.qr_symbol.proofs.drawing.draw_rows.Goals.{then-strip, else-strip}
 

@@ -6,8 +6,8 @@ use Rattle.qr_matrix.specs.BitRow.{has}
 use Rattle.qr_matrix.specs.Grid.{Grid, with_row}
 use Rattle.qr_symbol.specs.Steps.Drawing.{AreDrawn, IsDrawnAcross, with_columns}
 use Rattle.qr_symbol.specs.declared.drawing.Columns.{Columns}
-use Rattle.qr_symbol.proofs.AcrossLemmas.{region-across}
-use Rattle.qr_symbol.proofs.ColumnLemmas.{columns-same}
+use Rattle.qr_symbol.proofs.lemmas.drawing.AcrossLemmas.{region-across}
+use Rattle.qr_symbol.proofs.lemmas.drawing.ColumnLemmas.{columns-same}
 use Rattle.qr_symbol.proofs.drawing.draw_strip.Goals as goal
 use Rattle.qr_symbol.proofs.drawing.draw_strip.Goals.{then-upward, else-upward}
 

@@ -1,6 +1,6 @@
 use Rattle.std.proofs.Common.{◌≡◌, ◌+◌, ◌-◌, ap, ◌∙◌, arith}
 use Rattle.qr_bits.specs.Bits.{codeword_bit}
-use Rattle.qr_symbol.proofs.BitLemmas.{eight-bits}
+use Rattle.qr_symbol.proofs.lemmas.drawing.BitLemmas.{eight-bits}
 use Rattle.qr_symbol.proofs.drawing.eight_bits.Goals as goal
 
 pub returns : goal.returns

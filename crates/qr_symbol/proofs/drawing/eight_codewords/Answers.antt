@@ -1,6 +1,6 @@
 use Rattle.std.proofs.Common.{◌≡◌, ◌-◌, ◌*◌, ap, sym, ◌∙◌, arith}
 use Rattle.qr_matrix.specs.BitRow.{has_bit}
-use Rattle.qr_symbol.proofs.BitLemmas.{codewords-more, codewords-fits, codewords-room}
+use Rattle.qr_symbol.proofs.lemmas.drawing.BitLemmas.{codewords-more, codewords-fits, codewords-room}
 use Rattle.qr_symbol.proofs.drawing.eight_codewords.Goals as goal
 
 pub overflow_mul-bits : goal.overflow_mul-bits

@@ -9,8 +9,8 @@ use Rattle.qr_symbol.specs.declared.fault.EncodeFault.{EncodeFault}
 use Rattle.qr_symbol.specs.declared.fault.EncodeFault.TheVariants as fault
 use Rattle.qr_symbol.specs.declared.symbol.Symbol.{Symbol}
 use Rattle.qr_symbol.specs.Fault.{fault_of}
-use Rattle.qr_symbol.proofs.ExactLemmas.{too-long-exactly}
-use Rattle.qr_symbol.proofs.SymbolMakingLemmas.{symbol-found, symbol-back}
+use Rattle.qr_symbol.proofs.lemmas.fault.ExactLemmas.{too-long-exactly}
+use Rattle.qr_symbol.proofs.lemmas.encoding.SymbolMakingLemmas.{symbol-found, symbol-back}
 use Rattle.qr_symbol.proofs.encoding.encode.Goals as goal
 
 -- the result of a call that is refused for this fault

@@ -1,6 +1,6 @@
 use Rattle.std.proofs.Common.{length, ◌∙◌, ap}
 use Rattle.qr_bits.proofs.Facts.{length-data}
-use Rattle.qr_symbol.proofs.SymbolMakingLemmas.{symbol-built}
+use Rattle.qr_symbol.proofs.lemmas.encoding.SymbolMakingLemmas.{symbol-built}
 use Rattle.qr_symbol.proofs.encoding.symbol_on.Goals as goal
 
 pub interleave-requires : goal.interleave-requires

@@ -1,7 +1,7 @@
 use Rattle.std.proofs.Common.{◌≡◌, ℕ, List, ◌+◌, ◌-◌, length, take, drop, sym, subst, arith}
 use Rattle.qr_field.specs.Polynomial.{IsCorrection}
 use Rattle.qr_symbol.specs.Interleaving.{data_cut}
-use Rattle.qr_symbol.proofs.CheckLemmas.{slice-in, push-checks}
+use Rattle.qr_symbol.proofs.lemmas.interleaving.CheckLemmas.{slice-in, push-checks}
 use Rattle.qr_symbol.proofs.interleaving.corrections.Goals as goal
 
 pub slice_bounds-correction-end : goal.slice_bounds-correction-end

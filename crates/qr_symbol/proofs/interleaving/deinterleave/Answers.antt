@@ -4,8 +4,8 @@ use Rattle.qr_layout.specs.declared.blocks.Blocks.{Blocks}
 use Rattle.qr_layout.specs.Blocks.{data_codewords_of}
 use Rattle.qr_layout.proofs.Facts.{blocks-sound}
 use Rattle.qr_symbol.specs.Interleaving.{cut_len, data_cut, correction_cut, IsFinalMessage, IsInterleaved}
-use Rattle.qr_symbol.proofs.ExactLemmas.{check-exactly, ok-both}
-use Rattle.qr_symbol.proofs.MessageLemmas.{data-cut-whole, cuts-whole, ok-also}
+use Rattle.qr_symbol.proofs.lemmas.fault.ExactLemmas.{check-exactly, ok-both}
+use Rattle.qr_symbol.proofs.lemmas.interleaving.MessageLemmas.{data-cut-whole, cuts-whole, ok-also}
 use Rattle.qr_symbol.proofs.interleaving.deinterleave.Goals as goal
 
 pub deinterleave_blocks-requires-clause-whole : goal.deinterleave_blocks-requires-clause-whole

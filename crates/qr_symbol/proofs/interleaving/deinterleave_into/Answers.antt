@@ -1,8 +1,8 @@
 use Rattle.std.proofs.Common.{ℕ, ◌+◌, Vec, Global, sym, ap, subst, arith}
 use Rattle.qr_symbol.specs.Interleaving.{IsTag}
-use Rattle.qr_symbol.proofs.TagLemmas.{tag}
-use Rattle.qr_symbol.proofs.RankLemmas.{rank-in}
-use Rattle.qr_symbol.proofs.GatherLemmas.{GatheredBefore, gather-push, gather-pass, gather-row, gather-end}
+use Rattle.qr_symbol.proofs.lemmas.interleaving.TagLemmas.{tag}
+use Rattle.qr_symbol.proofs.lemmas.interleaving.RankLemmas.{rank-in}
+use Rattle.qr_symbol.proofs.lemmas.interleaving.GatherLemmas.{GatheredBefore, gather-push, gather-pass, gather-row, gather-end}
 use Rattle.qr_symbol.proofs.interleaving.deinterleave_into.Goals as goal
 use Rattle.qr_symbol.proofs.interleaving.deinterleave_into.Goals.{then-place-len, else-place-len}
 

@@ -5,7 +5,7 @@ use Rattle.qr_layout.specs.Version.{total_codewords_of}
 use Rattle.qr_layout.specs.Blocks.{blocks_of}
 use Rattle.qr_layout.proofs.Facts.{blocks-sound}
 use Rattle.qr_symbol.specs.Interleaving.{cut_len, data_cut, IsFinalMessage}
-use Rattle.qr_symbol.proofs.MessageLemmas.{data-cut-whole, final-whole, ok-also}
+use Rattle.qr_symbol.proofs.lemmas.interleaving.MessageLemmas.{data-cut-whole, final-whole, ok-also}
 use Rattle.qr_symbol.proofs.interleaving.interleave.Goals as goal
 
 pub interleave_blocks-requires-clause-whole : goal.interleave_blocks-requires-clause-whole

@@ -1,4 +1,4 @@
-use Rattle.qr_symbol.proofs.CheckLemmas.{sent-both}
+use Rattle.qr_symbol.proofs.lemmas.interleaving.CheckLemmas.{sent-both}
 use Rattle.qr_symbol.proofs.interleaving.interleave_blocks.Goals as goal
 
 pub returns : goal.returns

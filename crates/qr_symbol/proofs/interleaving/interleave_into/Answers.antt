@@ -1,6 +1,6 @@
 use Rattle.std.proofs.Common.{ℕ, ◌+◌, [], ◌∷◌, ◌++◌, get_or, Vec, Global, refl, sym, ◌∙◌, ap, subst, arith}
 use Rattle.qr_symbol.specs.Interleaving.{IsTag, codeword_at, block_count}
-use Rattle.qr_symbol.proofs.TagLemmas.{SentBefore, start-first, start-most, start-next, tag, tag-in, sent-push, sent-pass, sent-row, sent-end}
+use Rattle.qr_symbol.proofs.lemmas.interleaving.TagLemmas.{SentBefore, start-first, start-most, start-next, tag, tag-in, sent-push, sent-pass, sent-row, sent-end}
 use Rattle.qr_symbol.proofs.interleaving.interleave_into.Goals as goal
 use Rattle.qr_symbol.proofs.interleaving.interleave_into.Goals.{then-place-len+in_ok-push, else-place-len}
 

@@ -1,5 +1,5 @@
 use Rattle.std.proofs.Common.{length, ◌-◌, refl, arith, rules}
-use Rattle.qr_symbol.proofs.JoiningLemmas.{headers-next, headers-before, headers-end}
+use Rattle.qr_symbol.proofs.lemmas.joining.JoiningLemmas.{headers-next, headers-before, headers-end}
 use Rattle.qr_symbol.proofs.joining.are_in_series.Goals as goal
 
 pub returns-then-not-has_header : goal.returns-then-not-has_header

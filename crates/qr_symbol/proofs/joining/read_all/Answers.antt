@@ -2,7 +2,7 @@ use Rattle.std.proofs.Common.{[], sym, subst}
 use Rattle.std.proofs.lemmas.Result.{err_from_is_err_and}
 use Rattle.qr_symbol.specs.Reading.{IsReading}
 use Rattle.qr_symbol.specs.Joining.{AreReadings}
-use Rattle.qr_symbol.proofs.JoiningLemmas.{readings-none, readings-more, unjoined-at}
+use Rattle.qr_symbol.proofs.lemmas.joining.JoiningLemmas.{readings-none, readings-more, unjoined-at}
 use Rattle.qr_symbol.proofs.joining.read_all.Goals as goal
 
 pub loop-symbol-init : goal.loop-symbol-init

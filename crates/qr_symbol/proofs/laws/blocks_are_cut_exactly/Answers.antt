@@ -1,8 +1,8 @@
 use Rattle.std.proofs.Common.{arith}
 use Rattle.qr_layout.specs.Blocks.{blocks_of}
 use Rattle.qr_symbol.specs.Interleaving.{data_cut}
-use Rattle.qr_symbol.proofs.TagLemmas.{start-none, start-next}
-use Rattle.qr_symbol.proofs.MessageLemmas.{data-cut-whole}
+use Rattle.qr_symbol.proofs.lemmas.interleaving.TagLemmas.{start-none, start-next}
+use Rattle.qr_symbol.proofs.lemmas.interleaving.MessageLemmas.{data-cut-whole}
 use Rattle.qr_symbol.proofs.laws.blocks_are_cut_exactly.Goals as goal
 
 pub returns : goal.returns

@@ -1,4 +1,4 @@
-use Rattle.qr_symbol.proofs.RoundTripLemmas.{reading-one}
+use Rattle.qr_symbol.proofs.lemmas.reading.RoundTripLemmas.{reading-one}
 use Rattle.qr_symbol.proofs.laws.contents_are_one.Goals as goal
 
 pub returns : goal.returns

@@ -1,6 +1,6 @@
 use Rattle.std.proofs.Common.{◌∙◌, sym, arith}
 use Rattle.qr_layout.specs.Blocks.{blocks_of}
-use Rattle.qr_symbol.proofs.MessageLemmas.{final-one, final-whole, data-one, data-cut-whole}
+use Rattle.qr_symbol.proofs.lemmas.interleaving.MessageLemmas.{final-one, final-whole, data-one, data-cut-whole}
 use Rattle.qr_symbol.proofs.laws.interleaving_is_one.Goals as goal
 
 pub returns : goal.returns

@@ -1,9 +1,9 @@
 use Rattle.qr_symbol.specs.Joining.{IsJoined, IsUnjoined}
 use Rattle.qr_symbol.specs.Reading.{IsReading, IsUnread}
 use Rattle.qr_symbol.specs.Series.{squares_of}
-use Rattle.qr_symbol.proofs.JoiningLemmas.{joined-refused, unjoined-one}
-use Rattle.qr_symbol.proofs.RefusalLemmas.{exactly, read-refused, refused-one}
-use Rattle.qr_symbol.proofs.RoundTripLemmas.{reading-one}
+use Rattle.qr_symbol.proofs.lemmas.joining.JoiningLemmas.{joined-refused, unjoined-one}
+use Rattle.qr_symbol.proofs.lemmas.reading.RefusalLemmas.{exactly, read-refused, refused-one}
+use Rattle.qr_symbol.proofs.lemmas.reading.RoundTripLemmas.{reading-one}
 use Rattle.qr_symbol.proofs.laws.joinings_are_refused_exactly.Goals as goal
 
 pub returns : goal.returns

@@ -1,5 +1,5 @@
 use Rattle.std.proofs.Common.{arith}
-use Rattle.qr_symbol.proofs.PartLemmas.{part-least}
+use Rattle.qr_symbol.proofs.lemmas.series.PartLemmas.{part-least}
 use Rattle.qr_symbol.proofs.laws.parts_are_long.Goals as goal
 
 pub returns : goal.returns

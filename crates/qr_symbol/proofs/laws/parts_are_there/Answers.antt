@@ -1,5 +1,5 @@
 use Rattle.std.proofs.Common.{arith}
-use Rattle.qr_symbol.proofs.PartExistenceLemmas.{parts-there}
+use Rattle.qr_symbol.proofs.lemmas.series.PartExistenceLemmas.{parts-there}
 use Rattle.qr_symbol.proofs.laws.parts_are_there.Goals as goal
 
 pub returns : goal.returns

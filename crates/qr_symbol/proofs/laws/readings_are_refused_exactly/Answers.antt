@@ -1,5 +1,5 @@
 use Rattle.qr_symbol.specs.Reading.{IsReading, IsUnread}
-use Rattle.qr_symbol.proofs.RefusalLemmas.{exactly, read-refused, refused-one}
+use Rattle.qr_symbol.proofs.lemmas.reading.RefusalLemmas.{exactly, read-refused, refused-one}
 use Rattle.qr_symbol.proofs.laws.readings_are_refused_exactly.Goals as goal
 
 pub returns : goal.returns

@@ -1,5 +1,5 @@
-use Rattle.qr_symbol.proofs.PartLemmas.{needs-parts, parts-fit}
-use Rattle.qr_symbol.proofs.SizeLemmas.{series-shortest}
+use Rattle.qr_symbol.proofs.lemmas.series.PartLemmas.{needs-parts, parts-fit}
+use Rattle.qr_symbol.proofs.lemmas.series.SizeLemmas.{series-shortest}
 use Rattle.qr_symbol.proofs.laws.series_are_shortest.Goals as goal
 
 pub returns : goal.returns

@@ -1,4 +1,4 @@
-use Rattle.qr_symbol.proofs.SizeLemmas.{series-few, series-side}
+use Rattle.qr_symbol.proofs.lemmas.series.SizeLemmas.{series-few, series-side}
 use Rattle.qr_symbol.proofs.laws.series_have_one_side.Goals as goal
 
 pub returns : goal.returns

@@ -1,5 +1,5 @@
 use Rattle.std.proofs.Common.{arith}
-use Rattle.qr_symbol.proofs.ReadLemmas.{read-grid}
+use Rattle.qr_symbol.proofs.lemmas.reading.ReadLemmas.{read-grid}
 use Rattle.qr_symbol.proofs.laws.squares_give_their_bits.Goals as goal
 
 pub returns : goal.returns

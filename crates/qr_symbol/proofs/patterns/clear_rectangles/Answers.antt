@@ -4,7 +4,7 @@ use Rattle.std.proofs.lemmas.List.{take_all}
 use Rattle.qr_layout.specs.Version.{side_of}
 use Rattle.qr_layout.specs.Rectangles.{is_in_rectangle}
 use Rattle.qr_matrix.specs.Grid.{Grid, colour}
-use Rattle.qr_symbol.proofs.PaintLemmas.{no_rectangle, over-rectangle, over-item, over-same}
+use Rattle.qr_symbol.proofs.lemmas.patterns.PaintLemmas.{no_rectangle, over-rectangle, over-item, over-same}
 use Rattle.qr_symbol.proofs.patterns.clear_rectangles.Goals as goal
 
 pub loop-rectangle-preserved : goal.loop-rectangle-preserved

@@ -1,7 +1,7 @@
 use Rattle.std.proofs.Common.{◌≡◌, ℕ, ◌+◌, ◌-◌, Bool, false, ◌&&◌, ◌||◌, eqb, leb, ltb, refl, ap, ◌∙◌}
 use Rattle.qr_layout.specs.Region.{ring_of}
 use Rattle.qr_matrix.specs.Grid.{Grid, colour}
-use Rattle.qr_symbol.proofs.PaintLemmas.{over, over-twice, over-rectangle, ring-sides}
+use Rattle.qr_symbol.proofs.lemmas.patterns.PaintLemmas.{over, over-twice, over-rectangle, ring-sides}
 use Rattle.qr_symbol.proofs.patterns.clear_ring.Goals as goal
 
 -- the test that a place is in a rectangle

@@ -6,7 +6,7 @@ use Rattle.qr_layout.specs.Version.{side_of}
 use Rattle.qr_layout.specs.Region.{ring_of}
 use Rattle.qr_layout.specs.Role.{is_alignment_light}
 use Rattle.qr_matrix.specs.Grid.{Grid, colour}
-use Rattle.qr_symbol.proofs.PaintLemmas.{over, over-item, over-same}
+use Rattle.qr_symbol.proofs.lemmas.patterns.PaintLemmas.{over, over-item, over-same}
 use Rattle.qr_symbol.proofs.patterns.clear_rings.Goals as goal
 
 -- a module that stands in for an index past the end of a list

@@ -3,7 +3,7 @@ use Rattle.std.specs.List.{list_any}
 use Rattle.qr_layout.specs.Version.{side_of}
 use Rattle.qr_layout.specs.Region.{ring_of}
 use Rattle.qr_matrix.specs.Grid.{colour}
-use Rattle.qr_symbol.proofs.PaintLemmas.{over}
+use Rattle.qr_symbol.proofs.lemmas.patterns.PaintLemmas.{over}
 use Rattle.qr_symbol.proofs.patterns.clear_rings.Given as goal
 
 abbrev pub invariant-loop-centre : goal.invariant-loop-centre

@@ -2,8 +2,8 @@ use Rattle.std.proofs.Common.{ℕ, Bool, true, false, not, cond, eqb, ltb, leb, 
 use Rattle.qr_layout.specs.Region.{ring_of}
 use Rattle.qr_matrix.specs.Grid.{Grid, colour}
 use Rattle.qr_matrix.proofs.Facts.{square-same}
-use Rattle.qr_symbol.proofs.FinderLemmas.{rings-square, three-squares}
-use Rattle.qr_symbol.proofs.PaintLemmas.{over-colour, over-rectangle}
+use Rattle.qr_symbol.proofs.lemmas.patterns.FinderLemmas.{rings-square, three-squares}
+use Rattle.qr_symbol.proofs.lemmas.patterns.PaintLemmas.{over-colour, over-rectangle}
 use Rattle.qr_symbol.proofs.patterns.draw_finder.Goals as goal
 
 -- the test that a place is in the rings up to k round a centre

@@ -13,7 +13,7 @@ use Rattle.qr_layout.proofs.Facts.{centres-inside, fixed_parts, off-role, region
 use Rattle.qr_matrix.specs.Grid.{colour}
 use Rattle.qr_matrix.proofs.Facts.{square-same}
 use Rattle.qr_symbol.specs.Steps.Patterns.{fixed_colour, paint_of}
-use Rattle.qr_symbol.proofs.PaintLemmas.{over-square, over-colour, fixed-tests, light-inside}
+use Rattle.qr_symbol.proofs.lemmas.patterns.PaintLemmas.{over-square, over-colour, fixed-tests, light-inside}
 use Rattle.qr_symbol.proofs.patterns.draw_fixed.Goals as goal
 
 -- a module whose role is a fixed colour has this colour

@@ -1,8 +1,8 @@
 use Rattle.std.proofs.Common.{◌≡◌, ◌∙◌, ap, subst, ℕ, arith}
 use Rattle.qr_layout.specs.Version.{side_of}
 use Rattle.qr_matrix.specs.Grid.{Grid, painted}
-use Rattle.qr_symbol.proofs.DrawingLemmas.{painted-square}
-use Rattle.qr_symbol.proofs.FormatDrawingLemmas.{FormatDone, format-start, format-step, format-end}
+use Rattle.qr_symbol.proofs.lemmas.drawing.DrawingLemmas.{painted-square}
+use Rattle.qr_symbol.proofs.lemmas.patterns.FormatDrawingLemmas.{FormatDone, format-start, format-step, format-end}
 use Rattle.qr_symbol.proofs.patterns.draw_format.Goals as goal
 
 pub loop-bit-init : goal.loop-bit-init

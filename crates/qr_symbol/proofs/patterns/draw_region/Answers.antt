@@ -11,7 +11,7 @@ use Rattle.qr_layout.specs.Steps.Rectangles.{IsInside, IsWithin}
 use Rattle.qr_layout.proofs.Facts.{centres-inside, fixed-within, region_outside}
 use Rattle.qr_matrix.specs.Grid.{Grid, colour}
 use Rattle.qr_matrix.proofs.Facts.{square-same}
-use Rattle.qr_symbol.proofs.PaintLemmas.{over-square, over-colour, over-rectangle, region-tests}
+use Rattle.qr_symbol.proofs.lemmas.patterns.PaintLemmas.{over-square, over-colour, over-rectangle, region-tests}
 use Rattle.qr_symbol.proofs.patterns.draw_region.Goals as goal
 
 -- the test that a place is in the square

@@ -9,7 +9,7 @@ use Rattle.qr_layout.specs.Rectangles.{is_in_rectangle}
 use Rattle.qr_layout.specs.Steps.Rectangles.{square_round}
 use Rattle.qr_layout.proofs.Facts.{alignment-squares}
 use Rattle.qr_matrix.specs.Grid.{Grid, colour}
-use Rattle.qr_symbol.proofs.PaintLemmas.{over-rectangle, over-item, over-same}
+use Rattle.qr_symbol.proofs.lemmas.patterns.PaintLemmas.{over-rectangle, over-item, over-same}
 use Rattle.qr_symbol.proofs.patterns.fill_alignment.Goals as goal
 
 -- a module that stands in for an index past the end of a list

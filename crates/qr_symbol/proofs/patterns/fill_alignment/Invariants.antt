@@ -4,7 +4,7 @@ use Rattle.qr_layout.specs.Version.{side_of}
 use Rattle.qr_layout.specs.Rectangles.{is_in_rectangle}
 use Rattle.qr_layout.specs.Steps.Rectangles.{square_round}
 use Rattle.qr_matrix.specs.Grid.{colour}
-use Rattle.qr_symbol.proofs.PaintLemmas.{over}
+use Rattle.qr_symbol.proofs.lemmas.patterns.PaintLemmas.{over}
 use Rattle.qr_symbol.proofs.patterns.fill_alignment.Given as goal
 
 abbrev pub invariant-loop-centre : goal.invariant-loop-centre

@@ -1,6 +1,6 @@
 use Rattle.std.proofs.Common.{ap, ◌∙◌}
 use Rattle.qr_symbol.specs.Steps.Patterns.{fixed_colour}
-use Rattle.qr_symbol.proofs.DrawingLemmas.{word-of-version, word-or-none}
+use Rattle.qr_symbol.proofs.lemmas.drawing.DrawingLemmas.{word-of-version, word-or-none}
 use Rattle.qr_symbol.proofs.patterns.paint.Goals as goal
 
 pub returns : goal.returns

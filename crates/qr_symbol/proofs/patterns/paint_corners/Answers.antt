@@ -7,8 +7,8 @@ use Rattle.qr_layout.specs.Rectangles.{is_in_rectangle, corner_rectangles}
 use Rattle.qr_layout.specs.Steps.Rectangles.{IsWithin}
 use Rattle.qr_matrix.specs.Grid.{colour}
 use Rattle.qr_symbol.specs.Steps.Patterns.{paint_of}
-use Rattle.qr_symbol.proofs.FinderLemmas.{beside, beside-within, corner-parts}
-use Rattle.qr_symbol.proofs.PaintLemmas.{over-square, over-twice}
+use Rattle.qr_symbol.proofs.lemmas.patterns.FinderLemmas.{beside, beside-within, corner-parts}
+use Rattle.qr_symbol.proofs.lemmas.patterns.PaintLemmas.{over-square, over-twice}
 use Rattle.qr_symbol.proofs.patterns.paint_corners.Goals as goal
 
 -- the test that a place is in the eight by eight modules of a finder pattern and its separator

@@ -4,8 +4,8 @@ use Rattle.qr_layout.specs.Region.{ring_of}
 use Rattle.qr_matrix.specs.Grid.{Grid, colour, square}
 use Rattle.qr_matrix.proofs.Facts.{square-same}
 use Rattle.qr_symbol.specs.Steps.Patterns.{paint_of}
-use Rattle.qr_symbol.proofs.FinderLemmas.{block-paint}
-use Rattle.qr_symbol.proofs.PaintLemmas.{over-colour, over-rectangle}
+use Rattle.qr_symbol.proofs.lemmas.patterns.FinderLemmas.{block-paint}
+use Rattle.qr_symbol.proofs.lemmas.patterns.PaintLemmas.{over-colour, over-rectangle}
 use Rattle.qr_symbol.proofs.patterns.paint_finder.Goals as goal
 
 -- the test that a place is in the eight by eight modules of a finder pattern and its separator

@@ -2,7 +2,7 @@ use Rattle.std.proofs.Common.{◌≡◌, ℕ, ◌+◌, ◌&&◌, eqb, leb, ltb, 
 use Rattle.qr_layout.specs.Version.{side_of}
 use Rattle.qr_matrix.specs.Grid.{colour}
 use Rattle.qr_symbol.specs.Steps.Patterns.{paint_of}
-use Rattle.qr_symbol.proofs.PaintLemmas.{over, over-square, over-none, over-twice, rows-none, rows-more}
+use Rattle.qr_symbol.proofs.lemmas.patterns.PaintLemmas.{over, over-square, over-none, over-twice, rows-none, rows-more}
 use Rattle.qr_symbol.proofs.patterns.paint_rectangle.Goals as goal
 
 pub loop-row-init : goal.loop-row-init

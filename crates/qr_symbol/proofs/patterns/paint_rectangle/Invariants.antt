@@ -2,7 +2,7 @@ use Rattle.std.proofs.Common.{◌≡◌, ◌&&◌, leb, ltb}
 use Rattle.qr_layout.specs.Version.{side_of}
 use Rattle.qr_matrix.specs.Grid.{colour}
 use Rattle.qr_symbol.specs.Steps.Patterns.{paint_of}
-use Rattle.qr_symbol.proofs.PaintLemmas.{over}
+use Rattle.qr_symbol.proofs.lemmas.patterns.PaintLemmas.{over}
 use Rattle.qr_symbol.proofs.patterns.paint_rectangle.Given as goal
 
 abbrev pub invariant-loop-row : goal.invariant-loop-row

@@ -7,7 +7,7 @@ use Rattle.qr_layout.specs.Rectangles.{is_in_rectangle}
 use Rattle.qr_layout.specs.Steps.Rectangles.{IsWithin}
 use Rattle.qr_matrix.specs.Grid.{colour}
 use Rattle.qr_symbol.specs.Steps.Patterns.{paint_of}
-use Rattle.qr_symbol.proofs.PaintLemmas.{no_rectangle, over-square, over-item, over-same}
+use Rattle.qr_symbol.proofs.lemmas.patterns.PaintLemmas.{no_rectangle, over-square, over-item, over-same}
 use Rattle.qr_symbol.proofs.patterns.paint_rectangles.Goals as goal
 
 pub paint_rectangle-requires : goal.paint_rectangle-requires

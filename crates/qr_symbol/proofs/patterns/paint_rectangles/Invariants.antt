@@ -4,7 +4,7 @@ use Rattle.qr_layout.specs.Version.{side_of}
 use Rattle.qr_layout.specs.Rectangles.{is_in_rectangle}
 use Rattle.qr_matrix.specs.Grid.{colour}
 use Rattle.qr_symbol.specs.Steps.Patterns.{paint_of}
-use Rattle.qr_symbol.proofs.PaintLemmas.{over}
+use Rattle.qr_symbol.proofs.lemmas.patterns.PaintLemmas.{over}
 use Rattle.qr_symbol.proofs.patterns.paint_rectangles.Given as goal
 
 abbrev pub invariant-loop-rectangle : goal.invariant-loop-rectangle

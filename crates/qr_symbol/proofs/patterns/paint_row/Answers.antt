@@ -2,7 +2,7 @@ use Rattle.std.proofs.Common.{◌≡◌, ℕ, ◌+◌, ◌&&◌, eqb, leb, ltb, 
 use Rattle.qr_layout.specs.Version.{side_of}
 use Rattle.qr_matrix.specs.Grid.{Grid, colour}
 use Rattle.qr_symbol.specs.Steps.Patterns.{paint_of}
-use Rattle.qr_symbol.proofs.PaintLemmas.{over, over-none, over-twice, over-place, row-none, row-more}
+use Rattle.qr_symbol.proofs.lemmas.patterns.PaintLemmas.{over, over-none, over-twice, over-place, row-none, row-more}
 use Rattle.qr_symbol.proofs.patterns.paint_row.Goals as goal
 
 pub loop-col-init : goal.loop-col-init

@@ -4,8 +4,8 @@ use Rattle.qr_layout.specs.Version.{side_of}
 use Rattle.qr_layout.specs.Rectangles.{is_in_rectangle, timing_rectangles}
 use Rattle.qr_matrix.specs.Grid.{Grid, colour}
 use Rattle.qr_symbol.specs.Steps.Patterns.{is_dark_in_six, paint_of}
-use Rattle.qr_symbol.proofs.PaintLemmas.{over-place, over-same, over-twice}
-use Rattle.qr_symbol.proofs.TimingLemmas.{paint-row_six, paint-column_six, six-more, six-all}
+use Rattle.qr_symbol.proofs.lemmas.patterns.PaintLemmas.{over-place, over-same, over-twice}
+use Rattle.qr_symbol.proofs.lemmas.patterns.TimingLemmas.{paint-row_six, paint-column_six, six-more, six-all}
 use Rattle.qr_symbol.proofs.patterns.paint_timing.Goals as goal
 
 pub loop-at-preserved : goal.loop-at-preserved

@@ -9,7 +9,7 @@ use Rattle.qr_layout.specs.Steps.Rectangles.{IsWithin}
 use Rattle.qr_layout.proofs.Facts.{fixed-within}
 use Rattle.qr_matrix.specs.Grid.{colour}
 use Rattle.qr_symbol.specs.Steps.Patterns.{paint_of}
-use Rattle.qr_symbol.proofs.PaintLemmas.{over-same}
+use Rattle.qr_symbol.proofs.lemmas.patterns.PaintLemmas.{over-same}
 use Rattle.qr_symbol.proofs.patterns.paint_version.Goals as goal
 
 -- after the first five rectangles come those of the version information

@@ -8,8 +8,8 @@ use Rattle.qr_layout.specs.Order.{IsOrder}
 use Rattle.qr_bits.specs.Bits.{bits_of, field}
 use Rattle.qr_bits.proofs.Facts.{bool_byte-bit, field-more, bits_of-more}
 use Rattle.qr_symbol.specs.Reading.{unmasked}
-use Rattle.qr_symbol.proofs.DrawingLemmas.{whole-next, whole-push, in-square}
-use Rattle.qr_symbol.proofs.SymbolReadLemmas.{bit-read, all-read, read-whole}
+use Rattle.qr_symbol.proofs.lemmas.drawing.DrawingLemmas.{whole-next, whole-push, in-square}
+use Rattle.qr_symbol.proofs.lemmas.reading.SymbolReadLemmas.{bit-read, all-read, read-whole}
 use Rattle.qr_symbol.proofs.reading.read_codewords.Goals as goal
 
 pub loop-module-init : goal.loop-module-init

@@ -3,7 +3,7 @@ use Rattle.std.proofs.lemmas.Result.{err_from_is_err_and}
 use Rattle.qr_layout.proofs.Facts.{laws-of}
 use Rattle.qr_symbol.specs.declared.fault.ReadFault.{ReadFault}
 use Rattle.qr_symbol.specs.Reading.{IsRead, IsMessage}
-use Rattle.qr_symbol.proofs.SymbolReadLemmas.{not-checked, not-parsed}
+use Rattle.qr_symbol.proofs.lemmas.reading.SymbolReadLemmas.{not-checked, not-parsed}
 use Rattle.qr_symbol.proofs.reading.read_symbol.Goals as goal
 
 pub returns-in_default-clause-read : goal.returns-in_default-clause-read

@@ -7,10 +7,10 @@ use Rattle.std.proofs.lemmas.Result.{IfOk-weaker, IfErr-weaker}
 use Rattle.qr_symbol.specs.declared.fault.EncodeFault.TheVariants.{Empty, TooMany}
 use Rattle.qr_symbol.specs.declared.symbol.Symbol.{Symbol}
 use Rattle.qr_symbol.specs.VersionChoice.{FitsVersion}
-use Rattle.qr_symbol.proofs.ExactLemmas.{too-many-exactly, memory-alone}
-use Rattle.qr_symbol.proofs.PartLemmas.{lengths-some}
-use Rattle.qr_symbol.proofs.SeriesLemmas.{lone-series, split-series, series-joined}
-use Rattle.qr_symbol.proofs.SizeLemmas.{series-shortest}
+use Rattle.qr_symbol.proofs.lemmas.fault.ExactLemmas.{too-many-exactly, memory-alone}
+use Rattle.qr_symbol.proofs.lemmas.series.PartLemmas.{lengths-some}
+use Rattle.qr_symbol.proofs.lemmas.series.SeriesLemmas.{lone-series, split-series, series-joined}
+use Rattle.qr_symbol.proofs.lemmas.series.SizeLemmas.{series-shortest}
 use Rattle.qr_symbol.proofs.series.encode_series.Goals as goal
 
 pub returns-in-Some-clause-series : goal.returns-in-Some-clause-series

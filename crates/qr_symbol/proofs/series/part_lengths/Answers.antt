@@ -2,7 +2,7 @@ use Rattle.std.proofs.Common.{◌+◌, ◌<◌, [], ◌∷◌, length, sym, ◌�
 use Rattle.std.proofs.lemmas.Bool.Decides.{nat_tests}
 use Rattle.std.proofs.lemmas.Bool.{eqb-true}
 use Rattle.std.proofs.lemmas.List.{append-nil, nil_from_length, length-drop}
-use Rattle.qr_symbol.proofs.PartLemmas.{lengths-none, lengths-more, parts-some, prefixes-more, needs-some, needs-more}
+use Rattle.qr_symbol.proofs.lemmas.series.PartLemmas.{lengths-none, lengths-more, parts-some, prefixes-more, needs-some, needs-more}
 use Rattle.qr_symbol.proofs.series.part_lengths.Goals as goal
 
 pub returns-then-is_full-clause-too_many : goal.returns-then-is_full-clause-too_many

@@ -2,7 +2,7 @@ use Rattle.std.proofs.Common.{◌+◌, Some, arith}
 use Rattle.qr_bits.specs.Segmentation.{bits}
 use Rattle.qr_bits.specs.Padding.{capacity_of}
 use Rattle.qr_bits.specs.Header.{header_bits}
-use Rattle.qr_symbol.proofs.SymbolMakingLemmas.{behind-header, memory-alone}
+use Rattle.qr_symbol.proofs.lemmas.encoding.SymbolMakingLemmas.{behind-header, memory-alone}
 use Rattle.qr_symbol.proofs.series.part_symbol.Goals as goal
 
 pub returns-clause-fault : goal.returns-clause-fault

@@ -2,7 +2,7 @@ use Rattle.std.proofs.Common.{◌≡◌, ◌-◌, get_or, [], ◌∷◌, drop, l
 use Rattle.std.proofs.lemmas.List.{append-nil, drop_all, length-drop}
 use Rattle.qr_bits.specs.Header.{parity_of}
 use Rattle.qr_symbol.specs.Steps.Series.{parts_of}
-use Rattle.qr_symbol.proofs.PartLemmas.{lengths-at, symbols-more, symbols-none}
+use Rattle.qr_symbol.proofs.lemmas.series.PartLemmas.{lengths-at, symbols-more, symbols-none}
 use Rattle.qr_symbol.proofs.series.part_symbols.Goals as goal
 
 pub split_at-requires : goal.split_at-requires

@@ -4,7 +4,7 @@ use Rattle.qr_layout.specs.declared.version.Version.{Version}
 use Rattle.std.proofs.lemmas.Bool.{cases_lt}
 use Rattle.qr_bits.specs.Segmentation.{bits}
 use Rattle.qr_bits.proofs.Facts.{least_fits, covers_all}
-use Rattle.qr_symbol.proofs.FitLemmas.{segmentation-same, version-found, none-fits}
+use Rattle.qr_symbol.proofs.lemmas.version_choice.FitLemmas.{segmentation-same, version-found, none-fits}
 use Rattle.qr_symbol.proofs.version_choice.least_fit.Goals as goal
 
 pub loop-segments-init : goal.loop-segments-init

@@ -1,5 +1,5 @@
 use Rattle.std.proofs.Common.{◌*◌, ◌<◌, length, ◌∙◌, sym, ap, arith}
-use Rattle.qr_bits.proofs.BitLemmas.{left_at, drop_bit}
+use Rattle.qr_bits.proofs.lemmas.bits.BitLemmas.{left_at, drop_bit}
 use Rattle.qr_bits.proofs.bits.BitReader.bit.Goals as goal
 
 pub bounds-self-inside-self-inside : goal.bounds-self-inside-self-inside

@@ -1,5 +1,5 @@
 use Rattle.std.proofs.Common.{length, ◌∙◌, sym, ap}
-use Rattle.qr_bits.proofs.BitLemmas.{left_at}
+use Rattle.qr_bits.proofs.lemmas.bits.BitLemmas.{left_at}
 use Rattle.qr_bits.proofs.bits.BitReader.len.Goals as goal
 
 pub returns : goal.returns

@@ -1,6 +1,6 @@
 use Rattle.std.proofs.Common.{◌∙◌, sym, arith}
 use Rattle.std.proofs.lemmas.Grind.{pow_more}
-use Rattle.qr_bits.proofs.BitLemmas.{value_more, bool_byte-cond}
+use Rattle.qr_bits.proofs.lemmas.bits.BitLemmas.{value_more, bool_byte-cond}
 use Rattle.qr_bits.proofs.bits.BitReader.take.Goals as goal
 
 pub loop-preserved : goal.loop-preserved

@@ -1,5 +1,5 @@
 use Rattle.std.proofs.Common.{◌∙◌, arith}
-use Rattle.qr_bits.proofs.BitLemmas.{filled-some, filled-none}
+use Rattle.qr_bits.proofs.lemmas.bits.BitLemmas.{filled-some, filled-none}
 use Rattle.qr_bits.proofs.bits.BitWriter.fill.Goals as goal
 
 pub returns-in_ok-put : goal.returns-in_ok-put

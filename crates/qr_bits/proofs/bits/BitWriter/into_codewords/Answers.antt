@@ -1,4 +1,4 @@
-use Rattle.qr_bits.proofs.BitLemmas.{bits_of-whole}
+use Rattle.qr_bits.proofs.lemmas.bits.BitLemmas.{bits_of-whole}
 use Rattle.qr_bits.proofs.bits.BitWriter.into_codewords.Goals as goal
 
 pub returns : goal.returns

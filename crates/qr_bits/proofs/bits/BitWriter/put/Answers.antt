@@ -1,5 +1,5 @@
 use Rattle.std.proofs.Common.{◌≡◌, ◌+◌, ◌*◌, ◌%◌, ◌^◌, ◌∙◌, ap, arith}
-use Rattle.qr_bits.proofs.BitLemmas.{number-after, power-fits}
+use Rattle.qr_bits.proofs.lemmas.bits.BitLemmas.{number-after, power-fits}
 use Rattle.qr_bits.proofs.bits.BitWriter.put.Goals as goal
 
 pub returns : goal.returns

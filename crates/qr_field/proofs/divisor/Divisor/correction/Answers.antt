@@ -2,8 +2,8 @@ use Rattle.std.proofs.Common.{◌≡◌, ℕ, ◌<◌, ◌+◌, ◌%◌, ◌^◌
 use Rattle.std.proofs.lemmas.List.{take_all}
 use Rattle.qr_field.specs.Steps.Register.{IsHeld, packed, unpacked, divisor_of, value_of}
 use Rattle.qr_field.specs.Polynomial.{scaled, IsCorrection}
-use Rattle.qr_field.proofs.DivisorLemmas.{held-start, held-step, held-all}
-use Rattle.qr_field.proofs.PolynomialLemmas.{correction-one}
+use Rattle.qr_field.proofs.lemmas.divisor.DivisorLemmas.{held-start, held-step, held-all}
+use Rattle.qr_field.proofs.lemmas.polynomial.PolynomialLemmas.{correction-one}
 use Rattle.qr_field.proofs.divisor.Divisor.correction.Goals as goal
 use Rattle.qr_field.proofs.divisor.Divisor.correction.Goals.{After-coefficients}
 

@@ -2,7 +2,7 @@ use Rattle.std.proofs.Common.{◌≡◌, ◌%◌, ◌/◌, ◌^◌, get_or, ap, 
 use Rattle.std.proofs.lemmas.Nat.{and_mask}
 use Rattle.qr_field.specs.Steps.Register.{divisor_of, packed, value_of, zero_register}
 use Rattle.qr_field.specs.Polynomial.{scaled}
-use Rattle.qr_field.proofs.DivisorLemmas.{multiple-of_halves}
+use Rattle.qr_field.proofs.lemmas.divisor.DivisorLemmas.{multiple-of_halves}
 use Rattle.qr_field.proofs.divisor.Divisor.multiple.Goals as goal
 
 pub returns : goal.returns

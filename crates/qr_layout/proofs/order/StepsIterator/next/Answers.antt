@@ -1,6 +1,6 @@
 use Rattle.std.proofs.Common.{sym, ◌∙◌, arith}
 use Rattle.qr_layout.specs.Steps.Order.{to_come}
-use Rattle.qr_layout.proofs.WalkLemmas.{step-cursor, step-left, step-yields, step-passes, to_come-end, length-less}
+use Rattle.qr_layout.proofs.lemmas.order.WalkLemmas.{step-cursor, step-left, step-yields, step-passes, to_come-end, length-less}
 use Rattle.qr_layout.proofs.order.StepsIterator.next.Goals as goal
 
 pub invariant_of-self-then-is_in_region : goal.invariant_of-self-then-is_in_region

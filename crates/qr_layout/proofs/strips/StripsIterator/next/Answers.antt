@@ -2,7 +2,7 @@ use Rattle.std.proofs.Common.{◌≡◌, ◌%◌, eqb, sym, ◌∙◌, arith}
 use Rattle.std.proofs.lemmas.Bool.Decides.{nat_tests}
 use Rattle.qr_layout.specs.declared.strips.Strip.{Strip}
 use Rattle.qr_layout.specs.Strips.{strip_at}
-use Rattle.qr_layout.proofs.StripLemmas.{strips-next}
+use Rattle.qr_layout.proofs.lemmas.strips.StripLemmas.{strips-next}
 use Rattle.qr_layout.proofs.strips.StripsIterator.next.Goals as goal
 use Rattle.qr_layout.proofs.strips.StripsIterator.next.Goals.{then-untimed-lt6, else-untimed-lt6}
 

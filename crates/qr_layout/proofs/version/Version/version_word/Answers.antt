@@ -1,5 +1,5 @@
 use Rattle.std.proofs.Common.{arith}
-use Rattle.qr_layout.proofs.WordLemmas.{version-word-at}
+use Rattle.qr_layout.proofs.lemmas.format.WordLemmas.{version-word-at}
 use Rattle.qr_layout.proofs.version.Version.version_word.Goals as goal
 
 pub returns : goal.returns

@@ -1,4 +1,4 @@
-use Rattle.qr_matrix.proofs.PlaceLemmas.{at-step, words-small}
+use Rattle.qr_matrix.proofs.lemmas.bit_row.PlaceLemmas.{at-step, words-small}
 use Rattle.qr_matrix.proofs.bit_row.BitRow.at.Goals as goal
 
 pub returns : goal.returns

@@ -1,4 +1,4 @@
-use Rattle.qr_matrix.proofs.PlaceLemmas.{eight-step, words-small}
+use Rattle.qr_matrix.proofs.lemmas.bit_row.PlaceLemmas.{eight-step, words-small}
 use Rattle.qr_matrix.proofs.bit_row.BitRow.eight.Goals as goal
 
 pub returns : goal.returns

@@ -1,4 +1,4 @@
-use Rattle.qr_matrix.proofs.PlaceLemmas.{four-step, words-small}
+use Rattle.qr_matrix.proofs.lemmas.bit_row.PlaceLemmas.{four-step, words-small}
 use Rattle.qr_matrix.proofs.bit_row.BitRow.four.Goals as goal
 
 pub returns-clause-places : goal.returns-clause-places

@@ -1,7 +1,7 @@
 use Rattle.std.proofs.Common.{arith}
 use Rattle.std.proofs.lemmas.Nat.{xor_lt}
-use Rattle.qr_matrix.proofs.PlaceLemmas.{words-small, set-words, masked-small}
-use Rattle.qr_matrix.proofs.FourLemmas.{four-put}
+use Rattle.qr_matrix.proofs.lemmas.bit_row.PlaceLemmas.{words-small, set-words, masked-small}
+use Rattle.qr_matrix.proofs.lemmas.matrix.FourLemmas.{four-put}
 use Rattle.qr_matrix.proofs.bit_row.BitRow.put_four.Goals as goal
 
 pub returns : goal.returns

@@ -1,5 +1,5 @@
-use Rattle.qr_matrix.proofs.TranspositionLemmas.{word-put}
-use Rattle.qr_matrix.proofs.PlaceLemmas.{words-small}
+use Rattle.qr_matrix.proofs.lemmas.transposition.TranspositionLemmas.{word-put}
+use Rattle.qr_matrix.proofs.lemmas.bit_row.PlaceLemmas.{words-small}
 use Rattle.qr_matrix.proofs.bit_row.BitRow.put_word.Goals as goal
 
 pub returns : goal.returns

@@ -1,6 +1,6 @@
 use Rattle.std.proofs.Common.{ap, ◌∙◌}
 use Rattle.qr_matrix.specs.BitRow.{has, has_bit, bit_row_number}
-use Rattle.qr_matrix.proofs.RepeatLemmas.{repeats, repeated-bit}
+use Rattle.qr_matrix.proofs.lemmas.bit_row.RepeatLemmas.{repeats, repeated-bit}
 use Rattle.qr_matrix.proofs.bit_row.BitRow.repeated.Goals as goal
 
 pub returns : goal.returns

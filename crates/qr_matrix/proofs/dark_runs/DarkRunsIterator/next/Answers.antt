@@ -1,6 +1,6 @@
 use Rattle.std.proofs.Common.{◌&&◌, not, eqb, ap, ◌∙◌, refl}
 use Rattle.qr_matrix.specs.BitRow.{has}
-use Rattle.qr_matrix.proofs.ChangeLemmas.{first-run, no-runs, one-more, runs-left}
+use Rattle.qr_matrix.proofs.lemmas.dark_runs.ChangeLemmas.{first-run, no-runs, one-more, runs-left}
 use Rattle.qr_matrix.proofs.dark_runs.DarkRunsIterator.next.Goals as goal
 
 pub invariant_of-self : goal.invariant_of-self

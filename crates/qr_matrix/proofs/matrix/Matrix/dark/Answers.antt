@@ -1,6 +1,6 @@
 use Rattle.std.proofs.Common.{ap, ◌∙◌, arith}
 use Rattle.qr_matrix.specs.Grid.{Grid}
-use Rattle.qr_matrix.proofs.MatrixLemmas.{row-read}
+use Rattle.qr_matrix.proofs.lemmas.matrix.MatrixLemmas.{row-read}
 use Rattle.qr_matrix.proofs.matrix.Matrix.dark.Goals as goal
 
 pub index-requires : goal.index-requires

@@ -1,5 +1,5 @@
 use Rattle.std.proofs.Common.{◌∙◌}
-use Rattle.qr_matrix.proofs.ChangeLemmas.{from-start}
+use Rattle.qr_matrix.proofs.lemmas.dark_runs.ChangeLemmas.{from-start}
 use Rattle.qr_matrix.proofs.matrix.Matrix.dark_runs.Goals as goal
 
 pub returns-clause-runs : goal.returns-clause-runs

@@ -1,5 +1,5 @@
 use Rattle.std.proofs.Common.{◌∙◌, arith}
-use Rattle.qr_matrix.proofs.MatrixLemmas.{rectangle-none, rectangle-row, view-square}
+use Rattle.qr_matrix.proofs.lemmas.matrix.MatrixLemmas.{rectangle-none, rectangle-row, view-square}
 use Rattle.qr_matrix.proofs.matrix.Matrix.fill.Goals as goal
 
 pub loop-row-init : goal.loop-row-init

@@ -1,5 +1,5 @@
 use Rattle.std.proofs.Common.{ℕ, [], ◌∷◌, ◌∙◌, ap, replicate}
-use Rattle.qr_matrix.proofs.MatrixLemmas.{dark-replicate, light-square, rows-long}
+use Rattle.qr_matrix.proofs.lemmas.matrix.MatrixLemmas.{dark-replicate, light-square, rows-long}
 use Rattle.qr_matrix.proofs.matrix.Matrix.new.Goals as goal
 
 pub invariant_of-result : goal.invariant_of-result

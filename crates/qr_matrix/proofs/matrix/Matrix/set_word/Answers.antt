@@ -3,8 +3,8 @@ use Rattle.std.proofs.Math.ListN.{length-set}
 use Rattle.std.proofs.lemmas.List.{get_or_read}
 use Rattle.qr_matrix.specs.Grid.{Grid, colour}
 use Rattle.qr_matrix.specs.BitRow.{has, has_bit, dark_in}
-use Rattle.qr_matrix.proofs.MatrixLemmas.{line-set, line-inside, row-read, line-write}
-use Rattle.qr_matrix.proofs.TranspositionLemmas.{word-past}
+use Rattle.qr_matrix.proofs.lemmas.matrix.MatrixLemmas.{line-set, line-inside, row-read, line-write}
+use Rattle.qr_matrix.proofs.lemmas.transposition.TranspositionLemmas.{word-past}
 use Rattle.qr_matrix.proofs.matrix.Matrix.set_word.Goals as goal
 
 pub invariant_of-self : goal.invariant_of-self

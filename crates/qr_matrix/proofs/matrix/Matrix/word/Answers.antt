@@ -1,6 +1,6 @@
 use Rattle.std.proofs.Common.{◌+◌, ◌*◌, ◌∙◌, refl, ap, arith}
 use Rattle.qr_matrix.specs.Grid.{Grid}
-use Rattle.qr_matrix.proofs.MatrixLemmas.{row-read}
+use Rattle.qr_matrix.proofs.lemmas.matrix.MatrixLemmas.{row-read}
 use Rattle.qr_matrix.proofs.matrix.Matrix.word.Goals as goal
 
 pub returns : goal.returns

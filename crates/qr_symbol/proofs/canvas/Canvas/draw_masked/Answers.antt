@@ -7,7 +7,7 @@ use Rattle.qr_matrix.proofs.Facts.{filled, passed, fill-none, fill-line, fill-al
 use Rattle.qr_symbol.specs.Mask.{inverts, inverted}
 use Rattle.qr_symbol.specs.Steps.Drawing.{masked_colour}
 use Rattle.qr_symbol.specs.Steps.Patterns.{format_or}
-use Rattle.qr_symbol.proofs.DrawingLemmas.{square-is}
+use Rattle.qr_symbol.proofs.lemmas.drawing.DrawingLemmas.{square-is}
 use Rattle.qr_symbol.proofs.canvas.Canvas.draw_masked.Goals as goal
 
 pub loop-row-init : goal.loop-row-init

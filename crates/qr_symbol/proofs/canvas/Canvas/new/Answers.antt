@@ -1,8 +1,8 @@
 use Rattle.std.proofs.Common.{false, ◌∙◌, ap}
 use Rattle.qr_layout.specs.Version.{side_of}
 use Rattle.qr_matrix.specs.Grid.{light}
-use Rattle.qr_symbol.proofs.DrawingLemmas.{square-is}
-use Rattle.qr_symbol.proofs.CanvasLemmas.{patterns-start}
+use Rattle.qr_symbol.proofs.lemmas.drawing.DrawingLemmas.{square-is}
+use Rattle.qr_symbol.proofs.lemmas.canvas.CanvasLemmas.{patterns-start}
 use Rattle.qr_symbol.proofs.canvas.Canvas.new.Goals as goal
 
 pub draw_fixed-requires : goal.draw_fixed-requires

@@ -1,5 +1,5 @@
 use Rattle.std.proofs.Common.{length, refl, arith}
-use Rattle.qr_symbol.proofs.CheckLemmas.{slice-in}
+use Rattle.qr_symbol.proofs.lemmas.interleaving.CheckLemmas.{slice-in}
 use Rattle.qr_symbol.proofs.interleaving.Cut.part.Goals as goal
 
 pub slice_bounds-result-end : goal.slice_bounds-result-end

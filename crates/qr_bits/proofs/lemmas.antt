@@ -1,0 +1,14 @@
+-- Lemmas, in folders by the file of src that they serve, in the order in which they are read.
+pub mod bits
+pub mod modes
+pub mod segment
+pub mod stream
+pub mod padding
+pub mod parsing
+pub mod run_state
+pub mod table
+pub mod segmentation
+pub mod longest_prefix
+pub mod lower_bound
+pub mod folding
+pub mod laws

@@ -1,0 +1,2 @@
+-- Lists of bits, bytes and numbers.
+pub mod BitLemmas

@@ -1,0 +1,2 @@
+-- Folding around kanji pairs, step by step.
+pub mod FoldingLemmas

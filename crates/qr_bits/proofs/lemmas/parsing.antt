@@ -1,0 +1,8 @@
+-- The data of a segment is read group by group.
+pub mod PayloadLemmas
+-- A parse, segment by segment.
+pub mod ParsingLemmas
+-- The data of a segment: what is written is read back, and what is read is written as the same bits.
+pub mod ValueLemmas
+-- A parse reads back every stream that is written, and what it reads is a stream.
+pub mod StreamReadingLemmas

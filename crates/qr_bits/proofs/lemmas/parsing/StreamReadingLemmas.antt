@@ -1,0 +1,399 @@
+-- A parse reads back every stream that is written, and what it reads is a stream.
+use Rattle.std.proofs.Common.{◌≡◌, ℕ, zero, suc, ◌^◌, ◌<◌, ◌≤◌, Bool, true, false, cond, ◌==◌, nat_lt, nat_le, All, List, [], ◌∷◌, ◌++◌, length, take, drop, Ok, Err, Option, Some, None, refl, sym, ◌∙◌, ap, subst, ⊎_elim, arith, lit<, append_assoc, length-append}
+use Rattle.std.proofs.lemmas.Bool.{le-ltb, lt-leb, le-leb, ltb-false, cases_Bool, cases_lt, eqb-true, and_parts}
+use Rattle.std.proofs.lemmas.List.{length-take-le, length-drop, drop-drop, take-append-drop}
+use Rattle.std.proofs.lemmas.List.Elements.{All-nil, All-append, All-take, All-drop}
+use Rattle.std.proofs.Math.Seq.{take-append_seam, drop-append_seam}
+use borrow.Author.Tests.{leb-true}
+use Rattle.qr_bits.specs.declared.modes.Mode.{Mode}
+use Rattle.qr_bits.specs.declared.modes.Mode.TheVariants.{Numeric, Alphanumeric, Byte, Kanji}
+use Rattle.qr_bits.specs.declared.segment.Segment.{Segment}
+use Rattle.qr_bits.specs.declared.header.Header.{Header}
+use Rattle.qr_bits.specs.declared.fault.ParseFault.TheVariants.{BadMode, Cut}
+use Rattle.qr_bits.specs.Bits.{field, value}
+use Rattle.qr_bits.specs.Modes.{character_count, count_width, is_kanji_pair, byte_count, payload_bits, suits, indicator}
+use Rattle.qr_bits.specs.Header.{header_indicator, header_stream, HeaderFits}
+use Rattle.qr_bits.specs.Stream.{payload, segment_stream, segments_stream, Suits, CountsFit, IsStream}
+use Rattle.qr_bits.specs.Parsing.{◌>>=◌, values_of, mode_of, ends, leading_number, payload_at, segment_at, segments_at, segments_of, begins_header, header_at, first_header, Content, parse}
+use Rattle.qr_bits.proofs.lemmas.bits.BitLemmas.{length-field}
+use Rattle.qr_bits.proofs.lemmas.parsing.PayloadLemmas.{value_take_below}
+use Rattle.qr_bits.proofs.lemmas.parsing.ParsingLemmas.{bind_ok, bind_all, guard_ok, same_ok, not_ended, ended_empty, segment_shorter, segments_end, segments_step, header_whole}
+use Rattle.qr_bits.proofs.lemmas.stream.StreamLemmas.{drop-field, read_field, field_read}
+use Rattle.qr_bits.proofs.lemmas.parsing.ValueLemmas.{IsWritten, values_again, values_takes}
+use Rattle.qr_bits.proofs.lemmas.stream.WritingLemmas.{in_twos-even, length-payload}
+
+-- ---- a number
+
+-- a field is read back as its number
+number_again : (w n : ℕ) (rest : List Bool) → n < 2 ^ w → leading_number w (field w n ++ rest) ≡ Ok (n, rest)
+unfolding leading_number
+number_again w n rest h =
+    let there : w ≤ length (field w n ++ rest) = omega (arith, length-append (field w n) rest, length-field w n) in
+    rw (le-ltb (length (field w n ++ rest)) w there, read_field w n rest h, drop-field w n rest) refl
+
+-- a number that is read is written as the same bits
+number_takes : (w : ℕ) (bits : List Bool) (n : ℕ × List Bool) → leading_number w bits ≡ Ok n → (n.0 < 2 ^ w) × (bits ≡ field w n.0 ++ n.1)
+unfolding leading_number
+number_takes w bits n h =
+    let g = guard_ok (nat_lt (length bits) w) Cut (Ok (value (take w bits), drop w bits)) n h in
+    let P : ℕ × List Bool → Type 0 = λ t. (t.0 < 2 ^ w) × (bits ≡ field w t.0 ++ t.1) in
+    subst P (same_ok (value (take w bits), drop w bits) n g.1)
+    (value_take_below w bits, sym (ap (λ (t : List Bool). t ++ drop w bits) (field_read w bits (ltb-false _ _ g.0)) ∙ take-append-drop w bits))
+
+-- ---- the data
+
+-- the count of bytes in a mode leads back to their number
+len_again : (m : Mode) (xs : List ℕ) → suits m xs ≡ true → byte_count m (character_count m (length xs)) ≡ length xs
+len_again Numeric xs h = refl
+len_again Alphanumeric xs h = refl
+len_again Byte xs h = refl
+len_again Kanji xs h = in_twos-even is_kanji_pair xs h
+
+-- the number of bytes leads back to the count
+count_again : (m : Mode) (n : ℕ) → character_count m (byte_count m n) ≡ n
+count_again Numeric n = refl
+count_again Alphanumeric n = refl
+count_again Byte n = refl
+count_again Kanji n = omega arith
+
+-- data that is written is read back
+payload_again : (m : Mode) (xs : List ℕ) (rest : List Bool) → All (λ b. b < 256) xs → suits m xs ≡ true → payload_at m (character_count m (length xs)) (payload m xs ++ rest) ≡ Ok (xs, rest)
+unfolding payload_at
+payload_again m xs rest bytes h =
+    let same = len_again m xs h in
+    let len = length-payload m xs h in
+    let there : payload_bits m (length xs) ≤ length (payload m xs ++ rest) = omega (arith, length-append (payload m xs) rest, len) in
+    let behind : drop (payload_bits m (length xs)) (payload m xs ++ rest) ≡ rest = rw len at (drop-append_seam (payload m xs) rest) in
+    rw (same, le-ltb (length (payload m xs ++ rest)) (payload_bits m (length xs)) there, values_again m xs rest bytes h, behind) refl
+
+-- data that is read is written as the same bits
+payload_takes : (m : Mode) (n : ℕ) (bits : List Bool) (p : List ℕ × List Bool) → payload_at m n bits ≡ Ok p → IsWritten m n bits p.0 × (p.1 ≡ drop (payload_bits m (byte_count m n)) bits)
+unfolding payload_at
+payload_takes m n bits p h =
+    let g = guard_ok (nat_lt (length bits) (payload_bits m (byte_count m n))) Cut (values_of m n bits >>= λ xs. Ok (xs, drop (payload_bits m (byte_count m n)) bits)) p h in
+    let b = bind_ok (values_of m n bits) (λ xs. Ok (xs, drop (payload_bits m (byte_count m n)) bits)) p g.1 in
+    let P : List ℕ × List Bool → Type 0 = λ t. IsWritten m n bits t.0 × (t.1 ≡ drop (payload_bits m (byte_count m n)) bits) in
+    subst P (same_ok (b.0, drop (payload_bits m (byte_count m n)) bits) p b.2) (values_takes m n b.0 bits (ltb-false _ _ g.0) b.1, refl)
+
+-- ---- a segment
+
+-- the indicator of a mode is read back as the mode
+mode_again : (m : Mode) → mode_of (indicator m) ≡ Ok m
+unfolding mode_of
+mode_again Numeric = refl
+mode_again Alphanumeric = refl
+mode_again Byte = refl
+mode_again Kanji = refl
+
+-- if a mode is found, its test is the one that passed
+mode_cases : (n : ℕ) (m : Mode) (a b c d : Bool) → (n == 1) ≡ a → (n == 2) ≡ b → (n == 4) ≡ c → (n == 8) ≡ d → cond a (Ok Numeric) (cond b (Ok Alphanumeric) (cond c (Ok Byte) (cond d (Ok Kanji) (Err BadMode)))) ≡ Ok m → n ≡ indicator m
+mode_cases n m true b c d e f g i h = eqb-true n 1 e ∙ ap indicator (same_ok Numeric m h)
+mode_cases n m false true c d e f g i h = eqb-true n 2 f ∙ ap indicator (same_ok Alphanumeric m h)
+mode_cases n m false false true d e f g i h = eqb-true n 4 g ∙ ap indicator (same_ok Byte m h)
+mode_cases n m false false false true e f g i h = eqb-true n 8 i ∙ ap indicator (same_ok Kanji m h)
+mode_cases n m false false false false e f g i h = cc
+
+-- the indicator of the mode that was read is the number that was read
+mode_takes : (n : ℕ) (m : Mode) → mode_of n ≡ Ok m → n ≡ indicator m
+unfolding mode_of
+mode_takes n m h = mode_cases n m (n == 1) (n == 2) (n == 4) (n == 8) refl refl refl refl h
+
+-- an indicator of a mode is a number of four bits
+indicator_most : (m : Mode) → indicator m < 2 ^ 4
+indicator_most Numeric = lit< tt
+indicator_most Alphanumeric = lit< tt
+indicator_most Byte = lit< tt
+indicator_most Kanji = lit< tt
+
+-- an indicator of a mode is no terminator
+indicator_open : (m : Mode) → (indicator m == 0) ≡ false
+indicator_open Numeric = refl
+indicator_open Alphanumeric = refl
+indicator_open Byte = refl
+indicator_open Kanji = refl
+
+-- an indicator of a mode is not that of a header
+indicator_plain : (m : Mode) → (indicator m == 3) ≡ false
+indicator_plain Numeric = refl
+indicator_plain Alphanumeric = refl
+indicator_plain Byte = refl
+indicator_plain Kanji = refl
+
+-- a segment begins with the indicator of its mode
+first_four : (v : ℕ) (m : Mode) (xs : List ℕ) (rest : List Bool) → (value (take 4 (segment_stream v m xs ++ rest)) ≡ indicator m) × (4 ≤ length (segment_stream v m xs ++ rest))
+unfolding segment_stream
+first_four v m xs rest =
+    let behind = field (count_width v m) (character_count m (length xs)) ++ payload m xs in
+    rw (append_assoc (field 4 (indicator m)) behind rest)
+    (read_field 4 (indicator m) (behind ++ rest) (indicator_most m), omega (arith, length-append (field 4 (indicator m)) (behind ++ rest), length-field 4 (indicator m)))
+
+-- a segment that is written is read back
+segment_again : (v : ℕ) (m : Mode) (xs : List ℕ) (rest : List Bool) → All (λ b. b < 256) xs → suits m xs ≡ true → character_count m (length xs) < 2 ^ count_width v m
+    → segment_at v (segment_stream v m xs ++ rest) ≡ Ok (record { mode = m; len = length xs }, xs, rest)
+unfolding segment_at segment_stream
+segment_again v m xs rest bytes suited fits =
+    let count = field (count_width v m) (character_count m (length xs)) in
+    let whole : (field 4 (indicator m) ++ (count ++ payload m xs)) ++ rest ≡ field 4 (indicator m) ++ (count ++ (payload m xs ++ rest)) =
+    append_assoc (field 4 (indicator m)) (count ++ payload m xs) rest ∙ ap (λ (t : List Bool). field 4 (indicator m) ++ t) (append_assoc count (payload m xs) rest) in
+    rw (
+      whole,
+      read_field 4 (indicator m) (count ++ (payload m xs ++ rest)) (indicator_most m),
+      mode_again m,
+      drop-field 4 (indicator m) (count ++ (payload m xs ++ rest)),
+      number_again (count_width v m) (character_count m (length xs)) (payload m xs ++ rest) fits,
+      payload_again m xs rest bytes suited,
+      len_again m xs suited,
+    ) refl
+
+-- a segment that was read is the stream of these bytes, with the rest after it
+record IsSegment (v : ℕ) (bits : List Bool) (s : Segment) (xs : List ℕ) (rest : List Bool) : Type 0 where
+  long : length xs ≡ s.len
+  bytes : All (λ b. b < 256) xs
+  suited : suits s.mode xs ≡ true
+  fits : character_count s.mode s.len < 2 ^ count_width v s.mode
+  whole : bits ≡ segment_stream v s.mode xs ++ rest
+
+-- a segment whose parts were read
+segment_from : (v : ℕ) (m : Mode) (bits : List Bool) (n : ℕ × List Bool) (p : List ℕ × List Bool) → 4 ≤ length bits → value (take 4 bits) ≡ indicator m
+    → (n.0 < 2 ^ count_width v m) × (drop 4 bits ≡ field (count_width v m) n.0 ++ n.1) → IsWritten m n.0 n.1 p.0 × (p.1 ≡ drop (payload_bits m (byte_count m n.0)) n.1)
+    → IsSegment v bits (record { mode = m; len = byte_count m n.0 }) p.0 p.1
+unfolding segment_stream
+segment_from v m bits n p four e number said =
+    let w = said.0 in
+    let count = field (count_width v m) n.0 in
+    let behind : n.1 ≡ payload m p.0 ++ p.1 = w.whole ∙ ap (λ (t : List Bool). payload m p.0 ++ t) (sym said.1) in
+    let tail : drop 4 bits ≡ count ++ (payload m p.0 ++ p.1) = number.1 ∙ ap (λ (t : List Bool). count ++ t) behind in
+    let head : take 4 bits ≡ field 4 (indicator m) = sym (field_read 4 bits four) ∙ ap (field 4) e in
+    record {
+      long = w.long;
+      bytes = w.bytes;
+      suited = w.suited;
+      fits = rw (count_again m n.0) number.0;
+      whole = rw (w.long, count_again m n.0, append_assoc (field 4 (indicator m)) (count ++ payload m p.0) p.1, append_assoc count (payload m p.0) p.1, ← tail, ← head) (sym (take-append-drop 4 bits));
+    }
+
+-- a segment that is read is written as the same bits
+segment_takes : (v : ℕ) (bits : List Bool) (s : Segment × List ℕ × List Bool) → 4 ≤ length bits → segment_at v bits ≡ Ok s → IsSegment v bits s.0 s.1 s.2
+unfolding segment_at segment_stream
+segment_takes v bits s four h =
+    let P : Segment × List ℕ × List Bool → Type 0 = λ t. IsSegment v bits t.0 t.1 t.2 in
+    bind_all (mode_of (value (take 4 bits))) _ P (λ m em t ht.
+    bind_all (leading_number (count_width v m) (drop 4 bits)) _ P (λ n en t ht.
+    bind_all (payload_at m n.0 n.1) _ P (λ p ep t ht.
+    subst P (same_ok (record { mode = m; len = byte_count m n.0 }, p.0, p.1) t ht) (segment_from v m bits n p four (mode_takes _ m em) (number_takes (count_width v m) (drop 4 bits) n en) (payload_takes m n.0 n.1 p ep))) t ht) t ht) s h
+
+-- ---- segments to the end
+
+-- the data does not end where a segment begins
+opens : (v : ℕ) (m : Mode) (xs : List ℕ) (rest : List Bool) → ends (segment_stream v m xs ++ rest) ≡ false
+unfolding ends
+opens v m xs rest =
+    let four = first_four v m xs rest in
+    rw (le-ltb (length (segment_stream v m xs ++ rest)) 4 four.1, four.0, indicator_open m) refl
+
+-- the first n bytes of a list of bytes, and those after them, are bytes
+all_take : (n : ℕ) (xs : List ℕ) → All (λ b. b < 256) xs → All (λ b. b < 256) (take n xs) × All (λ b. b < 256) (drop n xs)
+all_take n xs h = (All-take (λ b. b < 256) n xs h, All-drop (λ b. b < 256) n xs h)
+
+-- Segments that are written and followed by an end are read back.
+pub segments_again : (v : ℕ) (xs : List ℕ) (segs : List Segment) (tail : List Bool) → All (λ b. b < 256) xs → Suits xs segs → CountsFit v segs → ends tail ≡ true
+    → segments_of v (segments_stream v xs segs ++ tail) ≡ Ok (segs, xs)
+unfolding segments_stream Suits CountsFit
+segments_again v xs [] tail bytes suit fits end = segments_end v tail end ∙ ap (λ (t : List ℕ). Ok ([], t)) (sym suit)
+segments_again v xs (s ∷ ss) tail bytes suit fits end =
+    let part = take s.len xs in
+    let len : length part ≡ s.len = length-take-le s.len xs suit.0 in
+    let halves = all_take s.len xs bytes in
+    let rest = segments_stream v (drop s.len xs) ss in
+    let whole = append_assoc (segment_stream v s.mode part) rest tail in
+    let one = segment_again v s.mode part (rest ++ tail) halves.0 suit.1 (rw len fits.0) in
+    let others = segments_again v (drop s.len xs) ss tail halves.1 suit.2 fits.1 end in
+    rw (whole, segments_step v (segment_stream v s.mode part ++ (rest ++ tail)) (opens v s.mode part (rest ++ tail)), one, others, len, take-append-drop s.len xs) refl
+
+-- segments that were read are their stream, and then an end
+pub record IsSegments (v : ℕ) (bits : List Bool) (segs : List Segment) (xs : List ℕ) : Type 0 where
+  pub tail : List Bool
+  pub bytes : All (λ b. b < 256) xs
+  pub suit : Suits xs segs
+  pub fits : CountsFit v segs
+  pub whole : bits ≡ segments_stream v xs segs ++ tail
+  pub end : ends tail ≡ true
+
+-- at an end there is the stream of no segment
+segments_none : (v : ℕ) (bits : List Bool) → ends bits ≡ true → IsSegments v bits [] []
+unfolding segments_stream Suits CountsFit
+segments_none v bits e = record { tail = bits; bytes = All-nil (λ b. b < 256); suit = refl; fits = tt; whole = refl; end = e }
+
+-- one segment before the stream of others
+segments_more : (v : ℕ) (bits rest : List Bool) (s : Segment) (ss : List Segment) (ys zs : List ℕ) → IsSegment v bits s ys rest → IsSegments v rest ss zs → IsSegments v bits (s ∷ ss) (ys ++ zs)
+unfolding segments_stream Suits CountsFit
+segments_more v bits rest s ss ys zs one others =
+    let front : take s.len (ys ++ zs) ≡ ys = rw one.long at (take-append_seam ys zs) in
+    let back : drop s.len (ys ++ zs) ≡ zs = rw one.long at (drop-append_seam ys zs) in
+    record {
+      tail = others.tail;
+      bytes = All-append (λ b. b < 256) ys zs one.bytes others.bytes;
+      suit = (omega (arith, length-append ys zs, one.long), rw front one.suited, rw back others.suit);
+      fits = (one.fits, others.fits);
+      whole = rw (front, back, append_assoc (segment_stream v s.mode ys) (segments_stream v zs ss) others.tail, ← others.whole) one.whole;
+      end = others.end;
+    }
+
+-- The bits of segments that are read are their stream, and then an end.
+pub segments_takes : (n v : ℕ) (bits : List Bool) (r : List Segment × List ℕ) → length bits ≤ n → segments_at n v bits ≡ Ok r → IsSegments v bits r.0 r.1
+unfolding segments_at
+segments_takes zero v bits r few h =
+    let P : List Segment × List ℕ → Type 0 = λ t. IsSegments v bits t.0 t.1 in
+    subst P (same_ok ([], []) r h) (segments_none v bits (ended_empty bits few))
+segments_takes (suc n) v bits r few h =
+    let P : List Segment × List ℕ → Type 0 = λ t. IsSegments v bits t.0 t.1 in
+    ⊎_elim
+    (λ (e : ends bits ≡ true). subst P (same_ok ([], []) r (rw e at h)) (segments_none v bits e))
+    (λ (e : ends bits ≡ false).
+    let four = not_ended bits e in
+    bind_all (segment_at v bits) _ P (λ s es t ht.
+    bind_all (segments_at n v s.2) _ P (λ q eq t ht.
+    subst P (same_ok (s.0 ∷ q.0, s.1 ++ q.1) t ht)
+    (segments_more v bits s.2 s.0 q.0 s.1 q.1 (segment_takes v bits s four es) (segments_takes n v s.2 q (omega (arith, segment_shorter v bits s four es)) eq))) t ht) r (rw e at h))
+    (cases_Bool (ends bits))
+
+-- ---- the header
+
+-- a header begins with its indicator
+starts : (rest : List Bool) → begins_header (field 4 header_indicator ++ rest) ≡ true
+unfolding begins_header
+starts rest =
+    let there : 4 ≤ length (field 4 header_indicator ++ rest) = omega (arith, length-append (field 4 header_indicator) rest, length-field 4 header_indicator) in
+    rw (le-leb 4 (length (field 4 header_indicator ++ rest)) there, read_field 4 header_indicator rest (lit< tt)) refl
+
+-- if a header begins here, the first four bits are its indicator
+started : (bits : List Bool) → begins_header bits ≡ true → bits ≡ field 4 header_indicator ++ drop 4 bits
+unfolding begins_header
+started bits h =
+    let p = and_parts (nat_le 4 (length bits)) (value (take 4 bits) == 3) h in
+    let four : 4 ≤ length bits = leb-true 4 (length bits) p.0 in
+    let three : value (take 4 bits) ≡ 3 = eqb-true _ 3 p.1 in
+    sym (ap (λ (t : List Bool). t ++ drop 4 bits) (ap (field 4) (sym three) ∙ field_read 4 bits four) ∙ take-append-drop 4 bits)
+
+-- the fields of a header whose bits are all there
+header_parts : (bits : List Bool) → 16 ≤ length bits
+    → bits ≡ (field 4 (value (take 4 bits)) ++ (field 4 (value (take 4 (drop 4 bits))) ++ field 8 (value (take 8 (drop 8 bits))))) ++ drop 16 bits
+header_parts bits long =
+    let a = field_read 4 bits (omega arith) in
+    let b = field_read 4 (drop 4 bits) (omega (arith, length-drop 4 bits)) in
+    let c = field_read 8 (drop 8 bits) (omega (arith, length-drop 8 bits)) in
+    let last : take 8 (drop 8 bits) ++ drop 16 bits ≡ drop 8 bits = ap (λ (t : List Bool). take 8 (drop 8 bits) ++ t) (sym (drop-drop 8 8 bits)) ∙ take-append-drop 8 (drop 8 bits) in
+    let middle : take 4 (drop 4 bits) ++ drop 8 bits ≡ drop 4 bits = ap (λ (t : List Bool). take 4 (drop 4 bits) ++ t) (sym (drop-drop 4 4 bits)) ∙ take-append-drop 4 (drop 4 bits) in
+    rw (a, b, c, append_assoc (take 4 bits) (take 4 (drop 4 bits) ++ take 8 (drop 8 bits)) (drop 16 bits), append_assoc (take 4 (drop 4 bits)) (take 8 (drop 8 bits)) (drop 16 bits), last, middle)
+    (sym (take-append-drop 4 bits))
+
+-- a header that is written is read back
+header_again : (h : Header) (rest : List Bool) → HeaderFits (Some h) → first_header (header_stream (Some h) ++ rest) ≡ Ok (Some h, rest)
+unfolding first_header header_stream
+header_again h rest all_fit =
+    let fits = all_fit h refl in
+    let p = field 4 h.position in
+    let l = field 4 h.last in
+    let q = field 8 h.parity in
+    let behind : List Bool = p ++ (l ++ (q ++ rest)) in
+    let whole : (field 4 header_indicator ++ (p ++ (l ++ q))) ++ rest ≡ field 4 header_indicator ++ behind =
+    append_assoc (field 4 header_indicator) (p ++ (l ++ q)) rest ∙ ap (λ (t : List Bool). field 4 header_indicator ++ t) (append_assoc p (l ++ q) rest ∙ ap (λ (t : List Bool). p ++ t) (append_assoc l q rest)) in
+    let long : 16 ≤ length behind = omega (arith, length-append p (l ++ (q ++ rest)), length-append l (q ++ rest), length-append q rest, length-field 4 h.position, length-field 4 h.last, length-field 8 h.parity) in
+    let after_p : drop 4 behind ≡ l ++ (q ++ rest) = drop-field 4 h.position (l ++ (q ++ rest)) in
+    let after_l : drop 8 behind ≡ q ++ rest = sym (drop-drop 4 4 behind) ∙ ap (λ (t : List Bool). drop 4 t) after_p ∙ drop-field 4 h.last (q ++ rest) in
+    let after_q : drop 16 behind ≡ rest = sym (drop-drop 8 8 behind) ∙ ap (λ (t : List Bool). drop 8 t) after_l ∙ drop-field 8 h.parity rest in
+    rw (
+      whole,
+      starts behind,
+      drop-field 4 header_indicator behind,
+      header_whole behind long,
+      read_field 4 h.position (l ++ (q ++ rest)) fits.0,
+      after_p,
+      read_field 4 h.last (q ++ rest) fits.1,
+      after_l,
+      read_field 8 h.parity rest fits.2,
+      after_q,
+    ) refl
+
+-- no header begins where segments begin
+none_begins : (v : ℕ) (xs : List ℕ) (segs : List Segment) (tail : List Bool) → ends tail ≡ true → begins_header (segments_stream v xs segs ++ tail) ≡ false
+unfolding begins_header segments_stream ends
+none_begins v xs [] tail e =
+    ⊎_elim
+    (λ (l : length tail < 4). rw (lt-leb 4 (length tail) l) refl)
+    (λ (l : 4 ≤ length tail).
+    let z : value (take 4 tail) ≡ 0 = eqb-true _ 0 (rw (le-ltb (length tail) 4 l) at e) in
+    rw (le-leb 4 (length tail) l, z) refl)
+    (cases_lt (length tail) 4)
+none_begins v xs (s ∷ ss) tail e =
+    let part = take s.len xs in
+    let rest = segments_stream v (drop s.len xs) ss in
+    let four = first_four v s.mode part (rest ++ tail) in
+    rw (append_assoc (segment_stream v s.mode part) rest tail, le-leb 4 (length (segment_stream v s.mode part ++ (rest ++ tail))) four.1, four.0, indicator_plain s.mode) refl
+
+-- an optional header that is written is read back
+first_again : (v : ℕ) (h : Option Header) (xs : List ℕ) (segs : List Segment) (tail : List Bool) → HeaderFits h → ends tail ≡ true
+    → first_header ((header_stream h ++ segments_stream v xs segs) ++ tail) ≡ Ok (h, segments_stream v xs segs ++ tail)
+unfolding first_header header_stream
+first_again v None xs segs tail fits e = rw (none_begins v xs segs tail e) refl
+first_again v (Some h) xs segs tail fits e = rw (append_assoc (header_stream (Some h)) (segments_stream v xs segs) tail) (header_again h (segments_stream v xs segs ++ tail) fits)
+
+-- the numbers of a header that was read fit their fields
+fits_of : (h : Header) → h.position < 16 → h.last < 16 → h.parity < 256 → HeaderFits (Some h)
+fits_of h a b d = λ k e.
+    let P : Header → Type 0 = λ z. (z.position < 16) × (z.last < 16) × (z.parity < 256) in
+    let g : h ≡ k = cc in
+    subst P g (a, b, d)
+
+-- a header that is read is written as the same bits
+header_takes : (bits : List Bool) (r : Header × List Bool) → header_at bits ≡ Ok r → HeaderFits (Some r.0) × (bits ≡ (field 4 r.0.position ++ (field 4 r.0.last ++ field 8 r.0.parity)) ++ r.1)
+unfolding header_at
+header_takes bits r h =
+    let g = guard_ok (nat_lt (length bits) 16) Cut (Ok (record { position = value (take 4 bits); last = value (take 4 (drop 4 bits)); parity = value (take 8 (drop 8 bits)) }, drop 16 bits)) r h in
+    let long : 16 ≤ length bits = ltb-false _ _ g.0 in
+    let P : Header × List Bool → Type 0 = λ t. HeaderFits (Some t.0) × (bits ≡ (field 4 t.0.position ++ (field 4 t.0.last ++ field 8 t.0.parity)) ++ t.1) in
+    subst P (same_ok (record { position = value (take 4 bits); last = value (take 4 (drop 4 bits)); parity = value (take 8 (drop 8 bits)) }, drop 16 bits) r g.1)
+    (fits_of _ (value_take_below 4 bits) (value_take_below 4 (drop 4 bits)) (value_take_below 8 (drop 8 bits)), header_parts bits long)
+
+-- an optional header that is read is written as the same bits
+first_takes : (bits : List Bool) (r : Option Header × List Bool) → first_header bits ≡ Ok r → HeaderFits r.0 × (bits ≡ header_stream r.0 ++ r.1)
+unfolding first_header header_stream
+first_takes bits r h =
+    let P : Option Header × List Bool → Type 0 = λ t. HeaderFits t.0 × (bits ≡ header_stream t.0 ++ t.1) in
+    ⊎_elim
+    (λ (e : begins_header bits ≡ true).
+    bind_all (header_at (drop 4 bits)) _ P (λ q eq t ht.
+    let w = header_takes (drop 4 bits) q eq in
+    let fields = field 4 q.0.position ++ (field 4 q.0.last ++ field 8 q.0.parity) in
+    subst P (same_ok (Some q.0, q.1) t ht) (w.0, rw (append_assoc (field 4 header_indicator) fields q.1, ← w.1) (started bits e))) r (rw e at h))
+    (λ (e : begins_header bits ≡ false). subst P (same_ok (None, bits) r (rw e at h)) ((λ k z. cc), refl))
+    (cases_Bool (begins_header bits))
+
+-- ---- the whole
+
+-- A stream followed by an end is parsed into its header, segments and bytes.
+pub parse_again : (v : ℕ) (xs : List ℕ) (segs : List Segment) (h : Option Header) (front tail : List Bool) → IsStream v xs segs h front → ends tail ≡ true
+    → parse v (front ++ tail) ≡ Ok (record { header = h; segments = segs; bytes = xs })
+unfolding parse
+parse_again v xs segs h front tail is e =
+    rw (is.whole, first_again v h xs segs tail is.header e, segments_again v xs segs tail is.bytes is.suit is.counts e) refl
+
+-- the bits are the stream of this content, and then an end
+abbrev Says : ℕ → List Bool → Content → Type 0
+Says v bits c = (front : List Bool) × (tail : List Bool) × IsStream v c.bytes c.segments c.header front × (bits ≡ front ++ tail) × (ends tail ≡ true)
+
+-- Bits that are parsed are a stream followed by an end.
+pub parse_takes : (v : ℕ) (bits : List Bool) (c : Content) → parse v bits ≡ Ok c → Says v bits c
+unfolding parse segments_of
+parse_takes v bits c e =
+    bind_all (first_header bits) _ (Says v bits) (λ h eh d hd.
+    bind_all (segments_at (length h.1) v h.1) _ (Says v bits) (λ r er d hd.
+    let first = first_takes bits h eh in
+    let others = segments_takes (length h.1) v h.1 r (omega arith) er in
+    subst (Says v bits) (same_ok (record { header = h.0; segments = r.0; bytes = r.1 }) d hd) (
+      header_stream h.0 ++ segments_stream v r.1 r.0,
+      others.tail,
+      record { bytes = others.bytes; suit = others.suit; counts = others.fits; header = first.0; whole = refl },
+      rw (append_assoc (header_stream h.0) (segments_stream v r.1 r.0) others.tail, ← others.whole) first.1,
+      others.end,
+    )) d hd) c e

@@ -1,0 +1,6 @@
+-- Segments that grow at their end.
+pub mod BackLemmas
+-- If only byte mode may be used, there is one valid assignment: byte mode for each byte.
+pub mod BytesOnlyLemmas
+-- If all bytes are digits, one segment of all digits takes the fewest bits.
+pub mod DigitsOnlyLemmas

@@ -1,0 +1,125 @@
+-- The laws of the field of 256 elements: a product does not depend on the order of its factors or on the brackets, the
+-- product by a sum is the sum of the products, and a product is 0 only if a factor is 0.
+use Rattle.std.proofs.Common.{◌≡◌, ℕ, ◌+◌, ◌-◌, ◌<◌, sym, ap, ◌∙◌, inl, inr, arith, bit_xor}
+use Rattle.std.proofs.lemmas.Bool.{cases_eq}
+use Rattle.std.proofs.lemmas.Nat.{xor_of_8}
+use Rattle.std.specs.Int.Bits.{xor_zero_r}
+use Rattle.qr_field.specs.Galois.{product}
+use Rattle.qr_field.specs.Polynomial.{power}
+use Rattle.qr_field.proofs.lemmas.galois.BitLemmas.{xor-cancel}
+use Rattle.qr_field.proofs.lemmas.galois.ByteLemmas.{product-by_zero, product-of_zero, product-by_one}
+use Rattle.qr_field.proofs.lemmas.galois.ProductLemmas.{product-lt, product-xor}
+use Rattle.qr_field.proofs.lemmas.logarithm.PowerLemmas.{power-lt, power-add, power-round, powers-apart, exponent-of}
+
+-- a product is 0 if its first factor is 0
+left-none : (a b : ℕ) → b < 256 → a ≡ 0 → product a b ≡ 0
+left-none a b l e = ap (λ t. product t b) e ∙ product-of_zero b l
+
+-- a product is 0 if its second factor is 0
+right-none : (a b : ℕ) → a < 256 → b ≡ 0 → product a b ≡ 0
+right-none a b l e = ap (product a) e ∙ product-by_zero a l
+
+-- ---- the order of factors
+
+-- the product of two powers does not depend on their order
+powers-comm : (i j : ℕ) → product (power i) (power j) ≡ product (power j) (power i)
+powers-comm i j =
+    let e : i + j ≡ j + i = omega arith in
+    sym (power-add i j) ∙ (ap power e ∙ power-add j i)
+
+-- the product of two elements does not depend on their order
+pub product-comm : (a b : ℕ) → a < 256 → b < 256 → product a b ≡ product b a
+product-comm a b l m = elim (cases_eq a 0) [
+  | inl e ↦ left-none a b m e ∙ sym (right-none b a m e)
+  | inr n ↦ elim (cases_eq b 0) [
+    | inl f ↦ right-none a b l f ∙ sym (left-none b a l f)
+    | inr o ↦
+        let i = exponent-of a n l in
+        let j = exponent-of b o m in
+        ap (λ t. product t b) (sym i.2)
+        ∙ (ap (product (power i.0)) (sym j.2)
+        ∙ (powers-comm i.0 j.0 ∙ (ap (λ t. product t (power i.0)) j.2 ∙ ap (product b) i.2)))
+  ]
+]
+
+-- the product of three powers does not depend on the brackets
+powers-assoc : (i j k : ℕ) →
+    product (product (power i) (power j)) (power k) ≡ product (power i) (product (power j) (power k))
+powers-assoc i j k =
+    let e : i + j + k ≡ i + (j + k) = omega arith in
+    ap (λ t. product t (power k)) (sym (power-add i j))
+    ∙ (sym (power-add (i + j) k) ∙ (ap power e ∙ (power-add i (j + k) ∙ ap (product (power i)) (power-add j k))))
+
+-- the product of three elements does not depend on the brackets
+pub product-assoc : (a b c : ℕ) → a < 256 → b < 256 → c < 256 →
+    product (product a b) c ≡ product a (product b c)
+product-assoc a b c l m h = elim (cases_eq a 0) [
+  | inl e ↦ left-none (product a b) c h (left-none a b m e) ∙ sym (left-none a (product b c) (product-lt b c m) e)
+  | inr n ↦ elim (cases_eq b 0) [
+    | inl f ↦ left-none (product a b) c h (right-none a b l f) ∙ sym (right-none a (product b c) l (left-none b c h f))
+    | inr o ↦ elim (cases_eq c 0) [
+      | inl g ↦
+          right-none (product a b) c (product-lt a b l) g ∙ sym (right-none a (product b c) l (right-none b c m g))
+      | inr p ↦
+          let i = exponent-of a n l in
+          let j = exponent-of b o m in
+          let k = exponent-of c p h in
+          let left : product (product (power i.0) (power j.0)) (power k.0) ≡ product (product a b) c =
+          ap (λ t. product (product t (power j.0)) (power k.0)) i.2
+          ∙ (ap (λ t. product (product a t) (power k.0)) j.2 ∙ ap (product (product a b)) k.2) in
+          let right : product (power i.0) (product (power j.0) (power k.0)) ≡ product a (product b c) =
+          ap (λ t. product t (product (power j.0) (power k.0))) i.2
+          ∙ (ap (λ t. product a (product t (power k.0))) j.2 ∙ ap (λ t. product a (product b t)) k.2) in
+          sym left ∙ (powers-assoc i.0 j.0 k.0 ∙ right)
+    ]
+  ]
+]
+
+-- the last two of three factors may be exchanged
+pub product-swap : (a b c : ℕ) → a < 256 → b < 256 → c < 256 →
+    product (product a b) c ≡ product (product a c) b
+product-swap a b c l m h =
+    product-assoc a b c l m h ∙ (ap (product a) (product-comm b c m h) ∙ sym (product-assoc a c b l h m))
+
+-- the first two of three factors may be exchanged
+pub product-front : (a b c : ℕ) → a < 256 → b < 256 → c < 256 →
+    product a (product b c) ≡ product b (product a c)
+product-front a b c l m h =
+    sym (product-assoc a b c l m h)
+    ∙ (ap (λ t. product t c) (product-comm a b l m) ∙ product-assoc b a c m l h)
+
+-- ---- sums
+
+-- the product of an element by a sum is the sum of the products
+pub product-by_sum : (a b c : ℕ) → a < 256 → b < 256 → c < 256 →
+    product a (bit_xor b c) ≡ bit_xor (product a b) (product a c)
+product-by_sum a b c l m h =
+    product-comm a (bit_xor b c) l (xor_of_8 b c m h)
+    ∙ (sym (product-xor b c a m h)
+    ∙ (ap (λ t. bit_xor t (product c a)) (product-comm b a m l)
+    ∙ ap (bit_xor (product a b)) (product-comm c a h l)))
+
+-- ---- factors that are not 0
+
+-- a product by an element that is not 0 is 0 only if the other factor is 0
+pub product-factor : (a b : ℕ) → a < 256 → b < 256 → (b ≡ 0 → ⊥) → product a b ≡ 0 → a ≡ 0
+product-factor a b l m n e =
+    let i = exponent-of b n m in
+    let k = i.0 in
+    let rest = power (255 - k) in
+    let whole : k + (255 - k) ≡ 255 = omega (arith, i.1) in
+    let one : product b rest ≡ 1 =
+    ap (λ t. product t rest) (sym i.2) ∙ (sym (power-add k (255 - k)) ∙ (ap power whole ∙ power-round)) in
+    sym (product-by_one a l)
+    ∙ (ap (product a) (sym one)
+    ∙ (sym (product-assoc a b rest l m (power-lt (255 - k))) ∙ left-none (product a b) rest (power-lt (255 - k)) e))
+
+-- the sum of two elements is 0 only if they are equal
+pub sum-none : (a b : ℕ) → bit_xor a b ≡ 0 → a ≡ b
+sum-none a b e = sym (xor_zero_r a) ∙ (ap (bit_xor a) (sym e) ∙ xor-cancel a b)
+
+-- powers with different exponents below 255 have a sum that is not 0
+pub powers-sum : (i j : ℕ) → i < j → j < 255 → bit_xor (power i) (power j) ≡ 0 → ⊥
+powers-sum i j l m e =
+    let h : i ≡ j = powers-apart i j (omega arith) m (sum-none (power i) (power j) e) in
+    absurd (omega (arith, h))

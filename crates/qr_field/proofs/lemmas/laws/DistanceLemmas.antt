@@ -1,0 +1,345 @@
+-- If the values of a polynomial at the first n powers of 2 are 0, then more than n of its coefficients are not 0, or every
+-- coefficient is 0. So two blocks with n error correction codewords each are equal or differ in more than n codewords.
+use Rattle.std.proofs.Common.{◌≡◌, ℕ, zero, suc, ◌+◌, ◌-◌, ◌*◌, ◌<◌, ◌≤◌, Option, None, Some, List, [], ◌∷◌, ◌++◌, length, map, take, refl, sym, ap, ◌∙◌, inl, inr, arith, bit_xor, length-append}
+use Rattle.std.specs.List.{All}
+use Rattle.std.specs.Int.Bits.{xor_zero_l, xor_zero_r, xor_self}
+use Rattle.std.proofs.lemmas.Nat.{xor_of_8}
+use Rattle.std.proofs.lemmas.Bool.{cases_eq, cases_lt, eq-eqb, ne_eqb}
+use Rattle.std.proofs.lemmas.List.{length-map, take_at}
+use Rattle.std.proofs.lemmas.List.Elements.{All-nil, All-cons, All-head, All-tail}
+use Rattle.qr_field.specs.Galois.{product}
+use Rattle.qr_field.specs.Polynomial.{IsByte, plus, power, IsCorrection}
+use Rattle.qr_field.specs.Steps.Polynomial.{value_at}
+use Rattle.qr_field.specs.Distance.{difference, differences, erasures, errors}
+use Rattle.qr_field.proofs.lemmas.galois.BitLemmas.{xor-swap}
+use Rattle.qr_field.proofs.lemmas.galois.ByteLemmas.{product-by_zero, product-of_zero, product-by_one}
+use Rattle.qr_field.proofs.lemmas.galois.ProductLemmas.{product-lt, product-xor}
+use Rattle.qr_field.proofs.lemmas.logarithm.PowerLemmas.{power-lt, power-add}
+use Rattle.qr_field.proofs.lemmas.galois.FieldLemmas.{product-assoc, product-front, product-by_sum, product-factor, powers-sum, sum-none}
+use Rattle.qr_field.proofs.lemmas.polynomial.ListLemmas.{length-plus, bytes-plus}
+use Rattle.qr_field.proofs.lemmas.laws.ValueLemmas.{value-lt, value-zero, value-plus, block-bytes, block-root}
+
+-- ---- coefficients that are not 0
+
+-- the number of coefficients of a polynomial that are not 0
+abbrev pub weight : List ℕ → ℕ
+weight [] = 0
+weight (c ∷ p) = difference c 0 + weight p
+
+-- two equal codewords x and y count as 0 differences
+pub difference-same : (x y : ℕ) → x ≡ y → difference x y ≡ 0
+difference-same x y e = rw (eq-eqb x y e)
+
+-- two different codewords x and y count as 1 difference
+pub difference-other : (x y : ℕ) → (x ≡ y → ⊥) → difference x y ≡ 1
+difference-other x y n = rw (ne_eqb x y n)
+
+-- if x equals y just when u equals v, then x and y count as many differences as u and v
+pub difference-alike : (x y u v : ℕ) → (x ≡ y → u ≡ v) → (u ≡ v → x ≡ y) → difference x y ≡ difference u v
+difference-alike x y u v f g = elim (cases_eq x y) [
+  | inl e ↦ difference-same x y e ∙ sym (difference-same u v (f e))
+  | inr n ↦ difference-other x y n ∙ sym (difference-other u v (λ e. n (g e)))
+]
+
+-- if xs and ys are equally long, then the number of coefficients of their sum that are not 0 is the number of positions at
+-- which xs and ys differ
+pub weight-plus : (xs ys : List ℕ) → length xs ≡ length ys → weight (plus xs ys) ≡ differences xs ys
+weight-plus [] [] e = refl
+weight-plus [] (y ∷ ys) e = absurd (omega arith)
+weight-plus (x ∷ xs) [] e = absurd (omega arith)
+weight-plus (x ∷ xs) (y ∷ ys) e =
+    let none : x ≡ y → bit_xor x y ≡ 0 = λ h. ap (λ t. bit_xor t y) h ∙ xor_self y in
+    let one : difference (bit_xor x y) 0 ≡ difference x y = difference-alike (bit_xor x y) 0 x y (sum-none x y) none in
+    let f = weight-plus xs ys (omega arith) in
+    omega (arith, one, f)
+
+-- if two lists xs and ys differ at 0 positions, then they are equal
+pub differences-none : (xs ys : List ℕ) → differences xs ys ≡ 0 → xs ≡ ys
+differences-none [] [] e = refl
+differences-none [] (y ∷ ys) e = absurd (omega (arith, e))
+differences-none (x ∷ xs) [] e = absurd (omega (arith, e))
+differences-none (x ∷ xs) (y ∷ ys) e = elim (cases_eq x y) [
+  | inl f ↦
+      let tail = differences-none xs ys (omega (arith, e)) in
+      ap (λ t. t ∷ xs) f ∙ ap (λ t. y ∷ t) tail
+  | inr n ↦ let one = difference-other x y n in absurd (omega (arith, e, one))
+]
+
+-- if every coefficient of the polynomial p is 0, then the value of p at 2 to the power i is 0
+pub value-none : (i : ℕ) (p : List ℕ) → weight p ≡ 0 → value_at i p ≡ 0
+value-none i [] e = refl
+value-none i (c ∷ p) e = elim (cases_eq c 0) [
+  | inl f ↦
+      ap (λ t. value_at i (t ∷ p)) f ∙ (value-zero i p ∙ value-none i p (omega (arith, e)))
+  | inr n ↦ let one = difference-other c 0 n in absurd (omega (arith, e, one))
+]
+
+-- ---- one coefficient less
+
+-- each coefficient of a polynomial, times the sum of two powers of 2: that to the exponent of this coefficient, and that
+-- to k; the coefficient of exponent k becomes 0 by this
+abbrev lowered : ℕ → List ℕ → List ℕ
+lowered k [] = []
+lowered k (c ∷ p) = product c (bit_xor (power (length p)) (power k)) ∷ lowered k p
+
+-- `lowered k p` has as many coefficients as p
+length-lowered : (k : ℕ) (p : List ℕ) → length (lowered k p) ≡ length p
+length-lowered k [] = refl
+length-lowered k (c ∷ p) = ap suc (length-lowered k p)
+
+-- if the coefficients of p are bytes, then the coefficients of `lowered k p` are bytes
+bytes-lowered : (k : ℕ) (p : List ℕ) → All IsByte p → All IsByte (lowered k p)
+bytes-lowered k [] a = All-nil IsByte
+bytes-lowered k (c ∷ p) a =
+    let factor = bit_xor (power (length p)) (power k) in
+    All-cons IsByte (product c factor) (lowered k p) (product-lt c factor (All-head IsByte c p a))
+    (bytes-lowered k p (All-tail IsByte c p a))
+
+-- if k is below 255 and at least the number of coefficients of p, then `lowered k p` has as many coefficients that are not
+-- 0 as p
+weight-lowered : (k : ℕ) (p : List ℕ) → k < 255 → length p ≤ k → All IsByte p → weight (lowered k p) ≡ weight p
+weight-lowered k [] h l a = refl
+weight-lowered k (c ∷ p) h l a =
+    let lc = All-head IsByte c p a in
+    let factor = bit_xor (power (length p)) (power k) in
+    let small = xor_of_8 (power (length p)) (power k) (power-lt (length p)) (power-lt k) in
+    let apart : factor ≡ 0 → ⊥ = powers-sum (length p) k (omega arith) h in
+    let none : c ≡ 0 → product c factor ≡ 0 = λ e. ap (λ t. product t factor) e ∙ product-of_zero factor small in
+    let one : difference (product c factor) 0 ≡ difference c 0 =
+    difference-alike (product c factor) 0 c 0 (product-factor c factor lc small apart) none in
+    let f = weight-lowered k p h (omega arith) (All-tail IsByte c p a) in
+    omega (arith, one, f)
+
+-- the value of `lowered k p` at 2 to the power i is the value of p at 2 to the power i + 1, plus 2 to the power k times
+-- the value of p at 2 to the power i
+value-lowered : (i k : ℕ) (p : List ℕ) → All IsByte p →
+    value_at i (lowered k p) ≡ bit_xor (value_at (i + 1) p) (product (power k) (value_at i p))
+value-lowered i k [] a = sym (xor_zero_l (product (power k) 0) ∙ product-by_zero (power k) (power-lt k))
+value-lowered i k (c ∷ p) a =
+    let lc = All-head IsByte c p a in
+    let lp = All-tail IsByte c p a in
+    let m = length p in
+    let own = power m in
+    let lo = power-lt m in
+    let other = power k in
+    let lk = power-lt k in
+    let place = power (i * m) in
+    let li = power-lt (i * m) in
+    let exponent : m + i * m ≡ (i + 1) * m = omega arith in
+    let first : product (product c own) place ≡ product c (power ((i + 1) * m)) =
+    product-assoc c own place lc lo li ∙ ap (product c) (sym (power-add m (i * m)) ∙ ap power exponent) in
+    let second : product (product c other) place ≡ product other (product c place) =
+    product-assoc c other place lc lk li ∙ product-front c other place lc lk li in
+    let head : product (product c (bit_xor own other)) (power (i * length (lowered k p))) ≡ bit_xor (product c (power ((i + 1) * m))) (product other (product c place)) =
+    ap (λ t. product (product c (bit_xor own other)) (power (i * t))) (length-lowered k p)
+    ∙ (ap (λ t. product t place) (product-by_sum c own other lc lo lk)
+    ∙ (sym (product-xor (product c own) (product c other) place (product-lt c own lc) (product-lt c other lc))
+    ∙ (ap (λ t. bit_xor t (product (product c other) place)) first
+    ∙ ap (bit_xor (product c (power ((i + 1) * m)))) second))) in
+    let v = value_at i p in
+    let w = value_at (i + 1) p in
+    let joined : bit_xor (product other (product c place)) (product other v) ≡ product other (bit_xor (product c place) v) =
+    sym (product-by_sum other (product c place) v lk (product-lt c place lc) (value-lt i p lp)) in
+    ap (λ t. bit_xor t (value_at i (lowered k p))) head
+    ∙ (ap (bit_xor (bit_xor (product c (power ((i + 1) * m))) (product other (product c place)))) (value-lowered i k p lp)
+    ∙ (xor-swap (product c (power ((i + 1) * m))) (product other (product c place)) w (product other v)
+    ∙ ap (bit_xor (bit_xor (product c (power ((i + 1) * m))) w)) joined))
+
+-- if the values of the polynomial c ∷ p are 0 at 2 to the powers i and i + 1, and p has m coefficients, then the value of
+-- `lowered m p` at 2 to the power i is 0
+lowered-root : (i c : ℕ) (p : List ℕ) → c < 256 → All IsByte p → value_at i (c ∷ p) ≡ 0 →
+    value_at (i + 1) (c ∷ p) ≡ 0 → value_at i (lowered (length p) p) ≡ 0
+lowered-root i c p lc lp e f =
+    let m = length p in
+    let own = power m in
+    let lo = power-lt m in
+    let place = power (i * m) in
+    let li = power-lt (i * m) in
+    let here : product c place ≡ value_at i p = sum-none (product c place) (value_at i p) e in
+    let next : product c (power ((i + 1) * m)) ≡ value_at (i + 1) p =
+    sum-none (product c (power ((i + 1) * m))) (value_at (i + 1) p) f in
+    let exponent : (i + 1) * m ≡ m + i * m = omega arith in
+    let same : product own (value_at i p) ≡ value_at (i + 1) p =
+    ap (product own) (sym here)
+    ∙ (product-front own c place lo lc li
+    ∙ (ap (product c) (sym (power-add m (i * m)) ∙ ap power (sym exponent)) ∙ next)) in
+    value-lowered i m p lp ∙ (ap (bit_xor (value_at (i + 1) p)) same ∙ xor_self (value_at (i + 1) p))
+
+-- ---- few coefficients that are not 0
+
+-- if every coefficient of p is 0, then the value of the polynomial c ∷ p at 1 is c
+value-alone : (c : ℕ) (p : List ℕ) → c < 256 → weight p ≡ 0 → value_at 0 (c ∷ p) ≡ c
+value-alone c p l e =
+    let none : 0 * length p ≡ 0 = omega arith in
+    ap (λ t. bit_xor (product c (power t)) (value_at 0 p)) none
+    ∙ (ap (λ t. bit_xor t (value_at 0 p)) (product-by_one c l)
+    ∙ (ap (bit_xor c) (value-none 0 p e) ∙ xor_zero_r c))
+
+-- if p has at most 255 coefficients, of which at most n are not 0, and the values of p at the first n powers of 2 are 0,
+-- then every coefficient of p is 0
+pub weight-none : (k n : ℕ) (p : List ℕ) → length p ≤ k → k ≤ 255 → All IsByte p → weight p ≤ n →
+    ((i : ℕ) → i < n → value_at i p ≡ 0) → weight p ≡ 0
+weight-none k n [] l h a w r = refl
+weight-none zero n (c ∷ p) l h a w r = absurd (omega arith)
+weight-none (suc k) n (c ∷ p) l h a w r =
+    let lc = All-head IsByte c p a in
+    let lp = All-tail IsByte c p a in
+    let lk : length p ≤ k = omega arith in
+    let hk : k ≤ 255 = omega arith in
+    elim (cases_eq c 0) [
+      | inl e ↦
+          let none = difference-same c 0 e in
+          let roots : (i : ℕ) → i < n → value_at i p ≡ 0 =
+          λ i m. sym (value-zero i p) ∙ (ap (λ t. value_at i (t ∷ p)) (sym e) ∙ r i m) in
+          let tail = weight-none k n p lk hk lp (omega (arith, w)) roots in
+          omega (arith, none, tail)
+      | inr o ↦
+          let one = difference-other c 0 o in
+          let some : 1 ≤ n = omega (arith, one, w) in
+          let low = lowered (length p) p in
+          let same = weight-lowered (length p) p (omega arith) (omega arith) lp in
+          let count = length-lowered (length p) p in
+          let roots : (i : ℕ) → i < n - 1 → value_at i low ≡ 0 =
+          λ i m. lowered-root i c p lc lp (r i (omega arith)) (r (i + 1) (omega arith)) in
+          let tail = weight-none k (n - 1) low (omega (arith, count)) hk (bytes-lowered (length p) p lp) (omega (arith, same, one, w)) roots in
+          let empty : weight p ≡ 0 = sym same ∙ tail in
+          absurd (o (sym (value-alone c p lc empty) ∙ r 0 some))
+    ]
+
+-- ---- blocks
+
+-- if two blocks of at most 255 codewords, with n error correction codewords each and equally many data codewords d and d',
+-- differ in at most n codewords, then d equals d'
+pub near-same : (n : ℕ) (d e d' e' : List ℕ) → IsCorrection d n e → IsCorrection d' n e' → length d ≡ length d' →
+    length d + n ≤ 255 → differences (d ++ e) (d' ++ e') ≤ n → d ≡ d'
+near-same n d e d' e' c c' s l w =
+    let one = length-append d e in
+    let two = length-append d' e' in
+    let same : length (d ++ e) ≡ length (d' ++ e') = omega (arith, one, two, s, c.count, c'.count) in
+    let sum = plus (d ++ e) (d' ++ e') in
+    let bytes = block-bytes d n e c in
+    let bytes' = block-bytes d' n e' c' in
+    let count = length-plus (d ++ e) (d' ++ e') (omega (arith, same)) in
+    let weighs = weight-plus (d ++ e) (d' ++ e') same in
+    let roots : (i : ℕ) → i < n → value_at i sum ≡ 0 =
+    λ i m. value-plus i 0 (d ++ e) (d' ++ e') (omega (arith, same)) bytes bytes'
+    ∙ (ap (λ t. bit_xor (product t (power (i * 0))) (value_at i (d' ++ e'))) (block-root d n e c i m)
+    ∙ (ap (λ t. bit_xor t (value_at i (d' ++ e'))) (product-of_zero (power (i * 0)) (power-lt (i * 0)))
+    ∙ (ap (bit_xor 0) (block-root d' n e' c' i m) ∙ xor_self 0))) in
+    let none = weight-none (length sum) n sum (omega arith) (omega (arith, count, two, s, l, c'.count)) (bytes-plus (d ++ e) (d' ++ e') bytes bytes') (omega (arith, weighs, w)) roots in
+    front-same d d' e e' s (differences-none (d ++ e) (d' ++ e') (sym weighs ∙ none))
+  where
+    front-same : (xs ys us vs : List ℕ) → length xs ≡ length ys → xs ++ us ≡ ys ++ vs → xs ≡ ys
+    front-same xs ys us vs s e = sym (take_at xs us (length xs) refl) ∙ (ap (take (length xs)) e ∙ take_at ys vs (length xs) (sym s))
+
+-- if two blocks of at most 255 codewords, with n error correction codewords each and equally many data codewords d and d',
+-- have different data codewords, then the blocks differ in at least n + 1 codewords
+pub apart : (n : ℕ) (d e d' e' : List ℕ) → IsCorrection d n e → IsCorrection d' n e' → length d ≡ length d' →
+    length d + n ≤ 255 → (d ≡ d' → ⊥) → n + 1 ≤ differences (d ++ e) (d' ++ e')
+apart n d e d' e' c c' s l o = elim (cases_lt n (differences (d ++ e) (d' ++ e'))) [
+  | inl m ↦ omega arith
+  | inr m ↦ absurd (o (near-same n d e d' e' c c' s l m))
+]
+
+-- ---- damage
+
+-- the difference of the codewords x and y is at most the difference of z and x plus the difference of z and y
+difference-between : (z x y : ℕ) → difference x y ≤ difference z x + difference z y
+difference-between z x y = elim (cases_eq x y) [
+  | inl e ↦ let none = difference-same x y e in omega (arith, none)
+  | inr n ↦
+      let one = difference-other x y n in
+      elim (cases_eq z x) [
+        | inl f ↦
+            let other = difference-other z y (λ h. n (sym f ∙ h)) in
+            omega (arith, one, other)
+        | inr m ↦ let other = difference-other z x m in omega (arith, one, other)
+      ]
+]
+
+-- the length of xs is at most the number of differences of zs and xs plus the length of zs
+differences-length : (zs xs : List ℕ) → length xs ≤ differences zs xs + length zs
+differences-length [] xs = omega arith
+differences-length (z ∷ zs) [] = omega arith
+differences-length (z ∷ zs) (x ∷ xs) = let e = differences-length zs xs in omega (arith, e)
+
+-- two codewords x and y count as at most 1 difference
+pub difference-most : (x y : ℕ) → difference x y ≤ 1
+difference-most x y = elim (cases_eq x y) [
+  | inl e ↦ let none = difference-same x y e in omega (arith, none)
+  | inr n ↦ let one = difference-other x y n in omega (arith, one)
+]
+
+-- the number of differences of xs and ys is at most the number of differences of zs and xs plus the number of differences
+-- of zs and ys
+differences-between : (zs xs ys : List ℕ) → differences xs ys ≤ differences zs xs + differences zs ys
+differences-between [] [] ys = omega arith
+differences-between [] (x ∷ xs) [] = omega arith
+differences-between [] (x ∷ xs) (y ∷ ys) =
+    let e = differences-between [] xs ys in
+    let one = difference-most x y in
+    omega (arith, e, one)
+differences-between (z ∷ zs) [] ys = let e = differences-length (z ∷ zs) ys in omega (arith, e)
+differences-between (z ∷ zs) (x ∷ xs) [] = let e = differences-length zs xs in omega (arith, e)
+differences-between (z ∷ zs) (x ∷ xs) (y ∷ ys) =
+    let e = difference-between z x y in
+    let f = differences-between zs xs ys in
+    omega (arith, e, f)
+
+-- if 2 * t is at most n and the list `damaged` differs from each of two blocks in at most t codewords, then the blocks
+-- have the same data codewords d and d'
+pub unambiguous : (n t : ℕ) (d e d' e' damaged : List ℕ) → IsCorrection d n e → IsCorrection d' n e' →
+    length d ≡ length d' → length d + n ≤ 255 → 2 * t ≤ n → differences damaged (d ++ e) ≤ t →
+    differences damaged (d' ++ e') ≤ t → d ≡ d'
+unambiguous n t d e d' e' damaged c c' s l h a b =
+    let f = differences-between damaged (d ++ e) (d' ++ e') in
+    near-same n d e d' e' c c' s l (omega (arith, f, h, a, b))
+
+-- the length of xs is at most the number of errors of rs against xs plus the length of rs
+errors-length : (rs : List (Option ℕ)) (xs : List ℕ) → length xs ≤ errors rs xs + length rs
+errors-length [] xs = omega arith
+errors-length (r ∷ rs) [] = omega arith
+errors-length (None ∷ rs) (x ∷ xs) = let e = errors-length rs xs in omega (arith, e)
+errors-length (Some z ∷ rs) (x ∷ xs) = let e = errors-length rs xs in omega (arith, e)
+
+-- the number of differences of xs and ys is at most the number of erasures of rs, plus the number of errors of rs against
+-- xs, plus the number of errors of rs against ys
+errors-between : (rs : List (Option ℕ)) (xs ys : List ℕ) →
+    differences xs ys ≤ erasures rs + (errors rs xs + errors rs ys)
+errors-between [] [] ys = omega arith
+errors-between [] (x ∷ xs) [] = omega arith
+errors-between [] (x ∷ xs) (y ∷ ys) =
+    let e = errors-between [] xs ys in
+    let one = difference-most x y in
+    omega (arith, e, one)
+errors-between (r ∷ rs) [] ys = let e = errors-length (r ∷ rs) ys in omega (arith, e)
+errors-between (None ∷ rs) (x ∷ xs) [] = let e = errors-length rs xs in omega (arith, e)
+errors-between (Some z ∷ rs) (x ∷ xs) [] = let e = errors-length rs xs in omega (arith, e)
+errors-between (None ∷ rs) (x ∷ xs) (y ∷ ys) =
+    let e = errors-between rs xs ys in
+    let one = difference-most x y in
+    omega (arith, e, one)
+errors-between (Some z ∷ rs) (x ∷ xs) (y ∷ ys) =
+    let e = difference-between z x y in
+    let f = errors-between rs xs ys in
+    omega (arith, e, f)
+
+-- if k codewords of the list `read` are erasures, `read` has at most t errors against each of two blocks, and k + 2 * t is
+-- at most n, then the blocks have the same data codewords d and d'
+pub unambiguous-known : (n t : ℕ) (d e d' e' : List ℕ) (read : List (Option ℕ)) → IsCorrection d n e →
+    IsCorrection d' n e' → length d ≡ length d' → length d + n ≤ 255 → erasures read + 2 * t ≤ n →
+    errors read (d ++ e) ≤ t → errors read (d' ++ e') ≤ t → d ≡ d'
+unambiguous-known n t d e d' e' read c c' s l h a b =
+    let f = errors-between read (d ++ e) (d' ++ e') in
+    near-same n d e d' e' c c' s l (omega (arith, f, h, a, b))
+
+-- a list xs of which every codeword was read has 0 erasures
+pub erasures-read : (xs : List ℕ) → erasures (map (λ x. Some x) xs) ≡ 0
+erasures-read [] = refl
+erasures-read (x ∷ xs) = erasures-read xs
+
+-- if every codeword of xs was read, then the number of errors of xs against ys is the number of differences of xs and ys
+pub errors-read : (xs ys : List ℕ) → errors (map (λ x. Some x) xs) ys ≡ differences xs ys
+errors-read [] ys = refl
+errors-read (x ∷ xs) [] = ap suc (length-map xs (λ x. Some x))
+errors-read (x ∷ xs) (y ∷ ys) = ap (λ z. difference x y + z) (errors-read xs ys)

@@ -1,0 +1,174 @@
+-- The values of polynomials at the powers of 2: the value of a product is the product of the values, so a block with n error
+-- correction codewords has the value 0 at the first n powers of 2.
+use Rattle.std.proofs.Common.{◌≡◌, ℕ, zero, suc, ◌+◌, ◌-◌, ◌*◌, ◌<◌, ◌≤◌, List, [], ◌∷◌, ◌++◌, length, refl, sym, ap, ◌∙◌, subst, inl, inr, arith, lit<, bit_xor}
+use Rattle.std.specs.List.{All}
+use Rattle.std.specs.Int.Bits.{xor_zero_l, xor_zero_r, xor_self}
+use Rattle.std.proofs.lemmas.Nat.{xor_of_8}
+use Rattle.std.proofs.lemmas.Bool.{cases_eq}
+use Rattle.std.proofs.lemmas.List.{length-map}
+use Rattle.std.proofs.lemmas.List.Elements.{All-nil, All-cons, All-head, All-tail}
+use Rattle.qr_field.specs.Galois.{product}
+use Rattle.qr_field.specs.Polynomial.{IsByte, plus, zeros, scaled, times, power, generator_of, IsCorrection}
+use Rattle.qr_field.specs.Steps.Polynomial.{value_at}
+use Rattle.qr_field.proofs.lemmas.galois.BitLemmas.{xor-swap}
+use Rattle.qr_field.proofs.lemmas.galois.ByteLemmas.{product-by_zero, product-of_zero, product-by_one, product-of_one}
+use Rattle.qr_field.proofs.lemmas.galois.ProductLemmas.{product-lt, product-xor}
+use Rattle.qr_field.proofs.lemmas.logarithm.PowerLemmas.{power-lt, power-add}
+use Rattle.qr_field.proofs.lemmas.galois.FieldLemmas.{product-assoc, product-swap, product-by_sum}
+use Rattle.qr_field.proofs.lemmas.polynomial.ListLemmas.{length-plus, length-times, bytes-scaled}
+use Rattle.qr_field.proofs.lemmas.polynomial.PolynomialLemmas.{generator-shape, bytes-times, bytes-generator}
+
+-- ---- values
+
+-- if the coefficients of p are bytes, then the value of p at 2 to the power i is a byte
+pub value-lt : (i : ℕ) (p : List ℕ) → All IsByte p → value_at i p < 256
+value-lt i [] a = lit< tt
+value-lt i (c ∷ p) a =
+    xor_of_8 (product c (power (i * length p))) (value_at i p)
+    (product-lt c (power (i * length p)) (All-head IsByte c p a)) (value-lt i p (All-tail IsByte c p a))
+
+-- the polynomial 0 ∷ p has the same value as p at 2 to the power i
+pub value-zero : (i : ℕ) (p : List ℕ) → value_at i (0 ∷ p) ≡ value_at i p
+value-zero i p =
+    ap (λ t. bit_xor t (value_at i p)) (product-of_zero (power (i * length p)) (power-lt (i * length p)))
+    ∙ xor_zero_l (value_at i p)
+
+-- the value of a list of k zeros at 2 to the power i is 0
+value-zeros : (i k : ℕ) → value_at i (zeros k) ≡ 0
+value-zeros i zero = refl
+value-zeros i (suc k) = value-zero i (zeros k) ∙ value-zeros i k
+
+-- the value of a times p at 2 to the power i is a times the value of p at this power
+value-scaled : (i a : ℕ) (p : List ℕ) → a < 256 → All IsByte p → value_at i (scaled a p) ≡ product a (value_at i p)
+value-scaled i a [] l b = sym (product-by_zero a l)
+value-scaled i a (c ∷ p) l b =
+    let x = power (i * length p) in
+    let lx = power-lt (i * length p) in
+    let lc = All-head IsByte c p b in
+    let lp = All-tail IsByte c p b in
+    let m = length-map p (product a) in
+    let one : product (product a c) (power (i * length (scaled a p))) ≡ product a (product c x) =
+    ap (λ k. product (product a c) (power (i * k))) m ∙ product-assoc a c x l lc lx in
+    ap (λ t. bit_xor t (value_at i (scaled a p))) one
+    ∙ (ap (bit_xor (product a (product c x))) (value-scaled i a p l lp)
+    ∙ sym (product-by_sum a (product c x) (value_at i p) l (product-lt c x lc) (value-lt i p lp)))
+
+-- if ys has k coefficients more than xs, then the value of `plus xs ys` at 2 to the power i is the sum of the value of ys
+-- and of the value of xs times 2 to the power i * k; `plus` adds the first coefficients of both lists
+pub value-plus : (i k : ℕ) (xs ys : List ℕ) → length ys ≡ k + length xs → All IsByte xs → All IsByte ys →
+    value_at i (plus xs ys) ≡ bit_xor (product (value_at i xs) (power (i * k))) (value_at i ys)
+value-plus i k [] ys e a b =
+    sym
+    (ap (λ t. bit_xor t (value_at i ys)) (product-of_zero (power (i * k)) (power-lt (i * k)))
+    ∙ xor_zero_l (value_at i ys))
+value-plus i k (x ∷ xs) [] e a b = absurd (omega (arith, e))
+value-plus i k (x ∷ xs) (y ∷ ys) e a b =
+    let lx = All-head IsByte x xs a in
+    let ly = All-head IsByte y ys b in
+    let lxs = All-tail IsByte x xs a in
+    let lys = All-tail IsByte y ys b in
+    let f : length ys ≡ k + length xs = omega (arith, e) in
+    let h : length xs ≤ length ys = omega (arith, f) in
+    let place = power (i * length ys) in
+    let shift = power (i * k) in
+    let inner = power (i * length xs) in
+    let ls = power-lt (i * k) in
+    let li = power-lt (i * length xs) in
+    let exponent : i * length ys ≡ i * length xs + i * k = ap (λ t. i * t) f ∙ omega arith in
+    let split : place ≡ product inner shift = ap power exponent ∙ power-add (i * length xs) (i * k) in
+    let front : product x place ≡ product (product x inner) shift =
+    ap (product x) split ∙ sym (product-assoc x inner shift lx li ls) in
+    let head : product (bit_xor x y) (power (i * length (plus xs ys))) ≡ bit_xor (product (product x inner) shift) (product y place) =
+    ap (λ t. product (bit_xor x y) (power (i * t))) (length-plus xs ys h)
+    ∙ (sym (product-xor x y place lx ly) ∙ ap (λ t. bit_xor t (product y place)) front) in
+    let vx = value_at i xs in
+    let vy = value_at i ys in
+    let both : bit_xor (product (product x inner) shift) (product vx shift) ≡ product (bit_xor (product x inner) vx) shift =
+    product-xor (product x inner) vx shift (product-lt x inner lx) (value-lt i xs lxs) in
+    ap (λ t. bit_xor t (value_at i (plus xs ys))) head
+    ∙ (ap (bit_xor (bit_xor (product (product x inner) shift) (product y place))) (value-plus i k xs ys f lxs lys)
+    ∙ (xor-swap (product (product x inner) shift) (product y place) (product vx shift) vy
+    ∙ ap (λ t. bit_xor t (bit_xor (product y place) vy)) both))
+
+-- the value of the product of q and a ∷ g at 2 to the power i is the product of the values of q and of a ∷ g at this power
+value-times : (i : ℕ) (q : List ℕ) (a : ℕ) (g : List ℕ) → All IsByte q → All IsByte (a ∷ g) →
+    value_at i (times q (a ∷ g)) ≡ product (value_at i q) (value_at i (a ∷ g))
+value-times i [] a g bq bg =
+    value-zeros i (length (a ∷ g) - 1) ∙ sym (product-of_zero (value_at i (a ∷ g)) (value-lt i (a ∷ g) bg))
+value-times i (b ∷ q) a g bq bg =
+    let lb = All-head IsByte b q bq in
+    let lq = All-tail IsByte b q bq in
+    let v = value_at i (a ∷ g) in
+    let lv = value-lt i (a ∷ g) bg in
+    let place = power (i * length q) in
+    let lp = power-lt (i * length q) in
+    let rest = times q (a ∷ g) in
+    let m = length-map (a ∷ g) (product b) in
+    let t = length-times q a g in
+    let longer : length (0 ∷ rest) ≡ length q + length (scaled b (a ∷ g)) = omega (arith, m, t) in
+    let bytes : All IsByte (0 ∷ rest) = All-cons IsByte 0 rest (lit< tt) (bytes-times q (a ∷ g) lq) in
+    let sum = value-plus i (length q) (scaled b (a ∷ g)) (0 ∷ rest) longer (bytes-scaled b (a ∷ g) lb) bytes in
+    let first : product (value_at i (scaled b (a ∷ g))) place ≡ product (product b place) v =
+    ap (λ s. product s place) (value-scaled i b (a ∷ g) lb bg) ∙ product-swap b v place lb lv lp in
+    let last : value_at i (0 ∷ rest) ≡ product (value_at i q) v = value-zero i rest ∙ value-times i q a g lq bg in
+    sum
+    ∙ (ap (λ s. bit_xor s (value_at i (0 ∷ rest))) first
+    ∙ (ap (bit_xor (product (product b place) v)) last
+    ∙ product-xor (product b place) (value_at i q) v (product-lt b place lb) (value-lt i q lq)))
+
+-- ---- roots
+
+-- the value of x - 2^n at 2^n is 0
+value-factor : (n : ℕ) → value_at n (1 ∷ power n ∷ []) ≡ 0
+value-factor n =
+    let last : List ℕ = power n ∷ [] in
+    let none : List ℕ = [] in
+    let one : n * length last ≡ n = omega arith in
+    let no : n * length none ≡ 0 = omega arith in
+    let first : product 1 (power (n * length last)) ≡ power n =
+    ap (λ t. product 1 (power t)) one ∙ product-of_one (power n) (power-lt n) in
+    let second : product (power n) (power (n * length none)) ≡ power n =
+    ap (λ t. product (power n) (power t)) no ∙ product-by_one (power n) (power-lt n) in
+    ap (λ t. bit_xor t (value_at n last)) first
+    ∙ (ap (λ t. bit_xor (power n) (bit_xor t 0)) second
+    ∙ (ap (bit_xor (power n)) (xor_zero_r (power n)) ∙ xor_self (power n)))
+
+-- if i is below n, then the value of the generator polynomial of degree n at 2 to the power i is 0
+generator-root : (n i : ℕ) → i < n → value_at i (generator_of n) ≡ 0
+generator-root zero i l = absurd (omega arith)
+generator-root (suc n) i l =
+    let before = generator_of n in
+    let factor : List ℕ = 1 ∷ power n ∷ [] in
+    let bytes : All IsByte factor =
+    All-cons IsByte 1 (power n ∷ []) (lit< tt) (All-cons IsByte (power n) [] (power-lt n) (All-nil IsByte)) in
+    let split = value-times i before 1 (power n ∷ []) (bytes-generator n) bytes in
+    elim (cases_eq i n) [
+      | inl e ↦
+          split
+          ∙ (ap (λ t. product (value_at i before) (value_at t factor)) e
+          ∙ (ap (product (value_at i before)) (value-factor n)
+          ∙ product-by_zero (value_at i before) (value-lt i before (bytes-generator n))))
+      | inr o ↦
+          split
+          ∙ (ap (λ t. product t (value_at i factor)) (generator-root n i (omega (arith, o)))
+          ∙ product-of_zero (value_at i factor) (value-lt i factor bytes))
+    ]
+
+-- a block of data codewords d and n error correction codewords e consists of bytes
+pub block-bytes : (d : List ℕ) (n : ℕ) (e : List ℕ) → IsCorrection d n e → All IsByte (d ++ e)
+block-bytes d n e c =
+    let m = c.multiple in
+    subst (λ (t : List ℕ). All IsByte t) m.whole (bytes-times m.quotient (generator_of n) m.bytes)
+
+-- if i is below n, then the value of a block with n error correction codewords at 2 to the power i is 0
+pub block-root : (d : List ℕ) (n : ℕ) (e : List ℕ) → IsCorrection d n e → (i : ℕ) → i < n → value_at i (d ++ e) ≡ 0
+block-root d n e c i l =
+    let m = c.multiple in
+    let q = m.quotient in
+    let s = generator-shape n in
+    let bytes : All IsByte (1 ∷ s.0) = subst (λ (t : List ℕ). All IsByte t) s.1 (bytes-generator n) in
+    let root : value_at i (1 ∷ s.0) ≡ 0 = ap (value_at i) (sym s.1) ∙ generator-root n i l in
+    ap (value_at i) (sym m.whole)
+    ∙ (ap (λ t. value_at i (times q t)) s.1
+    ∙ (value-times i q 1 s.0 m.bytes bytes
+    ∙ (ap (product (value_at i q)) root ∙ product-by_zero (value_at i q) (value-lt i q m.bytes))))

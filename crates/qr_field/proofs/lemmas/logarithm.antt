@@ -1,0 +1,2 @@
+-- Powers of 2 in the field, and the tables of powers and logarithms.
+pub mod PowerLemmas

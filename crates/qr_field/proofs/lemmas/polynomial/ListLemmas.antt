@@ -1,0 +1,157 @@
+-- Lists of coefficients: their sums, lengths and products.
+use Rattle.std.proofs.Common.{◌≡◌, ℕ, zero, suc, ◌+◌, ◌-◌, ◌<◌, ◌≤◌, List, [], ◌∷◌, ◌++◌, length, take, get_or, refl, sym, ap, ◌∙◌, arith, bit_xor, lit<, ltb, true}
+use Rattle.std.proofs.lemmas.Bool.{and_parts}
+use Rattle.std.specs.List.{All, refill, list_all}
+use Rattle.std.specs.Int.Bits.{xor_assoc, xor_zero_r}
+use Rattle.std.proofs.lemmas.Nat.{xor_comm, xor_of_8}
+use Rattle.std.proofs.lemmas.List.{length-map, append-nil, drop_all, take_all, length-take}
+use Rattle.std.proofs.lemmas.List.Elements.{All-map, All-nil, All-cons, All-head, All-tail}
+use borrow.Author.Tests.{ltb-true}
+use Rattle.qr_field.specs.Galois.{product}
+use Rattle.qr_field.specs.Polynomial.{IsByte, plus, zeros, scaled, times}
+use Rattle.qr_field.proofs.lemmas.galois.BitLemmas.{xor-cancel}
+use Rattle.qr_field.proofs.lemmas.galois.ProductLemmas.{product-lt}
+
+-- a list that is written over by a list of its own length is that list
+pub refill_same : (xs ws : List ℕ) → length ws ≡ length xs → refill (length xs) xs ws ≡ ws
+refill_same xs ws e =
+    ap (λ t. take (length xs) (ws ++ t)) (drop_all (length ws) xs (omega arith))
+    ∙ (ap (λ t. take (length xs) t) (append-nil ws) ∙ take_all (length xs) ws (omega arith))
+
+-- ---- sums
+
+-- a sum in either order
+plus-comm : (xs ys : List ℕ) → plus xs ys ≡ plus ys xs
+plus-comm [] [] = refl
+plus-comm [] (y ∷ ys) = refl
+plus-comm (x ∷ xs) [] = refl
+plus-comm (x ∷ xs) (y ∷ ys) = let e = xor_comm x y in let f = plus-comm xs ys in cc
+
+-- a sum of three
+plus_assoc : (xs ys zs : List ℕ) → plus (plus xs ys) zs ≡ plus xs (plus ys zs)
+plus_assoc [] ys zs = refl
+plus_assoc (x ∷ xs) [] zs = refl
+plus_assoc (x ∷ xs) (y ∷ ys) [] = refl
+plus_assoc (x ∷ xs) (y ∷ ys) (z ∷ zs) = let e = xor_assoc x y z in let f = plus_assoc xs ys zs in cc
+
+-- zeros change nothing
+pub plus-zeros : (xs : List ℕ) (k : ℕ) → k ≤ length xs → plus xs (zeros k) ≡ xs
+plus-zeros [] zero l = refl
+plus-zeros [] (suc k) l = absurd (omega arith)
+plus-zeros (x ∷ xs) zero l = refl
+plus-zeros (x ∷ xs) (suc k) l = let e = xor_zero_r x in let f = plus-zeros xs k (omega arith) in cc
+
+-- a sum is as long as its longer list
+pub length-plus : (xs ys : List ℕ) → length xs ≤ length ys → length (plus xs ys) ≡ length ys
+length-plus [] ys l = refl
+length-plus (x ∷ xs) [] l = absurd (omega arith)
+length-plus (x ∷ xs) (y ∷ ys) l = ap suc (length-plus xs ys (omega arith))
+
+-- lists of one length are summed part by part
+pub plus-append : (xs ys us vs : List ℕ) → length xs ≡ length ys → plus (xs ++ us) (ys ++ vs) ≡ plus xs ys ++ plus us vs
+plus-append [] [] us vs e = refl
+plus-append [] (y ∷ ys) us vs e = absurd (omega arith)
+plus-append (x ∷ xs) [] us vs e = absurd (omega arith)
+plus-append (x ∷ xs) (y ∷ ys) us vs e = ap (λ z. bit_xor x y ∷ z) (plus-append xs ys us vs (omega arith))
+
+-- what follows a sum
+plus-snoc : (xs ys zs : List ℕ) → length xs ≤ length ys → plus xs (ys ++ zs) ≡ plus xs ys ++ zs
+plus-snoc [] ys zs l = refl
+plus-snoc (x ∷ xs) [] zs l = absurd (omega arith)
+plus-snoc (x ∷ xs) (y ∷ ys) zs l = ap (λ z. bit_xor x y ∷ z) (plus-snoc xs ys zs (omega arith))
+
+-- what is added twice is gone
+plus-cancel : (xs ys : List ℕ) → length xs ≤ length ys → plus xs (plus xs ys) ≡ ys
+plus-cancel [] ys l = refl
+plus-cancel (x ∷ xs) [] l = absurd (omega arith)
+plus-cancel (x ∷ xs) (y ∷ ys) l = let e = xor-cancel x y in let f = plus-cancel xs ys (omega arith) in cc
+
+-- the front of a sum
+pub take-plus : (n : ℕ) (xs ys : List ℕ) → take n (plus xs ys) ≡ plus (take n xs) (take n ys)
+take-plus zero xs ys = refl
+take-plus (suc n) [] ys = refl
+take-plus (suc n) (x ∷ xs) [] = refl
+take-plus (suc n) (x ∷ xs) (y ∷ ys) = ap (λ z. bit_xor x y ∷ z) (take-plus n xs ys)
+
+-- one list added to two: where the sums agree, the two agree
+pub same-plus : (n : ℕ) (xs ys zs : List ℕ) → n ≤ length ys → n ≤ length zs →
+    take n (plus xs ys) ≡ take n (plus xs zs) → take n ys ≡ take n zs
+same-plus n xs ys zs l m e =
+    let f : plus (take n xs) (take n ys) ≡ plus (take n xs) (take n zs) =
+    sym (take-plus n xs ys) ∙ (e ∙ take-plus n xs zs) in
+    let a = length-take n xs in
+    let b = length-take n ys in
+    let d = length-take n zs in
+    sym (plus-cancel (take n xs) (take n ys) (omega (arith, a, b)))
+    ∙ (ap (λ t. plus (take n xs) t) f ∙ plus-cancel (take n xs) (take n zs) (omega (arith, a, d)))
+
+-- ---- bytes
+
+-- a list is a list of bytes if a test computes so
+pub bytes-computed : (xs : List ℕ) → list_all (λ x. ltb x 256) xs ≡ true → All IsByte xs
+bytes-computed [] h = All-nil IsByte
+bytes-computed (x ∷ xs) h =
+    All-cons IsByte x xs (ltb-true x 256 (and_parts (ltb x 256) _ h).0) (bytes-computed xs (and_parts (ltb x 256) _ h).1)
+
+-- zeros are bytes
+pub bytes-zeros : (k : ℕ) → All IsByte (zeros k)
+bytes-zeros zero = All-nil IsByte
+bytes-zeros (suc k) = All-cons IsByte 0 (zeros k) (lit< tt) (bytes-zeros k)
+
+-- a sum of bytes
+pub bytes-plus : (xs ys : List ℕ) → All IsByte xs → All IsByte ys → All IsByte (plus xs ys)
+bytes-plus [] ys a b = b
+bytes-plus (x ∷ xs) [] a b = a
+bytes-plus (x ∷ xs) (y ∷ ys) a b =
+    let head = xor_of_8 x y (All-head IsByte x xs a) (All-head IsByte y ys b) in
+    All-cons IsByte (bit_xor x y) (plus xs ys) head (bytes-plus xs ys (All-tail IsByte x xs a) (All-tail IsByte y ys b))
+
+-- a multiple of a list has bytes
+pub bytes-scaled : (a : ℕ) (xs : List ℕ) → a < 256 → All IsByte (scaled a xs)
+bytes-scaled a xs l = All-map IsByte (product a) xs (λ k d h. product-lt a (get_or xs k d) l)
+
+-- ---- products
+
+-- a list of k zeros has length k
+pub length-zeros : (k : ℕ) → length (zeros k) ≡ k
+length-zeros zero = refl
+length-zeros (suc k) = ap suc (length-zeros k)
+
+-- the length of a product
+pub length-times : (q : List ℕ) (a : ℕ) (g : List ℕ) → length (times q (a ∷ g)) ≡ length q + length g
+length-times [] a g =
+    let e : length (a ∷ g) - 1 ≡ length g = omega arith in
+    let f = length-zeros (length (a ∷ g) - 1) in
+    omega (arith, e, f)
+length-times (b ∷ q) a g =
+    let e = length-times q a g in
+    let m = length-map (a ∷ g) (product b) in
+    let f = length-plus (scaled b (a ∷ g)) (0 ∷ times q (a ∷ g)) (omega (arith, e, m)) in
+    omega (arith, e, f)
+
+-- one zero more
+snoc-zeros : (k : ℕ) → zeros k ++ 0 ∷ [] ≡ zeros (suc k)
+snoc-zeros zero = refl
+snoc-zeros (suc k) = ap (λ z. 0 ∷ z) (snoc-zeros k)
+
+-- one more coefficient of the quotient
+pub times-snoc : (q : List ℕ) (f a : ℕ) (g : List ℕ) →
+    times (q ++ f ∷ []) (a ∷ g) ≡ plus (times q (a ∷ g) ++ 0 ∷ []) (zeros (length q) ++ scaled f (a ∷ g))
+times-snoc [] f a g =
+    let e : length (a ∷ g) - 1 ≡ length g = omega arith in
+    let m = length-map (a ∷ g) (product f) in
+    let z : 0 ∷ zeros (length (a ∷ g) - 1) ≡ zeros (suc (length g)) = ap (λ k. zeros (suc k)) e in
+    let w : zeros (length (a ∷ g) - 1) ++ 0 ∷ [] ≡ zeros (suc (length g)) =
+    ap (λ k. zeros k ++ 0 ∷ []) e ∙ snoc-zeros (length g) in
+    ap (λ t. plus (scaled f (a ∷ g)) t) z
+    ∙ (plus-comm (scaled f (a ∷ g)) (zeros (suc (length g))) ∙ ap (λ t. plus t (scaled f (a ∷ g))) (sym w))
+times-snoc (b ∷ q) f a g =
+    let ih = times-snoc q f a g in
+    let m = length-map (a ∷ g) (product b) in
+    let l = length-times q a g in
+    let first = scaled b (a ∷ g) in
+    let middle : List ℕ = 0 ∷ times q (a ∷ g) in
+    let last : List ℕ = 0 ∷ (zeros (length q) ++ scaled f (a ∷ g)) in
+    ap (λ t. plus first (0 ∷ t)) ih
+    ∙ (sym (plus_assoc first (middle ++ 0 ∷ []) last)
+    ∙ ap (λ t. plus t last) (plus-snoc first middle (0 ∷ []) (omega (arith, m, l))))

@@ -1,0 +1,227 @@
+-- Generator polynomials and error correction codewords: what the loops compute, and that both are unique.
+use Rattle.std.proofs.Common.{◌≡◌, ℕ, zero, suc, ◌+◌, ◌-◌, ◌<◌, ◌≤◌, List, [], ◌∷◌, ◌++◌, length, take, drop, get_or, refl, sym, ap, ◌∙◌, subst, arith, bit_xor, lit<, append_assoc, length-append}
+use Rattle.std.specs.List.{All}
+use Rattle.std.specs.Int.Bits.{xor_zero_r}
+use Rattle.std.proofs.lemmas.Nat.{xor_comm, xor_of_8}
+use Rattle.std.proofs.lemmas.List.{length-map, append_cancel_left, append-nil, take_at, take_more, drop_more, get_or_read}
+use Rattle.std.proofs.lemmas.List.Elements.{All-nil, All-cons, All-head, All-tail, All-push, All-rest}
+use Rattle.std.proofs.Math.Numerals.{suc-eq-add-one}
+use Rattle.qr_field.specs.Galois.{product}
+use Rattle.qr_field.specs.Steps.Polynomial.{carried}
+use Rattle.qr_field.specs.Polynomial.{IsByte, plus, zeros, scaled, times, power, generator_of, IsMultiple, IsCorrection, HasCorrection}
+use Rattle.qr_field.proofs.lemmas.galois.ByteLemmas.{product-by_one}
+use Rattle.qr_field.proofs.lemmas.galois.BitLemmas.{xor-cancel}
+use Rattle.qr_field.proofs.lemmas.polynomial.ListLemmas.{plus-append, plus-zeros, length-plus, same-plus, bytes-zeros, bytes-plus, bytes-scaled, length-zeros, length-times, times-snoc}
+
+-- ---- the step of a register
+
+-- if q times the generator polynomial is p followed by the register r ∷ rs, then q with the quotient of one more byte
+-- b, times the generator polynomial, is p and b followed by the next register
+divide-step : (p q : List ℕ) (b r : ℕ) (rs g : List ℕ) → b < 256 → r < 256 → length q ≡ length p →
+    length g ≡ length (r ∷ rs) → times q (1 ∷ g) ≡ p ++ r ∷ rs →
+    times (q ++ bit_xor b r ∷ []) (1 ∷ g) ≡ (p ++ b ∷ []) ++ plus (rs ++ 0 ∷ []) (scaled (bit_xor b r) g)
+divide-step p q b r rs g lb lr lq lg e =
+    let f = bit_xor b r in
+    let lf = xor_of_8 b r lb lr in
+    let one : product f 1 ≡ f = product-by_one f lf in
+    let h : bit_xor r f ≡ b = ap (λ t. bit_xor r t) (xor_comm b r) ∙ xor-cancel r b in
+    times-snoc q f 1 g
+    ∙ (ap (λ t. plus (t ++ 0 ∷ []) (zeros (length q) ++ scaled f (1 ∷ g))) e
+    ∙ (ap (λ t. plus t (zeros (length q) ++ scaled f (1 ∷ g))) (append_assoc p (r ∷ rs) (0 ∷ []))
+    ∙ (plus-append p (zeros (length q)) (r ∷ (rs ++ 0 ∷ [])) (scaled f (1 ∷ g)) (sym lq ∙ sym (length-zeros (length q)))
+    ∙ (ap (λ t. t ++ plus (r ∷ (rs ++ 0 ∷ [])) (scaled f (1 ∷ g))) (plus-zeros p (length q) (omega arith))
+    ∙ (ap (λ t. p ++ bit_xor r t ∷ plus (rs ++ 0 ∷ []) (scaled f g)) one
+    ∙ (ap (λ t. p ++ t ∷ plus (rs ++ 0 ∷ []) (scaled f g)) h ∙ sym (append_assoc p (b ∷ []) (plus (rs ++ 0 ∷ []) (scaled f g)))))))))
+
+-- ---- there is one quotient
+
+-- two quotients q and r of one length are equal, if their products by a polynomial with the leading coefficient 1 begin
+-- with the same coefficients
+quotient-one : (q r g : List ℕ) → All IsByte q → All IsByte r → length q ≡ length r →
+    take (length q) (times q (1 ∷ g)) ≡ take (length q) (times r (1 ∷ g)) → q ≡ r
+quotient-one [] [] g a b l e = refl
+quotient-one [] (y ∷ r) g a b l e = absurd (omega arith)
+quotient-one (x ∷ q) [] g a b l e = absurd (omega arith)
+quotient-one (x ∷ q) (y ∷ r) g a b l e =
+    let hx : product x 1 ≡ x = product-by_one x (All-head IsByte x q a) in
+    let hy : product y 1 ≡ y = product-by_one y (All-head IsByte y r b) in
+    let zx = xor_zero_r (product x 1) in
+    let zy = xor_zero_r (product y 1) in
+    let head : bit_xor (product x 1) 0 ≡ bit_xor (product y 1) 0 = ap (λ t. get_or t 0 0) e in
+    let same : x ≡ y = cc in
+    let tail : take (length q) (plus (scaled x g) (times q (1 ∷ g))) ≡ take (length q) (plus (scaled y g) (times r (1 ∷ g))) =
+    ap (λ t. drop 1 t) e in
+    let both : take (length q) (plus (scaled x g) (times q (1 ∷ g))) ≡ take (length q) (plus (scaled x g) (times r (1 ∷ g))) =
+    tail ∙ ap (λ t. take (length q) (plus (scaled t g) (times r (1 ∷ g)))) (sym same) in
+    let lq = length-times q 1 g in
+    let lr = length-times r 1 g in
+    let rest = same-plus (length q) (scaled x g) (times q (1 ∷ g)) (times r (1 ∷ g)) (omega (arith, lq)) (omega (arith, lr, lq)) both in
+    let ih = quotient-one q r g (All-tail IsByte x q a) (All-tail IsByte y r b) (omega arith) rest in
+    cc
+
+-- ---- generators
+
+-- the product of a polynomial c ∷ q by x - root has the coefficients that the loop carries
+times-root : (c : ℕ) (q : List ℕ) (root : ℕ) → c < 256 → All IsByte q →
+    times (c ∷ q) (1 ∷ root ∷ []) ≡ c ∷ carried c q root
+times-root c [] root l a =
+    let e : product c 1 ≡ c = product-by_one c l in
+    let f = xor_zero_r (product c 1) in
+    let g = xor_zero_r (product c root) in
+    cc
+times-root c (x ∷ q) root l a =
+    let e : product c 1 ≡ c = product-by_one c l in
+    let f = xor_zero_r (product c 1) in
+    let ih = times-root x q root (All-head IsByte x q a) (All-tail IsByte x q a) in
+    let h : plus (scaled c (1 ∷ root ∷ [])) (0 ∷ times (x ∷ q) (1 ∷ root ∷ [])) ≡ bit_xor (product c 1) 0 ∷ bit_xor (product c root) x ∷ carried x q root =
+    ap (λ t. plus (scaled c (1 ∷ root ∷ [])) (0 ∷ t)) ih in
+    let k = xor_comm (product c root) x in
+    h ∙ cc
+
+-- a generator polynomial begins with the coefficient 1 and has degree n
+pub generator-shape : (n : ℕ) → (g : List ℕ) × (generator_of n ≡ 1 ∷ g) × (length g ≡ n)
+generator-shape zero = ([], refl, refl)
+generator-shape (suc n) =
+    let s = generator-shape n in
+    let e : times (generator_of n) (1 ∷ power n ∷ []) ≡ times (1 ∷ s.0) (1 ∷ power n ∷ []) =
+    ap (λ t. times t (1 ∷ power n ∷ [])) s.1 in
+    let one : product 1 1 ≡ 1 = product-by_one 1 (lit< tt) in
+    let h : bit_xor (product 1 1) 0 ≡ 1 = xor_zero_r (product 1 1) ∙ one in
+    let g : List ℕ = plus (scaled 1 (power n ∷ [])) (times s.0 (1 ∷ power n ∷ [])) in
+    let f : generator_of (suc n) ≡ 1 ∷ g = e ∙ ap (λ t. t ∷ g) h in
+    let l = length-times (generator_of n) 1 (power n ∷ []) in
+    (g, f, omega (arith, l, ap length f, ap length s.1, s.2))
+
+-- the product of two polynomials has bytes as coefficients, if the first has bytes as coefficients
+pub bytes-times : (q g : List ℕ) → All IsByte q → All IsByte (times q g)
+bytes-times [] g a = bytes-zeros (length g - 1)
+bytes-times (b ∷ q) g a =
+    let one = bytes-scaled b g (All-head IsByte b q a) in
+    let rest = bytes-times q g (All-tail IsByte b q a) in
+    bytes-plus (scaled b g) (0 ∷ times q g) one (All-cons IsByte 0 (times q g) (lit< tt) rest)
+
+-- a generator polynomial has bytes as coefficients
+pub bytes-generator : (n : ℕ) → All IsByte (generator_of n)
+bytes-generator zero = All-cons IsByte 1 [] (lit< tt) (All-nil IsByte)
+bytes-generator (suc n) = bytes-times (generator_of n) (1 ∷ power n ∷ []) (bytes-generator n)
+
+-- one round of the loop computes the generator polynomial of degree n + 1 from that of degree n
+pub generator-next : (n r : ℕ) (g : List ℕ) → 1 ∷ g ≡ generator_of n → r ≡ power n →
+    1 ∷ carried 1 g r ≡ generator_of (n + 1)
+generator-next n r g e f =
+    let b : All IsByte g = All-rest IsByte 1 g (generator_of n) (sym e) (bytes-generator n) in
+    sym (times-root 1 g r (lit< tt) b)
+    ∙ (ap (λ t. times t (1 ∷ r ∷ [])) e ∙ (ap (λ t. times (generator_of n) (1 ∷ t ∷ [])) f ∙ ap generator_of (suc-eq-add-one n)))
+
+-- one round of the loop adds one coefficient
+pub length-carried : (c : ℕ) (q : List ℕ) (r : ℕ) → length (carried c q r) ≡ length q + 1
+length-carried c [] r = refl
+length-carried c (x ∷ q) r = let e = length-carried x q r in omega (arith, e)
+
+-- twice the power of 2 to n is the power to n + 1
+pub power-next : (n r : ℕ) → r ≡ power n → product 2 r ≡ power (n + 1)
+power-next n r e = ap (product 2) e ∙ ap power (suc-eq-add-one n)
+
+-- ---- corrections
+
+-- the error correction codewords of no data codewords are zeros
+pub correction-start : (n : ℕ) → IsCorrection [] n (zeros n)
+correction-start n =
+    let s = generator-shape n in
+    let e : length (generator_of n) - 1 ≡ n = omega (arith, ap length s.1, s.2) in
+    let multiple : IsMultiple (generator_of n) (zeros n) =
+    record { quotient = []; bytes = All-nil IsByte; whole = ap zeros e } in
+    record { count = length-zeros n; bytes = bytes-zeros n; multiple = multiple }
+
+-- if r ∷ rs are the error correction codewords of the codewords p, then one round of the register makes those of p and
+-- one more codeword b
+correction-next : (p : List ℕ) (n b r : ℕ) (rs g : List ℕ) → b < 256 → 1 ∷ g ≡ generator_of n →
+    IsCorrection p n (r ∷ rs) →
+    IsCorrection (p ++ b ∷ []) n (plus (rs ++ 0 ∷ []) (scaled (bit_xor b r) g))
+correction-next p n b r rs g l e c =
+    let s = generator-shape n in
+    let lg : length g ≡ n = omega (arith, ap length e, ap length s.1, s.2) in
+    let m = c.multiple in
+    let w : times m.quotient (1 ∷ g) ≡ p ++ r ∷ rs = ap (λ t. times m.quotient t) e ∙ m.whole in
+    let lt = length-times m.quotient 1 g in
+    let la = length-append p (r ∷ rs) in
+    let lr : r < 256 = All-head IsByte r rs c.bytes in
+    let d = divide-step p m.quotient b r rs g l lr (omega (arith, lt, la, ap length w, c.count)) (omega (arith, c.count)) w in
+    let ls = length-append rs (0 ∷ []) in
+    let lm = length-map g (product (bit_xor b r)) in
+    let lf = xor_of_8 b r l lr in
+    let moved = All-push IsByte rs 0 (All-tail IsByte r rs c.bytes) (lit< tt) in
+    let sum = length-plus (rs ++ 0 ∷ []) (scaled (bit_xor b r) g) (omega (arith, ls, lm, c.count)) in
+    record {
+      count = omega (arith, sum, lm, lg);
+      bytes = bytes-plus (rs ++ 0 ∷ []) (scaled (bit_xor b r) g) moved (bytes-scaled (bit_xor b r) g lf);
+      multiple = record {
+        quotient = m.quotient ++ bit_xor b r ∷ [];
+        bytes = All-push IsByte m.quotient (bit_xor b r) m.bytes lf;
+        whole = ap (λ t. times (m.quotient ++ bit_xor b r ∷ []) t) (sym e) ∙ d;
+      };
+    }
+
+-- one round of the register makes the error correction codewords of the first i + 1 codewords from those of the first
+-- i: its first byte is dropped, a 0 is added at the end, and then a multiple of the generator polynomial is added
+pub correction-step : (m : List ℕ) (i n r : ℕ) (items moved sum g : List ℕ) → i < length m → get_or m i 0 < 256 →
+    1 ≤ n → 1 ∷ g ≡ generator_of n → r ≡ get_or items 0 r → moved ≡ drop 1 items ++ 0 ∷ [] →
+    sum ≡ plus moved (scaled (bit_xor (get_or m i 0) r) g) → IsCorrection (take i m) n items →
+    IsCorrection (take (i + 1) m) n sum
+correction-step m i n r items moved sum g h l k e er em es c =
+    let byte = get_or m i 0 in
+    let next : List ℕ = plus (drop 1 items ++ 0 ∷ []) (scaled (bit_xor byte r) g) in
+    let one : 0 < length items = omega (arith, c.count) in
+    let f : r ∷ drop 1 items ≡ items =
+    ap (λ t. t ∷ drop 1 items) (get_or_read items 0 r one er 0) ∙ sym (drop_more items 0 0 one) in
+    let d : IsCorrection (take i m ++ byte ∷ []) n next =
+    correction-next (take i m) n byte r (drop 1 items) g l e (subst (λ (t : List ℕ). IsCorrection (take i m) n t) (sym f) c) in
+    let read : IsCorrection (take (i + 1) m) n next =
+    subst (λ (t : List ℕ). IsCorrection t n next) (sym (take_more m i 0 h)) d in
+    let s : sum ≡ next = es ∙ ap (λ t. plus t (scaled (bit_xor byte r) g)) em in
+    subst (λ (t : List ℕ). IsCorrection (take (i + 1) m) n t) (sym s) read
+
+-- a generator polynomial is the coefficient 1 followed by its other coefficients
+pub generator-is : (n : ℕ) → 1 ∷ drop 1 (generator_of n) ≡ generator_of n
+generator-is n = let s = generator-shape n in ap (λ t. 1 ∷ drop 1 t) s.1 ∙ sym s.1
+
+-- data codewords have at most one list of n error correction codewords
+pub correction-one : (d : List ℕ) (n : ℕ) (e f : List ℕ) → IsCorrection d n e → IsCorrection d n f → e ≡ f
+correction-one d n e f a b =
+    let s = generator-shape n in
+    let g = s.0 in
+    let qa = a.multiple.quotient in
+    let qb = b.multiple.quotient in
+    let wa : times qa (1 ∷ g) ≡ d ++ e = ap (λ t. times qa t) (sym s.1) ∙ a.multiple.whole in
+    let wb : times qb (1 ∷ g) ≡ d ++ f = ap (λ t. times qb t) (sym s.1) ∙ b.multiple.whole in
+    let ta = length-times qa 1 g in
+    let tb = length-times qb 1 g in
+    let la = length-append d e in
+    let lb = length-append d f in
+    let na : length qa ≡ length d = omega (arith, ta, la, ap length wa, a.count, s.2) in
+    let nb : length qb ≡ length d = omega (arith, tb, lb, ap length wb, b.count, s.2) in
+    let fronts : take (length qa) (times qa (1 ∷ g)) ≡ take (length qa) (times qb (1 ∷ g)) =
+    ap (λ t. take (length qa) t) wa
+    ∙ (take_at d e (length qa) (sym na) ∙ (sym (take_at d f (length qa) (sym na)) ∙ ap (λ t. take (length qa) t) (sym wb))) in
+    let q = quotient-one qa qb g a.multiple.bytes b.multiple.bytes (omega (arith, na, nb)) fronts in
+    append_cancel_left d e f (sym wa ∙ (ap (λ t. times t (1 ∷ g)) q ∙ wb))
+
+-- if the codewords p have error correction codewords, then p followed by any bytes d has error correction codewords
+correction-after : (p : List ℕ) (n : ℕ) (register d g : List ℕ) → 1 ≤ n → 1 ∷ g ≡ generator_of n → All IsByte d →
+    IsCorrection p n register → HasCorrection (p ++ d) n
+correction-after p n register [] g k e a c = (register, subst (λ (t : List ℕ). IsCorrection t n register) (sym (append-nil p)) c)
+correction-after p n register (b ∷ d) g k e a c =
+    let r = get_or register 0 0 in
+    let register' : List ℕ = plus (drop 1 register ++ 0 ∷ []) (scaled (bit_xor b r) g) in
+    let one : 0 < length register = omega (arith, c.count) in
+    let f : r ∷ drop 1 register ≡ register = sym (drop_more register 0 0 one) in
+    let before : IsCorrection p n (r ∷ drop 1 register) = subst (λ (t : List ℕ). IsCorrection p n t) (sym f) c in
+    let next = correction-next p n b r (drop 1 register) g (All-head IsByte b d a) e before in
+    let rest = correction-after (p ++ b ∷ []) n register' d g k e (All-tail IsByte b d a) next in
+    (rest.0, subst (λ (t : List ℕ). IsCorrection t n rest.0) (append_assoc p (b ∷ []) d) rest.1)
+
+-- all data codewords have error correction codewords
+pub correction-some : (d : List ℕ) (n : ℕ) → 1 ≤ n → All IsByte d → HasCorrection d n
+correction-some d n k a =
+    let s = generator-shape n in
+    correction-after [] n (zeros n) d s.0 k (sym s.1) a (correction-start n)

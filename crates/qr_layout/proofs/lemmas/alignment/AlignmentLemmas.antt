@@ -1,0 +1,243 @@
+-- The alignment patterns and the encoding region, as tests of their parts.
+use Rattle.qr_layout.proofs.lemmas.alignment.TableLemmas.{below, below-at}
+use Rattle.std.proofs.Common.{subst, ◌≡◌, ℕ, ◌+◌, ◌-◌, ◌<◌, ◌≤◌, Bool, true, false, not, ◌&&◌, ◌||◌, cond, eqb, ltb, leb, List, [], ◌∷◌, ◌++◌, map, refl, sym, ap, ◌∙◌, inl, inr, ◌⊎◌, arith}
+use Rattle.std.proofs.lemmas.Bool.Decides.{nat_tests}
+use Rattle.std.proofs.lemmas.Bool.{cases_lt, and_parts}
+use Rattle.std.proofs.lemmas.List.Folds.{list_any-append}
+use Rattle.std.specs.List.{All, list_all, list_any, flat_map}
+use Rattle.std.proofs.lemmas.List.Elements.{All-nil, All-cons}
+use Rattle.qr_layout.specs.Region.{is_corner, is_timing, is_version_information, is_alignment, ring_of, is_in_region}
+use Rattle.qr_layout.specs.declared.rectangles.Rectangle.{Rectangle}
+use Rattle.qr_layout.specs.Rectangles.{corner_rectangles, timing_rectangles, version_rectangles, fixed_rectangles, is_in_rectangle}
+use Rattle.qr_layout.specs.Steps.Rectangles.{IsInside, IsWithin, alignment_squares, square_round, taken_rectangles}
+use Rattle.qr_layout.specs.Version.{side_of}
+use Rattle.qr_layout.specs.Role.{is_alignment_light}
+use Rattle.qr_layout.specs.declared.region.Module.{Module}
+use Rattle.qr_layout.specs.Alignment.{centres_of, is_corner_pair, alignment_places}
+
+-- a test of the items of a flat map goes over the lists that it joins
+list_any-flat_map : {X Y : Type 0} (p : Y → Bool) (f : X → List Y) (xs : List X) → list_any p (flat_map f xs) ≡ list_any (λ x. list_any p (f x)) xs
+list_any-flat_map p f [] = refl
+list_any-flat_map p f (x ∷ xs) = list_any-append p (f x) (flat_map f xs) ∙ ap (λ b. list_any p (f x) || b) (list_any-flat_map p f xs)
+
+-- tests that agree on each item agree on the list
+pub list_any-same : {X : Type 0} (p q : X → Bool) → ((x : X) → p x ≡ q x) → (xs : List X) → list_any p xs ≡ list_any q xs
+list_any-same p q e [] = refl
+list_any-same p q e (x ∷ xs) = ap (λ b. b || list_any p xs) (e x) ∙ ap (λ b. q x || b) (list_any-same p q e xs)
+
+-- a fact that does not speak of the item may stand outside
+list_any-and : {X : Type 0} (a : Bool) (p : X → Bool) (xs : List X) → list_any (λ x. a && p x) xs ≡ (a && list_any p xs)
+list_any-and true p xs = refl
+list_any-and false p [] = refl
+list_any-and false p (x ∷ xs) = list_any-and false p xs
+
+-- a test of the items that a function gives
+pub list_any-map : {X Y : Type 0} (p : Y → Bool) (f : X → Y) (xs : List X) → list_any p (map f xs) ≡ list_any (λ x. p (f x)) xs
+list_any-map p f [] = refl
+list_any-map p f (x ∷ xs) = ap (λ b. p (f x) || b) (list_any-map p f xs)
+
+-- a test of a centre, or of none in a corner
+at_centre : (p : Module → Bool) (a b : ℕ) (t : Bool) → list_any p (cond t [] (record { row = a; col = b } ∷ [])) ≡ (not t && p (record { row = a; col = b }))
+at_centre p a b true = refl
+at_centre p a b false = grind (arith, nat_tests)
+
+-- a test of the alignment patterns' centres goes over their rows and then their columns
+pub any-places : (p : Module → Bool) (s : ℕ) (cs : List ℕ) → list_any p (alignment_places s cs) ≡ list_any (λ a. list_any (λ b. not (is_corner_pair s a b) && p (record { row = a; col = b })) cs) cs
+any-places p s cs =
+    list_any-flat_map p (λ a. flat_map (λ b. cond (is_corner_pair s a b) [] (record { row = a; col = b } ∷ [])) cs) cs ∙
+    list_any-same _ _ (λ a.
+    list_any-flat_map p (λ b. cond (is_corner_pair s a b) [] (record { row = a; col = b } ∷ [])) cs ∙
+    list_any-same _ _ (λ b. at_centre p a b (is_corner_pair s a b)) cs) cs
+
+-- the light rings of the alignment patterns
+pub light-parts : (v r c s : ℕ) (cs : List ℕ) (t : Bool) → s ≡ side_of v → cs ≡ centres_of v → t ≡ list_any (λ a. list_any (λ b. not (is_corner_pair s a b) && eqb (ring_of a b r c) 1) cs) cs → t ≡ is_alignment_light v r c
+unfolding is_alignment_light
+light-parts v r c s cs t e f h = h ∙ rw (e, f) (sym (any-places (λ m. eqb (ring_of m.row m.col r c) 1) (side_of v) (centres_of v)))
+
+-- a place near one centre, or near none where the centre is in a corner
+one : (r c a b : ℕ) (t : Bool) → (not t && leb (ring_of a b r c) 2) ≡ ((leb (a - 2) r && ltb r (a + 3)) && ((leb (b - 2) c && ltb c (b + 3)) && not t))
+one r c a b true = grind (arith, nat_tests)
+one r c a b false = grind (arith, nat_tests)
+
+-- a place in an alignment pattern, by its row and then its column
+pub alignment_parts : (r c s : ℕ) (cs : List ℕ) → list_any (λ m. leb (ring_of m.row m.col r c) 2) (alignment_places s cs) ≡ list_any (λ a. leb (a - 2) r && ltb r (a + 3) && list_any (λ b. leb (b - 2) c && ltb c (b + 3) && not (is_corner_pair s a b)) cs) cs
+alignment_parts r c s cs =
+    any-places (λ m. leb (ring_of m.row m.col r c) 2) s cs ∙
+    list_any-same _ _ (λ a.
+    list_any-same _ _ (λ b. one r c a b (is_corner_pair s a b)) cs ∙ list_any-and (leb (a - 2) r && ltb r (a + 3)) (λ b. leb (b - 2) c && ltb c (b + 3) && not (is_corner_pair s a b)) cs) cs
+
+-- the square round a centre has the rings 0 to 2
+square-rings : (a b r c : ℕ) → is_in_rectangle r c (record { top = a - 2; bottom = a + 3; left = b - 2; right = b + 3 }) ≡ leb (ring_of a b r c) 2
+square-rings a b r c = grind (arith, nat_tests)
+
+-- the squares of the alignment patterns have their rings 0 to 2
+pub alignment-squares : (r c : ℕ) (ms : List Module) → list_any (λ m. is_in_rectangle r c (square_round m)) ms ≡ list_any (λ m. leb (ring_of m.row m.col r c) 2) ms
+alignment-squares r c ms = list_any-same _ _ (λ m. square-rings m.row m.col r c) ms
+
+-- ---- the parts of the region, as rectangles
+
+-- inside the square, tests that agree there agree
+inside : (p q x y : Bool) → (p ≡ true → q ≡ true → x ≡ y) → (p && q && not x) ≡ (p && q && not y)
+inside true true x y f = ap not (f refl refl)
+inside true false x y f = refl
+inside false q x y f = refl
+
+-- what a test of an order means
+less : (m n : ℕ) → ltb m n ≡ true → m < n
+less m n h = grind (arith, nat_tests)
+
+-- the corners
+pub corners-are : (s r c : ℕ) → r < s → c < s → is_corner s r c ≡ list_any (is_in_rectangle r c) (corner_rectangles s)
+corners-are s r c h k = grind (arith, nat_tests)
+
+-- the lines of the timing patterns
+pub timing-is : (s r c : ℕ) → r < s → c < s → is_timing r c ≡ list_any (is_in_rectangle r c) (timing_rectangles s)
+timing-is s r c h k = grind (arith, nat_tests)
+
+-- the blocks of version information
+pub version-is : (v r c : ℕ) → is_version_information v r c ≡ list_any (is_in_rectangle r c) (version_rectangles v (side_of v))
+version-is v r c = elim (cases_lt v 7) [
+  | inl k ↦ let t : ltb v 7 ≡ true = grind (arith, nat_tests) in let u : leb 7 v ≡ false = grind (arith, nat_tests) in rw (t, u) refl
+  | inr k ↦ let t : ltb v 7 ≡ false = grind (arith, nat_tests) in let u : leb 7 v ≡ true = grind (arith, nat_tests) in rw (t, u) (tests (side_of v))
+]
+  where
+    tests : (s : ℕ) → ((ltb r 6 && (leb (s - 11) c && ltb c (s - 8))) || (ltb c 6 && (leb (s - 11) r && ltb r (s - 8)))) ≡ list_any (is_in_rectangle r c) (record { top = 0; bottom = 6; left = s - 11; right = s - 8 } ∷ record { top = s - 11; bottom = s - 8; left = 0; right = 6 } ∷ [])
+    tests s = grind (arith, nat_tests)
+
+-- the encoding region is what is inside the square and in none of the rectangles of three kinds nor in an alignment pattern
+pub region_parts : (v r c : ℕ) → is_in_region v r c ≡ (ltb r (side_of v) && ltb c (side_of v) && not (((list_any (is_in_rectangle r c) (corner_rectangles (side_of v)) || list_any (is_in_rectangle r c) (timing_rectangles (side_of v))) || list_any (is_in_rectangle r c) (version_rectangles v (side_of v))) || is_alignment v r c))
+unfolding is_in_region
+region_parts v r c =
+    let s = side_of v in
+    inside (ltb r s) (ltb c s) _ _ (λ h k.
+    ap (λ b. ((b || is_timing r c) || is_version_information v r c) || is_alignment v r c) (corners-are s r c (less r s h) (less c s k))
+    ∙ (ap (λ b. ((list_any (is_in_rectangle r c) (corner_rectangles s) || b) || is_version_information v r c) || is_alignment v r c) (timing-is s r c (less r s h) (less c s k))
+    ∙ ap (λ b. ((list_any (is_in_rectangle r c) (corner_rectangles s) || list_any (is_in_rectangle r c) (timing_rectangles s)) || b) || is_alignment v r c) (version-is v r c)))
+
+-- a place is in one of the fixed rectangles if it is in a corner, on a timing pattern or in the version information
+pub fixed_parts : (v r c : ℕ) → list_any (is_in_rectangle r c) (fixed_rectangles v) ≡ ((list_any (is_in_rectangle r c) (corner_rectangles (side_of v)) || list_any (is_in_rectangle r c) (timing_rectangles (side_of v))) || list_any (is_in_rectangle r c) (version_rectangles v (side_of v)))
+fixed_parts v r c =
+    let s = side_of v in
+    let p = is_in_rectangle r c in
+    list_any-append p (corner_rectangles s ++ timing_rectangles s) (version_rectangles v s) ∙ ap (λ b. b || list_any p (version_rectangles v s)) (list_any-append p (corner_rectangles s) (timing_rectangles s))
+
+-- a place inside the square is in the encoding region if it is in none of the fixed rectangles and in no alignment pattern
+pub region_outside : (v r c : ℕ) → r < side_of v → c < side_of v → is_in_region v r c ≡ not (list_any (is_in_rectangle r c) (fixed_rectangles v) || is_alignment v r c)
+region_outside v r c h k =
+    let p : ltb r (side_of v) ≡ true = grind (arith, nat_tests) in
+    let q : ltb c (side_of v) ≡ true = grind (arith, nat_tests) in
+    region_parts v r c ∙ (both (ltb r (side_of v)) (ltb c (side_of v)) _ p q ∙ ap (λ b. not (b || is_alignment v r c)) (sym (fixed_parts v r c)))
+  where
+    both : (a b t : Bool) → a ≡ true → b ≡ true → (a && b && t) ≡ t
+    both a b t h k = rw (h, k) refl
+
+-- the same, with the alignment patterns as rectangles too
+pub region_taken : (v r c : ℕ) → r < side_of v → c < side_of v → is_in_region v r c ≡ not (list_any (is_in_rectangle r c) (taken_rectangles v))
+region_taken v r c h k =
+    let s = side_of v in
+    let p = is_in_rectangle r c in
+    let ms = alignment_places s (centres_of v) in
+    region_outside v r c h k
+    ∙ ap not (ap (λ b. list_any p (fixed_rectangles v) || b) (sym (list_any-map p square_round ms ∙ alignment-squares r c ms)) ∙ sym (list_any-append p (fixed_rectangles v) (alignment_squares s (centres_of v))))
+
+-- a conjunction with a false part is false
+and_false-false : (a b : Bool) → false ≡ ((a && false) && b)
+and_false-false true b = refl
+and_false-false false b = refl
+
+-- no place below the last row is in the region
+pub region_row_out : (v r c : ℕ) → side_of v ≤ r → false ≡ is_in_region v r c
+region_row_out v r c h = let e : ltb r (side_of v) ≡ false = grind (arith, nat_tests) in rw (region_parts, e) refl
+
+-- no place right of the last column is in the region
+pub region_col_out : (v r c : ℕ) → side_of v ≤ c → false ≡ is_in_region v r c
+region_col_out v r c h = let e : ltb c (side_of v) ≡ false = grind (arith, nat_tests) in rw (region_parts, e) (and_false-false (ltb r (side_of v)) _)
+
+-- a place inside the square that is in no corner, on no timing pattern and not in the version information
+pub region_free : (v r c : ℕ) → r < side_of v → c < side_of v → list_any (is_in_rectangle r c) (corner_rectangles (side_of v)) ≡ false → list_any (is_in_rectangle r c) (timing_rectangles (side_of v)) ≡ false → list_any (is_in_rectangle r c) (version_rectangles v (side_of v)) ≡ false → is_in_region v r c ≡ not (is_alignment v r c)
+region_free v r c h k i j l = region_outside v r c h k ∙ ap (λ b. not (b || is_alignment v r c)) (fixed_parts v r c ∙ none _ _ _ i j l)
+  where
+    none : (a b d : Bool) → a ≡ false → b ≡ false → d ≡ false → ((a || b) || d) ≡ false
+    none a b d h k l = rw (h, k, l) refl
+
+-- the same by the tests of these parts
+pub region_none : (v r c s : ℕ) (e : Bool) → s ≡ side_of v → r < s → c < s → false ≡ is_corner s r c → false ≡ is_timing r c → false ≡ is_version_information v r c → e ≡ is_alignment v r c → not e ≡ is_in_region v r c
+region_none v r c s e y h k i j l m =
+    let t = side_of v in
+    ap not m ∙ sym (region_free v r c (omega arith) (omega arith) (sym (i ∙ (ap (λ z. is_corner z r c) y ∙ corners-are t r c (omega arith) (omega arith)))) (sym (j ∙ timing-is t r c (omega arith) (omega arith))) (sym (l ∙ version-is v r c)))
+
+-- if one part contains the place, some part contains it
+hidden : (a b d e : Bool) → ((a ≡ true) ⊎ ((b ≡ true) ⊎ (d ≡ true))) → (((a || b) || d) || e) ≡ true
+hidden true b d e h = refl
+hidden false true d e h = refl
+hidden false false true e h = refl
+hidden false false false e (inl h) = cc
+hidden false false false e (inr (inl h)) = cc
+hidden false false false e (inr (inr h)) = cc
+
+-- a place in the corners, on a timing pattern or in the version information is not in the region
+region_hidden : (v r c : ℕ) → ((is_corner (side_of v) r c ≡ true) ⊎ ((is_timing r c ≡ true) ⊎ (is_version_information v r c ≡ true))) → false ≡ is_in_region v r c
+unfolding is_in_region
+region_hidden v r c h = sym (ap (λ b. ltb r (side_of v) && ltb c (side_of v) && not b) (hidden (is_corner (side_of v) r c) (is_timing r c) (is_version_information v r c) (is_alignment v r c) h) ∙ and-false (ltb r (side_of v) && ltb c (side_of v)))
+  where
+    and-false : (b : Bool) → (b && false) ≡ false
+    and-false true = refl
+    and-false false = refl
+
+-- a place in the corners is not in the region
+pub region_corners : (v r c : ℕ) → is_corner (side_of v) r c ≡ true → false ≡ is_in_region v r c
+region_corners v r c h = region_hidden v r c (inl h)
+
+-- a place on a timing pattern is not in the region
+pub region_timing : (v r c : ℕ) → is_timing r c ≡ true → false ≡ is_in_region v r c
+region_timing v r c h = region_hidden v r c (inr (inl h))
+
+-- a place in the version information is not in the region
+pub region_version : (v r c : ℕ) → is_version_information v r c ≡ true → false ≡ is_in_region v r c
+region_version v r c h = region_hidden v r c (inr (inr h))
+
+pub ruleset region_out = (region_row_out, region_col_out, region_corners, region_timing, region_version)
+
+-- the square round a centre is inside a symbol of side s
+abbrev is_inside : ℕ → Module → Bool
+is_inside s m = leb 2 m.row && leb (m.row + 3) s && leb 2 m.col && leb (m.col + 3) s
+
+-- what the test of such a centre means
+inside-is : (s : ℕ) (m : Module) → is_inside s m ≡ true → IsInside s m
+inside-is s m h = record { row_least = grind (arith, nat_tests); row_most = grind (arith, nat_tests); col_least = grind (arith, nat_tests); col_most = grind (arith, nat_tests) }
+
+-- a test of each item of a list, and what it means
+all-of : {X : Type 0} (p : X → Bool) (P : X → Type 0) → ((x : X) → p x ≡ true → P x) → (xs : List X) → list_all p xs ≡ true → All P xs
+all-of p P f [] h = All-nil P
+all-of p P f (x ∷ xs) h = All-cons P x xs (f x (and_parts (p x) _ h).0) (all-of p P f xs (and_parts (p x) _ h).1)
+
+-- a test that each version passes
+each-version : (p : ℕ → Bool) → below 40 (λ k. p (k + 1)) ≡ true → (v : ℕ) → 1 ≤ v → v ≤ 40 → p v ≡ true
+each-version p h v k l =
+    let e : v - 1 + 1 ≡ v = omega arith in
+    subst (λ (z : ℕ). p z ≡ true) e (below-at 40 (λ k. p (k + 1)) h (v - 1) (omega arith))
+
+-- the squares of the alignment patterns are inside, in each version, computed
+all-inside : below 40 (λ k. list_all (is_inside (side_of (k + 1))) (alignment_places (side_of (k + 1)) (centres_of (k + 1)))) ≡ true
+unfolding centres_of
+all-inside = refl
+
+-- the squares of the alignment patterns are inside the symbol
+pub centres-inside : (v : ℕ) → 1 ≤ v → v ≤ 40 → All (IsInside (side_of v)) (alignment_places (side_of v) (centres_of v))
+centres-inside v h k = all-of (is_inside (side_of v)) (IsInside (side_of v)) (inside-is (side_of v)) _ (each-version (λ v. list_all (is_inside (side_of v)) (alignment_places (side_of v) (centres_of v))) all-inside v h k)
+
+-- the rectangle is inside a symbol of side s
+abbrev is_within : ℕ → Rectangle → Bool
+is_within s b = leb b.top b.bottom && leb b.bottom s && leb b.left b.right && leb b.right s
+
+-- what the test of such a rectangle means
+within-is : (s : ℕ) (b : Rectangle) → is_within s b ≡ true → IsWithin s b
+within-is s b h = record { rows = grind (arith, nat_tests); bottom = grind (arith, nat_tests); columns = grind (arith, nat_tests); right = grind (arith, nat_tests) }
+
+-- the fixed rectangles are inside, in each version, computed
+all-within : below 40 (λ k. list_all (is_within (side_of (k + 1))) (fixed_rectangles (k + 1))) ≡ true
+all-within = refl
+
+-- the fixed rectangles are inside the symbol
+pub fixed-within : (v : ℕ) → 1 ≤ v → v ≤ 40 → All (IsWithin (side_of v)) (fixed_rectangles v)
+fixed-within v h k = all-of (is_within (side_of v)) (IsWithin (side_of v)) (within-is (side_of v)) (fixed_rectangles v) (each-version (λ v. list_all (is_within (side_of v)) (fixed_rectangles v)) all-within v h k)

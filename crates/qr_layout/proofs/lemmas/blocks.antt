@@ -1,0 +1,2 @@
+-- Facts of the blocks that are computed for each version and level.
+pub mod BlockLemmas

@@ -1,0 +1,141 @@
+-- A version has one order, and the length of the order is the number of modules of the encoding region.
+use Rattle.std.proofs.Common.{◌≡◌, ◌≢◌, ℕ, ◌+◌, ◌-◌, ◌<◌, ◌≤◌, Bool, true, leb, eqb, List, [], ◌∷◌, ◌++◌, ◌&&◌, length, refl, sym, ◌∙◌, subst, inl, inr, arith}
+use Rattle.std.proofs.lemmas.Bool.{and_parts, eqb-true}
+use borrow.Author.Tests.{leb-true}
+use Rattle.qr_layout.specs.declared.region.Module.{Module}
+use Rattle.qr_layout.specs.Region.{is_in_region, InRegion}
+use Rattle.qr_layout.specs.Version.{side_of}
+use Rattle.qr_layout.specs.Order.{Key, key_of, is_before, IsOrder, places_passing, number_of}
+use Rattle.qr_layout.specs.Version.{total_codewords_of, remainder_bits_of, module_count_of}
+use Rattle.qr_layout.specs.Alignment.{centres_of}
+use Rattle.qr_layout.specs.Laws.{region_size}
+use Rattle.qr_layout.proofs.lemmas.alignment.TableLemmas.{below, below-at}
+use Rattle.qr_layout.proofs.lemmas.order.ListLemmas.{Mem, Rises, Distinct, Mem-at, All-of-Mem, All-rec, Mem-left, Mem-right, Mem-append, Rises-of-pairs, one_rising, Mem-of-Contains}
+use Rattle.qr_layout.proofs.lemmas.order.CountLemmas.{count-of}
+use Rattle.qr_layout.proofs.lemmas.order.FastCountLemmas.{region-count, agrees, agrees-40}
+use Rattle.qr_layout.proofs.lemmas.order.PathLemmas.{before-parts}
+use Rattle.qr_layout.proofs.lemmas.region.RegionLemmas.{row-in, col-in}
+
+-- no two keys are each before the other
+before-asym : (a b : Key) → is_before a b ≡ true → is_before b a ≡ true → ⊥
+before-asym a b h k = elim (before-parts a b h) [
+  | inl x ↦ elim (before-parts b a k) [ inl y ↦ absurd (omega arith) | inr y ↦ absurd (let e = y.0 in omega arith) ]
+  | inr x ↦ elim (before-parts b a k) [
+    | inl y ↦ absurd (let e = x.0 in omega arith)
+    | inr y ↦ elim x.1 [
+      | inl z ↦ elim y.1 [ inl w ↦ absurd (omega arith) | inr w ↦ absurd (let e = w.0 in omega arith) ]
+      | inr z ↦ elim y.1 [ inl w ↦ absurd (let e = z.0 in omega arith) | inr w ↦ absurd (let e = z.1 in let f = w.1 in omega arith) ]
+    ]
+  ]
+]
+
+-- a list that rises has no item twice
+Rises-distinct : {X : Type 0} (R : X → X → Type 0) → ((x y : X) → R x y → R y x → ⊥) → (xs : List X) → Rises R xs → Distinct xs
+Rises-distinct R a [] h = tt
+Rises-distinct R a (x ∷ xs) h = (All-of-Mem (λ y. x ≢ y) xs (λ y m e. let b = Mem-at (R x) xs y h.0 m in let c = subst (R x) (sym e) b in a x x c c), Rises-distinct R a xs h.1)
+
+-- the key of the first module is before that of the second
+abbrev Before : ℕ → Module → Module → Type 0
+Before v m n = is_before (key_of v m) (key_of v n) ≡ true
+
+-- no two modules are each before the other
+asym : (v : ℕ) (m n : Module) → Before v m n → Before v n m → ⊥
+asym v m n h k = before-asym (key_of v m) (key_of v n) h k
+
+-- each item of the order is in the region
+pub order-mem : (v : ℕ) (ms : List Module) → IsOrder v ms → (m : Module) → Mem m ms → InRegion v m
+order-mem v ms o m k = Mem-at (InRegion v) ms m (All-rec (InRegion v) ms o.in_region) k
+
+-- each module of the region is in the order
+pub order-has : (v : ℕ) (ms : List Module) → IsOrder v ms → (m : Module) → InRegion v m → Mem m ms
+order-has v ms o m h = Mem-of-Contains ms m (o.complete m h)
+
+-- there is only one order
+pub only_order : (v : ℕ) (ms ns : List Module) → IsOrder v ms → IsOrder v ns → ms ≡ ns
+only_order v ms ns o p = one_rising (Before v) (asym v) ms ns (Rises-of-pairs (Before v) ms o.rising) (Rises-of-pairs (Before v) ns p.rising) (λ m k. order-has v ns p m (order-mem v ms o m k)) (λ m k. order-has v ms o m (order-mem v ns p m k))
+
+-- the region of each version has as many places as its codewords and remainder bits need
+count-at : (i : ℕ) → i < 40 → places_passing (side_of (i + 1)) (is_in_region (i + 1)) ≡ module_count_of (i + 1)
+count-at i l = region-count (i + 1) ∙ eqb-true _ _ (below-at 40 agrees agrees-40 i l)
+
+-- the forty sizes, computed
+sizes-agree : below 40 (λ i. eqb (module_count_of (i + 1)) (region_size (i + 1))) ≡ true
+unfolding centres_of total_codewords_of remainder_bits_of
+sizes-agree = refl
+
+-- the codewords and remainder bits fill all modules outside the function patterns, the format and the version information
+pub size-at : (v : ℕ) → 1 ≤ v → v ≤ 40 → module_count_of v ≡ region_size v
+size-at v l h =
+    let e : v - 1 + 1 ≡ v = omega arith in
+    subst (λ (k : ℕ). module_count_of k ≡ region_size k) e (eqb-true _ _ (below-at 40 (λ i. eqb (module_count_of (i + 1)) (region_size (i + 1))) sizes-agree (v - 1) (omega arith)))
+
+-- the region has this number of places
+pub region-size : (v : ℕ) → 1 ≤ v → v ≤ 40 → places_passing (side_of v) (is_in_region v) ≡ region_size v
+region-size v l h =
+    let e : v - 1 + 1 ≡ v = omega arith in
+    subst (λ (k : ℕ). places_passing (side_of k) (is_in_region k) ≡ module_count_of k) e (count-at (v - 1) (omega arith)) ∙ size-at v l h
+
+-- the length of the order is this number
+pub order-length : (v : ℕ) (ms : List Module) → 1 ≤ v → v ≤ 40 → IsOrder v ms → length ms ≡ module_count_of v
+order-length v ms l h o =
+    let e : v - 1 + 1 ≡ v = omega arith in
+    let c = count-at (v - 1) (omega arith) in
+    count-of (side_of v) (is_in_region v) ms (Rises-distinct (Before v) (asym v) ms (Rises-of-pairs (Before v) ms o.rising)) (λ m k. let w = order-mem v ms o m k in (row-in v m w, col-in v m w, w)) (λ m a b k. order-has v ms o m k) ∙ subst (λ k. places_passing (side_of k) (is_in_region k) ≡ module_count_of k) e c
+
+-- the forty counts are at most 29,648, computed
+count-small : below 40 (λ i. leb (module_count_of (i + 1)) 29648) ≡ true
+unfolding total_codewords_of remainder_bits_of
+count-small = refl
+
+-- no version has more than 29,648 modules for its codewords and remainder bits
+pub module-count-small : (v : ℕ) → 1 ≤ v → v ≤ 40 → module_count_of v ≤ 29648
+module-count-small v l h =
+    let e : v - 1 + 1 ≡ v = omega arith in
+    leb-true _ _ (subst (λ (k : ℕ). leb (module_count_of k) 29648 ≡ true) e (below-at 40 (λ i. leb (module_count_of (i + 1)) 29648) count-small (v - 1) (omega arith)))
+
+-- no order has more than 29,648 items
+pub order-small : (v : ℕ) (ms : List Module) → 1 ≤ v → v ≤ 40 → IsOrder v ms → length ms ≤ 29648
+order-small v ms l h o = let d = order-length v ms l h o in let c = module-count-small v l h in omega arith
+
+-- ---- the number of a place
+
+-- each item before m in a rising list is in the relation to m
+Rises-front : {X : Type 0} (R : X → X → Type 0) (front back : List X) (m : X) → Rises R (front ++ m ∷ back) → (x : X) → Mem x front → R x m
+Rises-front R [] back m h x k = absurd k
+Rises-front R (y ∷ ys) back m h x (inl e) = subst (λ z. R z m) e (Mem-at (R y) (ys ++ m ∷ back) m h.0 (Mem-right m ys (m ∷ back) (inl refl)))
+Rises-front R (y ∷ ys) back m h x (inr k) = Rises-front R ys back m h.1 x k
+
+-- the prefix of a rising list rises
+Rises-first : {X : Type 0} (R : X → X → Type 0) (front back : List X) → Rises R (front ++ back) → Rises R front
+Rises-first R [] back h = tt
+Rises-first R (x ∷ xs) back h = (All-of-Mem (R x) xs (λ y k. Mem-at (R x) (xs ++ back) y h.0 (Mem-left y xs back k)), Rises-first R xs back h.1)
+
+-- m is in the relation to each item after it in a rising list
+Rises-after : {X : Type 0} (R : X → X → Type 0) (front back : List X) (m : X) → Rises R (front ++ m ∷ back) → (x : X) → Mem x back → R m x
+Rises-after R [] back m h x k = Mem-at (R m) back x h.0 k
+Rises-after R (y ∷ ys) back m h x k = Rises-after R ys back m h.1 x k
+
+-- two tests that pass, passed together
+&&-both : (a b : Bool) → a ≡ true → b ≡ true → (a && b) ≡ true
+&&-both a b e f = rw (e, f) refl
+
+-- the number of a place of the order is the number of places before it
+pub number-at : (v : ℕ) (front back : List Module) (m : Module) → IsOrder v (front ++ m ∷ back) → number_of v m ≡ length front
+unfolding number_of
+number-at v front back m o =
+    let whole = front ++ m ∷ back in
+    let rises = Rises-of-pairs (Before v) whole o.rising in
+    let p = λ (r : ℕ) (c : ℕ). is_in_region v r c && is_before (key_of v (record { row = r; col = c })) (key_of v m) in
+    sym (count-of (side_of v) p front
+    (Rises-distinct (Before v) (asym v) front (Rises-first (Before v) front (m ∷ back) rises))
+    (λ x k. let w = order-mem v whole o x (Mem-left x front (m ∷ back) k) in (row-in v x w, col-in v x w, &&-both _ _ w (Rises-front (Before v) front back m rises x k)))
+    (λ x a b k.
+    let w : is_in_region v x.row x.col ≡ true = (and_parts _ (is_before (key_of v x) (key_of v m)) k).0 in
+    let l = (and_parts (is_in_region v x.row x.col) (is_before (key_of v x) (key_of v m)) k).1 in
+    elim (Mem-append x front (m ∷ back) (order-has v whole o x w)) [
+      | inl j ↦ j
+      | inr j ↦ elim j [
+        | inl e ↦ let z = subst (λ (y : Module). Before v y m) (sym e) l in absurd (asym v m m z z)
+        | inr i ↦ absurd (asym v x m l (Rises-after (Before v) front back m rises x i))
+      ]
+    ]))

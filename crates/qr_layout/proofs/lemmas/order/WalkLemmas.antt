@@ -1,0 +1,333 @@
+-- The modules that the walk visits are the order of the version.
+use Rattle.std.proofs.Common.{◌≡◌, ℕ, zero, suc, ◌+◌, ◌-◌, ◌*◌, ◌/◌, ◌%◌, ◌<◌, ◌≤◌, Bool, true, false, cond, eqb, ltb, List, [], ◌∷◌, ◌++◌, length, get_or, refl, sym, ap, ◌∙◌, subst, inl, inr, arith}
+use Rattle.std.proofs.Math.Nat.{mul-le-mul_right}
+use Rattle.std.proofs.lemmas.Bool.{cases_lt}
+use Rattle.std.proofs.lemmas.Bool.Decides.{nat_tests}
+use Rattle.std.proofs.lemmas.List.Elements.{All-from_recursion}
+use Rattle.std.specs.List.{AllPairs, AllByRecursion, Contains}
+use Rattle.qr_layout.specs.declared.region.Module.{Module}
+use Rattle.qr_layout.specs.declared.order.Cursor.{Cursor}
+use Rattle.qr_layout.specs.Region.{is_in_region, InRegion}
+use Rattle.qr_layout.specs.Version.{side_of}
+use Rattle.qr_layout.specs.Order.{key_of, is_before, IsOrder, IsOrderAfter}
+use Rattle.qr_layout.specs.Steps.Order.{half_of, column_of, place_of, rank_of, left_of, next_of, IsCursor, places_within, to_come, first_cursor, cursor_at}
+use Rattle.qr_layout.proofs.lemmas.order.ListLemmas.{Rises}
+use Rattle.qr_layout.proofs.lemmas.region.RegionLemmas.{row-in, col-in, col-not_timing}
+use Rattle.qr_layout.proofs.lemmas.order.PathLemmas.{half_of-bound, rank-bound, mul-lt, mul-le_one, next-left, next-IsCursor, is_before-left}
+
+-- ---- lists
+
+-- if P x implies Q x for each x, and P holds for each item of xs, then Q holds for each item of xs
+All-weaker_rec : {X : Type 0} (P Q : X → Type 0) → ((x : X) → P x → Q x) → (xs : List X) → AllByRecursion P xs → AllByRecursion Q xs
+All-weaker_rec P Q f [] h = tt
+All-weaker_rec P Q f (x ∷ xs) h = (f x h.0, All-weaker_rec P Q f xs h.1)
+
+-- if P holds for each item of xs, then P holds for the item at each index k of xs
+All-at : {X : Type 0} (P : X → Type 0) (xs : List X) → AllByRecursion P xs → (k : ℕ) (d : X) → k < length xs → P (get_or xs k d)
+All-at P xs h = All-from_recursion P xs h
+
+-- if each item of xs has the relation R to all items after it, then R holds for each pair of rising indices of xs
+AllPairs-from_rises : {X : Type 0} (R : X → X → Type 0) (xs : List X) → Rises R xs → AllPairs R xs
+AllPairs-from_rises R [] h i j d a b = absurd (omega arith)
+AllPairs-from_rises R (x ∷ xs) h zero zero d a b = absurd (omega arith)
+AllPairs-from_rises R (x ∷ xs) h zero (suc j) d a b = All-at (R x) xs h.0 j d (omega arith)
+AllPairs-from_rises R (x ∷ xs) h (suc i) zero d a b = absurd (omega arith)
+AllPairs-from_rises R (x ∷ xs) h (suc i) (suc j) d a b = AllPairs-from_rises R xs h.1 i j d (omega arith) (omega arith)
+
+-- if x equals m, then the list x ∷ xs contains m
+Contains-head : {X : Type 0} (x m : X) (xs : List X) → x ≡ m → Contains (x ∷ xs) m
+Contains-head x m xs e = (0, omega arith, e)
+
+-- if the list xs contains m, then the list x ∷ xs contains m
+Contains-tail : {X : Type 0} (x m : X) (xs : List X) → Contains xs m → Contains (x ∷ xs) m
+Contains-tail x m xs h = (suc h.0, (let l = h.1 in omega arith), h.2)
+
+-- ---- positions
+
+-- if position a has n + 1 positions left, then it is in a strip
+pub strips-positive : (s : ℕ) (a : Cursor) (n : ℕ) → left_of s a ≡ suc n → 0 < a.strips
+unfolding left_of
+strips-positive s a n e = elim (cases_lt 0 a.strips) [
+  | inl k ↦ k
+  | inr z ↦ let q : a.strips ≡ 0 = omega arith in let m : a.strips * (2 * s) ≡ 0 * (2 * s) = ap (λ x. x * (2 * s)) q in absurd (omega arith)
+]
+
+-- with w positions in each strip: if position x of strip p and position y of strip q have equally many positions left,
+-- then p equals q and x equals y
+same-arith : (p q w x y : ℕ) → x < w → y < w → 0 < p → 0 < q → p * w - x ≡ q * w - y → (p ≡ q) × (x ≡ y)
+same-arith p q w x y a b k l e = elim (cases_lt p q) [
+  | inl m ↦ let n = mul-lt p q w m in let o = mul-le_one p w k in absurd (omega arith)
+  | inr m ↦ elim (cases_lt q p) [
+    | inl t ↦ let n = mul-lt q p w t in let o = mul-le_one q w l in absurd (omega arith)
+    | inr t ↦ let g : p ≡ q = omega arith in let n : p * w ≡ q * w = ap (λ z. z * w) g in let o = mul-le_one p w k in (g, omega arith)
+  ]
+]
+
+-- if i and j are 0 or 1 and 2 * x + i equals 2 * y + j, then x equals y and i equals j
+digits-same : (x y i j : ℕ) → i < 2 → j < 2 → 2 * x + i ≡ 2 * y + j → (x ≡ y) × (i ≡ j)
+digits-same x y i j a b e = (omega arith, omega arith)
+
+-- two halves a and b with the same number are the same half
+half_of-same : (a b : Bool) → half_of a ≡ half_of b → a ≡ b
+half_of-same true true e = refl
+half_of-same true false e = absurd (omega arith)
+half_of-same false true e = absurd (omega arith)
+half_of-same false false e = refl
+
+-- two rows x and y of a square of side s that have the same rank in a strip are the same row
+rank-same : (s x y : ℕ) (u : Bool) → x < s → y < s → cond u (s - 1 - x) x ≡ cond u (s - 1 - y) y → x ≡ y
+rank-same s x y true k l e = omega arith
+rank-same s x y false k l e = e
+
+-- in version v, a position a in a strip has at least one position left, because a itself is counted
+left-positive : (v : ℕ) (a : Cursor) → IsCursor v a → 0 < a.strips → 0 < left_of (side_of v) a
+unfolding left_of
+left-positive v a i k = let o = mul-le_one a.strips (2 * side_of v) k in let r = rank-bound (side_of v) a i.row_in in let h = half_of-bound a.at_left in omega arith
+
+-- in version v, two positions a and b with equally many positions left are the same position
+same-cursor : (v : ℕ) (a b : Cursor) → IsCursor v a → IsCursor v b → 0 < a.strips → 0 < b.strips → left_of (side_of v) a ≡ left_of (side_of v) b → a ≡ b
+unfolding left_of
+same-cursor v a b i j k l e =
+    let s = side_of v in
+    let x = rank-bound s a i.row_in in
+    let y = rank-bound s b j.row_in in
+    let p = half_of-bound a.at_left in
+    let q = half_of-bound b.at_left in
+    let t = same-arith a.strips b.strips (2 * s) (2 * rank_of s a + half_of a.at_left) (2 * rank_of s b + half_of b.at_left) (omega arith) (omega arith) k l e in
+    let d = digits-same (rank_of s a) (rank_of s b) (half_of a.at_left) (half_of b.at_left) p q t.1 in
+    let u : a.upward ≡ b.upward = i.turned ∙ (ap (λ z. eqb (z % 2) 0) t.0 ∙ sym j.turned) in
+    let f : cond b.upward (s - 1 - a.row) a.row ≡ cond b.upward (s - 1 - b.row) b.row = ap (λ z. cond z (s - 1 - a.row) a.row) (sym u) ∙ d.0 in
+    let r = rank-same s a.row b.row b.upward i.row_in j.row_in f in
+    let h = half_of-same a.at_left b.at_left d.1 in
+    let st = t.0 in
+    λ z. record { strips = st z; row = r z; at_left = h z; upward = u z }
+
+-- ---- the walk, n positions at a time
+
+-- 0 positions yield no module
+pub places-nil : (v : ℕ) (a : Cursor) → places_within v 0 a ≡ []
+unfolding places_within
+places-nil v a = refl
+
+-- the modules of the encoding region at n + 1 positions from position a on are the module at a, if it is in the region,
+-- and the modules at n positions from the next position on
+pub places-suc : (v n : ℕ) (a : Cursor) → places_within v (suc n) a ≡ cond (is_in_region v a.row (place_of a).col) (place_of a ∷ places_within v n (next_of (side_of v) a)) (places_within v n (next_of (side_of v) a))
+unfolding places_within
+places-suc v n a = refl
+
+-- module m is in the encoding region, and it is the module at a position b with at most n positions left
+abbrev Stop : ℕ → ℕ → Module → Type 0
+Stop v n m = (b : Cursor) × IsCursor v b × (0 < b.strips) × (left_of (side_of v) b ≤ n) × (place_of b ≡ m) × InRegion v m
+
+-- if `Stop v top` holds for the module at position a in case the test t passes, and for each module of xs, then it holds
+-- for each module of the list xs with the module at a in front if t passes
+stops-cond : (v n top : ℕ) (a : Cursor) (t : Bool) (xs : List Module) → (t ≡ true → Stop v top (place_of a)) → AllByRecursion (Stop v top) xs → AllByRecursion (Stop v top) (cond t (place_of a ∷ xs) xs)
+stops-cond v n top a true xs f h = (f refl, h)
+stops-cond v n top a false xs f h = h
+
+-- each module that the walk yields from a position a with n positions left is at a position with at most n positions left
+stops : (v n top : ℕ) (a : Cursor) → IsCursor v a → left_of (side_of v) a ≡ n → n ≤ top → AllByRecursion (Stop v top) (places_within v n a)
+stops v zero top a i e l = rw places-nil tt
+stops v (suc n) top a i e l =
+    let k = strips-positive (side_of v) a n e in
+    let d = next-left (side_of v) a k i.row_in in
+    rw places-suc (stops-cond v n top a (is_in_region v a.row (place_of a).col) _ (λ t. (a, i, k, omega arith, refl, t)) (stops v n top (next_of (side_of v) a) (next-IsCursor v a i k) (omega arith) (omega arith)))
+
+-- if the list xs rises and x has the relation R to each item of xs, then the list xs with x in front, if the test t
+-- passes, rises
+rises-cond : (R : Module → Module → Type 0) (x : Module) (t : Bool) (xs : List Module) → AllByRecursion (R x) xs → Rises R xs → Rises R (cond t (x ∷ xs) xs)
+rises-cond R x true xs h k = (h, k)
+rises-cond R x false xs h k = k
+
+-- the modules that the walk yields from a position a with n positions left have rising keys
+rises : (v n : ℕ) (a : Cursor) → IsCursor v a → left_of (side_of v) a ≡ n → Rises (λ m n. is_before (key_of v m) (key_of v n) ≡ true) (places_within v n a)
+rises v zero a i e = rw places-nil tt
+rises v (suc n) a i e =
+    let s = side_of v in
+    let k = strips-positive s a n e in
+    let d = next-left s a k i.row_in in
+    let j = next-IsCursor v a i k in
+    let f : (m : Module) → Stop v n m → is_before (key_of v (place_of a)) (key_of v m) ≡ true = λ m w. subst (λ (z : Module). is_before (key_of v (place_of a)) (key_of v z) ≡ true) w.4 (is_before-left v a w.0 i w.1 k w.2 (let l = w.3 in omega arith)) in
+    rw places-suc (rises-cond (λ m n. is_before (key_of v m) (key_of v n) ≡ true) (place_of a) (is_in_region v a.row (place_of a).col) _ (All-weaker_rec (Stop v n) _ f _ (stops v n n (next_of s a) j (omega arith) (omega arith))) (rises v n (next_of s a) j (omega arith)))
+
+-- if the list xs contains m, then the list xs with x in front, if the test t passes, contains m
+contains-cond : (x m : Module) (t : Bool) (xs : List Module) → Contains xs m → Contains (cond t (x ∷ xs) xs) m
+contains-cond x m true xs h = Contains-tail x m xs h
+contains-cond x m false xs h = h
+
+-- the walk from a position a with n positions left yields the module at each position b with at most n positions left, if
+-- this module is in the encoding region
+finds : (v n : ℕ) (a b : Cursor) → IsCursor v a → left_of (side_of v) a ≡ n → IsCursor v b → 0 < b.strips → left_of (side_of v) b ≤ n → InRegion v (place_of b) → Contains (places_within v n a) (place_of b)
+finds v zero a b i e j l h t = let p = left-positive v b j l in absurd (omega arith)
+finds v (suc n) a b i e j l h t =
+    let s = side_of v in
+    let k = strips-positive s a n e in
+    let d = next-left s a k i.row_in in
+    elim (cases_lt (left_of s b) (suc n)) [
+      | inl m ↦ rw places-suc (contains-cond (place_of a) (place_of b) (is_in_region v a.row (place_of a).col) _ (finds v n (next_of s a) b (next-IsCursor v a i k) (omega arith) j l (omega arith) t))
+      | inr m ↦ let g : a ≡ b = same-cursor v a b i j k l (omega arith) in
+          let u : is_in_region v a.row (place_of a).col ≡ true = subst (λ (z : Cursor). InRegion v (place_of z)) (sym g) t in
+          rw (places-suc, u) (Contains-head (place_of a) (place_of b) _ (ap place_of g))
+    ]
+
+-- ---- the beginning, and the position of a place
+
+-- in version v, the position at which the walk begins is a position of the walk
+pub start-IsCursor : (v : ℕ) → IsCursor v (first_cursor v)
+start-IsCursor v = record { strips_in = omega arith; row_in = omega arith; turned = grind (arith, nat_tests) }
+
+-- the position of a module m is in a strip
+pub at-strips : (m : Module) → 0 < (cursor_at m).strips
+unfolding cursor_at
+at-strips m = omega arith
+
+-- the position of each module m of the square of version v is a position of the walk
+pub at-IsCursor : (v : ℕ) (m : Module) → m.row < side_of v → m.col < side_of v → IsCursor v (cursor_at m)
+unfolding cursor_at
+at-IsCursor v m h k = record { strips_in = grind (arith, nat_tests); row_in = h; turned = refl }
+
+-- for each column c except column 6, the strip and the half of c give column c again
+column-at : (c : ℕ) → (c ≡ 6 → ⊥) → let d = cond (ltb c 6) c (c - 1) in column_of (d / 2 + 1) (half_of (eqb (d % 2) 0)) ≡ c
+column-at c h = grind (arith, nat_tests)
+
+-- the module at the position of module m is m, unless m is in column 6
+pub at-place : (m : Module) → (m.col ≡ 6 → ⊥) → place_of (cursor_at m) ≡ m
+unfolding cursor_at
+at-place m h = let e = column-at m.col h in λ z. record { row = m.row; col = e z }
+
+-- in version v, no position b has more positions left than the beginning of the walk
+start-most : (v : ℕ) (b : Cursor) → IsCursor v b → left_of (side_of v) b ≤ left_of (side_of v) (first_cursor v)
+unfolding left_of
+start-most v b j = let m = mul-le-mul_right (2 * side_of v) j.strips_in in omega (arith, m)
+
+-- ---- the order
+
+-- the modules that the walk of version v yields from its beginning are the order
+pub to_come-start : (v : ℕ) → IsOrder v (to_come v (first_cursor v))
+unfolding to_come
+to_come-start v =
+    let s = side_of v in
+    let n = left_of s (first_cursor v) in
+    let i = start-IsCursor v in
+    record {
+      in_region = All-from_recursion (InRegion v) _ (All-weaker_rec (Stop v n) (InRegion v) (λ m w. w.5) _ (stops v n n (first_cursor v) i refl (omega arith)));
+      complete = λ m h.
+          let b = cursor_at m in
+          let e = at-place m (col-not_timing v m h) in
+          let j = at-IsCursor v m (row-in v m h) (col-in v m h) in
+          subst (λ (z : Module). Contains (places_within v n (first_cursor v)) z) e (finds v n (first_cursor v) b i refl j (at-strips m) (start-most v b j) (subst (InRegion v) (sym e) h));
+      rising = AllPairs-from_rises _ _ (rises v n (first_cursor v) i refl);
+    }
+
+-- ---- the walk from a position in the middle
+
+-- if the list xs ends with ys, then the list xs with x in front, if the test t passes, ends with ys
+reach-cond : (v : ℕ) (x : Module) (t : Bool) (xs ys : List Module) → ((front : List Module) × (xs ≡ front ++ ys)) → (front : List Module) × (cond t (x ∷ xs) xs ≡ front ++ ys)
+reach-cond v x true xs ys w = (x ∷ w.0, ap (λ zs. x ∷ zs) w.1)
+reach-cond v x false xs ys w = w
+
+-- the modules that the walk yields from a position a with n positions left end with the modules that it yields from
+-- position b, if b has at most n positions left
+reaches : (v n : ℕ) (a b : Cursor) → IsCursor v a → left_of (side_of v) a ≡ n → IsCursor v b → 0 < b.strips → left_of (side_of v) b ≤ n → (front : List Module) × (places_within v n a ≡ front ++ places_within v (left_of (side_of v) b) b)
+reaches v zero a b i e j l h = let p = left-positive v b j l in absurd (omega arith)
+reaches v (suc n) a b i e j l h =
+    let s = side_of v in
+    let k = strips-positive s a n e in
+    let d = next-left s a k i.row_in in
+    elim (cases_lt (left_of s b) (suc n)) [
+      | inl m ↦ rw places-suc (reach-cond v (place_of a) (is_in_region v a.row (place_of a).col) _ _ (reaches v n (next_of s a) b (next-IsCursor v a i k) (omega arith) j l (omega arith)))
+      | inr m ↦ let g : a ≡ b = same-cursor v a b i j k l (omega arith) in
+          let f : suc n ≡ left_of s b = omega arith in
+          ([], ap (λ (z : Cursor). places_within v (suc n) z) g ∙ ap (λ k. places_within v k b) f)
+    ]
+
+-- the modules from position a on are the module at a, if it is in the encoding region, and the modules from the next
+-- position on
+pub to_come-next : (v : ℕ) (a : Cursor) → IsCursor v a → 0 < a.strips → to_come v a ≡ cond (is_in_region v a.row (place_of a).col) (place_of a ∷ to_come v (next_of (side_of v) a)) (to_come v (next_of (side_of v) a))
+unfolding to_come
+to_come-next v a i k =
+    let s = side_of v in
+    let d = next-left s a k i.row_in in
+    let e : left_of s a ≡ suc (left_of s (next_of s a)) = omega arith in
+    ap (λ n. places_within v n a) e ∙ places-suc v (left_of s (next_of s a)) a
+
+-- past the last strip the walk yields no module
+pub to_come-end : (v : ℕ) (a : Cursor) → a.strips ≡ 0 → to_come v a ≡ []
+unfolding to_come left_of
+to_come-end v a e =
+    let m : a.strips * (2 * side_of v) ≡ 0 * (2 * side_of v) = ap (λ x. x * (2 * side_of v)) e in
+    let z : left_of (side_of v) a ≡ 0 = omega arith in
+    ap (λ n. places_within v n a) z ∙ places-nil v a
+
+-- in version v, the modules that the walk yields after the position of module m are the modules that come after m in the
+-- order
+pub after : (v : ℕ) (m : Module) → InRegion v m → IsOrderAfter v m (to_come v (next_of (side_of v) (cursor_at m)))
+unfolding to_come
+after v m h =
+    let s = side_of v in
+    let b = cursor_at m in
+    let e = at-place m (col-not_timing v m h) in
+    let j = at-IsCursor v m (row-in v m h) (col-in v m h) in
+    let w = reaches v (left_of s (first_cursor v)) (first_cursor v) b (start-IsCursor v) refl j (at-strips m) (start-most v b j) in
+    let t : is_in_region v b.row (place_of b).col ≡ true = subst (InRegion v) (sym e) h in
+    let f : to_come v b ≡ m ∷ to_come v (next_of s b) = to_come-next v b j (at-strips m) ∙ (ap (λ z. cond z (place_of b ∷ to_come v (next_of s b)) (to_come v (next_of s b))) t ∙ ap (λ (z : Module). z ∷ to_come v (next_of s b)) e) in
+    record { front = w.0; whole = subst (IsOrder v) (w.1 ∙ ap (λ zs. w.0 ++ zs) f) (to_come-start v) }
+
+-- the modules that the walk of the code yields, which starts at the last row of the rightmost strip, are the order of
+-- version v
+pub walk-order : (v n s : ℕ) → n ≡ v → s ≡ side_of v → IsOrder v (to_come v (record { strips = 8 + 2 * n; row = s - 1; at_left = false; upward = true }))
+walk-order v n s e f =
+    let g : s - 1 ≡ 16 + 4 * v = omega arith in
+    let h : 8 + 2 * n ≡ 8 + 2 * v = omega arith in
+    rw (g, h) (to_come-start v)
+
+-- ---- one step of the code
+
+-- if the code steps from position a to position b, then b is a position of the walk or the end of the walk
+pub step-cursor : (v s : ℕ) (a b : Cursor) → s ≡ side_of v → IsCursor v a → 0 < a.strips → b ≡ next_of s a → IsCursor v b
+step-cursor v s a b e i k f = rw (f, e) (next-IsCursor v a i k)
+
+-- if the code steps from position a to position b, then b has fewer positions left than a
+pub step-left : (v s : ℕ) (a b : Cursor) → s ≡ side_of v → IsCursor v a → 0 < a.strips → b ≡ next_of s a → left_of (side_of v) b < left_of (side_of v) a
+step-left v s a b e i k f = rw (f, e) (let d = next-left (side_of v) a k i.row_in in omega arith)
+
+-- if the code steps from position a to position b, and the module m at a is in the encoding region, then the modules from
+-- a on are m and the modules from b on
+pub step-yields : (v s : ℕ) (a b : Cursor) (m : Module) (t : Bool) → s ≡ side_of v → IsCursor v a → 0 < a.strips → b ≡ next_of s a → m ≡ place_of a → t ≡ is_in_region v m.row m.col → t ≡ true → to_come v a ≡ m ∷ to_come v b
+step-yields v s a b m t e i k f g h j =
+    let q : is_in_region v a.row (place_of a).col ≡ true = subst (λ (z : Module). is_in_region v z.row z.col ≡ true) g (sym h ∙ j) in
+    rw (f, e, g) (to_come-next v a i k ∙ ap (λ z. cond z (place_of a ∷ to_come v (next_of (side_of v) a)) (to_come v (next_of (side_of v) a))) q)
+
+-- if the code steps from position a to position b, and the module m at a is not in the encoding region, then the modules
+-- from a on are the modules from b on
+pub step-passes : (v s : ℕ) (a b : Cursor) (m : Module) (t : Bool) → s ≡ side_of v → IsCursor v a → 0 < a.strips → b ≡ next_of s a → m ≡ place_of a → t ≡ is_in_region v m.row m.col → t ≡ false → to_come v a ≡ to_come v b
+step-passes v s a b m t e i k f g h j =
+    let q : is_in_region v a.row (place_of a).col ≡ false = subst (λ (z : Module). is_in_region v z.row z.col ≡ false) g (sym h ∙ j) in
+    rw (f, e) (to_come-next v a i k ∙ ap (λ z. cond z (place_of a ∷ to_come v (next_of (side_of v) a)) (to_come v (next_of (side_of v) a))) q)
+
+-- if the code resumes the walk after module m of the encoding region, at position b, then the modules from b on are the
+-- modules that come after m in the order
+pub after-order : (v s : ℕ) (m : Module) (a b : Cursor) (t : Bool) → s ≡ side_of v → t ≡ is_in_region v m.row m.col → t ≡ true → a ≡ cursor_at m → b ≡ next_of s a → IsOrderAfter v m (to_come v b)
+after-order v s m a b t e h j f g = rw (g, e, f) (after v m (sym h ∙ j))
+
+-- the position a that the code computes for module m is in a strip
+pub after-strips : (m : Module) (a : Cursor) → a ≡ cursor_at m → 0 < a.strips
+after-strips m a f = rw f (at-strips m)
+
+-- the position of module m is in the row of m
+at-row : (m : Module) → (cursor_at m).row ≡ m.row
+unfolding cursor_at
+at-row m = refl
+
+-- the position a that the code computes for a module m of the encoding region is in a row of the square
+pub after-row : (v s : ℕ) (m : Module) (a : Cursor) (t : Bool) → s ≡ side_of v → t ≡ is_in_region v m.row m.col → t ≡ true → a ≡ cursor_at m → a.row < s
+after-row v s m a t e h j f = rw (f, e) (subst (λ z. z < side_of v) (sym (at-row m)) (row-in v m (sym h ∙ j)))
+
+-- the position b that follows the position of a module m of the encoding region is a position of the walk or the end of
+-- the walk
+pub after-cursor : (v s : ℕ) (m : Module) (a b : Cursor) (t : Bool) → s ≡ side_of v → t ≡ is_in_region v m.row m.col → t ≡ true → a ≡ cursor_at m → b ≡ next_of s a → IsCursor v b
+after-cursor v s m a b t e h j f g = step-cursor v s a b e (subst (IsCursor v) (sym f) (at-IsCursor v m (row-in v m (sym h ∙ j)) (col-in v m (sym h ∙ j)))) (after-strips m a f) g
+
+-- if xs is m followed by ys, then ys is shorter than xs
+pub length-less : (xs ys : List Module) (m : Module) → xs ≡ m ∷ ys → length ys < length xs
+length-less xs ys m e = rw e (omega arith)

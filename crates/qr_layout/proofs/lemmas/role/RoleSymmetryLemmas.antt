@@ -1,0 +1,191 @@
+-- The function patterns are the same when rows and columns are exchanged, if of the format information just bit 7 is
+-- dark: this bit is opposite the dark module.
+use Rattle.std.proofs.Common.{◌≡◌, ℕ, ◌+◌, ◌-◌, ◌%◌, ◌<◌, ◌≤◌, Bool, true, false, not, ◌&&◌, ◌||◌, cond, eqb, ltb, min, List, [], ◌∷◌, Option, None, Some, refl, sym, ap, ◌∙◌, inl, inr, arith}
+use Rattle.std.proofs.Math.Bool.{and_comm, or_comm}
+use Rattle.std.proofs.lemmas.Bool.{cases_lt}
+use Rattle.std.proofs.lemmas.Bool.Decides.{nat_tests}
+use Rattle.std.specs.List.{find, range_with_len}
+use Rattle.std.specs.Option.{option_map_or}
+use Rattle.qr_layout.specs.declared.region.Module.{Module}
+use Rattle.qr_layout.specs.declared.role.Role.{Role}
+use Rattle.qr_layout.specs.declared.role.Role.TheVariants.{Fixed, FormatBit, VersionBit, Region}
+use Rattle.qr_layout.specs.Alignment.{centres_of, is_corner_pair}
+use Rattle.qr_layout.specs.Region.{is_alignment, ring_of}
+use Rattle.qr_layout.specs.Version.{side_of}
+use Rattle.qr_layout.specs.Role.{finder_ring, is_alignment_light, pattern_colour, first_place, second_place, version_place, transposed, is_at, format_bit_at, version_bit_at, is_dark_module, role_of}
+use Rattle.qr_layout.proofs.lemmas.alignment.AlignmentLemmas.{any-places, list_any-same}
+use Rattle.qr_layout.proofs.lemmas.role.RoleLemmas.{decide, first-at, format-top, format-bend, format-foot, format-left, format-seven, format-right, format-no_row, format-no_column, format-off}
+use Rattle.qr_layout.proofs.lemmas.region.SymmetryLemmas.{any-pairs, alignment-symmetric}
+use Rattle.qr_layout.proofs.lemmas.alignment.TableLemmas.{eqb-same}
+
+-- ---- the patterns
+
+-- the ring round a centre, with row and column exchanged
+ring-across : (a b r c : ℕ) → ring_of a b r c ≡ ring_of b a c r
+ring-across a b r c = grind arith
+
+-- the ring round the nearest finder pattern
+finder-symmetric : (s r c : ℕ) → finder_ring s r c ≡ finder_ring s c r
+finder-symmetric s r c = nearest (ring_of 3 3 r c) (ring_of 3 (s - 4) r c) (ring_of (s - 4) 3 r c) (ring_of 3 3 c r) (ring_of (s - 4) 3 c r) (ring_of 3 (s - 4) c r) (ring-across 3 3 r c) (ring-across 3 (s - 4) r c) (ring-across (s - 4) 3 r c)
+  where
+    nearest : (a b d x y z : ℕ) → a ≡ x → b ≡ y → d ≡ z → min a (min b d) ≡ min x (min z y)
+    nearest a b d x y z e f g = grind arith
+
+-- a centre with row and column exchanged has its light ring at the places with row and column exchanged
+on_ring : (s a b r c : ℕ) → (not (is_corner_pair s a b) && eqb (ring_of a b r c) 1) ≡ (not (is_corner_pair s b a) && eqb (ring_of b a c r) 1)
+on_ring s a b r c = grind (arith, nat_tests)
+
+-- the light rings of the alignment patterns
+light-symmetric : (v r c : ℕ) → is_alignment_light v r c ≡ is_alignment_light v c r
+unfolding is_alignment_light
+light-symmetric v r c =
+    let s = side_of v in
+    let cs = centres_of v in
+    any-places (λ m. eqb (ring_of m.row m.col r c) 1) s cs
+    ∙ (any-pairs (λ a b. not (is_corner_pair s a b) && eqb (ring_of a b r c) 1) cs cs
+    ∙ (list_any-same _ _ (λ b. list_any-same _ _ (λ a. on_ring s a b r c) cs) cs
+    ∙ sym (any-places (λ m. eqb (ring_of m.row m.col c r) 1) s cs)))
+
+-- the timing patterns: where they cross, both are dark
+timing : (r c : ℕ) (x : Option Bool) → cond (eqb r 6) (Some (eqb (c % 2) 0)) (cond (eqb c 6) (Some (eqb (r % 2) 0)) x) ≡ cond (eqb c 6) (Some (eqb (r % 2) 0)) (cond (eqb r 6) (Some (eqb (c % 2) 0)) x)
+timing r c x = elim (decide (eqb r 6)) [
+  | inl a ↦ elim (decide (eqb c 6)) [
+    | inl b ↦ let e = eqb-same r 6 a in let f = eqb-same c 6 b in rw (e, f) refl
+    | inr b ↦ rw (a, b) refl
+  ]
+  | inr a ↦ rw a refl
+]
+
+-- the colours of the patterns
+pattern-symmetric : (v r c : ℕ) → pattern_colour v r c ≡ pattern_colour v c r
+unfolding pattern_colour
+pattern-symmetric v r c =
+    let x = cond (is_alignment v c r) (Some (not (is_alignment_light v c r))) None in
+    rw (finder-symmetric (side_of v) r c, alignment-symmetric v r c, light-symmetric v r c, timing r c x) refl
+
+-- ---- the version information
+
+-- two tests that agree find the same number
+find-same : (p q : ℕ → Bool) → ((i : ℕ) → p i ≡ q i) → (xs : List ℕ) → find p xs ≡ find q xs
+find-same p q e [] = refl
+find-same p q e (x ∷ xs) = ap (λ b. cond b (Some x) (find p xs)) (e x) ∙ ap (λ z. cond (q x) (Some x) z) (find-same p q e xs)
+
+-- a bit of the version information is at two places, which are each other's with row and column exchanged
+two-places : (m : Module) (r c : ℕ) → (is_at m r c || is_at (transposed m) r c) ≡ (is_at m c r || is_at (transposed m) c r)
+two-places m r c =
+    or_comm (is_at m r c) (is_at (transposed m) r c)
+    ∙ (ap (λ b. b || is_at m r c) (and_comm (eqb m.col r) (eqb m.row c)) ∙ ap (λ b. is_at m c r || b) (and_comm (eqb m.row r) (eqb m.col c)))
+
+-- the bits of the version information
+version-symmetric : (v r c : ℕ) → version_bit_at v r c ≡ version_bit_at v c r
+unfolding version_bit_at
+version-symmetric v r c = ap (λ z. cond (ltb v 7) None z) (find-same _ _ (λ i. two-places (version_place (side_of v) i) r c) (range_with_len 0 18))
+
+-- ---- the format information and the dark module
+
+-- the colour of the dark module, or of a module of the format information if just bit 7 is dark
+seven : Bool → Option ℕ → Option Bool
+seven true f = Some true
+seven false (Some i) = Some (eqb i 7)
+seven false None = None
+
+-- no module of row 8 is the dark module
+row-not_dark : (s c : ℕ) → 21 ≤ s → is_dark_module s 8 c ≡ false
+row-not_dark s c l = grind (arith, nat_tests)
+
+-- a module of column 8 is not the dark module if it is in another row
+column-not_dark : (s r : ℕ) → (r ≡ s - 8 → ⊥) → is_dark_module s r 8 ≡ false
+column-not_dark s r h = grind (arith, nat_tests)
+
+-- the bits in column 8 and in row 8, where neither module is the dark module
+both-bits : (s r i j : ℕ) → 21 ≤ s → (r ≡ s - 8 → ⊥) → Some i ≡ format_bit_at s r 8 → Some j ≡ format_bit_at s 8 r → eqb i 7 ≡ eqb j 7 → seven (is_dark_module s r 8) (format_bit_at s r 8) ≡ seven (is_dark_module s 8 r) (format_bit_at s 8 r)
+unfolding seven
+both-bits s r i j l n e f g = rw (row-not_dark s r l, column-not_dark s r n, sym e, sym f) (ap (λ b. Some b) g)
+
+-- no bits in column 8 and in row 8
+no-bits : (s r : ℕ) → 21 ≤ s → (r ≡ s - 8 → ⊥) → None ≡ format_bit_at s r 8 → None ≡ format_bit_at s 8 r → seven (is_dark_module s r 8) (format_bit_at s r 8) ≡ seven (is_dark_module s 8 r) (format_bit_at s 8 r)
+unfolding seven
+no-bits s r l n e f = rw (row-not_dark s r l, column-not_dark s r n, sym e, sym f) refl
+
+-- the dark module, and bit 7 of the format information, which is opposite it
+dark-bit : (s r : ℕ) → 21 ≤ s → r ≡ s - 8 → seven (is_dark_module s r 8) (format_bit_at s r 8) ≡ seven (is_dark_module s 8 r) (format_bit_at s 8 r)
+unfolding seven
+dark-bit s r l e =
+    let dark : is_dark_module s r 8 ≡ true = grind (arith, nat_tests) in
+    let bit : eqb (s - 1 - r) 7 ≡ true = grind (arith, nat_tests) in
+    rw (dark, row-not_dark s r l, sym (format-right s r l (omega arith) (omega arith)), bit) refl
+
+-- column 8 and row 8
+eights : (s r : ℕ) → 21 ≤ s → r < s → seven (is_dark_module s r 8) (format_bit_at s r 8) ≡ seven (is_dark_module s 8 r) (format_bit_at s 8 r)
+eights s r l h = elim (cases_lt r 6) [
+  | inl a ↦ both-bits s r r (14 - r) l (λ e. omega arith) (format-top s r l a) (format-left s r l a) (grind (arith, nat_tests))
+  | inr a ↦ elim (cases_lt 6 r) [
+    | inr b ↦ no-bits s r l (λ e. omega arith) (format-no_row s r l (inl (omega arith))) (format-no_column s r l (inl (omega arith)))
+    | inl b ↦ elim (cases_lt r 8) [
+      | inl d ↦ both-bits s r (r - 1) 8 l (λ e. omega arith) (format-bend s r l b (omega arith)) (format-seven s r l (omega arith)) (grind (arith, nat_tests))
+      | inr d ↦ elim (cases_lt 8 r) [
+        | inr f ↦ let e : r ≡ 8 = omega arith in rw e refl
+        | inl f ↦ elim (cases_lt r (s - 8)) [
+          | inl g ↦ no-bits s r l (λ e. omega arith) (format-no_row s r l (inr (omega arith, omega arith))) (format-no_column s r l (inr (omega arith, omega arith)))
+          | inr g ↦ elim (cases_lt (s - 8) r) [
+            | inl k ↦ both-bits s r (r + 15 - s) (s - 1 - r) l (λ e. omega arith) (format-foot s r l k h) (format-right s r l (omega arith) h) (grind (arith, nat_tests))
+            | inr k ↦ dark-bit s r l (omega arith)
+          ]
+        ]
+      ]
+    ]
+  ]
+]
+
+-- a module outside column 8 is not the dark module
+off-not_dark : (s r c : ℕ) → (c ≡ 8 → ⊥) → is_dark_module s r c ≡ false
+off-not_dark s r c h = grind (arith, nat_tests)
+
+-- what it means that a test for 8 fails
+not-eight : (n : ℕ) → eqb n 8 ≡ false → n ≡ 8 → ⊥
+not-eight n h e = grind (arith, nat_tests)
+
+-- the dark module and the format information
+seven-symmetric : (s r c : ℕ) → 21 ≤ s → r < s → c < s → seven (is_dark_module s r c) (format_bit_at s r c) ≡ seven (is_dark_module s c r) (format_bit_at s c r)
+unfolding seven
+seven-symmetric s r c l h k = elim (decide (eqb c 8)) [
+  | inl a ↦ let e = eqb-same c 8 a in rw e (eights s r l h)
+  | inr a ↦ elim (decide (eqb r 8)) [
+    | inl b ↦ let e = eqb-same r 8 b in rw e (sym (eights s c l k))
+    | inr b ↦
+        let m = not-eight c a in
+        let n = not-eight r b in
+        rw (off-not_dark s r c m, off-not_dark s c r n, sym (format-off s r c l n m), sym (format-off s c r l m n)) refl
+  ]
+]
+
+-- ---- the roles
+
+-- a colour by role in which just bit 7 of the format information is dark, over what the parts of the role say
+by-parts : (f : Role → Bool) (a : Option Bool) (t : Bool) (o g : Option ℕ) → ((i : ℕ) → o ≡ Some i → f (FormatBit i) ≡ f (Fixed (eqb i 7)))
+    → f (option_map_or Fixed a (cond t (Fixed true) (option_map_or FormatBit o (option_map_or VersionBit g Region)))) ≡ f (option_map_or Fixed a (option_map_or Fixed (seven t o) (option_map_or VersionBit g Region)))
+unfolding seven
+by-parts f (Some d) t o g h = refl
+by-parts f None true o g h = refl
+by-parts f None false (Some i) g h = h i refl
+by-parts f None false None g h = refl
+
+-- the bits of the format information are below 15
+bit-below : (s r c i : ℕ) → format_bit_at s r c ≡ Some i → i < 15
+unfolding format_bit_at
+bit-below s r c i h = (first-at 15 (λ i. is_at (first_place i) r c || is_at (second_place s i) r c) i h).0
+
+-- the colour of a module by its role, over what the parts of the role say
+colour-parts : (f : Role → Bool) (v r c : ℕ) → ((i : ℕ) → i < 15 → f (FormatBit i) ≡ f (Fixed (eqb i 7)))
+    → f (role_of v r c) ≡ f (option_map_or Fixed (pattern_colour v r c) (option_map_or Fixed (seven (is_dark_module (side_of v) r c) (format_bit_at (side_of v) r c)) (option_map_or VersionBit (version_bit_at v r c) Region)))
+unfolding role_of
+colour-parts f v r c h = by-parts f (pattern_colour v r c) (is_dark_module (side_of v) r c) (format_bit_at (side_of v) r c) (version_bit_at v r c) (λ i e. h i (bit-below (side_of v) r c i e))
+
+-- if of the format information just bit 7 is dark, the colours by role are the same with row and column exchanged
+pub role-symmetric : (f : Role → Bool) (v r c : ℕ) → 1 ≤ v → r < side_of v → c < side_of v → ((i : ℕ) → i < 15 → f (FormatBit i) ≡ f (Fixed (eqb i 7))) → f (role_of v r c) ≡ f (role_of v c r)
+role-symmetric f v r c l h k e =
+    colour-parts f v r c e
+    ∙ (ap (λ z. f (option_map_or Fixed z (option_map_or Fixed (seven (is_dark_module (side_of v) r c) (format_bit_at (side_of v) r c)) (option_map_or VersionBit (version_bit_at v r c) Region)))) (pattern-symmetric v r c)
+    ∙ (ap (λ z. f (option_map_or Fixed (pattern_colour v c r) (option_map_or Fixed z (option_map_or VersionBit (version_bit_at v r c) Region)))) (seven-symmetric (side_of v) r c (omega arith) h k)
+    ∙ (ap (λ z. f (option_map_or Fixed (pattern_colour v c r) (option_map_or Fixed (seven (is_dark_module (side_of v) c r) (format_bit_at (side_of v) c r)) (option_map_or VersionBit z Region)))) (version-symmetric v r c)
+    ∙ sym (colour-parts f v c r e))))

@@ -1,0 +1,10 @@
+-- Lemmas, in folders by the file of src that they serve, in the order in which they are read.
+pub mod bit_row
+pub mod matrix
+pub mod dark_runs
+pub mod transposition
+pub mod difference
+pub mod runs
+pub mod squares
+pub mod windows
+pub mod penalties

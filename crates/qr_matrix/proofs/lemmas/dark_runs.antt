@@ -1,0 +1,2 @@
+-- The columns of a row at which the colour changes, and the runs between them.
+pub mod ChangeLemmas

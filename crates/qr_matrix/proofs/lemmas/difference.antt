@@ -1,0 +1,2 @@
+-- Differences of squares.
+pub mod DifferenceLemmas

@@ -1,0 +1,66 @@
+-- Differences of squares.
+use Rattle.std.proofs.Common.{◌≡◌, ℕ, zero, suc, ◌<◌, ◌≤◌, Bool, true, false, not, cond, inl, inr, refl, sym, ap, ◌∙◌, arith}
+use Rattle.std.specs.Prelude.{List, ◌↔◌}
+use Rattle.std.proofs.lemmas.Bool.{cases_lt}
+use Rattle.qr_matrix.specs.Grid.{Grid, colour}
+use Rattle.qr_matrix.specs.BitRow.{has}
+use Rattle.qr_matrix.specs.Steps.{size_of}
+use Rattle.qr_matrix.specs.Penalty.{is_same, sum_below, count_below}
+use Rattle.qr_matrix.specs.Difference.{differs, difference_count}
+use Rattle.qr_matrix.proofs.lemmas.runs.RowLemmas.{size-is}
+
+-- a colour is the same as itself
+same-self : (b : Bool) → is_same b b ≡ true
+same-self true = refl
+same-self false = refl
+
+-- 1 if the test is passed
+abbrev one_if : Bool → ℕ
+one_if b = cond b 1 0
+
+-- colours that are not different are equal
+same-is : (a b : Bool) → one_if (not (is_same a b)) ≡ 0 → a ≡ b
+same-is true true e = refl
+same-is false false e = refl
+same-is true false e = cc
+same-is false true e = cc
+
+-- a place outside both rows differs in neither
+differs-past : (x y : Bool) → x ≡ false → y ≡ false → not (is_same x y) ≡ false
+differs-past x y e f = ap (λ z. not (is_same z y)) e ∙ ap (λ z. not (is_same false z)) f
+
+-- the bits that are set in exactly one of two rows are the places at which the rows differ
+pub row-differs : (g h : Grid) (r : ℕ) (d a b : List ℕ) → g.side ≤ 192 → ((c : ℕ) → has d c ≡ not (is_same (has a c) (has b c)))
+    → ((c : ℕ) → has a c ≡ colour g r c) → ((c : ℕ) → has b c ≡ colour h r c)
+    → ((c : ℕ) → g.side ≤ c → has a c ≡ false) → ((c : ℕ) → g.side ≤ c → has b c ≡ false)
+    → size_of d ≡ count_below g.side (differs g h r)
+row-differs g h r d a b few x p q past beyond =
+    size-is g.side d (differs g h r) few
+    (λ c _. x c ∙ (ap (λ z. not (is_same z (has b c))) (p c) ∙ ap (λ z. not (is_same (colour g r c) z)) (q c)))
+    (λ c k. differs-past (colour g r c) (colour h r c) (sym (p c) ∙ past c k) (sym (q c) ∙ beyond c k))
+
+-- if a sum is 0, each term is 0
+term-zero : (n : ℕ) (f : ℕ → ℕ) → sum_below n f ≡ 0 → (k : ℕ) → k < n → f k ≡ 0
+term-zero zero f e k l = absurd (omega arith)
+term-zero (suc n) f e k l = elim (cases_lt k n) [
+  | inl m ↦ term-zero n f (omega arith) k m
+  | inr m ↦ let same : k ≡ n = omega arith in let here = ap f same in omega arith
+]
+
+-- if each term is 0, the sum is 0
+sum-zero : (n : ℕ) (f : ℕ → ℕ) → ((k : ℕ) → k < n → f k ≡ 0) → sum_below n f ≡ 0
+sum-zero zero f e = refl
+sum-zero (suc n) f e = let here = e n (omega arith) in let rest = sum-zero n f (λ k l. e k (omega arith)) in omega arith
+
+-- no place differs exactly if all places have one colour in both squares
+pub no-difference : (g h : Grid) → (difference_count g h ≡ 0) ↔ ((r c : ℕ) → r < g.side → c < g.side → colour g r c ≡ colour h r c)
+unfolding difference_count
+no-difference g h = (
+  (λ e r c l m.
+      same-is (colour g r c) (colour h r c)
+      (term-zero g.side (λ k. cond (differs g h r k) 1 0)
+      (term-zero g.side (λ k. count_below g.side (differs g h k)) e r l) c m)),
+  (λ e. sum-zero g.side (λ r. count_below g.side (differs g h r))
+      (λ r l. sum-zero g.side (λ c. cond (differs g h r c) 1 0)
+      (λ c m. ap (λ z. cond (not (is_same z (colour h r c))) 1 0) (e r c l m) ∙ ap (λ z. cond (not z) 1 0) (same-self (colour h r c))))),
+)

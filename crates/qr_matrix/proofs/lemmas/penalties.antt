@@ -1,0 +1,2 @@
+-- The penalty from its parts.
+pub mod PenaltyLemmas

@@ -1,0 +1,6 @@
+-- Bit operations on a bit row compute the tests of a row.
+pub mod RowLemmas
+-- Bit operations on neighbouring rows compute the tests of all columns at once.
+pub mod ColumnLemmas
+-- The cost of the maximal runs of a row or column is the cost that is counted module by module.
+pub mod RunLemmas

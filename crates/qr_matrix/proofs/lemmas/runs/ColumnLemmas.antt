@@ -1,0 +1,103 @@
+-- Bit operations on neighbouring rows compute the tests of all columns at once.
+use Rattle.std.proofs.Common.{◌≡◌, ℕ, ◌+◌, ◌-◌, ◌*◌, ◌<◌, ◌≤◌, List, [], ◌∷◌, eqb, ltb, Bool, true, false, not, ◌&&◌, cond, refl, sym, ap, ◌∙◌, inl, inr, arith}
+use Rattle.std.proofs.lemmas.Bool.{cases_lt}
+use Rattle.std.proofs.lemmas.Bool.Decides.{nat_tests}
+use Rattle.std.proofs.lemmas.Nat.Bits.{bit_at-zero}
+use Rattle.qr_matrix.specs.BitRow.{has, has_bit, bit_row_number}
+use Rattle.qr_matrix.specs.Steps.{size_of, row_share}
+use Rattle.qr_matrix.specs.Penalty.{count_below, is_same, sum_below}
+use Rattle.qr_matrix.specs.Runs.{joins, begins_five, begins_long_run, place_cost}
+use Rattle.qr_matrix.proofs.lemmas.bit_row.SumLemmas.{count_below-same, count_below-cut, sum_below-swap, sum_below-add, sum_below-scale}
+use Rattle.qr_matrix.proofs.lemmas.runs.RowLemmas.{joins-past}
+use Rattle.qr_matrix.proofs.lemmas.bit_row.BoolLemmas.{and-false, not-not}
+
+-- the bit row of zeros has no bit set
+pub has-nothing : (c : ℕ) → has (0 ∷ 0 ∷ 0 ∷ []) c ≡ false
+unfolding has bit_row_number has_bit
+has-nothing c = ap (λ z. eqb z 1) (bit_at-zero c)
+
+-- if bit x is set in the columns below s whose place does not differ from the place below it, then x is set exactly
+-- where column c is below s and the place is joined to the place below it
+pub joins-down-bit : (s : ℕ) (line : ℕ → Bool) (c r : ℕ) (x i d : Bool) → r + 1 < s → x ≡ (i && not d) → i ≡ ltb c s → d ≡ not (is_same (line r) (line (r + 1))) → x ≡ (ltb c s && joins s line r)
+unfolding joins
+joins-down-bit s line c r x i d h e f g =
+    let t : ltb (r + 1) s ≡ true = grind (arith, nat_tests) in
+    e ∙ (ap (λ z. z && not d) f ∙ (ap (λ z. ltb c s && not z) g ∙ (ap (λ z. ltb c s && z) (not-not (is_same (line r) (line (r + 1)))) ∙ ap (λ z. ltb c s && (z && is_same (line r) (line (r + 1)))) (sym t))))
+
+-- in the last row no place is joined to a place below it
+pub joins-down-none : (s : ℕ) (line : ℕ → Bool) (c r : ℕ) (x : Bool) → s ≤ r + 1 → x ≡ false → x ≡ (ltb c s && joins s line r)
+joins-down-none s line c r x h e = e ∙ sym (and-false (ltb c s) (joins s line r) (joins-past s line r h))
+
+-- a test that column c is below s fails from s on
+past : (s c : ℕ) (b : Bool) → s ≤ c → (ltb c s && b) ≡ false
+past s c b h = let e : ltb c s ≡ false = grind (arith, nat_tests) in ap (λ z. z && b) e
+
+-- a test that fails from s on is the same as this test together with the test that c is below s
+pub guarded : (s c : ℕ) (b : Bool) → (s ≤ c → b ≡ false) → b ≡ (ltb c s && b)
+guarded s c b h = elim (cases_lt c s) [
+  | inl l ↦ let e : ltb c s ≡ true = grind (arith, nat_tests) in sym (ap (λ z. z && b) e)
+  | inr l ↦ h l ∙ sym (past s c b l)
+]
+
+-- four tests that are each guarded by u are the same as the guard u together with the four tests
+guarded-five : (u a b d e : Bool) → (((u && a) && (u && b)) && ((u && d) && (u && e))) ≡ (u && ((a && b) && (d && e)))
+guarded-five true a b d e = refl
+guarded-five false a b d e = refl
+
+-- if bit x is set where four places in turn of column c are joined to the places below them, then x is set exactly
+-- where column c is below s and five equal places of it begin in row r
+pub five-down-bit : (s : ℕ) (line : ℕ → Bool) (c r : ℕ) (x y z p q m n : Bool) → x ≡ (y && z) → y ≡ (p && q) → z ≡ (m && n) → p ≡ (ltb c s && joins s line r) → q ≡ (ltb c s && joins s line (r + 1)) → m ≡ (ltb c s && joins s line (r + 2)) → n ≡ (ltb c s && joins s line (r + 3)) → x ≡ (ltb c s && begins_five s line r)
+unfolding begins_five
+five-down-bit s line c r x y z p q m n ex ey ez ep eq em en =
+    let e = guarded-five (ltb c s) (joins s line r) (joins s line (r + 1)) (joins s line (r + 2)) (joins s line (r + 3)) in
+    cc
+
+-- the guard u of two tests is the same as the guard u of them together
+guarded-run : (u f j t : Bool) → ((u && f) && not (t && (u && j))) ≡ (u && (f && not (t && j)))
+guarded-run true f j t = refl
+guarded-run false f j t = refl
+
+-- if bit x is set where five equal places begin and the place above them is not joined to the first, then x is set
+-- exactly where column c is below s and a long run of it begins in row r
+run-down-bit : (s : ℕ) (line : ℕ → Bool) (c r : ℕ) (x f j : Bool) → x ≡ (f && not j) → f ≡ (ltb c s && begins_five s line r) → j ≡ (ltb 0 r && (ltb c s && joins s line (r - 1))) → x ≡ (ltb c s && begins_long_run s line r)
+unfolding begins_long_run
+run-down-bit s line c r x f j ex ef ej =
+    let e = guarded-run (ltb c s) (begins_five s line r) (joins s line (r - 1)) (ltb 0 r) in
+    cc
+
+-- as many numbers below 192 pass the test t as numbers below s pass the test p, if t is p guarded by the test that a
+-- number is below s
+guarded-count : (s : ℕ) (t p : ℕ → Bool) → s ≤ 192 → ((c : ℕ) → t c ≡ (ltb c s && p c)) → count_below 192 t ≡ count_below s p
+guarded-count s t p l h =
+    count_below-cut 192 s t (λ c. ltb c s && p c) l (λ c k. h c) (λ c k. past s c (p c) k)
+    ∙ count_below-same s (λ c. ltb c s && p c) p (λ c k. let e : ltb c s ≡ true = grind (arith, nat_tests) in ap (λ z. z && p c) e)
+
+-- a bit row has as many set bits as numbers below s pass the test p, if its bits are p guarded by the test that a
+-- column is below s
+pub guarded-size : (s : ℕ) (words : List ℕ) (p : ℕ → Bool) → s ≤ 192 → ((c : ℕ) → has words c ≡ (ltb c s && p c)) → size_of words ≡ count_below s p
+unfolding size_of
+guarded-size s words p l h = guarded-count s (has words) p l h
+
+-- the number n that is counted on the bits of a row is this row's share of the cost of the runs of all columns
+pub share-of : (s : ℕ) (dark : ℕ → ℕ → Bool) (r n : ℕ) (f a : List ℕ) → s ≤ 192 → ((c : ℕ) → has f c ≡ (ltb c s && begins_five s (λ i. dark i c) r)) → ((c : ℕ) → has a c ≡ (ltb 0 r && (ltb c s && joins s (λ i. dark i c) (r - 1)))) → n ≡ size_of f + 2 * count_below 192 (λ c. has f c && not (has a c)) → n ≡ row_share s dark r
+unfolding row_share
+share-of s dark r n f a l hf ha e =
+    let p = guarded-size s f (λ c. begins_five s (λ i. dark i c) r) l hf in
+    let q = guarded-count s (λ c. has f c && not (has a c)) (λ c. begins_long_run s (λ i. dark i c) r) l (λ c. run-down-bit s (λ i. dark i c) c r (has f c && not (has a c)) (has f c) (has a c) refl (hf c) (ha c)) in
+    omega arith
+
+-- two counts have the same weighted sum whether they are summed row by row or column by column
+shares-swap : (s : ℕ) (f g : ℕ → ℕ → ℕ) → sum_below s (λ r. sum_below s (f r) + 2 * sum_below s (g r)) ≡ sum_below s (λ c. sum_below s (λ r. f r c) + 2 * sum_below s (λ r. g r c))
+shares-swap s f g =
+    let a = sum_below-add s (λ r. sum_below s (f r)) (λ r. 2 * sum_below s (g r)) in
+    let b = sum_below-scale 2 s (λ r. sum_below s (g r)) in
+    let d = sum_below-swap s s f in
+    let e = sum_below-swap s s g in
+    let h = sum_below-add s (λ c. sum_below s (λ r. f r c)) (λ c. 2 * sum_below s (λ r. g r c)) in
+    let i = sum_below-scale 2 s (λ c. sum_below s (λ r. g r c)) in
+    omega arith
+
+-- the shares of all rows sum to the costs of all columns
+pub shares-are-columns : (s : ℕ) (dark : ℕ → ℕ → Bool) → sum_below s (row_share s dark) ≡ sum_below s (λ c. place_cost s (λ r. dark r c))
+unfolding row_share place_cost
+shares-are-columns s dark = shares-swap s (λ r c. cond (begins_five s (λ i. dark i c) r) 1 0) (λ r c. cond (begins_long_run s (λ i. dark i c) r) 1 0)

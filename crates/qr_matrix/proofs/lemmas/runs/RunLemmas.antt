@@ -1,0 +1,364 @@
+-- The cost of the maximal runs of a row or column is the cost that is counted module by module.
+use Rattle.std.proofs.Common.{◌≡◌, ℕ, zero, suc, ◌+◌, ◌-◌, ◌*◌, ◌<◌, ◌≤◌, ◌⊎◌, inl, inr, eqb, ltb, leb, Bool, true, false, not, ◌&&◌, ◌||◌, cond, refl, sym, ap, ◌∙◌, subst, arith}
+use Rattle.std.proofs.lemmas.Bool.{cases_lt, false≢true}
+use Rattle.std.proofs.lemmas.Bool.Decides.{nat_tests}
+use Rattle.qr_matrix.specs.Penalty.{all_below, is_same, is_run, run_cost, sum_below}
+use Rattle.qr_matrix.specs.Runs.{joins, begins_five, begins_long_run, place_cost}
+use Rattle.qr_matrix.proofs.lemmas.bit_row.SumLemmas.{sum_below-same, sum_below-add, sum_below-scale, sum_below-one}
+use Rattle.qr_matrix.proofs.lemmas.bit_row.BoolLemmas.{and-false}
+use Rattle.qr_matrix.proofs.lemmas.runs.RowLemmas.{joins-past}
+
+-- each test b is true or false
+true_or_false : (b : Bool) → (b ≡ true) ⊎ (b ≡ false)
+true_or_false true = inl refl
+true_or_false false = inr refl
+
+-- ---- tests of all numbers below a bound
+
+-- if each i below k passes the test p, then `all_below k p` is true
+all_below-true : (k : ℕ) (p : ℕ → Bool) → ((i : ℕ) → i < k → p i ≡ true) → all_below k p ≡ true
+all_below-true zero p h = refl
+all_below-true (suc k) p h = ap (λ z. z && all_below k p) (h k (omega arith)) ∙ all_below-true k p (λ i l. h i (omega arith))
+
+-- if some i below k does not pass the test p, then `all_below k p` is false
+all_below-false : (k : ℕ) (p : ℕ → Bool) (i : ℕ) → i < k → p i ≡ false → all_below k p ≡ false
+all_below-false zero p i h e = absurd (omega arith)
+all_below-false (suc k) p i h e = elim (cases_lt i k) [
+  | inl l ↦ and-false (p k) (all_below k p) (all_below-false k p i l e)
+  | inr l ↦ let g : k ≡ i = omega arith in ap (λ z. z && all_below k p) (ap p g ∙ e)
+]
+
+-- ---- the number of modules after a module that belong to its run
+
+-- the number of modules that module a has ahead, which are the modules after a that belong to its run; n modules are left
+-- from a on, and j is the test of a module that is joined to the module after it
+unfoldable ahead : (ℕ → Bool) → ℕ → ℕ → ℕ
+ahead j zero a = 0
+ahead j (suc n) a = cond (j a) (suc (ahead j n (a + 1))) 0
+
+-- two colours a and b that pass the test `is_same` are equal
+same-true : (a b : Bool) → is_same a b ≡ true → a ≡ b
+same-true true true e = refl
+same-true true false e = sym e
+same-true false true e = e
+same-true false false e = refl
+
+-- two equal colours a and b pass the test `is_same`
+same-self : (a b : Bool) → a ≡ b → is_same a b ≡ true
+same-self true b e = sym e
+same-self false b e = ap not (sym e)
+
+-- if the conjunction of a and b is true, then a and b are true
+and-both : (a b : Bool) → (a && b) ≡ true → (a ≡ true) × (b ≡ true)
+and-both true b e = (refl, e)
+and-both false b e = absurd (false≢true e)
+
+-- if module a is joined to the module after it, then there is a module after it, which has the colour of module a
+joins-true : (s : ℕ) (line : ℕ → Bool) (a : ℕ) → joins s line a ≡ true → (a + 1 < s) × (line (a + 1) ≡ line a)
+unfolding joins
+joins-true s line a h =
+    let e = and-both (ltb (a + 1) s) (is_same (line a) (line (a + 1))) h in
+    let t = e.0 in
+    (grind (arith, nat_tests), sym (same-true (line a) (line (a + 1)) e.1))
+
+-- if module a is not joined to the module after it, then module a is the last module, or the module after it has another
+-- colour
+joins-false : (s : ℕ) (line : ℕ → Bool) (a : ℕ) → joins s line a ≡ false → (s ≤ a + 1) ⊎ (is_same (line a) (line (a + 1)) ≡ false)
+unfolding joins
+joins-false s line a h = elim (cases_lt (a + 1) s) [
+  | inl l ↦ let t : ltb (a + 1) s ≡ true = grind (arith, nat_tests) in inr (ap (λ z. z && is_same (line a) (line (a + 1))) (sym t) ∙ h)
+  | inr l ↦ inl l
+]
+
+-- if module a is joined to the module after it, then it has one module more ahead than the module after it
+ahead-true : (j : ℕ → Bool) (n a : ℕ) → j a ≡ true → ahead j (suc n) a ≡ suc (ahead j n (a + 1))
+unfolding ahead
+ahead-true j n a e = ap (λ z. cond z (suc (ahead j n (a + 1))) 0) e
+
+-- if module a is not joined to the module after it, then it has 0 modules ahead
+ahead-false : (j : ℕ → Bool) (n a : ℕ) → j a ≡ false → ahead j n a ≡ 0
+unfolding ahead
+ahead-false j zero a e = refl
+ahead-false j (suc n) a e = ap (λ z. cond z (suc (ahead j n (a + 1))) 0) e
+
+-- if module a has at least k modules ahead, then module a + k is not past the side and has the colour of module a
+stretch : (s : ℕ) (line : ℕ → Bool) (n a k : ℕ) → a + n ≡ s → 0 < n → k ≤ ahead (joins s line) n a → (a + k < s) × (line (a + k) ≡ line a)
+stretch s line zero a k e p h = absurd (omega arith)
+stretch s line (suc n) a zero e p h = (omega arith, ap line (plain a))
+  where
+    plain : (a : ℕ) → a + 0 ≡ a
+    plain a = omega arith
+stretch s line (suc n) a (suc k) e p h = elim (true_or_false (joins s line a)) [
+  | inl t ↦
+      let f = ahead-true (joins s line) n a t in
+      let u = joins-true s line a t in
+      let u0 = u.0 in
+      let w = stretch s line n (a + 1) k (omega arith) (omega arith) (omega arith) in
+      let w0 = w.0 in
+      let g : a + suc k ≡ a + 1 + k = omega arith in
+      (omega arith, ap line g ∙ (w.1 ∙ u.1))
+  | inr t ↦ let f = ahead-false (joins s line) (suc n) a t in absurd (omega arith)
+]
+
+-- the module after the modules that module a has ahead is past the side or has another colour than module a
+stretch-end : (s : ℕ) (line : ℕ → Bool) (n a : ℕ) → a + n ≡ s → 0 < n → (a + suc (ahead (joins s line) n a) ≡ s) ⊎ (is_same (line (a + suc (ahead (joins s line) n a))) (line a) ≡ false)
+stretch-end s line zero a e p = absurd (omega arith)
+stretch-end s line (suc n) a e p = elim (true_or_false (joins s line a)) [
+  | inl t ↦
+      let f = ahead-true (joins s line) n a t in
+      let u = joins-true s line a t in
+      let u0 = u.0 in
+      let g : a + 1 + suc (ahead (joins s line) n (a + 1)) ≡ a + suc (ahead (joins s line) (suc n) a) = omega arith in
+      elim (stretch-end s line n (a + 1) (omega arith) (omega arith)) [
+        | inl w ↦ inl (omega arith)
+        | inr w ↦ inr (ap (λ z. is_same (line z) (line a)) (sym g) ∙ (ap (λ z. is_same (line (a + 1 + suc (ahead (joins s line) n (a + 1)))) z) (sym u.1) ∙ w))
+      ]
+  | inr t ↦
+      let f = ahead-false (joins s line) (suc n) a t in
+      let g : a + 1 ≡ a + suc (ahead (joins s line) (suc n) a) = omega arith in
+      elim (joins-false s line a t) [
+        | inl w ↦ inl (omega arith)
+        | inr w ↦ inr (ap (λ z. is_same (line z) (line a)) (sym g) ∙ (turn (line (a + 1)) (line a) ∙ w))
+      ]
+]
+  where
+    turn : (a b : Bool) → is_same a b ≡ is_same b a
+    turn true true = refl
+    turn true false = refl
+    turn false true = refl
+    turn false false = refl
+
+-- ---- the maximal run from a module on, if a run begins at this module
+
+-- no module before module a belongs to its run
+abbrev heads : (ℕ → Bool) → ℕ → Bool
+heads line a = eqb a 0 || not (is_same (line (a - 1)) (line a))
+
+-- the number of modules of the run of module a, from module a on
+abbrev run_len : ℕ → (ℕ → Bool) → ℕ → ℕ
+run_len s line a = suc (ahead (joins s line) (s - a) a)
+
+-- if p, q and r are true, then the conjunction of p, q, h and r is h
+four : (p q h r : Bool) → p ≡ true → q ≡ true → r ≡ true → (((p && q) && h) && r) ≡ h
+four p q h r a b c = subst (λ z. (((z && q) && h) && r) ≡ h) (sym a) (subst (λ z. ((z && h) && r) ≡ h) (sym b) (subst (λ z. (h && z) ≡ h) (sym c) (last h)))
+  where
+    last : (h : Bool) → (h && true) ≡ h
+    last true = refl
+    last false = refl
+
+-- a maximal run of k modules begins at module a just when no module before a belongs to the run of a and k is the number
+-- of modules of this run from a on
+is_run-is : (s : ℕ) (line : ℕ → Bool) (a k : ℕ) → a < s → is_run s line a k ≡ (heads line a && eqb k (run_len s line a))
+unfolding is_run
+is_run-is s line a k l =
+    let n : a + (s - a) ≡ s = omega arith in
+    let d : 0 < s - a = omega arith in
+    let m = ahead (joins s line) (s - a) a in
+    let before = stretch s line (s - a) a in
+    let p = λ (i : ℕ). is_same (line (a + i)) (line a) in
+    elim (cases_lt k (suc m)) [
+      | inl h ↦
+          let u = before k n d (omega arith) in
+          let u0 = u.0 in
+          let x : eqb (a + k) s ≡ false = grind (arith, nat_tests) in
+          let y : eqb k (suc m) ≡ false = grind (arith, nat_tests) in
+          let z : (eqb (a + k) s || not (p k)) ≡ false = ap (λ v. v || not (p k)) x ∙ ap not (same-self (line (a + k)) (line a) u.1) in
+          and-false (leb (a + k) s && all_below k p && heads line a) (eqb (a + k) s || not (p k)) z ∙ sym (and-false (heads line a) (eqb k (suc m)) y)
+      | inr h ↦ elim (cases_lt (suc m) k) [
+        | inl g ↦
+            let y : eqb k (suc m) ≡ false = grind (arith, nat_tests) in
+            elim (stretch-end s line (s - a) a n d) [
+              | inl w ↦
+                  let x : leb (a + k) s ≡ false = grind (arith, nat_tests) in
+                  ap (λ v. v && all_below k p && heads line a && (eqb (a + k) s || not (p k))) x ∙ sym (and-false (heads line a) (eqb k (suc m)) y)
+              | inr w ↦
+                  let x = all_below-false k p (suc m) g w in
+                  ap (λ v. leb (a + k) s && v && heads line a && (eqb (a + k) s || not (p k))) x
+                  ∙ (ap (λ v. v && heads line a && (eqb (a + k) s || not (p k))) (and-false (leb (a + k) s) false refl)
+                  ∙ sym (and-false (heads line a) (eqb k (suc m)) y))
+            ]
+        | inr g ↦
+            let e : k ≡ suc m = omega arith in
+            let u = before m n d (omega arith) in
+            let u0 = u.0 in
+            let y : eqb k (suc m) ≡ true = grind (arith, nat_tests) in
+            let x : leb (a + k) s ≡ true = grind (arith, nat_tests) in
+            let z = all_below-true k p (λ i b. same-self (line (a + i)) (line a) (before i n d (omega arith)).1) in
+            let t : (eqb (a + k) s || not (p k)) ≡ true = elim (stretch-end s line (s - a) a n d) [
+              | inl w ↦ (let v : eqb (a + k) s ≡ true = grind (arith, nat_tests) in ap (λ f. f || not (p k)) v)
+              | inr w ↦ or-true (eqb (a + k) s) (not (p k)) (ap not (ap p e ∙ w))
+            ] in
+            four (leb (a + k) s) (all_below k p) (heads line a) (eqb (a + k) s || not (p k)) x z t ∙ (last (heads line a) ∙ ap (λ v. heads line a && v) (sym y))
+      ]
+    ]
+  where
+    last : (h : Bool) → h ≡ (h && true)
+    last true = refl
+    last false = refl
+
+    or-true : (a b : Bool) → b ≡ true → (a || b) ≡ true
+    or-true true b e = refl
+    or-true false b e = e
+
+-- ---- the sum over the lengths
+
+-- the sum of the costs of the maximal runs of k modules that begin at module a, over all lengths k, is the cost of the run
+-- of module a, if this run begins at a and has at least 5 modules, else 0
+run_at : (s : ℕ) (line : ℕ → Bool) (a : ℕ) → a < s → sum_below (s + 1) (λ k. cond (leb 5 k && is_run s line a k) (k - 2) 0) ≡ cond (leb 5 (run_len s line a) && heads line a) (run_len s line a - 2) 0
+run_at s line a l =
+    let m = run_len s line a in
+    let u = (stretch s line (s - a) a (ahead (joins s line) (s - a) a) (omega arith) (omega arith) (omega arith)).0 in
+    sum_below-same (s + 1) (λ k. cond (leb 5 k && is_run s line a k) (k - 2) 0) (λ k. cond (eqb k m) (cond (leb 5 k && heads line a) (k - 2) 0) 0)
+    (λ k i. ap (λ z. cond (leb 5 k && z) (k - 2) 0) (is_run-is s line a k l) ∙ turn (leb 5 k) (heads line a) (eqb k m) (k - 2))
+    ∙ sum_below-one (s + 1) m (λ k. cond (leb 5 k && heads line a) (k - 2) 0) (omega arith)
+  where
+    turn : (u h e : Bool) (x : ℕ) → cond (u && (h && e)) x 0 ≡ cond e (cond (u && h) x 0) 0
+    turn true true true x = refl
+    turn true true false x = refl
+    turn true false true x = refl
+    turn true false false x = refl
+    turn false h true x = refl
+    turn false h false x = refl
+
+-- ---- module by module
+
+-- the number of modules that module a has ahead, in a row or column of s modules
+abbrev left : ℕ → (ℕ → Bool) → ℕ → ℕ
+left s line a = ahead (joins s line) (s - a) a
+
+-- if module a is joined to the module after it, then it has one module more ahead than the module after it, else it has 0
+-- modules ahead
+left-is : (s : ℕ) (line : ℕ → Bool) (a : ℕ) → left s line a ≡ cond (joins s line a) (suc (left s line (a + 1))) 0
+unfolding ahead
+left-is s line a = elim (cases_lt a s) [
+  | inl h ↦
+      let e : s - a ≡ suc (s - (a + 1)) = omega arith in
+      ap (λ z. ahead (joins s line) z a) e ∙ step (joins s line) (s - (a + 1)) a
+  | inr h ↦
+      let f = joins-past s line a (omega arith) in
+      ahead-false (joins s line) (s - a) a f ∙ ap (λ z. cond z (suc (left s line (a + 1))) 0) (sym f)
+]
+  where
+    step : (j : ℕ → Bool) (n a : ℕ) → ahead j (suc n) a ≡ cond (j a) (suc (ahead j n (a + 1))) 0
+    step j n a = refl
+
+-- if a module and the four modules after it have `a`, b, c, d and e modules ahead, and i, j, k and l are the tests that
+-- the first four of these modules are joined to the module after them, then i, j, k and l all pass just when `a` is at
+-- least 4
+five-from : (a b c d e : ℕ) (i j k l : Bool) → a ≡ cond i (suc b) 0 → b ≡ cond j (suc c) 0 → c ≡ cond k (suc d) 0 → d ≡ cond l (suc e) 0 → ((i && j) && (k && l)) ≡ leb 4 a
+five-from a b c d e true true true true p q r s = grind (arith, nat_tests)
+five-from a b c d e true true true false p q r s = grind (arith, nat_tests)
+five-from a b c d e true true false l p q r s = grind (arith, nat_tests)
+five-from a b c d e true false k l p q r s = grind (arith, nat_tests)
+five-from a b c d e false j k l p q r s = grind (arith, nat_tests)
+
+-- five modules of one colour begin at module a just when it has at least four modules ahead
+five-is : (s : ℕ) (line : ℕ → Bool) (a : ℕ) → begins_five s line a ≡ leb 4 (left s line a)
+unfolding begins_five
+five-is s line a =
+    five-from (left s line a) (left s line (a + 1)) (left s line (a + 2)) (left s line (a + 3)) (left s line (a + 4)) (joins s line a) (joins s line (a + 1)) (joins s line (a + 2)) (joins s line (a + 3))
+    (left-is s line a) (next 1 2 (omega arith)) (next 2 3 (omega arith)) (next 3 4 (omega arith))
+  where
+    next : (i k : ℕ) → a + i + 1 ≡ a + k → left s line (a + i) ≡ cond (joins s line (a + i)) (suc (left s line (a + k))) 0
+    next i k e = left-is s line (a + i) ∙ ap (λ z. cond (joins s line (a + i)) (suc (left s line z)) 0) e
+
+-- no module before module a belongs to its run just when no module before a is joined to it
+heads-is : (s : ℕ) (line : ℕ → Bool) (a : ℕ) → a < s → heads line a ≡ not (ltb 0 a && joins s line (a - 1))
+unfolding joins
+heads-is s line a h = elim (cases_lt 0 a) [
+  | inl l ↦
+      let e : eqb a 0 ≡ false = grind (arith, nat_tests) in
+      let f : ltb 0 a ≡ true = grind (arith, nat_tests) in
+      let g : ltb (a - 1 + 1) s ≡ true = grind (arith, nat_tests) in
+      let i : a - 1 + 1 ≡ a = omega arith in
+      ap (λ z. z || not (is_same (line (a - 1)) (line a))) e
+      ∙ (ap (λ z. not (is_same (line (a - 1)) (line z))) (sym i)
+      ∙ (ap (λ z. not (z && is_same (line (a - 1)) (line (a - 1 + 1)))) (sym g)
+      ∙ ap (λ z. not (z && (ltb (a - 1 + 1) s && is_same (line (a - 1)) (line (a - 1 + 1))))) (sym f)))
+  | inr l ↦
+      let e : eqb a 0 ≡ true = grind (arith, nat_tests) in
+      let f : ltb 0 a ≡ false = grind (arith, nat_tests) in
+      ap (λ z. z || not (is_same (line (a - 1)) (line a))) e ∙ ap (λ z. not (z && (ltb (a - 1 + 1) s && is_same (line (a - 1)) (line (a - 1 + 1))))) (sym f)
+]
+
+-- the cost of the maximal run that begins at module a, or 0 if no run begins at a or the run is shorter than 5 modules
+abbrev cost_at : ℕ → (ℕ → Bool) → ℕ → ℕ
+cost_at s line a = cond (leb 5 (run_len s line a) && heads line a) (run_len s line a - 2) 0
+
+-- the cost that is counted at module a: 1 if five modules of one colour begin at a, and 2 more if a run of five modules or
+-- more begins at a
+abbrev place_at : ℕ → (ℕ → Bool) → ℕ → ℕ
+place_at s line a = cond (begins_five s line a) 1 0 + 2 * cond (begins_long_run s line a) 1 0
+
+-- the open cost at module a: if the run of module a begins before a, the number of modules of this run from a on at which
+-- five modules of one colour begin, else 0
+abbrev open_at : ℕ → (ℕ → Bool) → ℕ → ℕ
+open_at s line a = cond (ltb 0 a && joins s line (a - 1)) (left s line a - 3) 0
+
+-- if a module has `a` modules ahead, the module after it has `b` modules ahead, j is the test that these two modules are
+-- joined, and f the test that the module is joined to the module before it, then the cost counted at the module plus the
+-- open cost at the module after it equals the cost of the run that begins at the module plus the open cost at the module
+balance : (a b : ℕ) (j f : Bool) → a ≡ cond j (suc b) 0 → cond (leb 4 a) 1 0 + 2 * cond (leb 4 a && not f) 1 0 + cond j (b - 3) 0 ≡ cond (leb 5 (suc a) && not f) (suc a - 2) 0 + cond f (a - 3) 0
+balance a b true true e = grind (arith, nat_tests)
+balance a b true false e = grind (arith, nat_tests)
+balance a b false true e = grind (arith, nat_tests)
+balance a b false false e = grind (arith, nat_tests)
+
+-- the open cost at module a + 1 is the number of modules that it has ahead, less 3, if module a is joined to it, else 0
+open-next : (s : ℕ) (line : ℕ → Bool) (a : ℕ) → open_at s line (a + 1) ≡ cond (joins s line a) (left s line (a + 1) - 3) 0
+open-next s line a =
+    let e : ltb 0 (a + 1) ≡ true = grind (arith, nat_tests) in
+    let f : a + 1 - 1 ≡ a = omega arith in
+    ap (λ z. cond (z && joins s line (a + 1 - 1)) (left s line (a + 1) - 3) 0) e ∙ ap (λ z. cond (joins s line z) (left s line (a + 1) - 3) 0) f
+
+-- a run of five modules or more begins at module a just when it has at least four modules ahead and the module before it
+-- is not joined to it
+begins_long_run-is : (s : ℕ) (line : ℕ → Bool) (a : ℕ) → begins_long_run s line a ≡ (leb 4 (left s line a) && not (ltb 0 a && joins s line (a - 1)))
+unfolding begins_long_run
+begins_long_run-is s line a = ap (λ z. z && not (ltb 0 a && joins s line (a - 1))) (five-is s line a)
+
+-- equal tests a and b count as equal numbers
+as-number : (a b : Bool) → a ≡ b → cond {A = ℕ} a 1 0 ≡ cond {A = ℕ} b 1 0
+as-number a b e = ap (λ z. cond {A = ℕ} z 1 0) e
+
+-- the cost counted at module a plus the open cost at module a + 1 equals the cost of the run that begins at a plus the
+-- open cost at a
+place-step : (s : ℕ) (line : ℕ → Bool) (a : ℕ) → a < s → place_at s line a + open_at s line (a + 1) ≡ cost_at s line a + open_at s line a
+place-step s line a h =
+    let f = ltb 0 a && joins s line (a - 1) in
+    let b = balance (left s line a) (left s line (a + 1)) (joins s line a) (ltb 0 a && joins s line (a - 1)) (left-is s line a) in
+    let p = as-number (begins_five s line a) _ (five-is s line a) in
+    let q = as-number (begins_long_run s line a) _ (begins_long_run-is s line a) in
+    let r = open-next s line a in
+    let t = ap (λ z. cond (leb 5 (run_len s line a) && z) (run_len s line a - 2) 0) (heads-is s line a h) in
+    omega arith
+
+-- the cost counted at the first n modules plus the open cost at module n equals the cost of the runs that begin at the
+-- first n modules
+places-sum : (s : ℕ) (line : ℕ → Bool) (n : ℕ) → n ≤ s → sum_below n (place_at s line) + open_at s line n ≡ sum_below n (cost_at s line)
+places-sum s line zero h = refl
+places-sum s line (suc n) h =
+    let a = places-sum s line n (omega arith) in
+    let b = place-step s line n (omega arith) in
+    let e : n + 1 ≡ suc n = omega arith in
+    let f = ap (open_at s line) e in
+    omega arith
+
+-- the open cost past the last module, at s, is 0
+open-end : (s : ℕ) (line : ℕ → Bool) → open_at s line s ≡ 0
+open-end s line = elim (cases_lt 0 s) [
+  | inl h ↦ ap (λ z. cond z (left s line s - 3) 0) (and-false (ltb 0 s) (joins s line (s - 1)) (joins-past s line (s - 1) (omega arith)))
+  | inr h ↦ let e : ltb 0 s ≡ false = grind (arith, nat_tests) in ap (λ z. cond (z && joins s line (s - 1)) (left s line s - 3) 0) e
+]
+
+-- the cost of the maximal runs of s modules is 1 for each module at which five modules of one colour begin, and 2 more for
+-- each such module before which there is no module or a module of another colour
+pub runs-by-places : (s : ℕ) (line : ℕ → Bool) → run_cost s line ≡ place_cost s line
+unfolding run_cost place_cost
+runs-by-places s line =
+    let a = sum_below-same s (λ a. sum_below (s + 1) (λ k. cond (leb 5 k && is_run s line a k) (k - 2) 0)) (cost_at s line) (λ a h. run_at s line a h) in
+    let b = places-sum s line s (omega arith) in
+    let c = open-end s line in
+    let d = sum_below-add s (λ a. cond (begins_five s line a) 1 0) (λ a. 2 * cond (begins_long_run s line a) 1 0) in
+    let e = sum_below-scale 2 s (λ a. cond (begins_long_run s line a) 1 0) in
+    omega arith

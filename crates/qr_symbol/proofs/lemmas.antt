@@ -1,0 +1,14 @@
+-- Lemmas, in folders by the file of src that they serve, in the order in which they are read.
+pub mod interleaving
+pub mod drawing
+pub mod patterns
+pub mod mask
+pub mod canvas
+pub mod choice
+pub mod version_choice
+pub mod encoding
+pub mod reading
+pub mod series
+pub mod joining
+pub mod fault
+pub mod laws

@@ -1,0 +1,2 @@
+-- The mask of the least penalty, found by comparing one mask after another.
+pub mod ChoiceLemmas

@@ -1,0 +1,104 @@
+-- The final sequence of a version and a level: how long it is, and that each message has only one.
+use Rattle.std.proofs.Common.{◌≡◌, ℕ, ◌+◌, ◌-◌, ◌*◌, ◌<◌, ◌≤◌, List, [], ◌∷◌, ◌++◌, map, length, length-append, get_or, refl, sym, ◌∙◌, ap, subst, arith}
+use Rattle.std.specs.Prelude.{Result, Ok, Err, IfOk}
+use Rattle.std.proofs.lemmas.List.{length-map, ext_get_or}
+use Rattle.qr_field.specs.Polynomial.{IsCorrection}
+use Rattle.qr_field.proofs.Facts.{correction-one}
+use Rattle.qr_layout.specs.declared.blocks.Blocks.{Blocks}
+use Rattle.qr_layout.specs.declared.level.Level.{Level}
+use Rattle.qr_layout.specs.Version.{total_codewords_of}
+use Rattle.qr_layout.specs.Blocks.{data_codewords_of, blocks_of}
+use Rattle.qr_layout.proofs.Facts.{blocks-sound}
+use Rattle.qr_symbol.specs.Interleaving.{Tag, block_count, start_of, cut_len, codeword_at, data_cut, correction_cut, block_of, check_at, IsFinalMessage}
+use Rattle.qr_symbol.proofs.lemmas.interleaving.RankLemmas.{tags-one, tags-many, tag-of, map-at, Mem-of-Contains}
+
+-- ---- one final sequence
+
+-- two lists of error correction codewords for the same blocks are equal
+pub checks-one : (b : Blocks) (d : List ℕ) (n : ℕ) (xs ys : List (List ℕ)) → length xs ≡ n → length ys ≡ n
+    → ((i : ℕ) → i < n → IsCorrection (block_of b d i) b.ec_len (get_or xs i []))
+    → ((i : ℕ) → i < n → IsCorrection (block_of b d i) b.ec_len (get_or ys i []))
+    → xs ≡ ys
+checks-one b d n xs ys e f h k =
+    ext_get_or [] xs ys (e ∙ sym f) (λ i l. correction-one (block_of b d i) b.ec_len (get_or xs i []) (get_or ys i []) (h i (omega arith)) (k i (omega arith)))
+
+-- data codewords have at most one final sequence
+pub final-one : (b : Blocks) (d xs ys : List ℕ) → IsFinalMessage b d xs → IsFinalMessage b d ys → xs ≡ ys
+final-one b d xs ys h k =
+    let t = tags-one (data_cut b) h.data_tags k.data_tags h.data_order k.data_order in
+    let u = tags-one (correction_cut b) h.check_tags k.check_tags h.check_order k.check_order in
+    let e = checks-one b d (block_count (data_cut b)) h.corrections k.corrections h.count k.count h.each k.each in
+    h.whole
+    ∙ (ap (λ (ts : List Tag). map (codeword_at (data_cut b) d) ts ++ map (check_at h.corrections) h.check_tags) t
+    ∙ (ap (λ (ts : List Tag). map (codeword_at (data_cut b) d) k.data_tags ++ map (check_at h.corrections) ts) u
+    ∙ (ap (λ (cs : List (List ℕ)). map (codeword_at (data_cut b) d) k.data_tags ++ map (check_at cs) k.check_tags) e ∙ sym k.whole)))
+
+-- two equal joined lists with first parts of the same length are equal part by part
+pub append-front : {X : Type 0} (xs ys us vs : List X) → length xs ≡ length ys → xs ++ us ≡ ys ++ vs → (xs ≡ ys) × (us ≡ vs)
+append-front [] [] us vs n e = (refl, e)
+append-front [] (y ∷ ys) us vs n e = absurd (omega arith)
+append-front (x ∷ xs) [] us vs n e = absurd (omega arith)
+append-front (x ∷ xs) (y ∷ ys) us vs n e =
+    let h : x ≡ y = cc in
+    let t : xs ++ us ≡ ys ++ vs = cc in
+    let w = append-front xs ys us vs (omega arith) t in
+    (λ i. h i ∷ w.0 i, w.1)
+
+-- a sequence is the final sequence of at most one list of data codewords
+pub data-one : (b : Blocks) (d e cw : List ℕ) → length d ≡ cut_len (data_cut b) → length e ≡ cut_len (data_cut b) → IsFinalMessage b d cw → IsFinalMessage b e cw → d ≡ e
+data-one b d e cw n m h k =
+    let c = data_cut b in
+    let one = tags-one c k.data_tags h.data_tags k.data_order h.data_order in
+    let both : map (codeword_at c d) h.data_tags ++ map (check_at h.corrections) h.check_tags ≡ map (codeword_at c e) h.data_tags ++ map (check_at k.corrections) k.check_tags =
+    sym h.whole ∙ (k.whole ∙ ap (λ (ts : List Tag). map (codeword_at c e) ts ++ map (check_at k.corrections) k.check_tags) one) in
+    let w = append-front (map (codeword_at c d) h.data_tags) (map (codeword_at c e) h.data_tags) (map (check_at h.corrections) h.check_tags) (map (check_at k.corrections) k.check_tags) (length-map h.data_tags (codeword_at c d) ∙ sym (length-map h.data_tags (codeword_at c e))) both in
+    ext_get_or 0 d e (n ∙ sym m) (λ j l.
+    let t = tag-of c (block_count c) j (omega arith) (omega arith) in
+    let q = map-at (codeword_at c d) (codeword_at c e) h.data_tags t.0 w.0 (Mem-of-Contains h.data_tags t.0 (h.data_order.complete t.0 t.1)) in
+    same-place d e (start_of c t.0.block + t.0.place) j t.2 q)
+  where
+    same-place : (d e : List ℕ) (i j : ℕ) → i ≡ j → get_or d i 0 ≡ get_or e i 0 → get_or d j 0 ≡ get_or e j 0
+    same-place d e i j f q = subst (λ (z : ℕ). get_or d z 0 ≡ get_or e z 0) f q
+
+-- ---- the length of a final sequence
+
+-- a final sequence has a codeword for each tag
+final-many : (b : Blocks) (d cw : List ℕ) → IsFinalMessage b d cw → length cw ≡ cut_len (data_cut b) + cut_len (correction_cut b)
+final-many b d cw h =
+    let e = ap (length {A = ℕ}) h.whole in
+    let a = length-append (map (codeword_at (data_cut b) d) h.data_tags) (map (check_at h.corrections) h.check_tags) in
+    let m = length-map h.data_tags (codeword_at (data_cut b) d) in
+    let n = length-map h.check_tags (check_at h.corrections) in
+    let p = tags-many (data_cut b) h.data_tags h.data_order in
+    let q = tags-many (correction_cut b) h.check_tags h.check_order in
+    omega arith
+
+-- the number of codewords in blocks of two lengths
+cut-sum : (k n r : ℕ) → n * (k + r) + (k + r - k) ≡ k * n + r * (n + 1)
+cut-sum k n r = omega arith
+
+-- the number of codewords in blocks of one length
+cut-even : (k n : ℕ) → n * (k + 0) + (k + 0 - k) ≡ k * n
+cut-even k n = omega arith
+
+-- the blocks of the data codewords contain all data codewords
+pub data-cut-whole : (v : ℕ) (l : Level) → 1 ≤ v → v ≤ 40 → cut_len (data_cut (blocks_of v l)) ≡ data_codewords_of v l
+data-cut-whole v l h k = let b = blocks_of v l in cut-sum b.short b.short_len b.long ∙ (blocks-sound l v h k).data_whole
+
+-- the blocks of data and error correction codewords together contain all codewords of the symbol
+pub cuts-whole : (v : ℕ) (l : Level) → 1 ≤ v → v ≤ 40 → cut_len (data_cut (blocks_of v l)) + cut_len (correction_cut (blocks_of v l)) ≡ total_codewords_of v
+cuts-whole v l h k =
+    let b = blocks_of v l in
+    let w = (blocks-sound l v h k).total_whole in
+    let d = data-cut-whole v l h k in
+    let e = cut-even (b.short + b.long) b.ec_len in
+    omega arith
+
+-- a final sequence has as many codewords as the symbol
+pub final-whole : (v : ℕ) (l : Level) (d cw : List ℕ) → 1 ≤ v → v ≤ 40 → IsFinalMessage (blocks_of v l) d cw → length cw ≡ total_codewords_of v
+final-whole v l d cw h k i = final-many (blocks_of v l) d cw i ∙ cuts-whole v l h k
+
+-- a fact that holds for the value of a result, with another fact that follows from it
+pub ok-also : {X E : Type 0} (P Q : X → Type 0) (r : Result X E) → IfOk r P → ((x : X) → P x → Q x) → IfOk r Q
+ok-also P Q (Ok x) h f = f x h
+ok-also P Q (Err e) h f = tt

@@ -1,0 +1,2 @@
+-- Masks repeat after twelve rows and six columns.
+pub mod PatternLemmas

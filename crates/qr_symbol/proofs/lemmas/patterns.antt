@@ -1,0 +1,8 @@
+-- Squares that are painted at the places that pass a test.
+pub mod PaintLemmas
+-- The colours of row 6 and column 6.
+pub mod TimingLemmas
+-- Finder patterns as three squares, each inside the one before.
+pub mod FinderLemmas
+-- The format information, drawn bit by bit over a symbol.
+pub mod FormatDrawingLemmas

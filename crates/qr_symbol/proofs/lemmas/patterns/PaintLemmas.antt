@@ -1,0 +1,142 @@
+-- Squares that are painted at the places that pass a test.
+use Rattle.std.proofs.Common.{◌≡◌, ℕ, ◌+◌, ◌-◌, ◌<◌, ◌≤◌, Bool, true, false, not, cond, eqb, ltb, leb, ◌&&◌, ◌||◌, List, [], ◌∷◌, length, take, get_or, refl, sym, ◌∙◌, ap, inl, inr, arith}
+use Rattle.std.proofs.lemmas.Bool.Decides.{nat_tests}
+use Rattle.std.proofs.lemmas.List.{take_more}
+use Rattle.std.proofs.lemmas.List.Folds.{list_any-append}
+use Rattle.std.specs.List.{list_any}
+use Rattle.qr_layout.specs.declared.region.Module.{Module}
+use Rattle.qr_layout.specs.declared.rectangles.Rectangle.{Rectangle}
+use Rattle.qr_layout.specs.Version.{side_of}
+use Rattle.qr_layout.specs.Alignment.{alignment_places, centres_of}
+use Rattle.qr_layout.specs.Region.{is_alignment, ring_of}
+use Rattle.qr_layout.specs.Role.{is_alignment_light}
+use Rattle.qr_matrix.specs.Grid.{Grid, square, colour, painted, with_rectangle, IsSquare}
+use Rattle.qr_matrix.proofs.Facts.{same-place, square-same, colour-square}
+use Rattle.qr_symbol.proofs.lemmas.drawing.DrawingLemmas.{square-is}
+
+-- the square with the colours f at the places that pass the test, and h at all other places
+abbrev pub over : ℕ → (ℕ → ℕ → Bool) → (ℕ → ℕ → Bool) → (ℕ → ℕ → Bool) → Grid
+over s t f h = square s (λ r c. cond (t r c) (f r c) (h r c))
+
+-- the result of painting is a square
+pub over-square : (s : ℕ) (t f h : ℕ → ℕ → Bool) (g : Grid) → g ≡ over s t f h → IsSquare s g
+over-square s t f h g e = square-is s (λ r c. cond (t r c) (f r c) (h r c)) g e
+
+-- the colours after painting
+pub over-colour : (s : ℕ) (t f h : ℕ → ℕ → Bool) (g : Grid) (r c : ℕ) → r < s → c < s → g ≡ over s t f h → colour g r c ≡ cond (t r c) (f r c) (h r c)
+over-colour s t f h g r c l m e = ap (λ (z : Grid). colour z r c) e ∙ colour-square s (λ r c. cond (t r c) (f r c) (h r c)) r c l m
+
+-- painting twice is painting at the places that pass one of the two tests
+twice : (t u w x y : Bool) → w ≡ (t || u) → cond u x (cond t x y) ≡ cond w x y
+twice true true w x y e = ap (λ z. cond z x y) (sym e)
+twice true false w x y e = ap (λ z. cond z x y) (sym e)
+twice false true w x y e = ap (λ z. cond z x y) (sym e)
+twice false false w x y e = ap (λ z. cond z x y) (sym e)
+
+-- painting a square twice, with the same colours, is painting it once
+pub over-twice : (s : ℕ) (t u w f h : ℕ → ℕ → Bool) (g g' : Grid) → g ≡ over s t f h → g' ≡ over s u f (colour g) → ((r c : ℕ) → r < s → c < s → w r c ≡ (t r c || u r c)) → g' ≡ over s w f h
+over-twice s t u w f h g g' e k d = k ∙ square-same s (λ r c. cond (u r c) (f r c) (colour g r c)) (λ r c. cond (w r c) (f r c) (h r c)) (λ r c l m.
+    ap (λ z. cond (u r c) (f r c) z) (over-colour s t f h g r c l m e) ∙ twice (t r c) (u r c) (w r c) (f r c) (h r c) (d r c l m))
+
+-- if no place passes the test, the square is unchanged
+pub over-none : (s : ℕ) (t f : ℕ → ℕ → Bool) (g : Grid) → IsSquare s g → ((r c : ℕ) → r < s → c < s → t r c ≡ false) → g ≡ over s t f (colour g)
+over-none s t f g e d = e ∙ square-same s (colour g) (λ r c. cond (t r c) (f r c) (colour g r c)) (λ r c l m. ap (λ z. cond z (f r c) (colour g r c)) (sym (d r c l m)))
+
+-- two tests that agree paint the same
+pub over-same : (s : ℕ) (t u f h : ℕ → ℕ → Bool) (g : Grid) → g ≡ over s t f h → ((r c : ℕ) → r < s → c < s → t r c ≡ u r c) → g ≡ over s u f h
+over-same s t u f h g e d = e ∙ square-same s (λ r c. cond (t r c) (f r c) (h r c)) (λ r c. cond (u r c) (f r c) (h r c)) (λ r c l m. ap (λ z. cond z (f r c) (h r c)) (d r c l m))
+
+-- one place is painted
+pub over-place : (s : ℕ) (f : ℕ → ℕ → Bool) (g g' : Grid) (row col : ℕ) (d : Bool) → g.side ≡ s → d ≡ f row col → g' ≡ painted g row col d → g' ≡ over s (λ r c. eqb r row && eqb c col) f (colour g)
+over-place s f g g' row col d e k p =
+    p ∙ (square-same g.side (λ r c. cond (eqb r row && eqb c col) d (colour g r c)) (λ r c. cond (eqb r row && eqb c col) (f r c) (colour g r c)) (λ r c l m. elim (same-place row col r c) [
+      | inl w ↦
+          let q : d ≡ f r c = k ∙ (ap (λ z. f z col) (sym w.0.0) ∙ ap (λ z. f r z) (sym w.0.1)) in
+          ap (λ z. cond (eqb r row && eqb c col) z (colour g r c)) q
+      | inr w ↦ ap (λ z. cond z d (colour g r c)) w.1 ∙ ap (λ z. cond z (f r c) (colour g r c)) (sym w.1)
+    ]) ∙ ap (λ z. over z (λ r c. eqb r row && eqb c col) f (colour g)) e)
+
+-- a rectangle is painted in one colour
+pub over-rectangle : (s : ℕ) (g g' : Grid) (top bottom left right : ℕ) (d : Bool) → g.side ≡ s → g' ≡ with_rectangle g top bottom left right d → g' ≡ over s (λ r c. leb top r && ltb r bottom && leb left c && ltb c right) (λ _ _. d) (colour g)
+over-rectangle s g g' top bottom left right d e k = k ∙ ap (λ z. over z (λ r c. leb top r && ltb r bottom && leb left c && ltb c right) (λ _ _. d) (colour g)) e
+
+-- the test of one more item in a list
+any-more : {X : Type 0} (p : X → Bool) (xs : List X) (i : ℕ) (d : X) → i < length xs → list_any p (take (i + 1) xs) ≡ (list_any p (take i xs) || p (get_or xs i d))
+any-more p xs i d l = ap (list_any p) (take_more xs i d l) ∙ (list_any-append p (take i xs) (get_or xs i d ∷ []) ∙ ap (λ z. list_any p (take i xs) || z) (or-false (p (get_or xs i d))))
+  where
+    or-false : (b : Bool) → (b || false) ≡ b
+    or-false true = refl
+    or-false false = refl
+
+-- painting the places of one more item in a list
+pub over-item : {X : Type 0} (s : ℕ) (p : X → ℕ → ℕ → Bool) (f h : ℕ → ℕ → Bool) (xs : List X) (i : ℕ) (d : X) (g g' : Grid) → i < length xs → g ≡ over s (λ r c. list_any (λ x. p x r c) (take i xs)) f h → g' ≡ over s (p (get_or xs i d)) f (colour g) → g' ≡ over s (λ r c. list_any (λ x. p x r c) (take (i + 1) xs)) f h
+over-item s p f h xs i d g g' l e k = over-twice s (λ r c. list_any (λ x. p x r c) (take i xs)) (p (get_or xs i d)) (λ r c. list_any (λ x. p x r c) (take (i + 1) xs)) f h g g' e k (λ r c _ _. any-more (λ x. p x r c) xs i d l)
+
+-- a rectangle that stands in for an index past the end of a list
+abbrev pub no_rectangle : Rectangle
+no_rectangle = record { top = 0; bottom = 0; left = 0; right = 0 }
+
+-- ---- rows and rectangles, place by place
+
+-- the places of a row, with one more column
+pub row-more : (row left col r c : ℕ) → left ≤ col → (eqb r row && leb left c && ltb c (col + 1)) ≡ ((eqb r row && leb left c && ltb c col) || (eqb r row && eqb c col))
+row-more row left col r c l = grind (arith, nat_tests)
+
+-- a row without columns has no place
+pub row-none : (row left r c : ℕ) → (eqb r row && leb left c && ltb c left) ≡ false
+row-none row left r c = grind (arith, nat_tests)
+
+-- the places of a rectangle, with one more row
+pub rows-more : (top row left right r c : ℕ) → top ≤ row → (leb top r && ltb r (row + 1) && leb left c && ltb c right) ≡ ((leb top r && ltb r row && leb left c && ltb c right) || (eqb r row && leb left c && ltb c right))
+rows-more top row left right r c l = grind (arith, nat_tests)
+
+-- a rectangle without rows has no place
+pub rows-none : (top left right r c : ℕ) → (leb top r && ltb r top && leb left c && ltb c right) ≡ false
+rows-none top left right r c = grind (arith, nat_tests)
+
+-- ---- the ring round a centre
+
+-- the four sides of the ring
+pub ring-sides : (a b r c : ℕ) → 1 ≤ a → 1 ≤ b → eqb (ring_of a b r c) 1
+    ≡ ((((leb (a - 1) r && ltb r a && leb (b - 1) c && ltb c (b + 2)) || (leb (a + 1) r && ltb r (a + 2) && leb (b - 1) c && ltb c (b + 2))) || (leb a r && ltb r (a + 1) && leb (b - 1) c && ltb c b)) || (leb a r && ltb r (a + 1) && leb (b + 1) c && ltb c (b + 2)))
+ring-sides a b r c k l = grind (arith, nat_tests)
+
+-- ---- tests with other brackets
+
+-- a place that is in no rectangle and in no alignment pattern is in the region
+pub region-tests : (a e : Bool) → cond e false (cond a false true) ≡ not (a || e)
+region-tests true true = refl
+region-tests true false = refl
+region-tests false true = refl
+region-tests false false = refl
+
+-- a place outside all rectangles and alignment patterns keeps its colour
+pub fixed-tests : (a b d e l x w t : Bool) → t ≡ not (((a || b) || d) || e) → (l ≡ true → e ≡ true) → (a ≡ false → b ≡ false → d ≡ false → e ≡ true → x ≡ not l) → cond d x (cond b x (cond a x (cond l false (cond e true w)))) ≡ cond t w x
+fixed-tests true true true e l x w t r i h = rw r refl
+fixed-tests true true false e l x w t r i h = rw r refl
+fixed-tests true false true e l x w t r i h = rw r refl
+fixed-tests true false false e l x w t r i h = rw r refl
+fixed-tests false true true e l x w t r i h = rw r refl
+fixed-tests false true false e l x w t r i h = rw r refl
+fixed-tests false false true e l x w t r i h = rw r refl
+fixed-tests false false false true true x w t r i h = rw r (sym (h refl refl refl refl))
+fixed-tests false false false true false x w t r i h = rw r (sym (h refl refl refl refl))
+fixed-tests false false false false true x w t r i h = absurd (let e = i refl in cc)
+fixed-tests false false false false false x w t r i h = rw r refl
+
+-- a place in the light ring of an alignment pattern is in the alignment pattern
+pub light-inside : (v r c : ℕ) → is_alignment_light v r c ≡ true → is_alignment v r c ≡ true
+unfolding is_alignment_light
+light-inside v r c h = rings (alignment_places (side_of v) (centres_of v)) h
+  where
+    ring : (n : ℕ) → eqb n 1 ≡ true → leb n 2 ≡ true
+    ring n e = grind (arith, nat_tests)
+
+    first : (p q a b : Bool) → (p ≡ true → q ≡ true) → (a ≡ true → b ≡ true) → (p || a) ≡ true → (q || b) ≡ true
+    first true q a b f g e = rw (f refl) refl
+    first false true a b f g e = refl
+    first false false a b f g e = g e
+
+    rings : (ms : List Module) → list_any (λ m. eqb (ring_of m.row m.col r c) 1) ms ≡ true → list_any (λ m. leb (ring_of m.row m.col r c) 2) ms ≡ true
+    rings [] e = cc
+    rings (m ∷ ms) e = first (eqb (ring_of m.row m.col r c) 1) (leb (ring_of m.row m.col r c) 2) (list_any (λ m. eqb (ring_of m.row m.col r c) 1) ms) (list_any (λ m. leb (ring_of m.row m.col r c) 2) ms) (ring (ring_of m.row m.col r c)) (rings ms) e
