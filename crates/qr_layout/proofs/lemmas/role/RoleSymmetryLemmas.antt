@@ -1,5 +1,6 @@
 -- The function patterns are the same when rows and columns are exchanged, if of the format information just bit 7 is
 -- dark: this bit is opposite the dark module.
+use Rattle.std.proofs.lemmas.Bool.{eqb-true, cases_Bool}
 use Rattle.std.proofs.Common.{◌≡◌, ℕ, ◌+◌, ◌-◌, ◌%◌, ◌<◌, ◌≤◌, Bool, true, false, not, ◌&&◌, ◌||◌, cond, eqb, ltb, min, List, [], ◌∷◌, Option, None, Some, refl, sym, ap, ◌∙◌, inl, inr, arith}
 use Rattle.std.proofs.Math.Bool.{and_comm, or_comm}
 use Rattle.std.proofs.lemmas.Bool.{cases_lt}
@@ -14,9 +15,8 @@ use Rattle.qr_layout.specs.Region.{is_alignment, ring_of}
 use Rattle.qr_layout.specs.Version.{side_of}
 use Rattle.qr_layout.specs.Role.{finder_ring, is_alignment_light, pattern_colour, first_place, second_place, version_place, transposed, is_at, format_bit_at, version_bit_at, is_dark_module, role_of}
 use Rattle.qr_layout.proofs.lemmas.alignment.AlignmentLemmas.{any-places, list_any-same}
-use Rattle.qr_layout.proofs.lemmas.role.RoleLemmas.{decide, first-at, format-top, format-bend, format-foot, format-left, format-seven, format-right, format-no_row, format-no_column, format-off}
+use Rattle.qr_layout.proofs.lemmas.role.RoleLemmas.{first-at, format-top, format-bend, format-foot, format-left, format-seven, format-right, format-no_row, format-no_column, format-off}
 use Rattle.qr_layout.proofs.lemmas.region.SymmetryLemmas.{any-pairs, alignment-symmetric}
-use Rattle.qr_layout.proofs.lemmas.alignment.TableLemmas.{eqb-same}
 
 -- ---- the patterns
 
@@ -48,9 +48,9 @@ light-symmetric v r c =
 
 -- the timing patterns: where they cross, both are dark
 timing : (r c : ℕ) (x : Option Bool) → cond (eqb r 6) (Some (eqb (c % 2) 0)) (cond (eqb c 6) (Some (eqb (r % 2) 0)) x) ≡ cond (eqb c 6) (Some (eqb (r % 2) 0)) (cond (eqb r 6) (Some (eqb (c % 2) 0)) x)
-timing r c x = elim (decide (eqb r 6)) [
-  | inl a ↦ elim (decide (eqb c 6)) [
-    | inl b ↦ let e = eqb-same r 6 a in let f = eqb-same c 6 b in rw (e, f) refl
+timing r c x = elim (cases_Bool (eqb r 6)) [
+  | inl a ↦ elim (cases_Bool (eqb c 6)) [
+    | inl b ↦ let e = eqb-true r 6 a in let f = eqb-true c 6 b in rw (e, f) refl
     | inr b ↦ rw (a, b) refl
   ]
   | inr a ↦ rw a refl
@@ -148,10 +148,10 @@ not-eight n h e = grind (arith, nat_tests)
 -- the dark module and the format information
 seven-symmetric : (s r c : ℕ) → 21 ≤ s → r < s → c < s → seven (is_dark_module s r c) (format_bit_at s r c) ≡ seven (is_dark_module s c r) (format_bit_at s c r)
 unfolding seven
-seven-symmetric s r c l h k = elim (decide (eqb c 8)) [
-  | inl a ↦ let e = eqb-same c 8 a in rw e (eights s r l h)
-  | inr a ↦ elim (decide (eqb r 8)) [
-    | inl b ↦ let e = eqb-same r 8 b in rw e (sym (eights s c l k))
+seven-symmetric s r c l h k = elim (cases_Bool (eqb c 8)) [
+  | inl a ↦ let e = eqb-true c 8 a in rw e (eights s r l h)
+  | inr a ↦ elim (cases_Bool (eqb r 8)) [
+    | inl b ↦ let e = eqb-true r 8 b in rw e (sym (eights s c l k))
     | inr b ↦
         let m = not-eight c a in
         let n = not-eight r b in
