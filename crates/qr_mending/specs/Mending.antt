@@ -116,7 +116,7 @@ wrong_modules_without (Some unknown) g h = wrong_count unknown g h
 -- bits count too, and a module that was not read counts as a wrong one (ISO/IEC 18004:2015, 7.5.2, 7.6, 7.7, 7.8).
 pub record DiffersFromSymbolWithout (unknown : Option Grid) (g : Grid) (v : ℕ) (l : Level) (mask : ℕ) (message : List ℕ) (wrong : ℕ) : Type 0 where
   pub codewords : List ℕ
-  pub sent : IsInterleaved v l message codewords
+  pub interleaved : IsInterleaved v l message codewords
   pub count : wrong ≡ wrong_modules_without unknown g (grid_of v l mask codewords)
 
 -- `DiffersFromSymbol g v l mask message wrong` holds if `wrong` modules of the square g differ from the symbol that

@@ -6,25 +6,25 @@ use Rattle.qr_layout.specs.declared.blocks.Blocks.{Blocks}
 use Rattle.qr_layout.specs.declared.level.Level.{Level}
 use Rattle.qr_layout.specs.declared.level.Level.TheVariants.{L, M, Q, H}
 use Rattle.qr_layout.specs.Blocks.{blocks_of}
-use Rattle.qr_symbol.specs.Interleaving.{block_count, start_of, cut_len, data_cut, correction_cut, part_of, IsGathered}
+use Rattle.qr_symbol.specs.Interleaving.{block_count, start_of, codeword_count, data_sizes, correction_sizes, part_of, IsGathered}
 
 -- Block i as it was received: its data codewords, taken from d, and then its error correction codewords, taken from e
 -- (ISO/IEC 18004:2015, 7.5.1).
 abbrev pub received : Blocks → List ℕ → List ℕ → ℕ → List ℕ
-received b d e i = part_of (data_cut b) d i ++ part_of (correction_cut b) e i
+received b d e i = part_of (data_sizes b) d i ++ part_of (correction_sizes b) e i
 
 -- `IsMendedBlock b t d e message changed i` holds if block i of the message, followed by its error correction codewords,
 -- differs from the received block in exactly `changed` codewords, and these are at most t (ISO/IEC 18004:2015, 7.5.1).
 pub record IsMendedBlock (b : Blocks) (t : ℕ) (d e message : List ℕ) (changed i : ℕ) : Type 0 where
   pub correction : List ℕ
-  pub corrects : IsCorrection (part_of (data_cut b) message i) b.ec_len correction
+  pub corrects : IsCorrection (part_of (data_sizes b) message i) b.ec_len correction
   pub near : changed ≤ t
-  pub count : changed ≡ differences (received b d e i) (part_of (data_cut b) message i ++ correction)
+  pub count : changed ≡ differences (received b d e i) (part_of (data_sizes b) message i ++ correction)
 
 -- `AreMended b t d e n message changed` holds if the message consists of n mended blocks; item i of `changed` is the
 -- number of changed codewords in block i [own].
 pub record AreMended (b : Blocks) (t : ℕ) (d e : List ℕ) (n : ℕ) (message changed : List ℕ) : Type 0 where
-  pub long : length message ≡ start_of (data_cut b) n
+  pub long : length message ≡ start_of (data_sizes b) n
   pub many : length changed ≡ n
   pub each : (i : ℕ) → i < n → IsMendedBlock b t d e message (slice_index changed i) i
 
@@ -34,9 +34,9 @@ pub record AreMended (b : Blocks) (t : ℕ) (d e : List ℕ) (n : ℕ) (message 
 pub record IsMendedMessage (b : Blocks) (t : ℕ) (cw message changed : List ℕ) : Type 0 where
   pub codewords : List ℕ
   pub checks : List ℕ
-  pub gathered : IsGathered (data_cut b) cw codewords
-  pub rest : IsGathered (correction_cut b) (drop (cut_len (data_cut b)) cw) checks
-  pub mended : AreMended b t codewords checks (block_count (data_cut b)) message changed
+  pub gathered : IsGathered (data_sizes b) cw codewords
+  pub rest : IsGathered (correction_sizes b) (drop (codeword_count (data_sizes b)) cw) checks
+  pub mended : AreMended b t codewords checks (block_count (data_sizes b)) message changed
 
 -- The number of error correction codewords of a block that are kept unused, so that a block is not mended to a wrong one
 -- (ISO/IEC 18004:2015, 7.5.1, Table 9).

@@ -6,7 +6,7 @@ use Rattle.qr_layout.specs.declared.region.Module.{Module}
 use Rattle.qr_layout.specs.Blocks.{blocks_of}
 use Rattle.qr_layout.specs.Order.{IsOrder}
 use Rattle.qr_matrix.specs.Grid.{Grid, colour}
-use Rattle.qr_symbol.specs.Interleaving.{block_len, correction_cut, cut_len, data_cut, IsTagOrder, Tag}
+use Rattle.qr_symbol.specs.Interleaving.{block_len, correction_sizes, codeword_count, data_sizes, IsPositionOrder, Position}
 use Rattle.qr_symbol.specs.Distance.{blocks_in}
 use Rattle.qr_mending.specs.declared.format.FormatCopy.TheVariants.{First}
 use Rattle.qr_mending.specs.Format.{bit_difference, bit_differences, copy_bit}
@@ -17,8 +17,8 @@ abbrev pub module_differences : Grid → Grid → List Module → ℕ
 module_differences g h [] = 0
 module_differences g h (m ∷ ms) = bit_difference (colour g m.row m.col) (colour h m.row m.col) + module_differences g h ms
 
--- The index of the tag t in a list, or the length of the list if t is not in it [own].
-abbrev pub index_of : Tag → List Tag → ℕ
+-- The index of the position t in a list, or the length of the list if t is not in it [own].
+abbrev pub index_of : Position → List Position → ℕ
 index_of t [] = 0
 index_of t (u ∷ us) = if (t.place == u.place) && (t.block == u.block) then 0 else index_of t us + 1
 
@@ -27,14 +27,14 @@ index_of t (u ∷ us) = if (t.place == u.place) && (t.block == u.block) then 0 e
 abbrev pub modules_of : List Module → ℕ → List Module
 modules_of places k = take 8 (drop (8 * k) places)
 
--- The number of modules, in the first n codewords of block i, in which the squares g and h differ. `tags` is the order
--- in which the codewords of the cut are sent, and the first of them is codeword `first` of the final sequence
--- (ISO/IEC 18004:2015, 7.6, 7.7.3).
-abbrev pub part_differences : Grid → Grid → List Module → List Tag → (first i n : ℕ) → ℕ
-part_differences g h places tags first i zero = 0
-part_differences g h places tags first i (suc n) =
-    module_differences g h (modules_of places (first + index_of (record { place = n; block = i }) tags))
-    + part_differences g h places tags first i n
+-- The number of modules, in the first n codewords of block i, in which the squares g and h differ. `positions` lists the
+-- positions of codewords in the order of the interleaved sequence, and the first of them is codeword `first` of the final
+-- sequence (ISO/IEC 18004:2015, 7.6, 7.7.3).
+abbrev pub part_differences : Grid → Grid → List Module → List Position → (first i n : ℕ) → ℕ
+part_differences g h places positions first i zero = 0
+part_differences g h places positions first i (suc n) =
+    module_differences g h (modules_of places (first + index_of (record { place = n; block = i }) positions))
+    + part_differences g h places positions first i n
 
 -- `DifferInFewModules v l g h` holds if the squares g and h differ in at most three modules of the first copy of the
 -- format information, and in each block in at most as many modules as codewords of the block can be mended
@@ -43,8 +43,8 @@ pub record DifferInFewModules (v : ℕ) (l : Level) (g h : Grid) : Type 0 where
   pub format : bit_differences 15 (copy_bit First g) (copy_bit First h) ≤ 3
   pub places : List Module
   pub order : IsOrder v places
-  pub data_tags : List Tag
-  pub data_order : IsTagOrder (data_cut (blocks_of v l)) data_tags
-  pub check_tags : List Tag
-  pub check_order : IsTagOrder (correction_cut (blocks_of v l)) check_tags
-  pub few : (i : ℕ) → i < blocks_in v l → part_differences g h places data_tags 0 i (block_len (data_cut (blocks_of v l)) i) + part_differences g h places check_tags (cut_len (data_cut (blocks_of v l))) i (blocks_of v l).ec_len ≤ tolerance_of v l
+  pub data_positions : List Position
+  pub data_order : IsPositionOrder (data_sizes (blocks_of v l)) data_positions
+  pub check_positions : List Position
+  pub check_order : IsPositionOrder (correction_sizes (blocks_of v l)) check_positions
+  pub few : (i : ℕ) → i < blocks_in v l → part_differences g h places data_positions 0 i (block_len (data_sizes (blocks_of v l)) i) + part_differences g h places check_positions (codeword_count (data_sizes (blocks_of v l))) i (blocks_of v l).ec_len ≤ tolerance_of v l

@@ -11,7 +11,7 @@ use Rattle.qr_layout.specs.Order.{IsOrder}
 use Rattle.qr_layout.specs.Version.{total_codewords_of}
 use Rattle.qr_bits.specs.Bits.{bits_of}
 use Rattle.qr_matrix.specs.Grid.{Grid, colour}
-use Rattle.qr_symbol.specs.Interleaving.{block_count, start_of, cut_len, data_cut, correction_cut, part_of, IsGathered}
+use Rattle.qr_symbol.specs.Interleaving.{block_count, start_of, codeword_count, data_sizes, correction_sizes, part_of, IsGathered}
 use Rattle.qr_mending.specs.Erasures.{read_of}
 use Rattle.qr_mending.specs.Message.{received, protection_of, IsMendedIn}
 
@@ -28,12 +28,11 @@ pub record AreMarks (v : ℕ) (unknown : Grid) (marks : List ℕ) : Type 0 where
   pub order : IsOrder v places
   pub bits : bits_of marks ≡ map (colour_at unknown) (take (8 * total_codewords_of v) places)
 
--- `AreInBlocks b sent d e` holds if d and e are the codewords `sent`, put back into blocks from the order in which they
--- are sent: d contains the data codewords and e the error correction codewords, both block after block
--- (ISO/IEC 18004:2015, 7.6).
-pub record AreInBlocks (b : Blocks) (sent d e : List ℕ) : Type 0 where
-  pub gathered : IsGathered (data_cut b) sent d
-  pub rest : IsGathered (correction_cut b) (drop (cut_len (data_cut b)) sent) e
+-- `AreInBlocks b interleaved d e` holds if d and e are the codewords `interleaved`, put back into blocks: d contains the
+-- data codewords and e the error correction codewords, both block after block (ISO/IEC 18004:2015, 7.6).
+pub record AreInBlocks (b : Blocks) (interleaved d e : List ℕ) : Type 0 where
+  pub gathered : IsGathered (data_sizes b) interleaved d
+  pub rest : IsGathered (correction_sizes b) (drop (codeword_count (data_sizes b)) interleaved) e
 
 -- What was read of a block: a codeword whose mark is not 0 is erased [own].
 abbrev pub read_by : List ℕ → List ℕ → List (Option ℕ)
@@ -45,15 +44,15 @@ read_by codewords marks = read_of codewords (map (λ mark. not (mark == 0)) mark
 -- (ISO/IEC 18004:2015, 7.5.1).
 pub record IsMendedBlockWithout (b : Blocks) (spare : ℕ) (read : List (Option ℕ)) (message : List ℕ) (misread i : ℕ) : Type 0 where
   pub correction : List ℕ
-  pub corrects : IsCorrection (part_of (data_cut b) message i) b.ec_len correction
+  pub corrects : IsCorrection (part_of (data_sizes b) message i) b.ec_len correction
   pub near : erasures read + 2 * misread ≤ spare
-  pub count : misread ≡ errors read (part_of (data_cut b) message i ++ correction)
+  pub count : misread ≡ errors read (part_of (data_sizes b) message i ++ correction)
 
 -- `AreMendedWithout b spare d e u w n message misread` holds if the message consists of n mended blocks. The received
 -- data codewords are d, with the marks u, and the received error correction codewords are e, with the marks w. Item i of
 -- `misread` is the number of misread codewords in block i [own].
 pub record AreMendedWithout (b : Blocks) (spare : ℕ) (d e u w : List ℕ) (n : ℕ) (message misread : List ℕ) : Type 0 where
-  pub long : length message ≡ start_of (data_cut b) n
+  pub long : length message ≡ start_of (data_sizes b) n
   pub many : length misread ≡ n
   pub each : (i : ℕ) → i < n → IsMendedBlockWithout b spare (read_by (received b d e i) (received b u w i)) message (slice_index misread i) i
 
@@ -68,7 +67,7 @@ pub record IsMendedMessageWithout (b : Blocks) (spare : ℕ) (cw marks message m
   pub unread_checks : List ℕ
   pub in_blocks : AreInBlocks b cw codewords checks
   pub marked : AreInBlocks b marks unread unread_checks
-  pub mended : AreMendedWithout b spare codewords checks unread unread_checks (block_count (data_cut b)) message misread
+  pub mended : AreMendedWithout b spare codewords checks unread unread_checks (block_count (data_sizes b)) message misread
 
 -- The number of error correction codewords of a block that may be used: all but those that are kept unused, so that a
 -- block is not mended to a wrong one (ISO/IEC 18004:2015, 7.5.1, Table 9).

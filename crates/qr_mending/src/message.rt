@@ -6,14 +6,14 @@ ghost use Rattle.qr_field.specs.Distance.{differences};
 ghost use Rattle.qr_layout.specs.Blocks.{data_codewords_of};
 ghost use Rattle.qr_layout.specs.Version.{total_codewords_of};
 ghost use Rattle.qr_symbol.specs.declared.fault.ReadFault.{ReadFault};
-ghost use Rattle.qr_symbol.specs.Interleaving.{block_count, cut_len, data_cut, correction_cut};
+ghost use Rattle.qr_symbol.specs.Interleaving.{block_count, codeword_count, data_sizes, correction_sizes};
 ghost use Rattle.qr_mending.specs.Message.{protection_of, tolerance_of, AreMended, IsMendedIn, IsMendedMessage};
 ghost use Rattle.qr_mending.specs.Unread.{spare_of};
 
 use crate::block::mend;
 use qr_field::Divisor;
 use qr_layout::{Blocks, Level, Version};
-use qr_symbol::{Cut, ReadFault};
+use qr_symbol::{BlockSizes, ReadFault};
 use std::alloc::Global;
 
 // The data codewords of a mended block, and the number of codewords of the block that were changed.
@@ -71,26 +71,32 @@ fn mend_parts(
     codewords: &[u8],
     checks: &[u8],
 ) -> Result<MendedMessage, ReadFault>
-    requires codewords { length codewords.now ≡ cut_len (data_cut blocks) }
-    requires checks { length checks.now ≡ cut_len (correction_cut blocks) }
+    requires codewords { length codewords.now ≡ codeword_count (data_sizes blocks) }
+    requires checks { length checks.now ≡ codeword_count (correction_sizes blocks) }
     requires least { 1 ≤ blocks.ec_len }
     requires most { blocks.ec_len ≤ 30 }
     requires few { blocks.short_len + 1 + blocks.ec_len ≤ 255 }
     requires half { 2 * t ≤ blocks.ec_len }
-    ensures mended { IfOk result (λ m. AreMended blocks t codewords.now checks.now (block_count (data_cut blocks))
+    ensures mended { IfOk result (λ m. AreMended blocks t codewords.now checks.now (block_count (data_sizes blocks))
         m.message.items m.changed.items) }
     ensures refused { result ≡ Err ReadFault.Check → (message changed : List ℕ)
-        → AreMended blocks t codewords.now checks.now (block_count (data_cut blocks)) message changed → ⊥ }
+        → AreMended blocks t codewords.now checks.now (block_count (data_sizes blocks)) message changed → ⊥ }
     ensures fault { IfErr result (λ e. (e ≡ ReadFault.Memory) ⊎ (e ≡ ReadFault.Check)) }
 {
-    let cut = Cut::of_data(blocks);
-    let check_cut = Cut::of_corrections(blocks);
+    let sizes = BlockSizes::of_data(blocks);
+    let check_sizes = BlockSizes::of_corrections(blocks);
     let divisor = Divisor::new(usize::from(blocks.ec_len));
     let mut message = Vec::with_capacity(alloc, codewords.len())?;
-    let mut changed = Vec::with_capacity(alloc, cut.count())?;
-    for block in 0..cut.count() {
-        let received = cut.part(codewords, block);
-        let mended = mend_block(alloc, &divisor, t, received, check_cut.part(checks, block))?;
+    let mut changed = Vec::with_capacity(alloc, sizes.count())?;
+    for block in 0..sizes.count() {
+        let received = sizes.part(codewords, block);
+        let mended = mend_block(
+            alloc,
+            &divisor,
+            t,
+            received,
+            check_sizes.part(checks, block),
+        )?;
         message.extend_from_slice(&mended.message)?;
         changed.push(mended.changed)?;
     }
@@ -105,7 +111,7 @@ fn mend_blocks(
     codewords: &[u8],
 ) -> Result<MendedMessage, ReadFault>
     requires whole { length codewords.now
-        ≡ cut_len (data_cut blocks) + cut_len (correction_cut blocks) }
+        ≡ codeword_count (data_sizes blocks) + codeword_count (correction_sizes blocks) }
     requires least { 1 ≤ blocks.ec_len }
     requires most { blocks.ec_len ≤ 30 }
     requires few { blocks.short_len + 1 + blocks.ec_len ≤ 255 }
@@ -115,9 +121,9 @@ fn mend_blocks(
         → IsMendedMessage blocks t codewords.now message changed → ⊥ }
     ensures fault { IfErr result (λ e. (e ≡ ReadFault.Memory) ⊎ (e ≡ ReadFault.Check)) }
 {
-    let cut = Cut::of_data(blocks);
-    let received = cut.gather(alloc, codewords)?;
-    let checks = Cut::of_corrections(blocks).gather(alloc, &codewords[received.len()..])?;
+    let sizes = BlockSizes::of_data(blocks);
+    let received = sizes.gather(alloc, codewords)?;
+    let checks = BlockSizes::of_corrections(blocks).gather(alloc, &codewords[received.len()..])?;
     mend_parts(alloc, blocks, t, &received, &checks)
 }
 

@@ -8,7 +8,7 @@ ghost use Rattle.qr_layout.specs.Blocks.{blocks_of, data_codewords_of};
 ghost use Rattle.qr_layout.specs.Version.{side_of, total_codewords_of};
 ghost use Rattle.qr_matrix.specs.Grid.{Grid};
 ghost use Rattle.qr_symbol.specs.declared.fault.ReadFault.{ReadFault};
-ghost use Rattle.qr_symbol.specs.Interleaving.{block_count, block_len, cut_len, data_cut, correction_cut};
+ghost use Rattle.qr_symbol.specs.Interleaving.{block_count, block_len, codeword_count, data_sizes, correction_sizes};
 ghost use Rattle.qr_mending.specs.Erasures.{read_of};
 ghost use Rattle.qr_mending.specs.Message.{received};
 ghost use Rattle.qr_mending.specs.Unread.{spare_of, AreInBlocks, AreMarks, AreMendedWithout, IsMendedInWithout, IsMendedMessageWithout};
@@ -19,7 +19,7 @@ use crate::message::{MendedBlock, MendedMessage, mend_message, spare};
 use qr_field::Divisor;
 use qr_layout::{Blocks, Level, Version, walk};
 use qr_matrix::Matrix;
-use qr_symbol::{Cut, ReadFault};
+use qr_symbol::{BlockSizes, ReadFault};
 use std::alloc::{AllocError, Global};
 
 // Returns the mark of each codeword. The marks are read from `unknown`, whose dark modules are those that were not read,
@@ -56,13 +56,13 @@ struct InBlocks {
     checks: Vec<u8>,
 }
 
-// Puts codewords that were sent interleaved back into blocks.
-fn in_blocks(alloc: Global, blocks: Blocks, sent: &[u8]) -> Result<InBlocks, AllocError>
-    requires { length sent.now ≡ cut_len (data_cut blocks) + cut_len (correction_cut blocks) }
-    ensures { IfOk result (λ b. AreInBlocks blocks sent.now b.data.items b.checks.items) }
+// Puts interleaved codewords back into blocks.
+fn in_blocks(alloc: Global, blocks: Blocks, interleaved: &[u8]) -> Result<InBlocks, AllocError>
+    requires { length interleaved.now ≡ codeword_count (data_sizes blocks) + codeword_count (correction_sizes blocks) }
+    ensures { IfOk result (λ b. AreInBlocks blocks interleaved.now b.data.items b.checks.items) }
 {
-    let data = Cut::of_data(blocks).gather(alloc, sent)?;
-    let checks = Cut::of_corrections(blocks).gather(alloc, &sent[data.len()..])?;
+    let data = BlockSizes::of_data(blocks).gather(alloc, interleaved)?;
+    let checks = BlockSizes::of_corrections(blocks).gather(alloc, &interleaved[data.len()..])?;
     Ok(InBlocks { data, checks })
 }
 
@@ -73,15 +73,15 @@ fn block_of(
     parts: &InBlocks,
     block: usize,
 ) -> Result<Vec<u8>, AllocError>
-    requires within { block < block_count (data_cut blocks) }
-    requires data { length parts.now.data.items ≡ cut_len (data_cut blocks) }
-    requires checks { length parts.now.checks.items ≡ cut_len (correction_cut blocks) }
+    requires within { block < block_count (data_sizes blocks) }
+    requires data { length parts.now.data.items ≡ codeword_count (data_sizes blocks) }
+    requires checks { length parts.now.checks.items ≡ codeword_count (correction_sizes blocks) }
     ensures value { IfOk result
         (λ codewords. codewords.items ≡ received blocks parts.now.data.items parts.now.checks.items block) }
-    ensures len { IfOk result (λ codewords. length codewords.items ≡ block_len (data_cut blocks) block + blocks.ec_len) }
+    ensures len { IfOk result (λ codewords. length codewords.items ≡ block_len (data_sizes blocks) block + blocks.ec_len) }
 {
-    let data = Cut::of_data(blocks).part(&parts.data, block);
-    let checks = Cut::of_corrections(blocks).part(&parts.checks, block);
+    let data = BlockSizes::of_data(blocks).part(&parts.data, block);
+    let checks = BlockSizes::of_corrections(blocks).part(&parts.checks, block);
     let mut codewords = Vec::new(alloc);
     codewords.extend_from_slice(data)?;
     codewords.extend_from_slice(checks)?;
@@ -138,22 +138,22 @@ fn mend_parts(
     received: &InBlocks,
     marks: &InBlocks,
 ) -> Result<MendedMessage, ReadFault>
-    requires codewords { length received.now.data.items ≡ cut_len (data_cut blocks) }
-    requires checks { length received.now.checks.items ≡ cut_len (correction_cut blocks) }
-    requires marks { length marks.now.data.items ≡ cut_len (data_cut blocks) }
-    requires check_marks { length marks.now.checks.items ≡ cut_len (correction_cut blocks) }
+    requires codewords { length received.now.data.items ≡ codeword_count (data_sizes blocks) }
+    requires checks { length received.now.checks.items ≡ codeword_count (correction_sizes blocks) }
+    requires marks { length marks.now.data.items ≡ codeword_count (data_sizes blocks) }
+    requires check_marks { length marks.now.checks.items ≡ codeword_count (correction_sizes blocks) }
     requires least { 1 ≤ blocks.ec_len }
     requires most { blocks.ec_len ≤ 30 }
     requires few { blocks.short_len + 1 + blocks.ec_len ≤ 255 }
     requires spare { spare ≤ blocks.ec_len }
     ensures mended { IfOk result (λ m. AreMendedWithout blocks spare received.now.data.items received.now.checks.items
-        marks.now.data.items marks.now.checks.items (block_count (data_cut blocks)) m.message.items m.changed.items) }
+        marks.now.data.items marks.now.checks.items (block_count (data_sizes blocks)) m.message.items m.changed.items) }
     ensures refused { result ≡ Err ReadFault.Check → (message misread : List ℕ)
         → AreMendedWithout blocks spare received.now.data.items received.now.checks.items
-        marks.now.data.items marks.now.checks.items (block_count (data_cut blocks)) message misread → ⊥ }
+        marks.now.data.items marks.now.checks.items (block_count (data_sizes blocks)) message misread → ⊥ }
     ensures fault { IfErr result (λ e. (e ≡ ReadFault.Memory) ⊎ (e ≡ ReadFault.Check)) }
 {
-    let count = Cut::of_data(blocks).count();
+    let count = BlockSizes::of_data(blocks).count();
     let divisor = Divisor::new(usize::from(blocks.ec_len));
     let mut message = Vec::with_capacity(alloc, received.data.len())?;
     let mut changed = Vec::with_capacity(alloc, count)?;
@@ -177,8 +177,8 @@ fn mend_blocks(
     codewords: &[u8],
     marks: &[u8],
 ) -> Result<MendedMessage, ReadFault>
-    requires whole { length codewords.now ≡ cut_len (data_cut blocks) + cut_len (correction_cut blocks) }
-    requires marks { length marks.now ≡ cut_len (data_cut blocks) + cut_len (correction_cut blocks) }
+    requires whole { length codewords.now ≡ codeword_count (data_sizes blocks) + codeword_count (correction_sizes blocks) }
+    requires marks { length marks.now ≡ codeword_count (data_sizes blocks) + codeword_count (correction_sizes blocks) }
     requires least { 1 ≤ blocks.ec_len }
     requires most { blocks.ec_len ≤ 30 }
     requires few { blocks.short_len + 1 + blocks.ec_len ≤ 255 }

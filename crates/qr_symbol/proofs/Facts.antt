@@ -4,12 +4,12 @@ pub use Rattle.qr_symbol.proofs.lemmas.laws.DistanceLemmas.{messages-apart, part
 pub use Rattle.qr_symbol.proofs.lemmas.reading.FormatLemmas.{format-read, level-one, level-small}
 pub use Rattle.qr_symbol.proofs.lemmas.interleaving.GatherLemmas.{gather-some}
 pub use Rattle.qr_symbol.proofs.lemmas.joining.JoiningLemmas.{joined-refused, joining-one, readings-next, readings-none, unjoined-next, unjoined-one}
-pub use Rattle.qr_symbol.proofs.lemmas.interleaving.MessageLemmas.{checks-one, cuts-whole, data-cut-whole, final-one, ok-also}
-pub use Rattle.qr_symbol.proofs.lemmas.interleaving.RankLemmas.{Mem-of-Contains, map-at, tag-of, tags-many, tags-one}
+pub use Rattle.qr_symbol.proofs.lemmas.interleaving.MessageLemmas.{checks-one, sizes-whole, data-sizes-whole, final-one, ok-also}
+pub use Rattle.qr_symbol.proofs.lemmas.interleaving.RankLemmas.{Mem-of-Contains, map-at, position-of, positions-many, positions-one}
 pub use Rattle.qr_symbol.proofs.lemmas.reading.ReadLemmas.{bits-one, message-one, read-one, read-some}
 pub use Rattle.qr_symbol.proofs.lemmas.reading.RefusalLemmas.{exactly, moved}
 pub use Rattle.qr_symbol.proofs.lemmas.reading.RoundTripLemmas.{symbol-format, symbol-holds}
 pub use Rattle.qr_symbol.proofs.lemmas.series.SeriesLemmas.{long-has-no-series, series-joined, series-one}
 pub use Rattle.qr_symbol.proofs.lemmas.series.SizeLemmas.{series-few, series-side, series-some}
 pub use Rattle.qr_symbol.proofs.lemmas.encoding.SymbolLemmas.{symbol-one}
-pub use Rattle.qr_symbol.proofs.lemmas.interleaving.TagLemmas.{len-most, start-most, start-next, start-none, tag, tag-in}
+pub use Rattle.qr_symbol.proofs.lemmas.interleaving.PositionLemmas.{len-most, start-most, start-next, start-none, position, position-in}

@@ -4,17 +4,17 @@ use Rattle.qr_field.specs.Distance.{differences, erasures, errors}
 use Rattle.qr_layout.specs.declared.level.Level.{Level}
 use Rattle.qr_layout.specs.Blocks.{blocks_of}
 use Rattle.qr_matrix.specs.Grid.{Grid}
-use Rattle.qr_symbol.specs.Interleaving.{block_count, data_cut, block_of}
+use Rattle.qr_symbol.specs.Interleaving.{block_count, data_sizes, block_of}
 use Rattle.qr_symbol.specs.Reading.{IsMessage}
 
 -- The number of blocks of a symbol of version v and level l (ISO/IEC 18004:2015, 7.5.1, Table 9).
 abbrev pub blocks_in : ℕ → Level → ℕ
-blocks_in v l = block_count (data_cut (blocks_of v l))
+blocks_in v l = block_count (data_sizes (blocks_of v l))
 
 -- Block i of the message d that the square g contains: its data codewords, and then its error correction codewords
 -- (ISO/IEC 18004:2015, 7.5.1).
 abbrev pub held_block : (v : ℕ) (l : Level) (mask : ℕ) (g : Grid) (d : List ℕ) → IsMessage v l mask g d → ℕ → List ℕ
-held_block v l mask g d m i = block_of (blocks_of v l) d i ++ slice_index_or m.sent.corrections i []
+held_block v l mask g d m i = block_of (blocks_of v l) d i ++ slice_index_or m.interleaved.corrections i []
 
 -- `MessagesLieApart v l` holds if every two squares of version v and level l that contain different messages differ in
 -- at least one block by more codewords than this block has error correction codewords [own].

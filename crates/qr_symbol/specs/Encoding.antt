@@ -21,7 +21,7 @@ pub record IsSymbolAt (v : ℕ) (l : Level) (rule : Rule) (x : List ℕ) (h : Op
   pub message : List ℕ
   pub written : IsData v l x segments h message
   pub codewords : List ℕ
-  pub sent : IsInterleaved v l message codewords
+  pub interleaved : IsInterleaved v l message codewords
   pub best : IsMask v l codewords mask
   pub drawn : g ≡ grid_of v l mask codewords
 

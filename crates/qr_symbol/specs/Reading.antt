@@ -47,7 +47,7 @@ pub record IsMessage (v : ℕ) (l : Level) (mask : ℕ) (g : Grid) (d : List ℕ
   pub codewords : List ℕ
   pub read : IsRead v mask g codewords
   pub many : length d ≡ data_codewords_of v l
-  pub sent : IsInterleaved v l d codewords
+  pub interleaved : IsInterleaved v l d codewords
 
 -- Bit i of the format information beside the top left finder pattern of the square g (ISO/IEC 18004:2015, 7.9.1).
 abbrev pub format_bit : Grid → ℕ → Bool

@@ -5,8 +5,8 @@ ghost use Rattle.std.specs.Prelude.{◌≡◌, ◌≢◌, ◌↔◌, ℕ, ◌+�
 ghost use Rattle.qr_layout.specs.Blocks.{data_codewords_of};
 ghost use Rattle.qr_layout.specs.Version.{total_codewords_of};
 ghost use Rattle.qr_symbol.specs.declared.fault.ReadFault.{ReadFault};
-ghost use Rattle.qr_symbol.specs.Interleaving.{block_count, block_len, start_of, cut_len, data_cut, correction_cut, IsFinalMessage, IsGathered, IsInterleaved, part_of};
-ghost use Rattle.qr_symbol.specs.Steps.Interleaving.{IsSent, IsChecks};
+ghost use Rattle.qr_symbol.specs.Interleaving.{block_count, block_len, start_of, codeword_count, data_sizes, correction_sizes, IsFinalMessage, IsGathered, IsInterleaved, part_of};
+ghost use Rattle.qr_symbol.specs.Steps.Interleaving.{AppendsInterleaved, IsChecks};
 
 use crate::fault::ReadFault;
 use qr_field::Divisor;
@@ -16,7 +16,7 @@ use std::alloc::{AllocError, Global};
 /// How codewords that are listed block after block are divided into blocks: `short` blocks of `short_len` codewords, and
 /// then `long` blocks with one codeword more (ISO/IEC 18004:2015, 7.5.1).
 #[derive(Clone, Copy)]
-pub struct Cut {
+pub struct BlockSizes {
     /// The number of short blocks.
     pub short: u16,
     /// The number of codewords in a short block.
@@ -25,23 +25,23 @@ pub struct Cut {
     pub long: u8,
 }
 
-impl Cut {
-    /// Returns the cut of the data codewords.
-    pub fn of_data(blocks: Blocks) -> Cut
-        ensures { result ≡ data_cut blocks }
+impl BlockSizes {
+    /// Returns the sizes of the blocks in data codewords.
+    pub fn of_data(blocks: Blocks) -> BlockSizes
+        ensures { result ≡ data_sizes blocks }
     {
-        Cut {
+        BlockSizes {
             short: u16::from(blocks.short),
             short_len: blocks.short_len,
             long: blocks.long,
         }
     }
 
-    /// Returns the cut of the error correction codewords, whose blocks all have the same length.
-    pub fn of_corrections(blocks: Blocks) -> Cut
-        ensures { result ≡ correction_cut blocks }
+    /// Returns the sizes of the blocks in error correction codewords, which are all the same.
+    pub fn of_corrections(blocks: Blocks) -> BlockSizes
+        ensures { result ≡ correction_sizes blocks }
     {
-        Cut {
+        BlockSizes {
             short: u16::from(blocks.short) + u16::from(blocks.long),
             short_len: blocks.ec_len,
             long: 0,
@@ -76,7 +76,7 @@ impl Cut {
     /// Returns block `block` of the codewords, which are listed block after block.
     pub fn part(self, codewords: &[u8], block: usize) -> &[u8]
         requires within { block < block_count self }
-        requires whole { length codewords.now ≡ cut_len self }
+        requires whole { length codewords.now ≡ codeword_count self }
         ensures value { result.now ≡ part_of self codewords.now block }
         ensures len { length result.now ≡ block_len self block }
     {
@@ -84,10 +84,10 @@ impl Cut {
         &codewords[start..start + self.len(block)]
     }
 
-    /// Returns the codewords block after block, from codewords that were sent interleaved: the first of each block, then
-    /// the second of each, and so on (ISO/IEC 18004:2015, 7.6). Codewords after those of the blocks are ignored.
+    /// Returns the codewords block after block, from interleaved codewords: the first of each block, then the second of
+    /// each, and so on (ISO/IEC 18004:2015, 7.6). Codewords after those of the blocks are ignored.
     pub fn gather(self, alloc: Global, codewords: &[u8]) -> Result<Vec<u8>, AllocError>
-        requires { cut_len self ≤ length codewords.now }
+        requires { codeword_count self ≤ length codewords.now }
         ensures { IfOk result (λ d. IsGathered self codewords.now d.items) }
     {
         let mut gathered = vec![in alloc; 0u8; self.start(self.count())]?;
@@ -96,19 +96,22 @@ impl Cut {
     }
 }
 
-// Appends the codewords of the blocks to `sent`, interleaved: the first of each block, then the second of each, and so
-// on.
-fn interleave_into(sent: &mut Vec<u8>, cut: Cut, codewords: &[u8]) -> Result<(), AllocError>
-    requires { length codewords.now ≡ cut_len cut }
-    ensures { IfOk result (λ _. IsSent cut codewords.now sent.old.items sent.new.items) }
+// Appends the codewords of the blocks to `interleaved`: the first of each block, then the second of each, and so on.
+fn interleave_into(
+    interleaved: &mut Vec<u8>,
+    sizes: BlockSizes,
+    codewords: &[u8],
+) -> Result<(), AllocError>
+    requires { length codewords.now ≡ codeword_count sizes }
+    ensures { IfOk result (λ _. AppendsInterleaved sizes codewords.now interleaved.old.items interleaved.new.items) }
 {
-    let blocks = cut.count();
-    for place in 0..usize::from(cut.short_len) + 1 {
+    let blocks = sizes.count();
+    for place in 0..usize::from(sizes.short_len) + 1 {
         let mut at = place;
         for block in 0..blocks {
-            let len = cut.len(block);
+            let len = sizes.len(block);
             if place < len {
-                sent.push(codewords[at])?;
+                interleaved.push(codewords[at])?;
             }
             at += len;
         }
@@ -118,34 +121,38 @@ fn interleave_into(sent: &mut Vec<u8>, cut: Cut, codewords: &[u8]) -> Result<(),
 
 // Returns the error correction codewords of all blocks, block after block.
 fn corrections(alloc: Global, blocks: Blocks, message: &[u8]) -> Result<Vec<u8>, AllocError>
-    requires whole { length message.now ≡ cut_len (data_cut blocks) }
+    requires whole { length message.now ≡ codeword_count (data_sizes blocks) }
     requires least { 1 ≤ blocks.ec_len }
     requires most { blocks.ec_len ≤ 30 }
-    ensures { IfOk result (λ e. IsChecks blocks message.now (block_count (data_cut blocks)) e.items) }
+    ensures { IfOk result (λ e. IsChecks blocks message.now (block_count (data_sizes blocks)) e.items) }
 {
-    let cut = Cut::of_data(blocks);
+    let sizes = BlockSizes::of_data(blocks);
     let ec_len = usize::from(blocks.ec_len);
     let divisor = Divisor::new(ec_len);
-    let mut corrections = Vec::with_capacity(alloc, cut.count() * ec_len)?;
-    for block in 0..cut.count() {
-        let start = cut.start(block);
-        let check = divisor.correction(&message[start..start + cut.len(block)]);
+    let mut corrections = Vec::with_capacity(alloc, sizes.count() * ec_len)?;
+    for block in 0..sizes.count() {
+        let start = sizes.start(block);
+        let check = divisor.correction(&message[start..start + sizes.len(block)]);
         corrections.extend_from_slice(check.as_slice())?;
     }
     Ok(corrections)
 }
 
 fn interleave_blocks(alloc: Global, blocks: Blocks, message: &[u8]) -> Result<Vec<u8>, AllocError>
-    requires whole { length message.now ≡ cut_len (data_cut blocks) }
+    requires whole { length message.now ≡ codeword_count (data_sizes blocks) }
     requires least { 1 ≤ blocks.ec_len }
     requires most { blocks.ec_len ≤ 30 }
     ensures { IfOk result (λ cw. IsFinalMessage blocks message.now cw.items) }
 {
     let corrections = corrections(alloc, blocks, message)?;
-    let mut sent = Vec::with_capacity(alloc, message.len() + corrections.len())?;
-    interleave_into(&mut sent, Cut::of_data(blocks), message)?;
-    interleave_into(&mut sent, Cut::of_corrections(blocks), &corrections)?;
-    Ok(sent)
+    let mut interleaved = Vec::with_capacity(alloc, message.len() + corrections.len())?;
+    interleave_into(&mut interleaved, BlockSizes::of_data(blocks), message)?;
+    interleave_into(
+        &mut interleaved,
+        BlockSizes::of_corrections(blocks),
+        &corrections,
+    )?;
+    Ok(interleaved)
 }
 
 /// Returns the final sequence of codewords for the data codewords `message`: the data codewords by position and then by
@@ -157,24 +164,24 @@ pub fn interleave(
     message: &[u8],
 ) -> Result<Vec<u8>, AllocError>
     requires whole { length message.now ≡ data_codewords_of version level }
-    ensures sent { IfOk result (λ cw. IsInterleaved version level message.now cw.items) }
+    ensures interleaved { IfOk result (λ cw. IsInterleaved version level message.now cw.items) }
     ensures many { IfOk result (λ cw. length cw.items ≡ total_codewords_of version) }
 {
     interleave_blocks(alloc, version.blocks(level), message)
 }
 
 // Undoes the interleaving: writes the codewords to `message` block after block.
-fn deinterleave_into(message: &mut Vec<u8>, cut: Cut, codewords: &[u8])
-    requires room { length message.old.items ≡ cut_len cut }
-    requires sent { cut_len cut ≤ length codewords.now }
-    ensures { IsGathered cut codewords.now message.new.items }
+fn deinterleave_into(message: &mut Vec<u8>, sizes: BlockSizes, codewords: &[u8])
+    requires room { length message.old.items ≡ codeword_count sizes }
+    requires interleaved { codeword_count sizes ≤ length codewords.now }
+    ensures { IsGathered sizes codewords.now message.new.items }
 {
-    let blocks = cut.count();
+    let blocks = sizes.count();
     let mut next = 0;
-    for place in 0..usize::from(cut.short_len) + 1 {
+    for place in 0..usize::from(sizes.short_len) + 1 {
         for block in 0..blocks {
-            if place < cut.len(block) {
-                message[cut.start(block) + place] = codewords[next];
+            if place < sizes.len(block) {
+                message[sizes.start(block) + place] = codewords[next];
                 next += 1;
             }
         }
@@ -189,18 +196,18 @@ fn deinterleave_blocks(
     codewords: &[u8],
 ) -> Result<Vec<u8>, ReadFault>
     requires whole { length codewords.now
-        ≡ cut_len (data_cut blocks) + cut_len (correction_cut blocks) }
+        ≡ codeword_count (data_sizes blocks) + codeword_count (correction_sizes blocks) }
     requires least { 1 ≤ blocks.ec_len }
     requires most { blocks.ec_len ≤ 30 }
-    ensures len { IfOk result (λ d. length d.items ≡ cut_len (data_cut blocks)) }
+    ensures len { IfOk result (λ d. length d.items ≡ codeword_count (data_sizes blocks)) }
     ensures read { IfOk result (λ d. IsFinalMessage blocks d.items codewords.now) }
     ensures check { result ≡ Err ReadFault.Check → (d : List ℕ)
-        → length d ≡ cut_len (data_cut blocks) → IsFinalMessage blocks d codewords.now → ⊥ }
+        → length d ≡ codeword_count (data_sizes blocks) → IsFinalMessage blocks d codewords.now → ⊥ }
     ensures fault { IfErr result (λ e. (e ≡ ReadFault.Memory) ⊎ (e ≡ ReadFault.Check)) }
 {
-    let cut = Cut::of_data(blocks);
-    let mut message = vec![in alloc; 0u8; cut.start(cut.count())]?;
-    deinterleave_into(&mut message, cut, codewords);
+    let sizes = BlockSizes::of_data(blocks);
+    let mut message = vec![in alloc; 0u8; sizes.start(sizes.count())]?;
+    deinterleave_into(&mut message, sizes, codewords);
     let again = interleave_blocks(alloc, blocks, &message)?;
     if again.as_slice() == codewords {
         Ok(message)
@@ -242,21 +249,21 @@ mod tests {
         }
         let wanted = version.data_codewords(Level::Q);
         assert!(rt; message.len() == usize::from(wanted));
-        let sent = interleave(rt.alloc(), version, Level::Q, &message)?;
-        assert!(rt; sent.len() == 134, "five and Q hold 134 codewords");
+        let interleaved = interleave(rt.alloc(), version, Level::Q, &message)?;
+        assert!(rt; interleaved.len() == 134, "five and Q hold 134 codewords");
         let first = [0u8, 15, 30, 46, 1, 16, 31, 47];
         assert_eq!(rt;
-            &sent[..8],
+            &interleaved[..8],
             &first[..],
             "the first codewords of the four blocks"
         );
         let last = [45u8, 61];
         assert_eq!(rt;
-            &sent[60..62],
+            &interleaved[60..62],
             &last[..],
             "the sixteenth of the two long blocks"
         );
-        let again = deinterleave(rt.alloc(), version, Level::Q, &sent)?;
+        let again = deinterleave(rt.alloc(), version, Level::Q, &interleaved)?;
         assert_eq!(rt; &again[..], &message[..], "put back");
         Ok(())
     }

@@ -28,7 +28,7 @@ ghost use Rattle.qr_symbol.specs.Joining.{IsJoined, IsUnjoined};
 ghost use Rattle.qr_layout.specs.Version.{side_of, total_codewords_of};
 ghost use Rattle.qr_layout.specs.Blocks.{data_codewords_of, blocks_of};
 ghost use Rattle.qr_bits.specs.declared.modes.Rule.{Rule};
-ghost use Rattle.qr_symbol.specs.Interleaving.{block_count, block_len, start_of, cut_len, data_cut, IsInterleaved};
+ghost use Rattle.qr_symbol.specs.Interleaving.{block_count, block_len, start_of, codeword_count, data_sizes, IsInterleaved};
 ghost use Rattle.qr_symbol.specs.Distance.{MessagesLieApart, DamagedMessagesAreOne};
 ghost use Rattle.qr_symbol.specs.Laws.{all_masks, bits_down, computed_rows, first_rows};
 
@@ -75,18 +75,18 @@ pub fn plain_and_fast_symbols_are_one(
 
 /// The blocks of the data codewords follow one another without a gap, from the first codeword to the last.
 pub fn blocks_are_cut_exactly(version: Version, level: Level)
-    ensures first { start_of (data_cut (blocks_of version level)) 0 ≡ 0 }
-    ensures next { (i : ℕ) → i < block_count (data_cut (blocks_of version level))
-        → start_of (data_cut (blocks_of version level)) (i + 1)
-        ≡ start_of (data_cut (blocks_of version level)) i
-        + block_len (data_cut (blocks_of version level)) i }
-    ensures whole { cut_len (data_cut (blocks_of version level)) ≡ data_codewords_of version level }
+    ensures first { start_of (data_sizes (blocks_of version level)) 0 ≡ 0 }
+    ensures next { (i : ℕ) → i < block_count (data_sizes (blocks_of version level))
+        → start_of (data_sizes (blocks_of version level)) (i + 1)
+        ≡ start_of (data_sizes (blocks_of version level)) i
+        + block_len (data_sizes (blocks_of version level)) i }
+    ensures whole { codeword_count (data_sizes (blocks_of version level)) ≡ data_codewords_of version level }
 {}
 
 /// Data codewords have at most one final sequence of codewords. It has as many codewords as the symbol, and no other
 /// data codewords have the same final sequence.
 pub fn interleaving_is_one(version: Version, level: Level)
-    ensures sent { (d xs ys : List ℕ) → IsInterleaved version level d xs
+    ensures interleaved { (d xs ys : List ℕ) → IsInterleaved version level d xs
         → IsInterleaved version level d ys → xs ≡ ys }
     ensures many { (d xs : List ℕ) → IsInterleaved version level d xs
         → length xs ≡ total_codewords_of version }

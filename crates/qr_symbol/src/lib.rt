@@ -36,7 +36,7 @@ mod version_choice;
 pub use choice::build;
 pub use encoding::encode;
 pub use fault::{EncodeFault, ReadFault};
-pub use interleaving::{Cut, deinterleave, interleave};
+pub use interleaving::{BlockSizes, deinterleave, interleave};
 pub use joining::{join, read_series};
 pub use qr_bits::{INPUT_MAX, Rule};
 pub use qr_layout::{Level, Version};

@@ -52,6 +52,6 @@ pub(crate) fn byte_symbol(
     if message.len() != usize::from(version.data_codewords(level)) {
         return Err("the codewords are not those of the version".into());
     }
-    let sent = interleave(rt.alloc(), version, level, &message)?;
-    Ok(build(rt.alloc(), version, level, &sent)?)
+    let interleaved = interleave(rt.alloc(), version, level, &message)?;
+    Ok(build(rt.alloc(), version, level, &interleaved)?)
 }

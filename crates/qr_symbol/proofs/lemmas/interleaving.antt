@@ -1,6 +1,6 @@
--- The interleaving loop sends the codewords of all tags, in their order.
-pub mod TagLemmas
--- The number of tags before a tag, and that a cut has only one order of tags.
+-- The interleaving loop appends the codewords of all positions, in their order.
+pub mod PositionLemmas
+-- The number of positions before a position, and that block sizes have only one order of positions.
 pub mod RankLemmas
 -- The error correction codewords of all blocks, block after block, and the whole final sequence.
 pub mod CheckLemmas

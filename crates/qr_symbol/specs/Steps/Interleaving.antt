@@ -2,15 +2,15 @@
 use Rattle.std.specs.Prelude.{◌≡◌, ℕ, ◌<◌, List, [], ◌++◌, map, length, slice_index_or}
 use Rattle.qr_field.specs.Polynomial.{IsCorrection}
 use Rattle.qr_layout.specs.declared.blocks.Blocks.{Blocks}
-use Rattle.qr_symbol.specs.declared.interleaving.Cut.{Cut}
-use Rattle.qr_symbol.specs.Interleaving.{Tag, IsTag, IsTagOrder, start_of, correction_cut, codeword_at, block_of, check_at}
+use Rattle.qr_symbol.specs.declared.interleaving.BlockSizes.{BlockSizes}
+use Rattle.qr_symbol.specs.Interleaving.{Position, IsPosition, IsPositionOrder, start_of, correction_sizes, codeword_at, block_of, check_at}
 
--- `IsSent c d before after` holds if `after` is `before`, followed by the codewords d of the cut c in the order of their
--- tags.
-pub record IsSent (c : Cut) (d before after : List ℕ) : Type 0 where
-  pub tags : List Tag
-  pub order : IsTagOrder c tags
-  pub sent : after ≡ before ++ map (codeword_at c d) tags
+-- `AppendsInterleaved c d before after` holds if `after` is `before`, followed by the codewords d of the blocks with the
+-- sizes c in the order of their positions.
+pub record AppendsInterleaved (c : BlockSizes) (d before after : List ℕ) : Type 0 where
+  pub positions : List Position
+  pub order : IsPositionOrder c positions
+  pub interleaved : after ≡ before ++ map (codeword_at c d) positions
 
 -- `IsChecks b d blocks xs` holds if xs are the error correction codewords of the first blocks of the data codewords d,
 -- block after block; `blocks` is the number of these blocks.
@@ -18,5 +18,5 @@ pub record IsChecks (b : Blocks) (d : List ℕ) (blocks : ℕ) (xs : List ℕ) :
   pub corrections : List (List ℕ)
   pub count : length corrections ≡ blocks
   pub each : (i : ℕ) → i < blocks → IsCorrection (block_of b d i) b.ec_len (slice_index_or corrections i [])
-  pub long : length xs ≡ start_of (correction_cut b) blocks
-  pub same : (t : Tag) → t.block < blocks → IsTag (correction_cut b) t → codeword_at (correction_cut b) xs t ≡ check_at corrections t
+  pub long : length xs ≡ start_of (correction_sizes b) blocks
+  pub same : (t : Position) → t.block < blocks → IsPosition (correction_sizes b) t → codeword_at (correction_sizes b) xs t ≡ check_at corrections t

@@ -74,7 +74,7 @@ symbol-counted unknown smallest l rule x v mask g h changed least s side f d (Ok
     let form = symbol-form unknown smallest l rule x v mask g h changed least s side f d in
     let one = form-one unknown h m.version v m.level l m.mask mask modules.message s.made.message m.changed.items changed modules.form form in
     let whole = grid_of v l mask s.made.codewords in
-    let drawn : DiffersFromSymbolWithout unknown h v l mask s.made.message (wrong_modules_without unknown h whole) = record { codewords = s.made.codewords; sent = s.made.sent; count = refl } in
+    let drawn : DiffersFromSymbolWithout unknown h v l mask s.made.message (wrong_modules_without unknown h whole) = record { codewords = s.made.codewords; interleaved = s.made.interleaved; count = refl } in
     let wrong = differs-one unknown h m.version v m.level l m.mask mask modules.message s.made.message m.wrong_modules (wrong_modules_without unknown h whole) one.0 one.1 one.2 one.3 modules.differs drawn in (
       w.0,
       w.1,

@@ -9,9 +9,9 @@ use Rattle.qr_layout.specs.Blocks.{blocks_of}
 use Rattle.qr_layout.specs.Format.{format_word_of}
 use Rattle.qr_matrix.specs.Grid.{Grid}
 use Rattle.qr_symbol.specs.Symbol.{word_bit}
-use Rattle.qr_symbol.specs.Interleaving.{block_count, block_len, cut_len, data_cut, correction_cut, part_of}
+use Rattle.qr_symbol.specs.Interleaving.{block_count, block_len, codeword_count, data_sizes, correction_sizes, part_of}
 use Rattle.qr_symbol.specs.Reading.{IsFormat, IsMessage}
-use Rattle.qr_symbol.proofs.Facts.{check-len, cuts-whole, data-cut-whole, gather-some, read-some}
+use Rattle.qr_symbol.proofs.Facts.{check-len, sizes-whole, data-sizes-whole, gather-some, read-some}
 use Rattle.qr_mending.specs.declared.format.FormatCopy.TheVariants.{First}
 use Rattle.qr_mending.specs.Format.{copy_bit, IsNearFormat}
 use Rattle.qr_mending.specs.Message.{received, tolerance_of, IsMendedBlock}
@@ -19,7 +19,7 @@ use Rattle.qr_mending.specs.Mending.{HoldsDamaged}
 use Rattle.qr_mending.specs.Modules.{module_differences, modules_of, part_differences, DifferInFewModules}
 use Rattle.qr_mending.proofs.lemmas.laws.DistanceLemmas.{bits-alike}
 use Rattle.qr_mending.proofs.lemmas.message.MessageLemmas.{part-len}
-use Rattle.qr_mending.proofs.lemmas.laws.ModuleLemmas.{differences-join, held-many, part-near, sent-near}
+use Rattle.qr_mending.proofs.lemmas.laws.ModuleLemmas.{differences-join, held-many, part-near, interleaved-near}
 use Rattle.qr_mending.proofs.lemmas.laws.UndamagedLemmas.{final-parts}
 
 -- the format information of the square is near to that of the symbol
@@ -37,50 +37,50 @@ pub few-held : (v : ℕ) (l : Level) (mask : ℕ) (g h : Grid) (d : List ℕ) �
     DifferInFewModules v l g h → (changed : List ℕ) × HoldsDamaged v l mask g d changed
 few-held v l mask g h d p q m w =
     let b = blocks_of v l in
-    let own = data_cut b in
-    let cut = correction_cut b in
-    let n = cut_len own in
+    let own = data_sizes b in
+    let sizes = correction_sizes b in
+    let n = codeword_count own in
     let read = read-some v mask g p q in
     let cw = read.0 in
-    let sent = m.codewords in
+    let interleaved = m.codewords in
     let many = held-many v mask g cw p q read.1 in
-    let sent_many = held-many v mask h sent p q m.read in
-    let sum = cuts-whole v l p q in
-    let long : length d ≡ n = m.many ∙ sym (data-cut-whole v l p q) in
-    let whole = final-parts b d sent long m.sent in
+    let sent_many = held-many v mask h interleaved p q m.read in
+    let sum = sizes-whole v l p q in
+    let long : length d ≡ n = m.many ∙ sym (data-sizes-whole v l p q) in
+    let whole = final-parts b d interleaved long m.interleaved in
     let left = length-drop n cw in
     let first = gather-some own cw (omega (arith, many, sum)) in
-    let rest = gather-some cut (drop n cw) (omega (arith, many, sum, left)) in
+    let rest = gather-some sizes (drop n cw) (omega (arith, many, sum, left)) in
     let xs = first.0 in
     let es = rest.0 in
-    let checks = m.sent.corrections in
+    let checks = m.interleaved.corrections in
     let count : ℕ → ℕ = λ i. differences (received b xs es i) (part_of own d i ++ get_or checks i []) in
     let changed = map count (range_with_len 0 (block_count own)) in
-    let data_near : (i : ℕ) → i < block_count own → differences (part_of own xs i) (part_of own d i) ≤ part_differences g h w.places w.data_tags 0 i (block_len own i) =
-    λ i l. part-near g h w.places own w.data_tags 0 i cw sent xs d w.data_order first.1 whole.gathered
+    let data_near : (i : ℕ) → i < block_count own → differences (part_of own xs i) (part_of own d i) ≤ part_differences g h w.places w.data_positions 0 i (block_len own i) =
+    λ i l. part-near g h w.places own w.data_positions 0 i cw interleaved xs d w.data_order first.1 whole.gathered
     (λ k r.
     let none : k ≡ 0 + k = omega arith in
-    subst (λ (z : ℕ). difference (get_or cw k 0) (get_or sent k 0) ≤ module_differences g h (modules_of w.places z)) none
-    (sent-near v mask g h w.places cw sent k p q w.order read.1 m.read (omega (arith, r, sum))))
+    subst (λ (z : ℕ). difference (get_or cw k 0) (get_or interleaved k 0) ≤ module_differences g h (modules_of w.places z)) none
+    (interleaved-near v mask g h w.places cw interleaved k p q w.order read.1 m.read (omega (arith, r, sum))))
     l (block_len own i) (omega arith) in
-    let check_near : (i : ℕ) → i < block_count own → differences (part_of cut es i) (part_of cut whole.checks i) ≤ part_differences g h w.places w.check_tags n i (block_len cut i) =
-    λ i l. part-near g h w.places cut w.check_tags n i (drop n cw) (drop n sent) es whole.checks w.check_order rest.1 whole.rest
+    let check_near : (i : ℕ) → i < block_count own → differences (part_of sizes es i) (part_of sizes whole.checks i) ≤ part_differences g h w.places w.check_positions n i (block_len sizes i) =
+    λ i l. part-near g h w.places sizes w.check_positions n i (drop n cw) (drop n interleaved) es whole.checks w.check_order rest.1 whole.rest
     (λ k r.
-    subst (λ (z : ℕ). difference z (get_or (drop n sent) k 0) ≤ module_differences g h (modules_of w.places (n + k))) (sym (get_or-drop n cw k 0))
-    (subst (λ (z : ℕ). difference (get_or cw (n + k) 0) z ≤ module_differences g h (modules_of w.places (n + k))) (sym (get_or-drop n sent k 0))
-    (sent-near v mask g h w.places cw sent (n + k) p q w.order read.1 m.read (omega (arith, r, sum)))))
-    (omega (arith, l)) (block_len cut i) (omega arith) in
+    subst (λ (z : ℕ). difference z (get_or (drop n interleaved) k 0) ≤ module_differences g h (modules_of w.places (n + k))) (sym (get_or-drop n cw k 0))
+    (subst (λ (z : ℕ). difference (get_or cw (n + k) 0) z ≤ module_differences g h (modules_of w.places (n + k))) (sym (get_or-drop n interleaved k 0))
+    (interleaved-near v mask g h w.places cw interleaved (n + k) p q w.order read.1 m.read (omega (arith, r, sum)))))
+    (omega (arith, l)) (block_len sizes i) (omega arith) in
     let each : (i : ℕ) → i < block_count own → IsMendedBlock b (tolerance_of v l) xs es d (count i) i =
     λ i r. record {
       correction = get_or checks i [];
-      corrects = m.sent.each i r;
+      corrects = m.interleaved.each i r;
       near =
           let a = part-len own xs i first.1.long r in
           let c = part-len own d i long r in
-          let join = differences-join (part_of own xs i) (part_of own d i) (part_of cut es i) (get_or checks i []) (omega (arith, a, c)) in
+          let join = differences-join (part_of own xs i) (part_of own d i) (part_of sizes es i) (get_or checks i []) (omega (arith, a, c)) in
           let x = data_near i r in
-          let y = subst (λ (z : List ℕ). differences (part_of cut es i) z ≤ part_differences g h w.places w.check_tags n i (block_len cut i)) (whole.same i r) (check_near i r) in
-          let z = subst (λ (k : ℕ). differences (part_of cut es i) (get_or checks i []) ≤ part_differences g h w.places w.check_tags n i k) (check-len b i r) y in
+          let y = subst (λ (z : List ℕ). differences (part_of sizes es i) z ≤ part_differences g h w.places w.check_positions n i (block_len sizes i)) (whole.same i r) (check_near i r) in
+          let z = subst (λ (k : ℕ). differences (part_of sizes es i) (get_or checks i []) ≤ part_differences g h w.places w.check_positions n i k) (check-len b i r) y in
           let few = w.few i r in
           omega (arith, join, x, z, few);
       count = refl;

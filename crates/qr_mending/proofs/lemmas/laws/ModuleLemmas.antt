@@ -12,11 +12,11 @@ use Rattle.qr_layout.proofs.Facts.{Mem, only_order, order-length}
 use Rattle.qr_bits.specs.Bits.{bits_of, field}
 use Rattle.qr_bits.proofs.Facts.{length-bits_of, length-field}
 use Rattle.qr_matrix.specs.Grid.{Grid, colour}
-use Rattle.qr_symbol.specs.declared.interleaving.Cut.{Cut}
-use Rattle.qr_symbol.specs.Interleaving.{block_count, block_len, start_of, cut_len, codeword_at, IsGathered, IsTag, IsTagOrder, Tag}
+use Rattle.qr_symbol.specs.declared.interleaving.BlockSizes.{BlockSizes}
+use Rattle.qr_symbol.specs.Interleaving.{block_count, block_len, start_of, codeword_count, codeword_at, IsGathered, IsPosition, IsPositionOrder, Position}
 use Rattle.qr_symbol.specs.Reading.{unmasked, read_bits, IsRead}
 use Rattle.qr_symbol.specs.Mask.{inverted, inverts}
-use Rattle.qr_symbol.proofs.Facts.{Mem-of-Contains, bits-one, tag, tag-in, tags-many, tags-one}
+use Rattle.qr_symbol.proofs.Facts.{Mem-of-Contains, bits-one, position, position-in, positions-many, positions-one}
 use Rattle.qr_mending.specs.Format.{bit_difference}
 use Rattle.qr_mending.specs.Modules.{index_of, module_differences, modules_of, part_differences}
 
@@ -118,57 +118,57 @@ held-codeword v mask g ms cw j p q o h l =
     ∙ ap (map (unmasked mask g)) (ap (λ (k : ℕ). take 8 (drop n (take k ms))) whole ∙ (ap (take 8) (drop-take n rest ms) ∙ take-less 8 rest (drop n ms) (omega (arith, l)))))))
 
 -- codeword j of two squares differs only if one of its modules differs
-pub sent-near : (v mask : ℕ) (g h : Grid) (ms : List Module) (cs ds : List ℕ) (j : ℕ) → 1 ≤ v → v ≤ 40 → IsOrder v ms →
+pub interleaved-near : (v mask : ℕ) (g h : Grid) (ms : List Module) (cs ds : List ℕ) (j : ℕ) → 1 ≤ v → v ≤ 40 → IsOrder v ms →
     IsRead v mask g cs → IsRead v mask h ds → j < total_codewords_of v →
     difference (get_or cs j 0) (get_or ds j 0) ≤ module_differences g h (modules_of ms j)
-sent-near v mask g h ms cs ds j p q o a b l =
+interleaved-near v mask g h ms cs ds j p q o a b l =
     codeword-near mask g h (modules_of ms j) (get_or cs j 0) (get_or ds j 0)
     (a.bytes j 0 (omega (arith, l, held-many v mask g cs p q a))) (b.bytes j 0 (omega (arith, l, held-many v mask h ds p q b)))
     (held-codeword v mask g ms cs j p q o a l) (held-codeword v mask h ms ds j p q o b l)
 
 -- ---- one block
 
--- tags with the same place and block are one
-tag-same : (t u : Tag) → t.place ≡ u.place → t.block ≡ u.block → t ≡ u
-tag-same t u p b = λ i. record { place = p i; block = b i }
+-- positions with the same place and block are one
+position-same : (t u : Position) → t.place ≡ u.place → t.block ≡ u.block → t ≡ u
+position-same t u p b = λ i. record { place = p i; block = b i }
 
--- the index of a tag that is not the first one in a list is that in the rest, plus one
-later : (t u : Tag) (ts : List Tag) → index_of t (u ∷ ts) ≡ suc (index_of t ts) → (index_of t ts < length ts) × (get_or ts (index_of t ts) t ≡ t) →
+-- the index of a position that is not the first one in a list is that in the rest, plus one
+later : (t u : Position) (ts : List Position) → index_of t (u ∷ ts) ≡ suc (index_of t ts) → (index_of t ts < length ts) × (get_or ts (index_of t ts) t ≡ t) →
     (index_of t (u ∷ ts) < length (u ∷ ts)) × (get_or (u ∷ ts) (index_of t (u ∷ ts)) t ≡ t)
 later t u ts there w = (omega (arith, there, w.0), ap (λ (k : ℕ). get_or (u ∷ ts) k t) there ∙ w.1)
 
 -- a member of a list that is not the first item is a member of the rest
-member-later : (t u : Tag) (ts : List Tag) → Mem t (u ∷ ts) → (t ≡ u → ⊥) → Mem t ts
+member-later : (t u : Position) (ts : List Position) → Mem t (u ∷ ts) → (t ≡ u → ⊥) → Mem t ts
 member-later t u ts m n = elim m [ inl e ↦ absurd (n (sym e)) | inr r ↦ r ]
 
--- a tag in a list is found at its index
-index-found : (t : Tag) (ts : List Tag) → Mem t ts → (index_of t ts < length ts) × (get_or ts (index_of t ts) t ≡ t)
+-- a position in a list is found at its index
+index-found : (t : Position) (ts : List Position) → Mem t ts → (index_of t ts < length ts) × (get_or ts (index_of t ts) t ≡ t)
 index-found t [] m = absurd m
 index-found t (u ∷ us) m = elim (cases_eq t.place u.place) [
   | inl p ↦ elim (cases_eq t.block u.block) [
     | inl b ↦
         let here : index_of t (u ∷ us) ≡ 0 = grind (arith, nat_tests) in
-        (omega (arith, here), ap (λ (k : ℕ). get_or (u ∷ us) k t) here ∙ sym (tag-same t u p b))
+        (omega (arith, here), ap (λ (k : ℕ). get_or (u ∷ us) k t) here ∙ sym (position-same t u p b))
     | inr b ↦
         let there : index_of t (u ∷ us) ≡ suc (index_of t us) = grind (arith, nat_tests) in
-        later t u us there (index-found t us (member-later t u us m (λ e. b (ap (λ (x : Tag). x.block) e))))
+        later t u us there (index-found t us (member-later t u us m (λ e. b (ap (λ (x : Position). x.block) e))))
   ]
   | inr p ↦
       let there : index_of t (u ∷ us) ≡ suc (index_of t us) = grind (arith, nat_tests) in
-      later t u us there (index-found t us (member-later t u us m (λ e. p (ap (λ (x : Tag). x.place) e))))
+      later t u us there (index-found t us (member-later t u us m (λ e. p (ap (λ (x : Position). x.place) e))))
 ]
 
--- the codeword with a tag is sent at the index of this tag
-sent-at : (c : Cut) (ts : List Tag) (sent xs : List ℕ) (t : Tag) → IsTagOrder c ts → IsGathered c sent xs → IsTag c t →
-    (index_of t ts < cut_len c) × (get_or sent (index_of t ts) 0 ≡ codeword_at c xs t)
-sent-at c ts sent xs t o h i =
+-- the codeword at a position is at the index of this position
+interleaved-at : (c : BlockSizes) (ts : List Position) (interleaved xs : List ℕ) (t : Position) → IsPositionOrder c ts → IsGathered c interleaved xs → IsPosition c t →
+    (index_of t ts < codeword_count c) × (get_or interleaved (index_of t ts) 0 ≡ codeword_at c xs t)
+interleaved-at c ts interleaved xs t o h i =
     let k = index_of t ts in
     let w = index-found t ts (Mem-of-Contains ts t (o.complete t i)) in
-    let n = tags-many c ts o in
-    let l : k < cut_len c = omega (arith, w.0, n) in
-    let same : map (codeword_at c xs) ts ≡ take (cut_len c) sent = ap (map (codeword_at c xs)) (tags-one c ts h.tags o h.order) ∙ h.same in (
+    let n = positions-many c ts o in
+    let l : k < codeword_count c = omega (arith, w.0, n) in
+    let same : map (codeword_at c xs) ts ≡ take (codeword_count c) interleaved = ap (map (codeword_at c xs)) (positions-one c ts h.positions o h.order) ∙ h.same in (
       l,
-      sym (get_or-take (cut_len c) sent k 0 l)
+      sym (get_or-take (codeword_count c) interleaved k 0 l)
           ∙ (ap (λ (z : List ℕ). get_or z k 0) (sym same)
           ∙ (get_or-map (codeword_at c xs) ts k t 0 w.0 ∙ ap (codeword_at c xs) w.1)),
     )
@@ -193,27 +193,27 @@ more-differences xs ys n l m =
     ap (λ (z : List ℕ). differences z (take (suc n) ys)) a ∙ (ap (differences (take n xs ++ get_or xs n 0 ∷ [])) b ∙ omega (arith, j))
 
 -- in a block at most as many codewords differ as modules
-pub part-near : (g h : Grid) (ms : List Module) (c : Cut) (ts : List Tag) (first i : ℕ) (sent also xs ys : List ℕ) → IsTagOrder c ts →
-    IsGathered c sent xs → IsGathered c also ys →
-    ((k : ℕ) → k < cut_len c → difference (get_or sent k 0) (get_or also k 0) ≤ module_differences g h (modules_of ms (first + k))) →
+pub part-near : (g h : Grid) (ms : List Module) (c : BlockSizes) (ts : List Position) (first i : ℕ) (interleaved also xs ys : List ℕ) → IsPositionOrder c ts →
+    IsGathered c interleaved xs → IsGathered c also ys →
+    ((k : ℕ) → k < codeword_count c → difference (get_or interleaved k 0) (get_or also k 0) ≤ module_differences g h (modules_of ms (first + k))) →
     i < block_count c → (n : ℕ) → n ≤ block_len c i →
     differences (take n (drop (start_of c i) xs)) (take n (drop (start_of c i) ys)) ≤ part_differences g h ms ts first i n
-part-near g h ms c ts first i sent also xs ys o a b near l zero m = omega arith
-part-near g h ms c ts first i sent also xs ys o a b near l (suc n) m =
+part-near g h ms c ts first i interleaved also xs ys o a b near l zero m = omega arith
+part-near g h ms c ts first i interleaved also xs ys o a b near l (suc n) m =
     let s = start_of c i in
-    let t = tag n i in
-    let is : IsTag c t = (l, omega (arith, m)) in
+    let t = position n i in
+    let is : IsPosition c t = (l, omega (arith, m)) in
     let k = index_of t ts in
-    let p = sent-at c ts sent xs t o a is in
-    let q = sent-at c ts also ys t o b is in
-    let x : get_or (drop s xs) n 0 ≡ get_or sent k 0 = get_or-drop s xs n 0 ∙ sym p.1 in
+    let p = interleaved-at c ts interleaved xs t o a is in
+    let q = interleaved-at c ts also ys t o b is in
+    let x : get_or (drop s xs) n 0 ≡ get_or interleaved k 0 = get_or-drop s xs n 0 ∙ sym p.1 in
     let y : get_or (drop s ys) n 0 ≡ get_or also k 0 = get_or-drop s ys n 0 ∙ sym q.1 in
-    let inside = tag-in c n i is in
+    let inside = position-in c n i is in
     let u = length-drop s xs in
     let w = length-drop s ys in
     let some : difference (get_or (drop s xs) n 0) (get_or (drop s ys) n 0) ≤ module_differences g h (modules_of ms (first + k)) =
     subst (λ (z : ℕ). difference z (get_or (drop s ys) n 0) ≤ module_differences g h (modules_of ms (first + k))) (sym x)
-    (subst (λ (z : ℕ). difference (get_or sent k 0) z ≤ module_differences g h (modules_of ms (first + k))) (sym y) (near k p.0)) in
+    (subst (λ (z : ℕ). difference (get_or interleaved k 0) z ≤ module_differences g h (modules_of ms (first + k))) (sym y) (near k p.0)) in
     let more = more-differences (drop s xs) (drop s ys) n (omega (arith, u, inside, a.long)) (omega (arith, w, inside, b.long)) in
-    let rest = part-near g h ms c ts first i sent also xs ys o a b near l n (omega (arith, m)) in
+    let rest = part-near g h ms c ts first i interleaved also xs ys o a b near l n (omega (arith, m)) in
     omega (arith, more, rest, some)

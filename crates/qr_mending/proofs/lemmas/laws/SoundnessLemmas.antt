@@ -20,8 +20,8 @@ differs-one unknown g v w l k m n p q a b ev el em ep h j =
     let here : IsInterleaved v l p j.codewords =
     subst (λ (z : ℕ). IsInterleaved z l p j.codewords) (sym ev)
     (subst (λ (z : Level). IsInterleaved w z p j.codewords) (sym el)
-    (subst (λ (z : List ℕ). IsInterleaved w k z j.codewords) (sym ep) j.sent)) in
-    let same : h.codewords ≡ j.codewords = final-one (blocks_of v l) p h.codewords j.codewords h.sent here in
+    (subst (λ (z : List ℕ). IsInterleaved w k z j.codewords) (sym ep) j.interleaved)) in
+    let same : h.codewords ≡ j.codewords = final-one (blocks_of v l) p h.codewords j.codewords h.interleaved here in
     let grids : grid_of v l m h.codewords ≡ grid_of w k n j.codewords =
     ap (λ (z : ℕ). grid_of z l m h.codewords) ev
     ∙ (ap (λ (z : Level). grid_of w z m h.codewords) el

@@ -12,7 +12,7 @@ use Rattle.qr_layout.specs.Format.{format_word_of}
 use Rattle.qr_bits.specs.Parsing.{Content}
 use Rattle.qr_matrix.specs.Grid.{Grid}
 use Rattle.qr_symbol.specs.Symbol.{word_bit}
-use Rattle.qr_symbol.specs.Interleaving.{block_count, block_len, start_of, cut_len, IsTag, codeword_at, data_cut, correction_cut, block_of, check_at, IsFinalMessage, IsGathered, part_of}
+use Rattle.qr_symbol.specs.Interleaving.{block_count, block_len, start_of, codeword_count, IsPosition, codeword_at, data_sizes, correction_sizes, block_of, check_at, IsFinalMessage, IsGathered, part_of}
 use Rattle.qr_symbol.specs.Steps.Interleaving.{IsChecks}
 use Rattle.qr_symbol.specs.Distance.{blocks_in}
 use Rattle.qr_symbol.specs.Reading.{IsFormat, IsReading}
@@ -20,14 +20,14 @@ use Rattle.qr_mending.specs.declared.format.FormatCopy.TheVariants.{First}
 use Rattle.qr_mending.specs.Format.{bit_difference, bit_differences, copy_bit, IsNearFormat}
 use Rattle.qr_mending.specs.Message.{tolerance_of, IsMendedMessage}
 use Rattle.qr_mending.specs.Mending.{IsMendedReading}
-use Rattle.qr_symbol.proofs.Facts.{start-none, tag, tags-many, check-len, checks-push, map-each, checks-one, data-cut-whole}
+use Rattle.qr_symbol.proofs.Facts.{start-none, position, positions-many, check-len, checks-push, map-each, checks-one, data-sizes-whole}
 use Rattle.qr_mending.proofs.lemmas.message.MessageLemmas.{part-len}
 
 -- ---- codewords
 
 -- the error correction codewords of the first blocks, one after another
-checks-some : (b : Blocks) (d : List ℕ) (cs : List (List ℕ)) (k : ℕ) → k ≤ block_count (data_cut b) →
-    ((i : ℕ) → i < block_count (data_cut b) → IsCorrection (block_of b d i) b.ec_len (get_or cs i [])) →
+checks-some : (b : Blocks) (d : List ℕ) (cs : List (List ℕ)) (k : ℕ) → k ≤ block_count (data_sizes b) →
+    ((i : ℕ) → i < block_count (data_sizes b) → IsCorrection (block_of b d i) b.ec_len (get_or cs i [])) →
     (es : List ℕ) × IsChecks b d k es
 checks-some b d cs zero l h = (
   [],
@@ -35,14 +35,14 @@ checks-some b d cs zero l h = (
     corrections = [];
     count = refl;
     each = λ i m. absurd (omega arith);
-    long = sym (start-none (correction_cut b));
+    long = sym (start-none (correction_sizes b));
     same = λ t m i. absurd (omega arith);
   },
 )
 checks-some b d cs (suc k) l h =
     let before = checks-some b d cs k (omega arith) h in
     let more = before.0 ++ get_or cs k [] in
-    let here : k < block_count (data_cut b) = omega arith in
+    let here : k < block_count (data_sizes b) = omega arith in
     let next : k + 1 ≡ suc k = omega arith in (
       more,
       subst (λ (n : ℕ). IsChecks b d n more) next
@@ -51,73 +51,73 @@ checks-some b d cs (suc k) l h =
 
 -- one block of these error correction codewords
 check-part : (b : Blocks) (d es : List ℕ) (cs : List (List ℕ)) →
-    (corrections : IsChecks b d (block_count (data_cut b)) es) → corrections.corrections ≡ cs → (i : ℕ) →
-    i < block_count (data_cut b) → IsCorrection (block_of b d i) b.ec_len (get_or cs i []) →
-    part_of (correction_cut b) es i ≡ get_or cs i []
+    (corrections : IsChecks b d (block_count (data_sizes b)) es) → corrections.corrections ≡ cs → (i : ℕ) →
+    i < block_count (data_sizes b) → IsCorrection (block_of b d i) b.ec_len (get_or cs i []) →
+    part_of (correction_sizes b) es i ≡ get_or cs i []
 check-part b d es cs h e i l c =
-    let cut = correction_cut b in
+    let sizes = correction_sizes b in
     let n = check-len b i l in
-    let whole : length es ≡ cut_len cut = omega (arith, h.long) in
-    let within : i < block_count cut = omega arith in
-    let long = part-len cut es i whole within in
-    ext_get_or 0 (part_of cut es i) (get_or cs i []) (omega (arith, long, n, c.count)) (λ k m.
-    let small : k < block_len cut i = omega (arith, m, long) in
-    get_or-take (block_len cut i) (drop (start_of cut i) es) k 0 small
-    ∙ (get_or-drop (start_of cut i) es k 0
-    ∙ (h.same (tag k i) l (within, small) ∙ ap (λ (zs : List (List ℕ)). get_or (get_or zs i []) k 0) e)))
+    let whole : length es ≡ codeword_count sizes = omega (arith, h.long) in
+    let within : i < block_count sizes = omega arith in
+    let long = part-len sizes es i whole within in
+    ext_get_or 0 (part_of sizes es i) (get_or cs i []) (omega (arith, long, n, c.count)) (λ k m.
+    let small : k < block_len sizes i = omega (arith, m, long) in
+    get_or-take (block_len sizes i) (drop (start_of sizes i) es) k 0 small
+    ∙ (get_or-drop (start_of sizes i) es k 0
+    ∙ (h.same (position k i) l (within, small) ∙ ap (λ (zs : List (List ℕ)). get_or (get_or zs i []) k 0) e)))
 
 -- the data codewords and the error correction codewords of a final sequence, both gathered
 pub record FinalParts (b : Blocks) (d cw : List ℕ) (corrections : List (List ℕ)) : Type 0 where
   pub checks : List ℕ
-  pub gathered : IsGathered (data_cut b) cw d
-  pub rest : IsGathered (correction_cut b) (drop (cut_len (data_cut b)) cw) checks
-  pub same : (i : ℕ) → i < block_count (data_cut b) → part_of (correction_cut b) checks i ≡ get_or corrections i []
+  pub gathered : IsGathered (data_sizes b) cw d
+  pub rest : IsGathered (correction_sizes b) (drop (codeword_count (data_sizes b)) cw) checks
+  pub same : (i : ℕ) → i < block_count (data_sizes b) → part_of (correction_sizes b) checks i ≡ get_or corrections i []
 
-pub final-parts : (b : Blocks) (d cw : List ℕ) → length d ≡ cut_len (data_cut b) → (h : IsFinalMessage b d cw) →
+pub final-parts : (b : Blocks) (d cw : List ℕ) → length d ≡ codeword_count (data_sizes b) → (h : IsFinalMessage b d cw) →
     FinalParts b d cw h.corrections
 final-parts b d cw n h =
-    let own = data_cut b in
-    let cut = correction_cut b in
+    let own = data_sizes b in
+    let sizes = correction_sizes b in
     let some = checks-some b d h.corrections (block_count own) (omega arith) h.each in
     let es = some.0 in
     let ch = some.1 in
     let same : ch.corrections ≡ h.corrections =
     checks-one b d (block_count own) ch.corrections h.corrections ch.count h.count ch.each h.each in
-    let first = map (codeword_at own d) h.data_tags in
-    let last = map (codeword_at cut es) h.check_tags in
-    let read : last ≡ map (check_at h.corrections) h.check_tags =
-    map-each (IsTag cut) (codeword_at cut es) (check_at ch.corrections) h.check_tags h.check_order.in_blocks (λ u i. ch.same u (let l = i.0 in omega arith) i)
-    ∙ ap (λ (zs : List (List ℕ)). map (check_at zs) h.check_tags) same in
+    let first = map (codeword_at own d) h.data_positions in
+    let last = map (codeword_at sizes es) h.check_positions in
+    let read : last ≡ map (check_at h.corrections) h.check_positions =
+    map-each (IsPosition sizes) (codeword_at sizes es) (check_at ch.corrections) h.check_positions h.check_order.in_blocks (λ u i. ch.same u (let l = i.0 in omega arith) i)
+    ∙ ap (λ (zs : List (List ℕ)). map (check_at zs) h.check_positions) same in
     let whole : cw ≡ first ++ last = h.whole ∙ ap (λ (zs : List ℕ). first ++ zs) (sym read) in
-    let many = tags-many own h.data_tags h.data_order in
-    let rest = tags-many cut h.check_tags h.check_order in
-    let front : length first ≡ cut_len own = length-map h.data_tags (codeword_at own d) ∙ many in
-    let back : length last ≡ cut_len cut = length-map h.check_tags (codeword_at cut es) ∙ rest in
-    let after : drop (cut_len own) cw ≡ last = ap (drop (cut_len own)) whole ∙ drop_at first last (cut_len own) front in
+    let many = positions-many own h.data_positions h.data_order in
+    let rest = positions-many sizes h.check_positions h.check_order in
+    let front : length first ≡ codeword_count own = length-map h.data_positions (codeword_at own d) ∙ many in
+    let back : length last ≡ codeword_count sizes = length-map h.check_positions (codeword_at sizes es) ∙ rest in
+    let after : drop (codeword_count own) cw ≡ last = ap (drop (codeword_count own)) whole ∙ drop_at first last (codeword_count own) front in
     record {
       checks = es;
       gathered = record {
         long = n;
-        tags = h.data_tags;
+        positions = h.data_positions;
         order = h.data_order;
         many = many;
-        same = sym (ap (take (cut_len own)) whole ∙ take_at first last (cut_len own) front);
+        same = sym (ap (take (codeword_count own)) whole ∙ take_at first last (codeword_count own) front);
       };
       rest = record {
         long = omega (arith, ch.long);
-        tags = h.check_tags;
+        positions = h.check_positions;
         order = h.check_order;
         many = rest;
-        same = sym (ap (take (cut_len cut)) after ∙ take_all (cut_len cut) last (omega (arith, back)));
+        same = sym (ap (take (codeword_count sizes)) after ∙ take_all (codeword_count sizes) last (omega (arith, back)));
       };
       same = λ i l. check-part b d es h.corrections ch same i l (h.each i l);
     }
 
 -- a final sequence is a damaged form of its message in which no codeword is changed
-pub final-mended : (b : Blocks) (t : ℕ) (d cw : List ℕ) → length d ≡ cut_len (data_cut b) → IsFinalMessage b d cw →
-    IsMendedMessage b t cw d (replicate (block_count (data_cut b)) 0)
+pub final-mended : (b : Blocks) (t : ℕ) (d cw : List ℕ) → length d ≡ codeword_count (data_sizes b) → IsFinalMessage b d cw →
+    IsMendedMessage b t cw d (replicate (block_count (data_sizes b)) 0)
 final-mended b t d cw n h =
-    let own = data_cut b in
+    let own = data_sizes b in
     let w = final-parts b d cw n h in
     record {
       codewords = d;
@@ -182,7 +182,7 @@ reading-mended g p h =
         damaged = record {
           codewords = m.codewords;
           held = m.read;
-          mended = final-mended (blocks_of v l) (tolerance_of v l) h.message m.codewords (m.many ∙ sym (data-cut-whole v l h.sized.least h.sized.most)) m.sent;
+          mended = final-mended (blocks_of v l) (tolerance_of v l) h.message m.codewords (m.many ∙ sym (data-sizes-whole v l h.sized.least h.sized.most)) m.interleaved;
         };
       };
       parsed = h.parsed;

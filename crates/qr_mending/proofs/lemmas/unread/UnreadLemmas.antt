@@ -11,7 +11,7 @@ use Rattle.qr_layout.specs.Blocks.{blocks_of}
 use Rattle.qr_layout.specs.Version.{total_codewords_of}
 use Rattle.qr_layout.proofs.Facts.{only_order}
 use Rattle.qr_matrix.specs.Grid.{Grid}
-use Rattle.qr_symbol.specs.Interleaving.{block_count, block_len, cut_len, data_cut, correction_cut, part_of}
+use Rattle.qr_symbol.specs.Interleaving.{block_count, block_len, codeword_count, data_sizes, correction_sizes, part_of}
 use Rattle.qr_symbol.proofs.Facts.{bits-one, check-len, len-most, parts-same, start-next}
 use Rattle.qr_field.proofs.lemmas.laws.DistanceLemmas.{unambiguous-known}
 use Rattle.qr_field.proofs.Facts.{correction-one}
@@ -34,9 +34,9 @@ marks-one v unknown xs ys g h =
 -- ---- blocks
 
 -- a sequence is put back into blocks in at most one way
-in-blocks-one : (b : Blocks) (sent d e x y : List ℕ) → AreInBlocks b sent d e → AreInBlocks b sent x y → (d ≡ x) × (e ≡ y)
-in-blocks-one b sent d e x y g h =
-    (gathered-same (data_cut b) sent d x g.gathered h.gathered, gathered-same (correction_cut b) (drop (cut_len (data_cut b)) sent) e y g.rest h.rest)
+in-blocks-one : (b : Blocks) (interleaved d e x y : List ℕ) → AreInBlocks b interleaved d e → AreInBlocks b interleaved x y → (d ≡ x) × (e ≡ y)
+in-blocks-one b interleaved d e x y g h =
+    (gathered-same (data_sizes b) interleaved d x g.gathered h.gathered, gathered-same (correction_sizes b) (drop (codeword_count (data_sizes b)) interleaved) e y g.rest h.rest)
 
 -- if what was read is a damaged form of no block, no data codewords with their error correction codewords are near
 -- enough to it
@@ -61,21 +61,21 @@ unread-start b spare d e u w message misread h k = record {
 }
 
 -- one block more
-unread-push : (b : Blocks) (spare : ℕ) (d e u w message misread es c : List ℕ) (n x : ℕ) → n < block_count (data_cut b) →
-    AreMendedWithout b spare d e u w n message misread → length es ≡ block_len (data_cut b) n → IsCorrection es b.ec_len c →
+unread-push : (b : Blocks) (spare : ℕ) (d e u w message misread es c : List ℕ) (n x : ℕ) → n < block_count (data_sizes b) →
+    AreMendedWithout b spare d e u w n message misread → length es ≡ block_len (data_sizes b) n → IsCorrection es b.ec_len c →
     x ≡ errors (read_by (received b d e n) (received b u w n)) (es ++ c) →
     erasures (read_by (received b d e n) (received b u w n)) + 2 * x ≤ spare →
     AreMendedWithout b spare d e u w (n + 1) (message ++ es) (misread ++ x ∷ [])
 unread-push b spare d e u w message misread es c n x l h len right count near =
-    let cut = data_cut b in
+    let sizes = data_sizes b in
     let read : ℕ → List (Option ℕ) = λ i. read_by (received b d e i) (received b u w i) in
     record {
-      long = omega (arith, length-append message es, h.long, len, start-next cut n);
+      long = omega (arith, length-append message es, h.long, len, start-next sizes n);
       many = omega (arith, length_push misread x, h.many);
       each = λ i m. elim (cases_lt i n) [
         | inl k ↦
             let old = h.each i k in
-            let same = part-grown cut message es i n h.long k in
+            let same = part-grown sizes message es i n h.long k in
             let there : get_or (misread ++ x ∷ []) i 0 ≡ get_or misread i 0 =
             get_or_append_left misread (x ∷ []) 0 i (omega (arith, k, h.many)) in
             record {
@@ -86,7 +86,7 @@ unread-push b spare d e u w message misread es c n x l h len right count near =
             }
         | inr k ↦
             let here : n ≡ i = omega arith in
-            let last = part-last cut message es n h.long len in
+            let last = part-last sizes message es n h.long len in
             let there : get_or (misread ++ x ∷ []) n 0 ≡ x = get_or_push misread x 0 n h.many in
             subst (λ (j : ℕ). IsMendedBlockWithout b spare (read j) (message ++ es) (get_or (misread ++ x ∷ []) j 0) j) here
             (record {
@@ -105,7 +105,7 @@ unread-message-one : (b : Blocks) (spare : ℕ) (cw marks m n x y : List ℕ) �
     b.short_len + 1 + b.ec_len ≤ 255 → IsMendedMessageWithout b spare cw marks m x → IsMendedMessageWithout b spare cw marks n y →
     (m ≡ n) × (x ≡ y)
 unread-message-one b spare cw marks m n x y enough few g h =
-    let c = data_cut b in
+    let c = data_sizes b in
     let d = g.codewords in
     let e = g.checks in
     let u = g.unread in
@@ -155,8 +155,8 @@ beside-one unknown v l cw m n x y few g h =
 
 -- one block more, stated with the variables of the loop
 pub push-unread : (b : Blocks) (spare : ℕ) (d e u w : List ℕ) (n k x : ℕ) (codewords marks : List ℕ) (erased : List Bool)
-    (message misread es more counts : List ℕ) → n ≡ b.ec_len → k < block_count (data_cut b) → codewords ≡ received b d e k →
-    marks ≡ received b u w k → erased ≡ map (λ mark. not (mark == 0)) marks → length codewords ≡ block_len (data_cut b) k + b.ec_len →
+    (message misread es more counts : List ℕ) → n ≡ b.ec_len → k < block_count (data_sizes b) → codewords ≡ received b d e k →
+    marks ≡ received b u w k → erased ≡ map (λ mark. not (mark == 0)) marks → length codewords ≡ block_len (data_sizes b) k + b.ec_len →
     AreMendedWithout b spare d e u w k message misread → length es + n ≡ length codewords →
     ((c : List ℕ) × IsCorrection es n c × (x ≡ errors (read_of codewords erased) (es ++ c))) →
     erasures (read_of codewords erased) + 2 * x ≤ spare → more ≡ message ++ es → counts ≡ misread ++ x ∷ [] →
@@ -175,29 +175,29 @@ push-unread b spare d e u w n k x codewords marks erased message misread es more
 
 -- if a block cannot be mended, the codewords are a damaged form of no message
 pub none-unread : (b : Blocks) (spare : ℕ) (d e u w : List ℕ) (n k : ℕ) (codewords marks : List ℕ) (erased : List Bool) →
-    n ≡ b.ec_len → k < block_count (data_cut b) → codewords ≡ received b d e k → marks ≡ received b u w k →
-    erased ≡ map (λ mark. not (mark == 0)) marks → length codewords ≡ block_len (data_cut b) k + b.ec_len →
+    n ≡ b.ec_len → k < block_count (data_sizes b) → codewords ≡ received b d e k → marks ≡ received b u w k →
+    erased ≡ map (λ mark. not (mark == 0)) marks → length codewords ≡ block_len (data_sizes b) k + b.ec_len →
     ((x c : List ℕ) → length x + n ≡ length codewords → IsCorrection x n c →
     erasures (read_of codewords erased) + 2 * errors (read_of codewords erased) (x ++ c) ≤ spare → ⊥) →
-    (message misread : List ℕ) → AreMendedWithout b spare d e u w (block_count (data_cut b)) message misread → ⊥
+    (message misread : List ℕ) → AreMendedWithout b spare d e u w (block_count (data_sizes b)) message misread → ⊥
 none-unread b spare d e u w n k codewords marks erased en l ec em ee long none message misread h =
     let m = h.each k l in
-    let x = part_of (data_cut b) message k in
+    let x = part_of (data_sizes b) message k in
     let same : read_of codewords erased ≡ read_by (received b d e k) (received b u w k) =
     ap (λ (z : List ℕ). read_of z erased) ec
     ∙ (ap (read_of (received b d e k)) ee ∙ ap (read_by (received b d e k)) em) in
     let near : erasures (read_by (received b d e k) (received b u w k)) + 2 * errors (read_by (received b d e k) (received b u w k)) (x ++ m.correction) ≤ spare =
     omega (arith, m.near, m.count) in
-    none x m.correction (omega (arith, part-len (data_cut b) message k h.long l, long, en))
+    none x m.correction (omega (arith, part-len (data_sizes b) message k h.long l, long, en))
     (subst (λ (z : ℕ). IsCorrection x z m.correction) (sym en) m.corrects)
     (subst (λ (z : List (Option ℕ)). erasures z + 2 * errors z (x ++ m.correction) ≤ spare) (sym same) near)
 
 -- codewords that cannot be mended are a damaged form of no message
 pub none-in-blocks : (b : Blocks) (spare : ℕ) (cw marks d e u w : List ℕ) → AreInBlocks b cw d e → AreInBlocks b marks u w →
-    ((message misread : List ℕ) → AreMendedWithout b spare d e u w (block_count (data_cut b)) message misread → ⊥) →
+    ((message misread : List ℕ) → AreMendedWithout b spare d e u w (block_count (data_sizes b)) message misread → ⊥) →
     (message misread : List ℕ) → IsMendedMessageWithout b spare cw marks message misread → ⊥
 none-in-blocks b spare cw marks d e u w g h none message misread m =
-    let c = data_cut b in
+    let c = data_sizes b in
     let first = in-blocks-one b cw m.codewords m.checks d e m.in_blocks g in
     let second = in-blocks-one b marks m.unread m.unread_checks u w m.marked h in
     none message misread

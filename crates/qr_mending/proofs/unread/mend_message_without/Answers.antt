@@ -2,18 +2,18 @@ use Rattle.std.proofs.Common.{◌≡◌, ◌≤◌, ◌+◌, ℕ, ◌∙◌, len
 use Rattle.qr_layout.specs.declared.blocks.Blocks.{Blocks}
 use Rattle.qr_layout.specs.Blocks.{blocks_of, data_codewords_of}
 use Rattle.qr_layout.proofs.Facts.{blocks-sound, laws-of}
-use Rattle.qr_symbol.specs.Interleaving.{cut_len, data_cut, correction_cut}
+use Rattle.qr_symbol.specs.Interleaving.{codeword_count, data_sizes, correction_sizes}
 use Rattle.qr_mending.specs.Unread.{spare_of, IsMendedMessageWithout}
-use Rattle.qr_symbol.proofs.Facts.{data-cut-whole, cuts-whole, ok-also}
+use Rattle.qr_symbol.proofs.Facts.{data-sizes-whole, sizes-whole, ok-also}
 use Rattle.qr_mending.proofs.unread.mend_message_without.Goals as goal
 
 pub mend_blocks-requires-clause-whole : goal.mend_blocks-requires-clause-whole
 mend_blocks-requires-clause-whole c =
-    c.requires.codewords ∙ (sym (cuts-whole c.args.version c.args.level (omega arith) (omega arith)) ∙ ap (λ (b : Blocks). cut_len (data_cut b) + cut_len (correction_cut b)) (sym c.blocks-blocks.ensures))
+    c.requires.codewords ∙ (sym (sizes-whole c.args.version c.args.level (omega arith) (omega arith)) ∙ ap (λ (b : Blocks). codeword_count (data_sizes b) + codeword_count (correction_sizes b)) (sym c.blocks-blocks.ensures))
 
 pub mend_blocks-requires-clause-marks : goal.mend_blocks-requires-clause-marks
 mend_blocks-requires-clause-marks c =
-    c.requires.marks ∙ (sym (cuts-whole c.args.version c.args.level (omega arith) (omega arith)) ∙ ap (λ (b : Blocks). cut_len (data_cut b) + cut_len (correction_cut b)) (sym c.blocks-blocks.ensures))
+    c.requires.marks ∙ (sym (sizes-whole c.args.version c.args.level (omega arith) (omega arith)) ∙ ap (λ (b : Blocks). codeword_count (data_sizes b) + codeword_count (correction_sizes b)) (sym c.blocks-blocks.ensures))
 
 pub mend_blocks-requires-clause-least : goal.mend_blocks-requires-clause-least
 mend_blocks-requires-clause-least c =
@@ -46,9 +46,9 @@ returns-clause-mended c =
 pub returns-clause-many : goal.returns-clause-many
 returns-clause-many c =
     let b = c.blocks-blocks.result in
-    let whole : cut_len (data_cut b) ≡ data_codewords_of c.args.version c.args.level =
-    ap (λ (z : Blocks). cut_len (data_cut z)) c.blocks-blocks.ensures
-    ∙ data-cut-whole c.args.version c.args.level (omega arith) (omega arith) in
+    let whole : codeword_count (data_sizes b) ≡ data_codewords_of c.args.version c.args.level =
+    ap (λ (z : Blocks). codeword_count (data_sizes z)) c.blocks-blocks.ensures
+    ∙ data-sizes-whole c.args.version c.args.level (omega arith) (omega arith) in
     ok-also (λ m. IsMendedMessageWithout b c.from-most.result c.args.codewords.now c.args.marks.now m.message.items m.changed.items)
     (λ m. length m.message.items ≡ data_codewords_of c.args.version c.args.level) c.mend_blocks.result
     c.mend_blocks.ensures.mended (λ m h. h.mended.long ∙ whole)

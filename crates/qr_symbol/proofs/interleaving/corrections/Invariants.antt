@@ -1,7 +1,7 @@
 use Rattle.std.proofs.Common.{◌≡◌}
-use Rattle.qr_symbol.specs.Interleaving.{data_cut}
+use Rattle.qr_symbol.specs.Interleaving.{data_sizes}
 use Rattle.qr_symbol.specs.Steps.Interleaving.{IsChecks}
 use Rattle.qr_symbol.proofs.interleaving.corrections.Given as goal
 
 abbrev pub invariant-loop-block : goal.invariant-loop-block
-invariant-loop-block l = record { so_far : IsChecks l.fn.blocks l.message l.block l.corrections.items; cut : l.cut ≡ data_cut l.fn.blocks; ec_len : l.ec_len ≡ l.fn.blocks.ec_len }
+invariant-loop-block l = record { so_far : IsChecks l.fn.blocks l.message l.block l.corrections.items; sizes : l.sizes ≡ data_sizes l.fn.blocks; ec_len : l.ec_len ≡ l.fn.blocks.ec_len }

@@ -3,14 +3,14 @@ use Rattle.std.specs.Prelude.{IfOk}
 use Rattle.qr_layout.specs.declared.blocks.Blocks.{Blocks}
 use Rattle.qr_layout.specs.Blocks.{data_codewords_of}
 use Rattle.qr_layout.proofs.Facts.{blocks-sound}
-use Rattle.qr_symbol.specs.Interleaving.{cut_len, data_cut, correction_cut, IsFinalMessage, IsInterleaved}
+use Rattle.qr_symbol.specs.Interleaving.{codeword_count, data_sizes, correction_sizes, IsFinalMessage, IsInterleaved}
 use Rattle.qr_symbol.proofs.lemmas.fault.ExactLemmas.{check-exactly, ok-both}
-use Rattle.qr_symbol.proofs.lemmas.interleaving.MessageLemmas.{data-cut-whole, cuts-whole, ok-also}
+use Rattle.qr_symbol.proofs.lemmas.interleaving.MessageLemmas.{data-sizes-whole, sizes-whole, ok-also}
 use Rattle.qr_symbol.proofs.interleaving.deinterleave.Goals as goal
 
 pub deinterleave_blocks-requires-clause-whole : goal.deinterleave_blocks-requires-clause-whole
 deinterleave_blocks-requires-clause-whole c =
-    c.requires.whole ∙ (sym (cuts-whole c.args.version c.args.level (omega arith) (omega arith)) ∙ ap (λ (b : Blocks). cut_len (data_cut b) + cut_len (correction_cut b)) (sym c.blocks-2.ensures))
+    c.requires.whole ∙ (sym (sizes-whole c.args.version c.args.level (omega arith) (omega arith)) ∙ ap (λ (b : Blocks). codeword_count (data_sizes b) + codeword_count (correction_sizes b)) (sym c.blocks-2.ensures))
 
 pub deinterleave_blocks-requires-clause-least : goal.deinterleave_blocks-requires-clause-least
 deinterleave_blocks-requires-clause-least c = let w = (blocks-sound c.args.level c.args.version (omega arith) (omega arith)).correction_least in subst (λ (b : Blocks). 1 ≤ b.ec_len) (sym c.blocks-2.ensures) w
@@ -20,8 +20,8 @@ deinterleave_blocks-requires-clause-most c = let w = (blocks-sound c.args.level 
 
 pub returns-clause-many : goal.returns-clause-many
 returns-clause-many c =
-    let whole = ap (λ (b : Blocks). cut_len (data_cut b)) c.blocks-2.ensures ∙ data-cut-whole c.args.version c.args.level (omega arith) (omega arith) in
-    ok-also (λ d. length d.items ≡ cut_len (data_cut c.blocks-2.result)) (λ d. length d.items ≡ data_codewords_of c.args.version c.args.level) c.deinterleave_blocks.result c.deinterleave_blocks.ensures.len (λ d e. e ∙ whole)
+    let whole = ap (λ (b : Blocks). codeword_count (data_sizes b)) c.blocks-2.ensures ∙ data-sizes-whole c.args.version c.args.level (omega arith) (omega arith) in
+    ok-also (λ d. length d.items ≡ codeword_count (data_sizes c.blocks-2.result)) (λ d. length d.items ≡ data_codewords_of c.args.version c.args.level) c.deinterleave_blocks.result c.deinterleave_blocks.ensures.len (λ d e. e ∙ whole)
 
 pub returns-clause-read : goal.returns-clause-read
 returns-clause-read c =
@@ -29,7 +29,7 @@ returns-clause-read c =
 
 pub returns-clause-check : goal.returns-clause-check
 returns-clause-check c =
-    let whole = ap (λ (b : Blocks). cut_len (data_cut b)) c.blocks-2.ensures ∙ data-cut-whole c.args.version c.args.level (omega arith) (omega arith) in
+    let whole = ap (λ (b : Blocks). codeword_count (data_sizes b)) c.blocks-2.ensures ∙ data-sizes-whole c.args.version c.args.level (omega arith) (omega arith) in
     check-exactly (λ d. (length d ≡ data_codewords_of c.args.version c.args.level) × IsInterleaved c.args.version c.args.level d c.args.codewords.now) c.deinterleave_blocks.result
     (λ e d h. c.deinterleave_blocks.ensures.check e d (h.0 ∙ sym whole) (subst (λ (b : Blocks). IsFinalMessage b d c.args.codewords.now) (sym c.blocks-2.ensures) h.1))
     (ok-both _ _ c.deinterleave_blocks.result (returns-clause-many c) (returns-clause-read c))

@@ -1,13 +1,13 @@
 use Rattle.std.proofs.Common.{◌∙◌, sym, arith}
 use Rattle.qr_layout.specs.Blocks.{blocks_of}
-use Rattle.qr_symbol.proofs.lemmas.interleaving.MessageLemmas.{final-one, final-whole, data-one, data-cut-whole}
+use Rattle.qr_symbol.proofs.lemmas.interleaving.MessageLemmas.{final-one, final-whole, data-one, data-sizes-whole}
 use Rattle.qr_symbol.proofs.laws.interleaving_is_one.Goals as goal
 
 pub returns : goal.returns
 returns c =
-    let whole = data-cut-whole c.args.version c.args.level (omega arith) (omega arith) in
+    let whole = data-sizes-whole c.args.version c.args.level (omega arith) (omega arith) in
     record {
-      sent = final-one (blocks_of c.args.version c.args.level);
+      interleaved = final-one (blocks_of c.args.version c.args.level);
       many = λ d xs i. final-whole c.args.version c.args.level d xs (omega arith) (omega arith) i;
       message = λ d e xs m n. data-one (blocks_of c.args.version c.args.level) d e xs (m ∙ sym whole) (n ∙ sym whole);
     }

@@ -41,7 +41,7 @@ symbol-at-one v l rule xs head m n g h a b =
     (subst (λ (ss : List Segment). IsData v l xs ss head a.message) segments a.written) b.written in
     let codewords : a.codewords ≡ b.codewords =
     final-one (blocks_of v l) b.message a.codewords b.codewords
-    (subst (λ (d : List ℕ). IsInterleaved v l d a.codewords) message a.sent) b.sent in
+    (subst (λ (d : List ℕ). IsInterleaved v l d a.codewords) message a.interleaved) b.interleaved in
     let mask : m ≡ n =
     least-one 8 (mask_penalty v l b.codewords) m n
     (subst (λ (cw : List ℕ). IsMask v l cw m) codewords a.best) b.best in

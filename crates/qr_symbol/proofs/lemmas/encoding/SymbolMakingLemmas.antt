@@ -26,7 +26,7 @@ use Rattle.qr_symbol.proofs.lemmas.reading.RoundTripLemmas.{symbol-read}
 pub symbol-built : (v : ℕ) (l : Level) (b : Rule) (x : List ℕ) (h : Option Header) (segs : List Segment) (message passed codewords given : List ℕ) (r : Result Symbol EncodeFault)
     → IsLeastSegmentation v b x segs → IsData v l x segs h message → passed ≡ message → IsInterleaved v l passed codewords → given ≡ codewords
     → IfOk r (λ s. s.version ≡ v) → IfOk r (λ s. s.level ≡ l) → IfOk r (λ s. IsMask v l given s.mask) → IfOk r (λ s. s.matrix ≡ grid_of v l s.mask given) → IfOk r (λ s. IsSymbolOf v l b x h s)
-symbol-built v l b x h segs message passed codewords given (Ok s) chosen written c sent e version level best drawn = record {
+symbol-built v l b x h segs message passed codewords given (Ok s) chosen written c interleaved e version level best drawn = record {
   version = version;
   level = level;
   made = record {
@@ -35,12 +35,12 @@ symbol-built v l b x h segs message passed codewords given (Ok s) chosen written
     message = message;
     written = written;
     codewords = codewords;
-    sent = subst (λ (d : List ℕ). IsInterleaved v l d codewords) c sent;
+    interleaved = subst (λ (d : List ℕ). IsInterleaved v l d codewords) c interleaved;
     best = subst (λ (cw : List ℕ). IsMask v l cw s.mask) e best;
     drawn = drawn ∙ ap (grid_of v l s.mask) e;
   };
 }
-symbol-built v l b x h segs message passed codewords given (Err f) chosen written c sent e version level best drawn = tt
+symbol-built v l b x h segs message passed codewords given (Err f) chosen written c interleaved e version level best drawn = tt
 
 -- the symbol of bytes in the least version that they fit is the symbol of the input
 pub symbol-found : (v : ℕ) (l : Level) (smallest : ℕ) (b : Rule) (x : List ℕ) (r : Result Symbol EncodeFault)

@@ -6,19 +6,19 @@ use Rattle.std.proofs.lemmas.List.{get_or_append_left, get_or-append_right}
 use Rattle.std.specs.List.{All}
 use Rattle.qr_field.specs.Polynomial.{IsCorrection}
 use Rattle.qr_layout.specs.declared.blocks.Blocks.{Blocks}
-use Rattle.qr_symbol.specs.declared.interleaving.Cut.{Cut}
-use Rattle.qr_symbol.specs.Interleaving.{block_count, block_len, start_of, IsTag, codeword_at, data_cut, correction_cut, block_of, check_at, IsFinalMessage}
-use Rattle.qr_symbol.specs.Steps.Interleaving.{IsSent, IsChecks}
-use Rattle.qr_symbol.proofs.lemmas.interleaving.TagLemmas.{start-next, start-most}
+use Rattle.qr_symbol.specs.declared.interleaving.BlockSizes.{BlockSizes}
+use Rattle.qr_symbol.specs.Interleaving.{block_count, block_len, start_of, IsPosition, codeword_at, data_sizes, correction_sizes, block_of, check_at, IsFinalMessage}
+use Rattle.qr_symbol.specs.Steps.Interleaving.{AppendsInterleaved, IsChecks}
+use Rattle.qr_symbol.proofs.lemmas.interleaving.PositionLemmas.{start-next, start-most}
 
 -- each block has the same number of error correction codewords
-pub check-len : (b : Blocks) (k : ℕ) → k < block_count (data_cut b) → block_len (correction_cut b) k ≡ b.ec_len
+pub check-len : (b : Blocks) (k : ℕ) → k < block_count (data_sizes b) → block_len (correction_sizes b) k ≡ b.ec_len
 check-len b k l = grind (arith, nat_tests)
 
 -- with the error correction codewords of one more block, the list is that of one block more
-pub checks-push : (b : Blocks) (d xs ys es : List ℕ) (k : ℕ) → k < block_count (data_cut b) → IsChecks b d k xs → IsCorrection (block_of b d k) b.ec_len es → ys ≡ xs ++ es → IsChecks b d (k + 1) ys
+pub checks-push : (b : Blocks) (d xs ys es : List ℕ) (k : ℕ) → k < block_count (data_sizes b) → IsChecks b d k xs → IsCorrection (block_of b d k) b.ec_len es → ys ≡ xs ++ es → IsChecks b d (k + 1) ys
 checks-push b d xs ys es k l h c e =
-    let next = start-next (correction_cut b) k in
+    let next = start-next (correction_sizes b) k in
     let one = check-len b k l in
     let n = c.count in
     let many = h.count in
@@ -35,19 +35,19 @@ checks-push b d xs ys es k l h c e =
             subst (λ (j : ℕ). IsCorrection (block_of b d j) b.ec_len (get_or all j [])) f (subst (λ (zs : List ℕ). IsCorrection (block_of b d k) b.ec_len zs) (sym here) c)
       ];
       long = ap length e ∙ (length-append xs es ∙ (let m = h.long in omega arith));
-      same = λ t m i. ap (λ (zs : List ℕ). codeword_at (correction_cut b) zs t) e ∙ (elim (cases_lt t.block k) [
+      same = λ t m i. ap (λ (zs : List ℕ). codeword_at (correction_sizes b) zs t) e ∙ (elim (cases_lt t.block k) [
         | inl s ↦
-            let a = start-next (correction_cut b) t.block in
-            let z = start-most (correction_cut b) (t.block + 1) k (omega arith) in
+            let a = start-next (correction_sizes b) t.block in
+            let z = start-most (correction_sizes b) (t.block + 1) k (omega arith) in
             let p = i.1 in
             let g = h.long in
-            get_or_append_left xs es 0 (start_of (correction_cut b) t.block + t.place) (omega arith) ∙ (h.same t s i ∙ ap (λ (zs : List ℕ). get_or zs t.place 0) (sym (there t.block s)))
+            get_or_append_left xs es 0 (start_of (correction_sizes b) t.block + t.place) (omega arith) ∙ (h.same t s i ∙ ap (λ (zs : List ℕ). get_or zs t.place 0) (sym (there t.block s)))
         | inr s ↦
             let f : t.block ≡ k = omega arith in
             let g = h.long in
-            let start = ap (start_of (correction_cut b)) f in
-            let rest : start_of (correction_cut b) t.block + t.place - start_of (correction_cut b) k ≡ t.place = omega arith in
-            get_or-append_right xs es (start_of (correction_cut b) k) (start_of (correction_cut b) t.block + t.place) 0 h.long (omega arith)
+            let start = ap (start_of (correction_sizes b)) f in
+            let rest : start_of (correction_sizes b) t.block + t.place - start_of (correction_sizes b) k ≡ t.place = omega arith in
+            get_or-append_right xs es (start_of (correction_sizes b) k) (start_of (correction_sizes b) t.block + t.place) 0 h.long (omega arith)
             ∙ (ap (λ (z : ℕ). get_or es z 0) rest ∙ ap (λ (zs : List ℕ). get_or zs t.place 0) (sym (ap (λ (j : ℕ). get_or all j []) f ∙ here)))
       ]);
     }
@@ -60,41 +60,41 @@ pub map-each : {X Y : Type 0} (P : X → Type 0) (f g : X → Y) (xs : List X) �
 map-each P f g [] a e = refl
 map-each P f g (x ∷ xs) a e = let h = e x (a 0 x (omega arith)) in let t = map-each P f g xs (λ k d l. a (suc k) d (omega arith)) e in λ i. h i ∷ t i
 
--- the data codewords and then the error correction codewords were sent
-both-sent : (b : Blocks) (d es first second : List ℕ) → IsChecks b d (block_count (data_cut b)) es → IsSent (data_cut b) d [] first → IsSent (correction_cut b) es first second → IsFinalMessage b d second
-both-sent b d es first second h s t = record {
-  data_tags = s.tags;
+-- the data codewords and then the error correction codewords were appended
+both-interleaved : (b : Blocks) (d es first second : List ℕ) → IsChecks b d (block_count (data_sizes b)) es → AppendsInterleaved (data_sizes b) d [] first → AppendsInterleaved (correction_sizes b) es first second → IsFinalMessage b d second
+both-interleaved b d es first second h s t = record {
+  data_positions = s.positions;
   data_order = s.order;
   corrections = h.corrections;
   count = h.count;
   each = h.each;
-  check_tags = t.tags;
+  check_positions = t.positions;
   check_order = t.order;
-  whole = t.sent ∙ (ap (λ (xs : List ℕ). xs ++ map (codeword_at (correction_cut b) es) t.tags) s.sent ∙ ap (λ (xs : List ℕ). map (codeword_at (data_cut b) d) s.tags ++ xs) (map-each (IsTag (correction_cut b)) (codeword_at (correction_cut b) es) (check_at h.corrections) t.tags t.order.in_blocks (λ u i. h.same u (let l = i.0 in omega arith) i)));
+  whole = t.interleaved ∙ (ap (λ (xs : List ℕ). xs ++ map (codeword_at (correction_sizes b) es) t.positions) s.interleaved ∙ ap (λ (xs : List ℕ). map (codeword_at (data_sizes b) d) s.positions ++ xs) (map-each (IsPosition (correction_sizes b)) (codeword_at (correction_sizes b) es) (check_at h.corrections) t.positions t.order.in_blocks (λ u i. h.same u (let l = i.0 in omega arith) i)));
 }
 
--- the data codewords and then the error correction codewords, each sent by rising tags, are the final message
-pub sent-both : (b : Blocks) (d es bytes before first second : List ℕ) (c1 c2 : Cut) → IsChecks b d (block_count (data_cut b)) es → before ≡ [] → c1 ≡ data_cut b → c2 ≡ correction_cut b → bytes ≡ es → IsSent c1 d before first → IsSent c2 bytes first second → IsFinalMessage b d second
-sent-both b d es bytes before first second c1 c2 h e k l m s t =
-    both-sent b d es first second h
-    (subst (λ (c : Cut). IsSent c d [] first) k (subst (λ (xs : List ℕ). IsSent c1 d xs first) e s))
-    (subst (λ (c : Cut). IsSent c es first second) l (subst (λ (xs : List ℕ). IsSent c2 xs first second) m t))
+-- the data codewords and then the error correction codewords, each by rising positions, are the final message
+pub interleaved-both : (b : Blocks) (d es bytes before first second : List ℕ) (c1 c2 : BlockSizes) → IsChecks b d (block_count (data_sizes b)) es → before ≡ [] → c1 ≡ data_sizes b → c2 ≡ correction_sizes b → bytes ≡ es → AppendsInterleaved c1 d before first → AppendsInterleaved c2 bytes first second → IsFinalMessage b d second
+interleaved-both b d es bytes before first second c1 c2 h e k l m s t =
+    both-interleaved b d es first second h
+    (subst (λ (c : BlockSizes). AppendsInterleaved c d [] first) k (subst (λ (xs : List ℕ). AppendsInterleaved c1 d xs first) e s))
+    (subst (λ (c : BlockSizes). AppendsInterleaved c es first second) l (subst (λ (xs : List ℕ). AppendsInterleaved c2 xs first second) m t))
 
 -- a block is inside the data codewords
-pub slice-in : (c e : Cut) (n s l k : ℕ) → c ≡ e → n ≡ start_of e (block_count e) → k < block_count c → s ≡ start_of c k → l ≡ block_len c k → s + l ≤ n
+pub slice-in : (c e : BlockSizes) (n s l k : ℕ) → c ≡ e → n ≡ start_of e (block_count e) → k < block_count c → s ≡ start_of c k → l ≡ block_len c k → s + l ≤ n
 slice-in c e n s l k a o m f g =
     let p = start-next c k in
     let q = start-most c (k + 1) (block_count c) (omega arith) in
-    let z = ap (λ (x : Cut). start_of x (block_count x)) a in
+    let z = ap (λ (x : BlockSizes). start_of x (block_count x)) a in
     omega arith
 
 -- one more block, stated with the variables of the loop
-pub push-checks : (b : Blocks) (d xs ys es : List ℕ) (c : Cut) (k s l n : ℕ) → c ≡ data_cut b → k < block_count c → s ≡ start_of c k → l ≡ block_len c k → n ≡ b.ec_len → IsCorrection (take l (drop s d)) n es → IsChecks b d k xs → ys ≡ xs ++ es → IsChecks b d (k + 1) ys
+pub push-checks : (b : Blocks) (d xs ys es : List ℕ) (c : BlockSizes) (k s l n : ℕ) → c ≡ data_sizes b → k < block_count c → s ≡ start_of c k → l ≡ block_len c k → n ≡ b.ec_len → IsCorrection (take l (drop s d)) n es → IsChecks b d k xs → ys ≡ xs ++ es → IsChecks b d (k + 1) ys
 push-checks b d xs ys es c k s l n a m f g o e h q =
-    let mm : k < block_count (data_cut b) = subst (λ (x : Cut). k < block_count x) a m in
-    let ff = f ∙ ap (λ (x : Cut). start_of x k) a in
-    let gg = g ∙ ap (λ (x : Cut). block_len x k) a in
+    let mm : k < block_count (data_sizes b) = subst (λ (x : BlockSizes). k < block_count x) a m in
+    let ff = f ∙ ap (λ (x : BlockSizes). start_of x k) a in
+    let gg = g ∙ ap (λ (x : BlockSizes). block_len x k) a in
     let c1 = subst (λ (z : ℕ). IsCorrection (take l (drop s d)) z es) o e in
     let c2 = subst (λ (z : ℕ). IsCorrection (take z (drop s d)) b.ec_len es) gg c1 in
-    let c3 = subst (λ (z : ℕ). IsCorrection (take (block_len (data_cut b) k) (drop z d)) b.ec_len es) ff c2 in
+    let c3 = subst (λ (z : ℕ). IsCorrection (take (block_len (data_sizes b) k) (drop z d)) b.ec_len es) ff c2 in
     checks-push b d xs ys es k mm h c3 q

@@ -9,8 +9,8 @@ use Rattle.qr_layout.specs.declared.level.Level.{Level}
 use Rattle.qr_layout.specs.Version.{total_codewords_of}
 use Rattle.qr_layout.specs.Blocks.{data_codewords_of, blocks_of}
 use Rattle.qr_layout.proofs.Facts.{blocks-sound}
-use Rattle.qr_symbol.specs.Interleaving.{Tag, block_count, start_of, cut_len, codeword_at, data_cut, correction_cut, block_of, check_at, IsFinalMessage}
-use Rattle.qr_symbol.proofs.lemmas.interleaving.RankLemmas.{tags-one, tags-many, tag-of, map-at, Mem-of-Contains}
+use Rattle.qr_symbol.specs.Interleaving.{Position, block_count, start_of, codeword_count, codeword_at, data_sizes, correction_sizes, block_of, check_at, IsFinalMessage}
+use Rattle.qr_symbol.proofs.lemmas.interleaving.RankLemmas.{positions-one, positions-many, position-of, map-at, Mem-of-Contains}
 
 -- ---- one final sequence
 
@@ -25,13 +25,13 @@ checks-one b d n xs ys e f h k =
 -- data codewords have at most one final sequence
 pub final-one : (b : Blocks) (d xs ys : List ℕ) → IsFinalMessage b d xs → IsFinalMessage b d ys → xs ≡ ys
 final-one b d xs ys h k =
-    let t = tags-one (data_cut b) h.data_tags k.data_tags h.data_order k.data_order in
-    let u = tags-one (correction_cut b) h.check_tags k.check_tags h.check_order k.check_order in
-    let e = checks-one b d (block_count (data_cut b)) h.corrections k.corrections h.count k.count h.each k.each in
+    let t = positions-one (data_sizes b) h.data_positions k.data_positions h.data_order k.data_order in
+    let u = positions-one (correction_sizes b) h.check_positions k.check_positions h.check_order k.check_order in
+    let e = checks-one b d (block_count (data_sizes b)) h.corrections k.corrections h.count k.count h.each k.each in
     h.whole
-    ∙ (ap (λ (ts : List Tag). map (codeword_at (data_cut b) d) ts ++ map (check_at h.corrections) h.check_tags) t
-    ∙ (ap (λ (ts : List Tag). map (codeword_at (data_cut b) d) k.data_tags ++ map (check_at h.corrections) ts) u
-    ∙ (ap (λ (cs : List (List ℕ)). map (codeword_at (data_cut b) d) k.data_tags ++ map (check_at cs) k.check_tags) e ∙ sym k.whole)))
+    ∙ (ap (λ (ts : List Position). map (codeword_at (data_sizes b) d) ts ++ map (check_at h.corrections) h.check_positions) t
+    ∙ (ap (λ (ts : List Position). map (codeword_at (data_sizes b) d) k.data_positions ++ map (check_at h.corrections) ts) u
+    ∙ (ap (λ (cs : List (List ℕ)). map (codeword_at (data_sizes b) d) k.data_positions ++ map (check_at cs) k.check_positions) e ∙ sym k.whole)))
 
 -- two equal joined lists with first parts of the same length are equal part by part
 pub append-front : {X : Type 0} (xs ys us vs : List X) → length xs ≡ length ys → xs ++ us ≡ ys ++ vs → (xs ≡ ys) × (us ≡ vs)
@@ -45,16 +45,16 @@ append-front (x ∷ xs) (y ∷ ys) us vs n e =
     (λ i. h i ∷ w.0 i, w.1)
 
 -- a sequence is the final sequence of at most one list of data codewords
-pub data-one : (b : Blocks) (d e cw : List ℕ) → length d ≡ cut_len (data_cut b) → length e ≡ cut_len (data_cut b) → IsFinalMessage b d cw → IsFinalMessage b e cw → d ≡ e
+pub data-one : (b : Blocks) (d e cw : List ℕ) → length d ≡ codeword_count (data_sizes b) → length e ≡ codeword_count (data_sizes b) → IsFinalMessage b d cw → IsFinalMessage b e cw → d ≡ e
 data-one b d e cw n m h k =
-    let c = data_cut b in
-    let one = tags-one c k.data_tags h.data_tags k.data_order h.data_order in
-    let both : map (codeword_at c d) h.data_tags ++ map (check_at h.corrections) h.check_tags ≡ map (codeword_at c e) h.data_tags ++ map (check_at k.corrections) k.check_tags =
-    sym h.whole ∙ (k.whole ∙ ap (λ (ts : List Tag). map (codeword_at c e) ts ++ map (check_at k.corrections) k.check_tags) one) in
-    let w = append-front (map (codeword_at c d) h.data_tags) (map (codeword_at c e) h.data_tags) (map (check_at h.corrections) h.check_tags) (map (check_at k.corrections) k.check_tags) (length-map h.data_tags (codeword_at c d) ∙ sym (length-map h.data_tags (codeword_at c e))) both in
+    let c = data_sizes b in
+    let one = positions-one c k.data_positions h.data_positions k.data_order h.data_order in
+    let both : map (codeword_at c d) h.data_positions ++ map (check_at h.corrections) h.check_positions ≡ map (codeword_at c e) h.data_positions ++ map (check_at k.corrections) k.check_positions =
+    sym h.whole ∙ (k.whole ∙ ap (λ (ts : List Position). map (codeword_at c e) ts ++ map (check_at k.corrections) k.check_positions) one) in
+    let w = append-front (map (codeword_at c d) h.data_positions) (map (codeword_at c e) h.data_positions) (map (check_at h.corrections) h.check_positions) (map (check_at k.corrections) k.check_positions) (length-map h.data_positions (codeword_at c d) ∙ sym (length-map h.data_positions (codeword_at c e))) both in
     ext_get_or 0 d e (n ∙ sym m) (λ j l.
-    let t = tag-of c (block_count c) j (omega arith) (omega arith) in
-    let q = map-at (codeword_at c d) (codeword_at c e) h.data_tags t.0 w.0 (Mem-of-Contains h.data_tags t.0 (h.data_order.complete t.0 t.1)) in
+    let t = position-of c (block_count c) j (omega arith) (omega arith) in
+    let q = map-at (codeword_at c d) (codeword_at c e) h.data_positions t.0 w.0 (Mem-of-Contains h.data_positions t.0 (h.data_order.complete t.0 t.1)) in
     same-place d e (start_of c t.0.block + t.0.place) j t.2 q)
   where
     same-place : (d e : List ℕ) (i j : ℕ) → i ≡ j → get_or d i 0 ≡ get_or e i 0 → get_or d j 0 ≡ get_or e j 0
@@ -62,41 +62,41 @@ data-one b d e cw n m h k =
 
 -- ---- the length of a final sequence
 
--- a final sequence has a codeword for each tag
-final-many : (b : Blocks) (d cw : List ℕ) → IsFinalMessage b d cw → length cw ≡ cut_len (data_cut b) + cut_len (correction_cut b)
+-- a final sequence has a codeword for each position
+final-many : (b : Blocks) (d cw : List ℕ) → IsFinalMessage b d cw → length cw ≡ codeword_count (data_sizes b) + codeword_count (correction_sizes b)
 final-many b d cw h =
     let e = ap (length {A = ℕ}) h.whole in
-    let a = length-append (map (codeword_at (data_cut b) d) h.data_tags) (map (check_at h.corrections) h.check_tags) in
-    let m = length-map h.data_tags (codeword_at (data_cut b) d) in
-    let n = length-map h.check_tags (check_at h.corrections) in
-    let p = tags-many (data_cut b) h.data_tags h.data_order in
-    let q = tags-many (correction_cut b) h.check_tags h.check_order in
+    let a = length-append (map (codeword_at (data_sizes b) d) h.data_positions) (map (check_at h.corrections) h.check_positions) in
+    let m = length-map h.data_positions (codeword_at (data_sizes b) d) in
+    let n = length-map h.check_positions (check_at h.corrections) in
+    let p = positions-many (data_sizes b) h.data_positions h.data_order in
+    let q = positions-many (correction_sizes b) h.check_positions h.check_order in
     omega arith
 
 -- the number of codewords in blocks of two lengths
-cut-sum : (k n r : ℕ) → n * (k + r) + (k + r - k) ≡ k * n + r * (n + 1)
-cut-sum k n r = omega arith
+sizes-sum : (k n r : ℕ) → n * (k + r) + (k + r - k) ≡ k * n + r * (n + 1)
+sizes-sum k n r = omega arith
 
 -- the number of codewords in blocks of one length
-cut-even : (k n : ℕ) → n * (k + 0) + (k + 0 - k) ≡ k * n
-cut-even k n = omega arith
+sizes-even : (k n : ℕ) → n * (k + 0) + (k + 0 - k) ≡ k * n
+sizes-even k n = omega arith
 
 -- the blocks of the data codewords contain all data codewords
-pub data-cut-whole : (v : ℕ) (l : Level) → 1 ≤ v → v ≤ 40 → cut_len (data_cut (blocks_of v l)) ≡ data_codewords_of v l
-data-cut-whole v l h k = let b = blocks_of v l in cut-sum b.short b.short_len b.long ∙ (blocks-sound l v h k).data_whole
+pub data-sizes-whole : (v : ℕ) (l : Level) → 1 ≤ v → v ≤ 40 → codeword_count (data_sizes (blocks_of v l)) ≡ data_codewords_of v l
+data-sizes-whole v l h k = let b = blocks_of v l in sizes-sum b.short b.short_len b.long ∙ (blocks-sound l v h k).data_whole
 
 -- the blocks of data and error correction codewords together contain all codewords of the symbol
-pub cuts-whole : (v : ℕ) (l : Level) → 1 ≤ v → v ≤ 40 → cut_len (data_cut (blocks_of v l)) + cut_len (correction_cut (blocks_of v l)) ≡ total_codewords_of v
-cuts-whole v l h k =
+pub sizes-whole : (v : ℕ) (l : Level) → 1 ≤ v → v ≤ 40 → codeword_count (data_sizes (blocks_of v l)) + codeword_count (correction_sizes (blocks_of v l)) ≡ total_codewords_of v
+sizes-whole v l h k =
     let b = blocks_of v l in
     let w = (blocks-sound l v h k).total_whole in
-    let d = data-cut-whole v l h k in
-    let e = cut-even (b.short + b.long) b.ec_len in
+    let d = data-sizes-whole v l h k in
+    let e = sizes-even (b.short + b.long) b.ec_len in
     omega arith
 
 -- a final sequence has as many codewords as the symbol
 pub final-whole : (v : ℕ) (l : Level) (d cw : List ℕ) → 1 ≤ v → v ≤ 40 → IsFinalMessage (blocks_of v l) d cw → length cw ≡ total_codewords_of v
-final-whole v l d cw h k i = final-many (blocks_of v l) d cw i ∙ cuts-whole v l h k
+final-whole v l d cw h k i = final-many (blocks_of v l) d cw i ∙ sizes-whole v l h k
 
 -- a fact that holds for the value of a result, with another fact that follows from it
 pub ok-also : {X E : Type 0} (P Q : X → Type 0) (r : Result X E) → IfOk r P → ((x : X) → P x → Q x) → IfOk r Q

@@ -1,17 +1,17 @@
--- The number of tags before a tag, and that a cut has only one order of tags.
+-- The number of positions before a position, and that blocks have only one order of positions.
 use Rattle.std.proofs.Common.{◌≡◌, ℕ, zero, suc, ◌+◌, ◌-◌, ◌*◌, ◌<◌, ◌≤◌, cond, eqb, ltb, List, [], ◌∷◌, ◌++◌, map, length, length-append, sym, ◌∙◌, ap, subst, inl, inr, ◌⊎◌, arith}
 use Rattle.std.proofs.lemmas.Bool.Decides.{nat_tests}
 use Rattle.std.proofs.lemmas.Bool.{cases_lt}
 use Rattle.std.proofs.Math.Nat.{mul-suc, mul-le-mul_left, mul_comm}
-use Rattle.qr_layout.proofs.Facts.{Mem, Mem-at, Rises-of-pairs, one_rising, All-rec}
-pub use Rattle.qr_layout.proofs.Facts.{Mem-of-Contains}
-use Rattle.qr_symbol.specs.declared.interleaving.Cut.{Cut}
-use Rattle.qr_symbol.specs.Interleaving.{Tag, IsSentBefore, block_count, block_len, start_of, cut_len, IsTag, IsTagOrder}
-use Rattle.qr_symbol.proofs.lemmas.interleaving.TagLemmas.{tag, TagsBefore, tags-start, tags-push, tags-pass, tags-row, tags-end, start-next, start-most}
+use Rattle.std.specs.List.{All, AllByRecursion, Contains}
+use Rattle.qr_layout.proofs.Facts.{Mem, Mem-at, Rises-of-pairs, one_rising}
+use Rattle.qr_symbol.specs.declared.interleaving.BlockSizes.{BlockSizes}
+use Rattle.qr_symbol.specs.Interleaving.{Position, ComesBefore, block_count, block_len, start_of, codeword_count, IsPosition, IsPositionOrder}
+use Rattle.qr_symbol.proofs.lemmas.interleaving.PositionLemmas.{position, PositionsBefore, positions-start, positions-push, positions-pass, positions-row, positions-end, start-next, start-most}
 
--- two tags of codewords at the same position of the message are equal
-pub tag-one : (c : Cut) (t u : Tag) → IsTag c t → IsTag c u → start_of c t.block + t.place ≡ start_of c u.block + u.place → (t.place ≡ u.place) × (t.block ≡ u.block)
-tag-one c t u i j e =
+-- two positions of codewords at the same index of the message are equal
+pub position-one : (c : BlockSizes) (t u : Position) → IsPosition c t → IsPosition c u → start_of c t.block + t.place ≡ start_of c u.block + u.place → (t.place ≡ u.place) × (t.block ≡ u.block)
+position-one c t u i j e =
     let a = start-next c t.block in
     let b = start-next c u.block in
     let l = i.1 in
@@ -24,23 +24,23 @@ tag-one c t u i j e =
       ]
     ]
 
--- ---- how many tags come before one
+-- ---- how many positions come before one
 
--- the number of tags before one, in closed form
-abbrev pub rank_of : Cut → ℕ → ℕ → ℕ
-rank_of c p b = cond (ltb p c.short_len) (block_count c * p + b) (cond (eqb p c.short_len) (c.short_len * block_count c + (b - c.short)) (cut_len c))
+-- the number of positions before one, in closed form
+abbrev pub rank_of : BlockSizes → ℕ → ℕ → ℕ
+rank_of c p b = cond (ltb p c.short_len) (block_count c * p + b) (cond (eqb p c.short_len) (c.short_len * block_count c + (b - c.short)) (codeword_count c))
 
 -- a codeword is at an index that all blocks have, or it is the last one of a long block
-tag-cases : (c : Cut) (p b : ℕ) → (IsTag c (tag p b)) → (p < c.short_len) ⊎ ((p ≡ c.short_len) × (c.short ≤ b))
-tag-cases c p b i = let l = i.1 in grind (arith, nat_tests)
+position-cases : (c : BlockSizes) (p b : ℕ) → (IsPosition c (position p b)) → (p < c.short_len) ⊎ ((p ≡ c.short_len) × (c.short ≤ b))
+position-cases c p b i = let l = i.1 in grind (arith, nat_tests)
 
--- after a tag, the number of tags is one more
-pub rank-push : (c : Cut) (p b : ℕ) → IsTag c (tag p b) → rank_of c p (b + 1) ≡ rank_of c p b + 1
-rank-push c p b i = let w = tag-cases c p b i in grind (arith, nat_tests)
+-- after a position, the number of positions is one more
+pub rank-push : (c : BlockSizes) (p b : ℕ) → IsPosition c (position p b) → rank_of c p (b + 1) ≡ rank_of c p b + 1
+rank-push c p b i = let w = position-cases c p b i in grind (arith, nat_tests)
 
--- the number of tags before a tag is less than the number of all codewords
-pub rank-in : (c : Cut) (p b : ℕ) → IsTag c (tag p b) → rank_of c p b < cut_len c
-rank-in c p b i = elim (tag-cases c p b i) [
+-- the number of positions before a position is less than the number of all codewords
+pub rank-in : (c : BlockSizes) (p b : ℕ) → IsPosition c (position p b) → rank_of c p b < codeword_count c
+rank-in c p b i = elim (position-cases c p b i) [
   | inl l ↦
       let m : block_count c * (p + 1) ≤ block_count c * c.short_len = mul-le-mul_left (block_count c) (omega arith) in
       let e = mul_comm (block_count c) c.short_len in
@@ -60,14 +60,14 @@ rank-in c p b i = elim (tag-cases c p b i) [
     more n p = let o : p + 1 ≡ suc p = omega arith in rw o (mul-suc n p)
 
 -- block b has no codeword with index p, so the number stays the same
-pub rank-pass : (c : Cut) (p b : ℕ) → p ≤ c.short_len → b < block_count c → (IsTag c (tag p b) → ⊥) → rank_of c p (b + 1) ≡ rank_of c p b
+pub rank-pass : (c : BlockSizes) (p b : ℕ) → p ≤ c.short_len → b < block_count c → (IsPosition c (position p b) → ⊥) → rank_of c p (b + 1) ≡ rank_of c p b
 rank-pass c p b l m n = elim (cases_lt p (block_len c b)) [
   | inl k ↦ absurd (n (m, k))
   | inr k ↦ grind (arith, nat_tests)
 ]
 
--- after the last block, the number is that of the first tag with the next index
-pub rank-row : (c : Cut) (p : ℕ) → p ≤ c.short_len → rank_of c p (block_count c) ≡ rank_of c (p + 1) 0
+-- after the last block, the number is that of the first position with the next index
+pub rank-row : (c : BlockSizes) (p : ℕ) → p ≤ c.short_len → rank_of c p (block_count c) ≡ rank_of c (p + 1) 0
 rank-row c p l = elim (cases_lt p c.short_len) [
   | inl k ↦
       let o : p + 1 ≡ suc p = omega arith in
@@ -83,42 +83,53 @@ rank-row c p l = elim (cases_lt p c.short_len) [
   | inr k ↦ let h : p ≡ c.short_len = omega arith in grind (arith, nat_tests)
 ]
 
--- no tag comes before the first
-pub rank-start : (c : Cut) → 0 ≡ rank_of c 0 0
+-- no position comes before the first
+pub rank-start : (c : BlockSizes) → 0 ≡ rank_of c 0 0
 rank-start c = grind (arith, nat_tests)
 
 -- after the last index, the number is that of all codewords
-pub rank-end : (c : Cut) → rank_of c (c.short_len + 1) 0 ≡ cut_len c
+pub rank-end : (c : BlockSizes) → rank_of c (c.short_len + 1) 0 ≡ codeword_count c
 rank-end c = grind (arith, nat_tests)
 
 -- ---- only one order
 
--- of two tags, at most one is sent before the other
-asym : (t u : Tag) → IsSentBefore t u → IsSentBefore u t → ⊥
+-- what is contained is a member
+pub Mem-of-Contains : {X : Type 0} (xs : List X) (x : X) → Contains xs x → Mem x xs
+Mem-of-Contains [] x (k, l, e) = absurd (omega arith)
+Mem-of-Contains (y ∷ ys) x (zero, l, e) = inl e
+Mem-of-Contains (y ∷ ys) x (suc k, l, e) = inr (Mem-of-Contains ys x (k, omega arith, e))
+
+-- a fact that holds for all items, in recursive form
+All-rec : {X : Type 0} (P : X → Type 0) (xs : List X) → All P xs → AllByRecursion P xs
+All-rec P [] h = tt
+All-rec P (x ∷ xs) h = (h 0 x (omega arith), All-rec P xs (λ k d l. h (suc k) d (omega arith)))
+
+-- of two positions, at most one comes before the other
+asym : (t u : Position) → ComesBefore t u → ComesBefore u t → ⊥
 asym t u (inl h) (inl k) = absurd (omega arith)
 asym t u (inl h) (inr k) = absurd (let e = k.0 in omega arith)
 asym t u (inr h) (inl k) = absurd (let e = h.0 in omega arith)
 asym t u (inr h) (inr k) = absurd (let a = h.1 in let b = k.1 in omega arith)
 
--- a cut has only one order of tags
-pub tags-one : (c : Cut) (ts us : List Tag) → IsTagOrder c ts → IsTagOrder c us → ts ≡ us
-tags-one c ts us h k = one_rising IsSentBefore asym ts us (Rises-of-pairs IsSentBefore ts h.rising) (Rises-of-pairs IsSentBefore us k.rising)
-    (λ t m. Mem-of-Contains us t (k.complete t (Mem-at (IsTag c) ts t (All-rec (IsTag c) ts h.in_blocks) m)))
-    (λ t m. Mem-of-Contains ts t (h.complete t (Mem-at (IsTag c) us t (All-rec (IsTag c) us k.in_blocks) m)))
+-- blocks have only one order of positions
+pub positions-one : (c : BlockSizes) (ts us : List Position) → IsPositionOrder c ts → IsPositionOrder c us → ts ≡ us
+positions-one c ts us h k = one_rising ComesBefore asym ts us (Rises-of-pairs ComesBefore ts h.rising) (Rises-of-pairs ComesBefore us k.rising)
+    (λ t m. Mem-of-Contains us t (k.complete t (Mem-at (IsPosition c) ts t (All-rec (IsPosition c) ts h.in_blocks) m)))
+    (λ t m. Mem-of-Contains ts t (h.complete t (Mem-at (IsPosition c) us t (All-rec (IsPosition c) us k.in_blocks) m)))
 
--- each position of the message is that of a tag
-pub tag-of : (c : Cut) (k j : ℕ) → k ≤ block_count c → j < start_of c k → (t : Tag) × IsTag c t × (start_of c t.block + t.place ≡ j)
-tag-of c zero j l m = absurd (no_start c.short_len)
+-- each index of the message is that of a position
+pub position-of : (c : BlockSizes) (k j : ℕ) → k ≤ block_count c → j < start_of c k → (t : Position) × IsPosition c t × (start_of c t.block + t.place ≡ j)
+position-of c zero j l m = absurd (no_start c.short_len)
   where
     no_start : (n : ℕ) → ⊥
     no_start n = absurd (let e : c.short_len * 0 ≡ 0 = omega arith in omega arith)
-tag-of c (suc k) j l m =
+position-of c (suc k) j l m =
     let o : suc k ≡ k + 1 = omega arith in
     let e = start-next c k in
     let f = ap (start_of c) o in
     elim (cases_lt j (start_of c k)) [
-      | inl s ↦ tag-of c k j (omega arith) s
-      | inr s ↦ (tag (j - start_of c k) k, (omega arith, omega arith), omega arith)
+      | inl s ↦ position-of c k j (omega arith) s
+      | inr s ↦ (position (j - start_of c k) k, (omega arith, omega arith), omega arith)
     ]
 
 -- two functions that map a list to the same list agree on its members
@@ -127,38 +138,38 @@ map-at f g [] x e m = absurd m
 map-at f g (y ∷ ys) x e (inl k) = let h : f y ≡ g y = cc in ap f (sym k) ∙ (h ∙ ap g k)
 map-at f g (y ∷ ys) x e (inr m) = let t : map f ys ≡ map g ys = cc in map-at f g ys x t m
 
--- ---- the number of all tags
+-- ---- the number of all positions
 
--- the tags before the tag (p, b), with their number
-record Listed (c : Cut) (p b : ℕ) : Type 0 where
-  pub tags : List Tag
-  pub order : TagsBefore c p b tags
-  pub many : length tags ≡ rank_of c p b
+-- the positions before the position (p, b), with their number
+record Listed (c : BlockSizes) (p b : ℕ) : Type 0 where
+  pub positions : List Position
+  pub order : PositionsBefore c p b positions
+  pub many : length positions ≡ rank_of c p b
 
 -- one block more
-listed-next : (c : Cut) (p b : ℕ) → p ≤ c.short_len → b < block_count c → Listed c p b → Listed c p (b + 1)
+listed-next : (c : BlockSizes) (p b : ℕ) → p ≤ c.short_len → b < block_count c → Listed c p b → Listed c p (b + 1)
 listed-next c p b l m h = elim (cases_lt p (block_len c b)) [
-  | inl k ↦ record { tags = h.tags ++ tag p b ∷ []; order = tags-push c p b h.tags (m, k) h.order; many = let r = rank-push c p b (m, k) in let n = h.many in let a = length-append h.tags (tag p b ∷ []) in omega arith }
+  | inl k ↦ record { positions = h.positions ++ position p b ∷ []; order = positions-push c p b h.positions (m, k) h.order; many = let r = rank-push c p b (m, k) in let n = h.many in let a = length-append h.positions (position p b ∷ []) in omega arith }
   | inr k ↦
-      let n : IsTag c (tag p b) → ⊥ = λ t. let q = t.1 in absurd (omega arith) in
-      record { tags = h.tags; order = tags-pass c p b h.tags n h.order; many = h.many ∙ sym (rank-pass c p b l m n) }
+      let n : IsPosition c (position p b) → ⊥ = λ t. let q = t.1 in absurd (omega arith) in
+      record { positions = h.positions; order = positions-pass c p b h.positions n h.order; many = h.many ∙ sym (rank-pass c p b l m n) }
 ]
 
 -- all blocks at one index
-listed-across : (c : Cut) (p b : ℕ) → p ≤ c.short_len → b ≤ block_count c → Listed c p 0 → Listed c p b
+listed-across : (c : BlockSizes) (p b : ℕ) → p ≤ c.short_len → b ≤ block_count c → Listed c p 0 → Listed c p b
 listed-across c p zero l m h = h
 listed-across c p (suc b) l m h = let e : b + 1 ≡ suc b = omega arith in subst (Listed c p) e (listed-next c p b l (omega arith) (listed-across c p b l (omega arith) h))
 
 -- all indices
-listed-down : (c : Cut) (p : ℕ) → p ≤ c.short_len + 1 → Listed c p 0
-listed-down c zero l = record { tags = []; order = tags-start c; many = rank-start c }
+listed-down : (c : BlockSizes) (p : ℕ) → p ≤ c.short_len + 1 → Listed c p 0
+listed-down c zero l = record { positions = []; order = positions-start c; many = rank-start c }
 listed-down c (suc p) l =
     let h = listed-across c p (block_count c) (omega arith) (omega arith) (listed-down c p (omega arith)) in
     let e : p + 1 ≡ suc p = omega arith in
-    subst (λ (k : ℕ). Listed c k 0) e (record { tags = h.tags; order = tags-row c p h.tags h.order; many = h.many ∙ rank-row c p (omega arith) })
+    subst (λ (k : ℕ). Listed c k 0) e (record { positions = h.positions; order = positions-row c p h.positions h.order; many = h.many ∙ rank-row c p (omega arith) })
 
--- an order of tags has one tag for each codeword
-pub tags-many : (c : Cut) (ts : List Tag) → IsTagOrder c ts → length ts ≡ cut_len c
-tags-many c ts h =
+-- an order of positions has one position for each codeword
+pub positions-many : (c : BlockSizes) (ts : List Position) → IsPositionOrder c ts → length ts ≡ codeword_count c
+positions-many c ts h =
     let w = listed-down c (c.short_len + 1) (omega arith) in
-    ap (length {A = Tag}) (tags-one c ts w.tags h (tags-end c w.tags w.order)) ∙ (w.many ∙ rank-end c)
+    ap (length {A = Position}) (positions-one c ts w.positions h (positions-end c w.positions w.order)) ∙ (w.many ∙ rank-end c)

@@ -9,19 +9,19 @@ use Rattle.qr_layout.specs.declared.level.Level.{Level}
 use Rattle.qr_layout.specs.Blocks.{blocks_of}
 use Rattle.qr_layout.proofs.Facts.{laws-of}
 use Rattle.qr_matrix.specs.Grid.{Grid}
-use Rattle.qr_symbol.specs.declared.interleaving.Cut.{Cut}
-use Rattle.qr_symbol.specs.Interleaving.{block_count, block_len, start_of, cut_len, data_cut, block_of}
+use Rattle.qr_symbol.specs.declared.interleaving.BlockSizes.{BlockSizes}
+use Rattle.qr_symbol.specs.Interleaving.{block_count, block_len, start_of, codeword_count, data_sizes, block_of}
 use Rattle.qr_symbol.specs.Reading.{IsMessage}
 use Rattle.qr_symbol.specs.Distance.{blocks_in, held_block, MessagesLieApart, DamagedMessagesAreOne}
-use Rattle.qr_symbol.proofs.lemmas.interleaving.MessageLemmas.{data-cut-whole}
-use Rattle.qr_symbol.proofs.lemmas.interleaving.TagLemmas.{start-none, start-next, len-most}
+use Rattle.qr_symbol.proofs.lemmas.interleaving.MessageLemmas.{data-sizes-whole}
+use Rattle.qr_symbol.proofs.lemmas.interleaving.PositionLemmas.{start-none, start-next, len-most}
 
 -- block i, where the list contains the codewords block after block
-abbrev pub part : Cut → List ℕ → ℕ → List ℕ
+abbrev pub part : BlockSizes → List ℕ → ℕ → List ℕ
 part c d i = take (block_len c i) (drop (start_of c i) d)
 
 -- lists of codewords whose first blocks are equal are equal as far as these blocks reach
-fronts-same : (c : Cut) (d e : List ℕ) (i : ℕ) → ((j : ℕ) → j < i → part c d j ≡ part c e j) →
+fronts-same : (c : BlockSizes) (d e : List ℕ) (i : ℕ) → ((j : ℕ) → j < i → part c d j ≡ part c e j) →
     take (start_of c i) d ≡ take (start_of c i) e
 fronts-same c d e zero h = ap (λ k. take k d) (start-none c) ∙ ap (λ k. take k e) (sym (start-none c))
 fronts-same c d e (suc i) h =
@@ -35,13 +35,13 @@ fronts-same c d e (suc i) h =
     a ∙ (ap (λ xs. xs ++ part c d i) f ∙ (ap (λ xs. take (start_of c i) e ++ xs) (h i (omega arith)) ∙ sym b))
 
 -- lists of codewords with equal blocks are equal
-pub parts-same : (c : Cut) (d e : List ℕ) → length d ≡ cut_len c → length e ≡ cut_len c →
+pub parts-same : (c : BlockSizes) (d e : List ℕ) → length d ≡ codeword_count c → length e ≡ codeword_count c →
     ((j : ℕ) → j < block_count c → part c d j ≡ part c e j) → d ≡ e
 parts-same c d e n m h =
     sym (take-length d) ∙ (ap (λ k. take k d) n ∙ (fronts-same c d e (block_count c) h ∙ (ap (λ k. take k e) (sym m) ∙ take-length e)))
 
 -- block i has the same length in two lists of the same length
-part-length : (c : Cut) (d e : List ℕ) (i : ℕ) → length d ≡ length e → length (part c d i) ≡ length (part c e i)
+part-length : (c : BlockSizes) (d e : List ℕ) (i : ℕ) → length d ≡ length e → length (part c d i) ≡ length (part c e i)
 part-length c d e i h =
     let a = length-take (block_len c i) (drop (start_of c i) d) in
     let b = length-take (block_len c i) (drop (start_of c i) e) in
@@ -51,10 +51,10 @@ part-length c d e i h =
 
 -- a block has at most 255 codewords
 part-short : (v : ℕ) (l : Level) (d : List ℕ) (i : ℕ) → 1 ≤ v → v ≤ 40 →
-    length (part (data_cut (blocks_of v l)) d i) + (blocks_of v l).ec_len ≤ 255
+    length (part (data_sizes (blocks_of v l)) d i) + (blocks_of v l).ec_len ≤ 255
 part-short v l d i h k =
     let b = blocks_of v l in
-    let c = data_cut b in
+    let c = data_sizes b in
     let w = laws-of l v h k in
     let few = w.len in
     let ec = w.ec_most in
@@ -82,8 +82,8 @@ blocks-same : (v : ℕ) (l : Level) (mask mask' : ℕ) (g g' : Grid) (d d' : Lis
     IsMessage v l mask g d → IsMessage v l mask' g' d' →
     ((i : ℕ) → i < blocks_in v l → block_of (blocks_of v l) d i ≡ block_of (blocks_of v l) d' i) → d ≡ d'
 blocks-same v l mask mask' g g' d d' h k m m' f =
-    let whole = data-cut-whole v l h k in
-    parts-same (data_cut (blocks_of v l)) d d' (m.many ∙ sym whole) (m'.many ∙ sym whole) f
+    let whole = data-sizes-whole v l h k in
+    parts-same (data_sizes (blocks_of v l)) d d' (m.many ∙ sym whole) (m'.many ∙ sym whole) f
 
 -- the law of distance
 pub messages-apart : (v : ℕ) (l : Level) → 1 ≤ v → v ≤ 40 → MessagesLieApart v l
@@ -93,7 +93,7 @@ messages-apart v l h k mask mask' g g' d d' m m' o =
     (b.ec_len + 1 ≤ differences (held_block v l mask g d m i) (held_block v l mask' g' d' m' i)) ⊎ (block_of b d i ≡ block_of b d' i) =
     λ i n. elim (cases_lt b.ec_len (differences (held_block v l mask g d m i) (held_block v l mask' g' d' m' i))) [
       | inl z ↦ inl (omega arith)
-      | inr z ↦ inr (near-same b.ec_len (block_of b d i) (get_or m.sent.corrections i []) (block_of b d' i) (get_or m'.sent.corrections i []) (m.sent.each i n) (m'.sent.each i n) (part-length (data_cut b) d d' i (m.many ∙ sym m'.many)) (part-short v l d i h k) z)
+      | inr z ↦ inr (near-same b.ec_len (block_of b d i) (get_or m.interleaved.corrections i []) (block_of b d' i) (get_or m'.interleaved.corrections i []) (m.interleaved.each i n) (m'.interleaved.each i n) (part-length (data_sizes b) d d' i (m.many ∙ sym m'.many)) (part-short v l d i h k) z)
     ] in
     elim (search-below (λ i. b.ec_len + 1 ≤ differences (held_block v l mask g d m i) (held_block v l mask' g' d' m' i)) (λ i. block_of b d i ≡ block_of b d' i) (blocks_in v l) far) [
       | inl w ↦ w
@@ -105,4 +105,4 @@ pub damaged-one : (v : ℕ) (l : Level) → 1 ≤ v → v ≤ 40 → DamagedMess
 damaged-one v l h k mask mask' g g' d d' m m' read t few near near' =
     let b = blocks_of v l in
     blocks-same v l mask mask' g g' d d' h k m m' (λ i n.
-    unambiguous-known b.ec_len (t i) (block_of b d i) (get_or m.sent.corrections i []) (block_of b d' i) (get_or m'.sent.corrections i []) (read i) (m.sent.each i n) (m'.sent.each i n) (part-length (data_cut b) d d' i (m.many ∙ sym m'.many)) (part-short v l d i h k) (few i n) (near i n) (near' i n))
+    unambiguous-known b.ec_len (t i) (block_of b d i) (get_or m.interleaved.corrections i []) (block_of b d' i) (get_or m'.interleaved.corrections i []) (read i) (m.interleaved.each i n) (m'.interleaved.each i n) (part-length (data_sizes b) d d' i (m.many ∙ sym m'.many)) (part-short v l d i h k) (few i n) (near i n) (near' i n))

@@ -24,7 +24,7 @@ use Rattle.qr_symbol.specs.Interleaving.{IsInterleaved}
 use Rattle.qr_symbol.specs.Reading.{unmasked, read_bits, IsRead, IsMessage}
 use Rattle.qr_matrix.proofs.Facts.{colour-square}
 use Rattle.qr_symbol.proofs.lemmas.drawing.DrawingLemmas.{in-square, whole-push, Mem-mid}
-use Rattle.qr_symbol.proofs.lemmas.interleaving.MessageLemmas.{append-front, data-one, data-cut-whole}
+use Rattle.qr_symbol.proofs.lemmas.interleaving.MessageLemmas.{append-front, data-one, data-sizes-whole}
 
 -- a bit that is inverted twice is unchanged
 inverted-twice : (b x : Bool) → inverted b (inverted b x) ≡ x
@@ -130,11 +130,11 @@ read-some v mask g p h =
 pub message-read : (v : ℕ) (l : Level) (mask : ℕ) (d cw : List ℕ) → 1 ≤ v → v ≤ 40 → length cw ≡ total_codewords_of v → All (λ x. x < 256) cw → length d ≡ data_codewords_of v l → IsInterleaved v l d cw → IsMessage v l mask (grid_of v l mask cw) d
 message-read v l mask d cw p h n a m i =
     let o = to_come-start v in
-    record { codewords = cw; read = record { bytes = a; places = to_come v _; order = o; bits = sym (read-grid v l mask cw _ p h o n) }; many = m; sent = i }
+    record { codewords = cw; read = record { bytes = a; places = to_come v _; order = o; bits = sym (read-grid v l mask cw _ p h o n) }; many = m; interleaved = i }
 
 -- a square contains at most one message
 pub message-one : (v : ℕ) (l : Level) (mask : ℕ) (g : Grid) (d e : List ℕ) → 1 ≤ v → v ≤ 40 → IsMessage v l mask g d → IsMessage v l mask g e → d ≡ e
 message-one v l mask g d e p q h k =
     let same = read-one v mask g k.codewords h.codewords k.read h.read in
-    let whole = data-cut-whole v l p q in
-    data-one (blocks_of v l) d e h.codewords (h.many ∙ sym whole) (k.many ∙ sym whole) h.sent (subst (IsInterleaved v l e) same k.sent)
+    let whole = data-sizes-whole v l p q in
+    data-one (blocks_of v l) d e h.codewords (h.many ∙ sym whole) (k.many ∙ sym whole) h.interleaved (subst (IsInterleaved v l e) same k.interleaved)

@@ -14,7 +14,7 @@ use Rattle.qr_bits.specs.Bits.{bits_of}
 use Rattle.qr_bits.specs.Parsing.{Content, parse}
 use Rattle.qr_bits.proofs.Facts.{data_again, length-data}
 use Rattle.qr_matrix.specs.Grid.{Grid}
-use Rattle.qr_symbol.specs.Interleaving.{start_of, codeword_at, data_cut, check_at, IsFinalMessage}
+use Rattle.qr_symbol.specs.Interleaving.{start_of, codeword_at, data_sizes, check_at, IsFinalMessage}
 use Rattle.qr_symbol.specs.Reading.{IsFormat, IsMessage, IsReading}
 use Rattle.qr_symbol.specs.Encoding.{IsSymbolAt}
 use Rattle.qr_symbol.proofs.lemmas.interleaving.MessageLemmas.{final-whole}
@@ -29,19 +29,19 @@ byte-at xs k a = elim (cases_lt k (length xs)) [ inl l ↦ a k 0 l | inr l ↦ (
 final-bytes : (b : Blocks) (d cw : List ℕ) → All (λ x. x < 256) d → IsFinalMessage b d cw → All (λ x. x < 256) cw
 final-bytes b d cw a h =
     subst (All (λ x. x < 256)) (sym h.whole)
-    (All-append (λ x. x < 256) (map (codeword_at (data_cut b) d) h.data_tags) (map (check_at h.corrections) h.check_tags)
-    (All-map (λ x. x < 256) (codeword_at (data_cut b) d) h.data_tags (λ k t l. let u = get_or h.data_tags k t in byte-at d (start_of (data_cut b) u.block + u.place) a))
-    (All-map (λ x. x < 256) (check_at h.corrections) h.check_tags (λ k t l.
-    let u = get_or h.check_tags k t in
+    (All-append (λ x. x < 256) (map (codeword_at (data_sizes b) d) h.data_positions) (map (check_at h.corrections) h.check_positions)
+    (All-map (λ x. x < 256) (codeword_at (data_sizes b) d) h.data_positions (λ k t l. let u = get_or h.data_positions k t in byte-at d (start_of (data_sizes b) u.block + u.place) a))
+    (All-map (λ x. x < 256) (check_at h.corrections) h.check_positions (λ k t l.
+    let u = get_or h.check_positions k t in
     let i = (h.check_order.in_blocks k t l).0 in
     byte-at (get_or h.corrections u.block []) u.place (h.each u.block (omega arith)).bytes)))
 
 -- the symbol of an input contains its message
 pub symbol-holds : (v : ℕ) (l : Level) (b : Rule) (x : List ℕ) (h : Option Header) (mask : ℕ) (g : Grid) → 1 ≤ v → v ≤ 40 → (s : IsSymbolAt v l b x h mask g) → IsMessage v l mask g s.message
 symbol-holds v l b x h mask g p q s =
-    let bytes = final-bytes (blocks_of v l) s.message s.codewords s.written.bytes s.sent in
-    let many = final-whole v l s.message s.codewords p q s.sent in
-    subst (λ (z : Grid). IsMessage v l mask z s.message) (sym s.drawn) (message-read v l mask s.message s.codewords p q many bytes (length-data v l x s.segments h s.message s.written) s.sent)
+    let bytes = final-bytes (blocks_of v l) s.message s.codewords s.written.bytes s.interleaved in
+    let many = final-whole v l s.message s.codewords p q s.interleaved in
+    subst (λ (z : Grid). IsMessage v l mask z s.message) (sym s.drawn) (message-read v l mask s.message s.codewords p q many bytes (length-data v l x s.segments h s.message s.written) s.interleaved)
 
 -- a symbol has the format information of its level and mask
 pub symbol-format : (v : ℕ) (l : Level) (b : Rule) (x : List ℕ) (h : Option Header) (mask : ℕ) (g : Grid) → 1 ≤ v → v ≤ 40 → IsSymbolAt v l b x h mask g → IsFormat g l mask

@@ -81,7 +81,7 @@ read-whole v mask g ms rest cw width begun p q e o bytes w bits =
 pub not-checked : (g : Grid) (v : ℕ) (l : Level) (mask : ℕ) (cw : List ℕ) (e : ReadFault) → IsOfVersion g v → IsFormat g l mask → IsRead v mask g cw → (e ≡ fault.Memory) ⊎ (e ≡ fault.Check) → (e ≡ fault.Check → (d : List ℕ) → length d ≡ data_codewords_of v l → IsInterleaved v l d cw → ⊥) → IsUnread g e
 not-checked g v l mask cw e s f r (inl m) none = subst (IsUnread g) (sym m) tt
 not-checked g v l mask cw e s f r (inr k) none =
-    subst (IsUnread g) (sym k) (v, s, l, mask, f, λ d h. none k d h.many (subst (IsInterleaved v l d) (read-one v mask g h.codewords cw h.read r) h.sent))
+    subst (IsUnread g) (sym k) (v, s, l, mask, f, λ d h. none k d h.many (subst (IsInterleaved v l d) (read-one v mask g h.codewords cw h.read r) h.interleaved))
 
 -- if the message cannot be parsed, the square is not read
 pub not-parsed : (g : Grid) (v : ℕ) (l : Level) (mask : ℕ) (d : List ℕ) (e : ParseFault) → IsOfVersion g v → IsFormat g l mask

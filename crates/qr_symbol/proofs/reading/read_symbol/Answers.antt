@@ -63,7 +63,7 @@ returns-in_err-parse-clause-read c =
       codewords = c.deref.result.now;
       read = subst (IsRead v mask g) (sym c.deref.ensures.value) c.in_ok-codewords.ensures.read;
       many = c.in_ok-message.ensures.many;
-      sent = c.in_ok-message.ensures.read;
+      interleaved = c.in_ok-message.ensures.read;
     } in
     rw (p.1, p.2) (not-parsed g v l mask c.deref-2.result.now c.in_err-parse.field-0.0
     (record { least = found.0; most = found.1; side = sym c.side.ensures.value ∙ found.2 })

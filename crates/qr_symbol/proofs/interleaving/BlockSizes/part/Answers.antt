@@ -1,6 +1,6 @@
 use Rattle.std.proofs.Common.{length, refl, arith}
 use Rattle.qr_symbol.proofs.lemmas.interleaving.CheckLemmas.{slice-in}
-use Rattle.qr_symbol.proofs.interleaving.Cut.part.Goals as goal
+use Rattle.qr_symbol.proofs.interleaving.BlockSizes.part.Goals as goal
 
 pub slice_bounds-result-end : goal.slice_bounds-result-end
 slice_bounds-result-end c =

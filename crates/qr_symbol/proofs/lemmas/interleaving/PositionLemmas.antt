@@ -1,0 +1,182 @@
+-- The interleaving loop sends the codewords of all positions, in their order.
+use Rattle.std.proofs.Common.{◌≡◌, ℕ, zero, suc, ◌+◌, ◌<◌, ◌≤◌, List, [], ◌∷◌, ◌++◌, map, refl, sym, ◌∙◌, ap, subst, inl, inr, ◌⊎◌, append_assoc, arith}
+use Rattle.std.proofs.lemmas.Bool.Decides.{nat_tests}
+use Rattle.std.proofs.lemmas.Bool.{cases_lt}
+use Rattle.std.proofs.lemmas.List.Kept.{AllPairs-cons}
+use Rattle.std.proofs.lemmas.List.{map-append}
+use Rattle.std.proofs.Math.Nat.{mul-suc, mul-le-mul_left}
+use Rattle.std.specs.List.{All, AllPairs, AllByRecursion, Contains}
+use Rattle.qr_layout.proofs.Facts.{Mem, Rises, All-of-Mem}
+use Rattle.qr_symbol.specs.declared.interleaving.BlockSizes.{BlockSizes}
+use Rattle.qr_symbol.specs.Interleaving.{Position, ComesBefore, block_count, block_len, start_of, IsPosition, IsPositionOrder, codeword_count, codeword_at}
+use Rattle.qr_symbol.specs.Steps.Interleaving.{AppendsInterleaved}
+
+-- the position with index p in block b
+abbrev pub position : ℕ → ℕ → Position
+position p b = record { place = p; block = b }
+
+-- the list contains exactly the positions before the position (p, b), in their order
+pub record PositionsBefore (c : BlockSizes) (p b : ℕ) (ts : List Position) : Type 0 where
+  pub sound : (t : Position) → Mem t ts → IsPosition c t × ComesBefore t (position p b)
+  pub full : (t : Position) → IsPosition c t → ComesBefore t (position p b) → Mem t ts
+  pub rises : Rises ComesBefore ts
+
+-- a member of a list with one more item is a member of the list, or it is the item
+Mem-push : {X : Type 0} (x y : X) (xs : List X) → Mem x (xs ++ y ∷ []) → Mem x xs ⊎ (y ≡ x)
+Mem-push x y [] (inl e) = inr e
+Mem-push x y [] (inr m) = absurd m
+Mem-push x y (z ∷ zs) (inl e) = inl (inl e)
+Mem-push x y (z ∷ zs) (inr m) = elim (Mem-push x y zs m) [ inl k ↦ inl (inr k) | inr e ↦ inr e ]
+
+-- the members of a list stay members when an item is added
+Mem-old : {X : Type 0} (x y : X) (xs : List X) → Mem x xs → Mem x (xs ++ y ∷ [])
+Mem-old x y [] m = absurd m
+Mem-old x y (z ∷ zs) (inl e) = inl e
+Mem-old x y (z ∷ zs) (inr m) = inr (Mem-old x y zs m)
+
+-- the added item is a member
+Mem-new : {X : Type 0} (x y : X) (xs : List X) → y ≡ x → Mem x (xs ++ y ∷ [])
+Mem-new x y [] e = inl e
+Mem-new x y (z ∷ zs) e = inr (Mem-new x y zs e)
+
+-- what holds of all items and of one more item holds of all items of the longer list
+All-push-rec : {X : Type 0} (P : X → Type 0) (xs : List X) (y : X) → AllByRecursion P xs → P y → AllByRecursion P (xs ++ y ∷ [])
+All-push-rec P [] y h k = (k, tt)
+All-push-rec P (x ∷ xs) y h k = (h.0, All-push-rec P xs y h.1 k)
+
+-- a rising list stays rising when a larger item is added
+Rises-push : {X : Type 0} (R : X → X → Type 0) (xs : List X) (y : X) → Rises R xs → ((x : X) → Mem x xs → R x y) → Rises R (xs ++ y ∷ [])
+Rises-push R [] y h f = (tt, tt)
+Rises-push R (x ∷ xs) y h f = (All-push-rec (R x) xs y h.0 (f x (inl refl)), Rises-push R xs y h.1 (λ z m. f z (inr m)))
+
+-- ---- the steps
+
+-- no position comes before the first
+pub positions-start : (c : BlockSizes) → PositionsBefore c 0 0 []
+positions-start c = record {
+  sound = λ t m. absurd m;
+  full = λ t i b. elim b [ inl l ↦ absurd (omega arith) | inr w ↦ absurd (let l = w.1 in omega arith) ];
+  rises = tt;
+}
+
+-- a position that comes before a position also comes before the next position
+before-more : (t : Position) (p b : ℕ) → ComesBefore t (position p b) → ComesBefore t (position p (b + 1))
+before-more t p b (inl l) = inl l
+before-more t p b (inr w) = inr (w.0, let l = w.1 in omega arith)
+
+-- a position that comes before the next position comes before this position, or it is this position
+before-cases : (t : Position) (p b : ℕ) → ComesBefore t (position p (b + 1)) → ComesBefore t (position p b) ⊎ (position p b ≡ t)
+before-cases t p b (inl l) = inl (inl l)
+before-cases t p b (inr w) = elim (cases_lt t.block b) [
+  | inl l ↦ inl (inr (w.0, l))
+  | inr l ↦ let h = w.1 in let k : b ≡ t.block = omega arith in let e = w.0 in inr (λ i. record { place = sym e i; block = k i })
+]
+
+-- one position more
+pub positions-push : (c : BlockSizes) (p b : ℕ) (ts : List Position) → IsPosition c (position p b) → PositionsBefore c p b ts → PositionsBefore c p (b + 1) (ts ++ position p b ∷ [])
+positions-push c p b ts i h = record {
+  sound = λ t m. elim (Mem-push t (position p b) ts m) [
+    | inl k ↦ let w = h.sound t k in (w.0, before-more t p b w.1)
+    | inr e ↦ subst (λ (u : Position). IsPosition c u × ComesBefore u (position p (b + 1))) e (i, inr (refl, omega arith))
+  ];
+  full = λ t j k. elim (before-cases t p b k) [ inl k ↦ Mem-old t (position p b) ts (h.full t j k) | inr e ↦ Mem-new t (position p b) ts e ];
+  rises = Rises-push ComesBefore ts (position p b) h.rises (λ t m. (h.sound t m).1);
+}
+
+-- block b has no codeword with index p, so no position is added
+pub positions-pass : (c : BlockSizes) (p b : ℕ) (ts : List Position) → (IsPosition c (position p b) → ⊥) → PositionsBefore c p b ts → PositionsBefore c p (b + 1) ts
+positions-pass c p b ts n h = record {
+  sound = λ t m. let w = h.sound t m in (w.0, before-more t p b w.1);
+  full = λ t j k. elim (before-cases t p b k) [ inl k ↦ h.full t j k | inr e ↦ absurd (n (subst (IsPosition c) (sym e) j)) ];
+  rises = h.rises;
+}
+
+-- after the last block, the step goes on to the next index
+pub positions-row : (c : BlockSizes) (p : ℕ) (ts : List Position) → PositionsBefore c p (block_count c) ts → PositionsBefore c (p + 1) 0 ts
+positions-row c p ts h = record {
+  sound = λ t m. let w = h.sound t m in (w.0, elim w.1 [ inl l ↦ inl (omega arith) | inr k ↦ inl (let e = k.0 in omega arith) ]);
+  full = λ t j k. h.full t j (elim k [
+    | inl l ↦ elim (cases_lt t.place p) [ inl a ↦ inl a | inr a ↦ inr (omega arith, j.0) ]
+    | inr w ↦ absurd (let l = w.1 in omega arith)
+  ]);
+  rises = h.rises;
+}
+
+-- a member of a list is contained in it
+Contains-of-Mem : {X : Type 0} (xs : List X) (x : X) → Mem x xs → Contains xs x
+Contains-of-Mem [] x m = absurd m
+Contains-of-Mem (y ∷ ys) x (inl e) = (0, omega arith, e)
+Contains-of-Mem (y ∷ ys) x (inr m) = let w = Contains-of-Mem ys x m in (suc w.0, (let l = w.1 in omega arith), w.2)
+
+-- what holds of all items by recursion holds of each item
+All-of-rec : {X : Type 0} (P : X → Type 0) (xs : List X) → AllByRecursion P xs → All P xs
+All-of-rec P [] h k d l = absurd (omega arith)
+All-of-rec P (x ∷ xs) h zero d l = h.0
+All-of-rec P (x ∷ xs) h (suc k) d l = All-of-rec P xs h.1 k d (omega arith)
+
+-- in a rising list, each pair of items is in order
+pairs-of-Rises : {X : Type 0} (R : X → X → Type 0) (xs : List X) → Rises R xs → AllPairs R xs
+pairs-of-Rises R [] h = λ i j d l m. absurd (omega arith)
+pairs-of-Rises R (x ∷ xs) h = AllPairs-cons R x xs (All-of-rec (R x) xs h.0) (pairs-of-Rises R xs h.1)
+
+-- no block has more codewords than a long block
+pub len-most : (c : BlockSizes) (i : ℕ) → block_len c i ≤ c.short_len + 1
+len-most c i = grind (arith, nat_tests)
+
+-- after the last index, all positions are in the list
+pub positions-end : (c : BlockSizes) (ts : List Position) → PositionsBefore c (c.short_len + 1) 0 ts → IsPositionOrder c ts
+positions-end c ts h = record {
+  in_blocks = All-of-rec (IsPosition c) ts (All-of-Mem (IsPosition c) ts (λ t m. (h.sound t m).0));
+  complete = λ t i. Contains-of-Mem ts t (h.full t i (inl (let l = len-most c t.block in let k = i.1 in omega arith)));
+  rising = pairs-of-Rises ComesBefore ts h.rises;
+}
+
+-- ---- what has been appended
+
+-- the codewords with the positions before the position (p, b) have been appended
+pub record InterleavedBefore (c : BlockSizes) (d : List ℕ) (p b : ℕ) (before now : List ℕ) : Type 0 where
+  pub positions : List Position
+  pub order : PositionsBefore c p b positions
+  pub interleaved : now ≡ before ++ map (codeword_at c d) positions
+
+-- one codeword more is appended
+pub interleaved-push : (c : BlockSizes) (d : List ℕ) (p b : ℕ) (before now later : List ℕ) (x : ℕ) → InterleavedBefore c d p b before now → IsPosition c (position p b) → x ≡ codeword_at c d (position p b) → later ≡ now ++ x ∷ [] → InterleavedBefore c d p (b + 1) before later
+interleaved-push c d p b before now later x h i e k = record {
+  positions = h.positions ++ position p b ∷ [];
+  order = positions-push c p b h.positions i h.order;
+  interleaved = k ∙ (ap (λ (xs : List ℕ). xs ++ x ∷ []) h.interleaved ∙ (append_assoc before (map (codeword_at c d) h.positions) (x ∷ []) ∙ ap (λ (xs : List ℕ). before ++ xs) (ap (λ (y : ℕ). map (codeword_at c d) h.positions ++ y ∷ []) e ∙ sym (map-append (codeword_at c d) h.positions (position p b ∷ [])))));
+}
+
+-- block b has no codeword with index p, so nothing is appended
+pub interleaved-pass : (c : BlockSizes) (d : List ℕ) (p b : ℕ) (before now : List ℕ) → InterleavedBefore c d p b before now → (IsPosition c (position p b) → ⊥) → InterleavedBefore c d p (b + 1) before now
+interleaved-pass c d p b before now h n = record { positions = h.positions; order = positions-pass c p b h.positions n h.order; interleaved = h.interleaved }
+
+-- after the last block, the step goes on to the next index
+pub interleaved-row : (c : BlockSizes) (d : List ℕ) (p b : ℕ) (before now : List ℕ) → b ≡ block_count c → InterleavedBefore c d p b before now → InterleavedBefore c d (p + 1) 0 before now
+interleaved-row c d p b before now e h = record { positions = h.positions; order = positions-row c p h.positions (subst (λ (k : ℕ). PositionsBefore c p k h.positions) e h.order); interleaved = h.interleaved }
+
+-- after the last index, all codewords have been appended
+pub interleaved-end : (c : BlockSizes) (d : List ℕ) (p : ℕ) (before now : List ℕ) → p ≡ c.short_len + 1 → InterleavedBefore c d p 0 before now → AppendsInterleaved c d before now
+interleaved-end c d p before now e h = record { positions = h.positions; order = positions-end c h.positions (subst (λ (k : ℕ). PositionsBefore c k 0 h.positions) e h.order); interleaved = h.interleaved }
+
+-- ---- where blocks begin
+
+-- the first block begins at the first codeword
+pub start-none : (c : BlockSizes) → start_of c 0 ≡ 0
+start-none c = omega arith
+
+-- each block begins where the one before ends
+pub start-next : (c : BlockSizes) (i : ℕ) → start_of c (i + 1) ≡ start_of c i + block_len c i
+start-next c i = let e = mul-suc c.short_len i in let o : i + 1 ≡ suc i = omega arith in rw (o, e) (grind (arith, nat_tests))
+
+-- before the first block there is no codeword
+pub start-first : (c : BlockSizes) (p : ℕ) → p ≡ start_of c 0 + p
+start-first c p = omega arith
+
+-- a later block does not begin before an earlier one
+pub start-most : (c : BlockSizes) (i j : ℕ) → i ≤ j → start_of c i ≤ start_of c j
+start-most c i j l = let m = mul-le-mul_left c.short_len l in omega arith
+
+-- the codeword of a position is inside the message
+pub position-in : (c : BlockSizes) (p b : ℕ) → IsPosition c (position p b) → start_of c b + p < codeword_count c
+position-in c p b i = let e = start-next c b in let m = start-most c (b + 1) (block_count c) (let l = i.0 in omega arith) in let l = i.1 in omega arith
