@@ -165,10 +165,6 @@ coefficient-above m (c ∷ e) l =
     let o : m ≡ length e → ⊥ = λ h. omega (arith, h, l) in
     coefficient-tail m c e o ∙ coefficient-above m e (omega arith)
 
--- the product of a power and an inverse of a power
-factor-of : (m k : ℕ) → m < 255 → k < 255 → product (power (255 - m)) (power k) ≡ power (255 - m + k)
-factor-of m k l h = sym (power-add (255 - m) k)
-
 -- such a product is 1 only for equal powers
 power-other : (m k : ℕ) → m < 255 → k < 255 → (m ≡ k → ⊥) → power (255 - m + k) ≡ 1 → ⊥
 power-other m k l h o e =

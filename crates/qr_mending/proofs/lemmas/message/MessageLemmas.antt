@@ -10,7 +10,7 @@ use Rattle.qr_symbol.specs.declared.interleaving.BlockSizes.{BlockSizes}
 use Rattle.qr_symbol.specs.Interleaving.{Position, block_count, block_len, start_of, codeword_count, data_sizes, correction_sizes, codeword_at, IsGathered, part_of}
 use Rattle.qr_mending.specs.Message.{received, IsMendedBlock, AreMended, IsMendedMessage}
 use Rattle.qr_field.proofs.Facts.{correction-one, unambiguous}
-use Rattle.qr_symbol.proofs.Facts.{parts-same, start-next, start-most, len-most, positions-one, position-of, map-at, Mem-of-Contains, check-len}
+use Rattle.qr_symbol.proofs.Facts.{parts-same, start-next, start-most, len-most, positions-one, position-of, map-at, Mem-of-Contains}
 
 -- ---- one list of received codewords
 
@@ -52,15 +52,6 @@ part-last c xs es k h l =
     ap (take (block_len c k)) (drop_at xs es (start_of c k) h) ∙ take_all (block_len c k) es (omega arith)
 
 -- ---- blocks, one after another
-
--- at first no block is mended
-pub mended-start : (b : Blocks) (t : ℕ) (d e message changed : List ℕ) → message ≡ [] → changed ≡ [] →
-    AreMended b t d e 0 message changed
-mended-start b t d e message changed h k = record {
-  long = ap length h ∙ omega arith;
-  many = ap length k;
-  each = λ i l. absurd (omega arith);
-}
 
 -- one block more
 mended-push : (b : Blocks) (t : ℕ) (d e message changed es c : List ℕ) (n x : ℕ) → n < block_count (data_sizes b) →
@@ -134,18 +125,6 @@ none-mended b t d e sizes check n k r s ec eh en l er es' lr none message change
     ∙ ap (λ z. differences (r ++ z) (x ++ m.correction)) (sym second) in
     none x m.correction (part-len (data_sizes b) message k h.long within ∙ sym (lr ∙ ap (λ (z : BlockSizes). block_len z k) ec))
     (subst (λ (z : ℕ). IsCorrection x z m.correction) (sym en) m.corrects) (omega (arith, count, m.near, m.count))
-
--- the number of error correction codewords of a block is that of the divisor
-pub check-count : (b : Blocks) (sizes check : BlockSizes) (n k : ℕ) (s : List ℕ) → sizes ≡ data_sizes b → check ≡ correction_sizes b →
-    n ≡ b.ec_len → k < block_count sizes → length s ≡ block_len check k → length s ≡ n
-check-count b sizes check n k s ec eh en l ls =
-    ls ∙ (ap (λ (z : BlockSizes). block_len z k) eh
-    ∙ (check-len b k (subst (λ (z : BlockSizes). k < block_count z) ec l) ∙ sym en))
-
--- a block has at most one data codeword more than a short block
-pub block-short : (b : Blocks) (sizes : BlockSizes) (k : ℕ) (r : List ℕ) → sizes ≡ data_sizes b → length r ≡ block_len sizes k →
-    length r ≤ b.short_len + 1
-block-short b sizes k r e l = let m = len-most (data_sizes b) k in omega (arith, l, ap (λ (z : BlockSizes). block_len z k) e, m)
 
 -- codewords that cannot be mended are a damaged form of no message
 pub none-received : (b : Blocks) (t : ℕ) (cw xs ys : List ℕ) → IsGathered (data_sizes b) cw xs →

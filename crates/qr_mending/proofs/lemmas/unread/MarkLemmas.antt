@@ -1,7 +1,7 @@
 -- The marks that are read along the walk, and the codewords that are erased because of them.
-use Rattle.std.proofs.Common.{◌≡◌, ℕ, ◌+◌, ◌-◌, ◌*◌, ◌<◌, ◌≤◌, ◌==◌, not, Bool, true, false, Option, None, Some, List, [], ◌∷◌, ◌++◌, map, take, drop, length, length-append, get_or, refl, sym, ◌∙◌, ap, subst, ltb, arith}
+use Rattle.std.proofs.Common.{◌≡◌, ℕ, ◌+◌, ◌-◌, ◌*◌, ◌<◌, ◌≤◌, ◌==◌, Bool, true, false, Option, None, Some, List, [], ◌∷◌, ◌++◌, map, take, drop, length, length-append, refl, sym, ◌∙◌, ap, subst, ltb, arith}
 use Rattle.std.specs.List.{All}
-use Rattle.std.proofs.lemmas.List.{append-nil, length-map, length-take, map-append, take-append-drop, take_more}
+use Rattle.std.proofs.lemmas.List.{append-nil, length-map, length-take, map-append, take-append-drop}
 use Rattle.std.proofs.lemmas.Bool.Decides.{nat_tests}
 use borrow.Author.Tests.{ltb-true}
 use Rattle.qr_layout.specs.declared.region.Module.{Module}
@@ -63,17 +63,6 @@ marks-whole v g ms rest marks width begun p q e o bytes w bits =
     let c = length-take t ms in
     let front = append-front (bits_of marks) (map f (take t ms)) (field width begun) (map f (drop t ms)) (omega arith) (bits ∙ cut) in
     record { bytes = bytes; places = ms; order = whole; bits = front.0 }
-
--- one codeword more, which is erased or not
-pub erased-more : (marks : List ℕ) (items new : List Bool) (i : ℕ) (b : Bool) → i < length marks →
-    items ≡ map (λ mark. not (mark == 0)) (take i marks) → b ≡ not (get_or marks i 0 == 0) → new ≡ items ++ b ∷ [] →
-    new ≡ map (λ mark. not (mark == 0)) (take (i + 1) marks)
-erased-more marks items new i b l h e push =
-    push
-    ∙ (ap (λ (z : List Bool). z ++ b ∷ []) h
-    ∙ (ap (λ (z : Bool). map (λ mark. not (mark == 0)) (take i marks) ++ z ∷ []) e
-    ∙ (sym (map-append (λ mark. not (mark == 0)) (take i marks) (get_or marks i 0 ∷ []))
-    ∙ ap (map (λ mark. not (mark == 0))) (sym (take_more marks i 0 l)))))
 
 -- ---- a square with marks, or without
 

@@ -12,7 +12,7 @@ use Rattle.qr_layout.specs.Version.{total_codewords_of}
 use Rattle.qr_layout.proofs.Facts.{only_order}
 use Rattle.qr_matrix.specs.Grid.{Grid}
 use Rattle.qr_symbol.specs.Interleaving.{block_count, block_len, codeword_count, data_sizes, correction_sizes, part_of}
-use Rattle.qr_symbol.proofs.Facts.{bits-one, check-len, len-most, parts-same, start-next}
+use Rattle.qr_symbol.proofs.Facts.{bits-one, len-most, parts-same, start-next}
 use Rattle.qr_field.proofs.lemmas.laws.DistanceLemmas.{unambiguous-known}
 use Rattle.qr_field.proofs.Facts.{correction-one}
 use Rattle.qr_mending.specs.Erasures.{read_of, IsMendedWithErasures}
@@ -50,15 +50,6 @@ none-erased n spare codewords erased none d e long right near =
       long = omega (arith, length-append d e, right.count, long, length-read codewords erased);
       near = near;
     })
-
--- at first no block is mended
-pub unread-start : (b : Blocks) (spare : ℕ) (d e u w message misread : List ℕ) → message ≡ [] → misread ≡ [] →
-    AreMendedWithout b spare d e u w 0 message misread
-unread-start b spare d e u w message misread h k = record {
-  long = ap length h ∙ omega arith;
-  many = ap length k;
-  each = λ i l. absurd (omega arith);
-}
 
 -- one block more
 unread-push : (b : Blocks) (spare : ℕ) (d e u w message misread es c : List ℕ) (n x : ℕ) → n < block_count (data_sizes b) →

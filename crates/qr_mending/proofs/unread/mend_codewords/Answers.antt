@@ -1,4 +1,4 @@
-use Rattle.std.proofs.Common.{◌≡◌, ℕ, length, Option, Err, List, arith}
+use Rattle.std.proofs.Common.{◌≡◌, ℕ, length, Err, List, arith}
 use Rattle.std.specs.Prelude.{IfOk}
 use Rattle.qr_symbol.specs.declared.fault.ReadFault.TheVariants as fault
 use Rattle.qr_mending.specs.Unread.{IsMendedInWithout}

@@ -31,9 +31,10 @@ returns-then-four-eq15-clause-within c = λ i l.
       | then-strip w ↦ (let e = w.top-is in let f = w.side.ensures.value in omega (arith, c.requires.rows_in))
       | else-strip w ↦ (let e = w.top-is in omega (arith, c.requires.rows_in))
     ] in
-    let entry = split c.from.result c.from-then-four-eq15.result in
-    (still-light-four (has_bit (entry / 16) (i - top)) (has c.args.columns.now.right i) (has c.put_four.new.self i) i top s room l (c.put_four.ensures i) (c.requires.within i l).0,
-      still-light-four (has_bit (entry % 16) (i - top)) (has c.args.columns.now.left i) (has c.put_four-then-four-eq15.new.self i) i top s room l (c.put_four-then-four-eq15.ensures i) (c.requires.within i l).1)
+    let entry = split c.from.result c.from-then-four-eq15.result in (
+      still-light-four (has_bit (entry / 16) (i - top)) (has c.args.columns.now.right i) (has c.put_four.new.self i) i top s room l (c.put_four.ensures i) (c.requires.within i l).0,
+      still-light-four (has_bit (entry % 16) (i - top)) (has c.args.columns.now.left i) (has c.put_four-then-four-eq15.new.self i) i top s room l (c.put_four-then-four-eq15.ensures i) (c.requires.within i l).1,
+    )
 
 pub returns-then-four-eq15-clause-drawn : goal.returns-then-four-eq15-clause-drawn
 returns-then-four-eq15-clause-drawn c = λ cw number next g inside.

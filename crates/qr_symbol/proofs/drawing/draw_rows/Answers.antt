@@ -57,20 +57,22 @@ loop-rank-preserved c =
     record {
       from = omega (arith, i.from);
       few = omega (arith, one.ensures.few, two.ensures.few, i.few, i.from);
-      within = λ j l. (still-light t (has_bit c.args.bits (7 - c.loop-rank.taken)) (has old.right j) (has one.new.column j) j row s inside l (one.ensures.column j) (i.within j l).0,
-          still-light u (has_bit c.args.bits (7 - one.result)) (has old.left j) (has two.new.column j) j row s inside l (two.ensures.column j) (i.within j l).1);
+      within = λ j l. (
+        still-light t (has_bit c.args.bits (7 - c.loop-rank.taken)) (has old.right j) (has one.new.column j) j row s inside l (one.ensures.column j) (i.within j l).0,
+        still-light u (has_bit c.args.bits (7 - one.result)) (has old.left j) (has two.new.column j) j row s inside l (two.ensures.column j) (i.within j l).1,
+      );
       drawn = λ cw number next.
           let a = number + c.loop-rank.taken in
           let b = number + one.result in
           let row-drawn : AreDrawn v cw x k 1 a old (number + two.result) new = λ g e.
-              let f = with_columns g col old in
-              let h = with_columns g col mid in
-              drawn-row v s cw x k row a b (number + two.result) f h (with_columns g col new) t u r (c.requires.region row inside).0 (c.requires.region row inside).1
-              (after-plus t number c.loop-rank.taken one.result one.ensures.taken) (after-plus u number one.result two.result two.ensures.taken) (columns-square s g col old e)
-              (right-drawn g col row old mid t (has_bit c.args.bits (7 - c.loop-rank.taken)) c.requires.left_in (omega arith) refl one.ensures.column
-                ∙ ap (λ d. cond t (painted f col row d) f) (next c.loop-rank.taken (omega (arith, i.few, i.from, c.loop-rank-test.true, c.requires.few))))
-              (left-drawn g col row mid new u (has_bit c.args.bits (7 - one.result)) c.requires.left_in (omega arith) refl two.ensures.column
-                ∙ ap (λ d. cond u (painted h (col - 1) row d) h) (next one.result (omega (arith, one.ensures.few, i.few, i.from, c.loop-rank-test.true, c.requires.few)))) in
+          let f = with_columns g col old in
+          let h = with_columns g col mid in
+          drawn-row v s cw x k row a b (number + two.result) f h (with_columns g col new) t u r (c.requires.region row inside).0 (c.requires.region row inside).1
+          (after-plus t number c.loop-rank.taken one.result one.ensures.taken) (after-plus u number one.result two.result two.ensures.taken) (columns-square s g col old e)
+          (right-drawn g col row old mid t (has_bit c.args.bits (7 - c.loop-rank.taken)) c.requires.left_in (omega arith) refl one.ensures.column
+          ∙ ap (λ d. cond t (painted f col row d) f) (next c.loop-rank.taken (omega (arith, i.few, i.from, c.loop-rank-test.true, c.requires.few))))
+          (left-drawn g col row mid new u (has_bit c.args.bits (7 - one.result)) c.requires.left_in (omega arith) refl two.ensures.column
+          ∙ ap (λ d. cond u (painted h (col - 1) row d) h) (next one.result (omega (arith, one.ensures.few, i.few, i.from, c.loop-rank-test.true, c.requires.few)))) in
           subst (λ z. AreDrawn v cw x p z number c.args.columns.now (number + two.result) new) n
           (rows-drawn v cw x p (k - p) 1 number a (number + two.result) c.args.columns.now old new (i.drawn cw number next)
           (subst (λ z. AreDrawn v cw x z 1 a old (number + two.result) new) m row-drawn));

@@ -13,15 +13,15 @@ use Rattle.qr_symbol.proofs.drawing.draw_strip.Goals.{then-upward, else-upward}
 
 pub draw_columns-next-requires-clause-region : goal.draw_columns-next-requires-clause-region
 draw_columns-next-requires-clause-region c = λ row l. (
-    c.columns_of-within.ensures.right row ∙ region-across c.args.v c.args.region.now row c.args.strip.right c.requires.region l c.requires.right_in,
-    c.columns_of-within.ensures.left row ∙ region-across c.args.v c.args.region.now row (c.args.strip.right - 1) c.requires.region l (omega (arith, c.requires.right_in)),
-  )
+  c.columns_of-within.ensures.right row ∙ region-across c.args.v c.args.region.now row c.args.strip.right c.requires.region l c.requires.right_in,
+  c.columns_of-within.ensures.left row ∙ region-across c.args.v c.args.region.now row (c.args.strip.right - 1) c.requires.region l (omega (arith, c.requires.right_in)),
+)
 
 pub draw_columns-next-requires-else-upward-clause-region : goal.draw_columns-next-requires-else-upward-clause-region
 draw_columns-next-requires-else-upward-clause-region c = λ row l. (
-    c.columns_of-within.ensures.right row ∙ region-across c.args.v c.args.region.now row c.args.strip.right c.requires.region l c.requires.right_in,
-    c.columns_of-within.ensures.left row ∙ region-across c.args.v c.args.region.now row (c.args.strip.right - 1) c.requires.region l (omega (arith, c.requires.right_in)),
-  )
+  c.columns_of-within.ensures.right row ∙ region-across c.args.v c.args.region.now row c.args.strip.right c.requires.region l c.requires.right_in,
+  c.columns_of-within.ensures.left row ∙ region-across c.args.v c.args.region.now row (c.args.strip.right - 1) c.requires.region l (omega (arith, c.requires.right_in)),
+)
 
 pub returns : goal.returns
 returns c =

@@ -29,6 +29,7 @@ again-first g a b f e h n = square-same g.side (λ r c. cond (eqb r b) (h c) (co
     either true true x y z w k = ap (λ i. cond i x y) (k refl)
     either true false x y z w k = refl
     either false u x y z w k = refl
+
     apart : (r : ℕ) → eqb r a ≡ true → eqb r b ≡ false
     apart r t = elim (cases_eq r b) [
       | inl e ↦ absurd (n (grind (arith, nat_tests)))
@@ -48,9 +49,9 @@ again-second g a b f h e = square-same g.side (λ r c. cond (eqb r b) (e c) (col
 -- painting a module is replacing its row by a row that differs in this module
 row-one : (g : Grid) (row col : ℕ) (d : Bool) → with_row g row (λ c. cond (eqb c col) d (colour g row c)) ≡ painted g row col d
 row-one g row col d = square-same g.side (λ r c. cond (eqb r row) (cond (eqb c col) d (colour g row c)) (colour g r c)) (λ r c. cond (eqb r row && eqb c col) d (colour g r c)) (λ r c l m. elim (cases_eq r row) [
-      | inl e ↦ (let t : eqb r row ≡ true = grind (arith, nat_tests) in rw t (ap (λ z. cond (eqb c col) d (colour g z c)) (sym e)))
-      | inr n ↦ (let t : eqb r row ≡ false = grind (arith, nat_tests) in rw t refl)
-    ])
+  | inl e ↦ (let t : eqb r row ≡ true = grind (arith, nat_tests) in rw t (ap (λ z. cond (eqb c col) d (colour g z c)) (sym e)))
+  | inr n ↦ (let t : eqb r row ≡ false = grind (arith, nat_tests) in rw t refl)
+])
 
 -- the right column of a square with these columns
 right-colour : (g : Grid) (right : ℕ) (x : Columns) (c : ℕ) → 1 ≤ right → right < g.side → c < g.side → colour (with_columns g right x) right c ≡ has x.right c
@@ -112,7 +113,7 @@ pub right-four : (g : Grid) (right top bits : ℕ) (x y : Columns) → 1 ≤ rig
 right-four g right top bits x y k l e h =
     new-right g right x y k e
     ∙ (with_row-same (with_columns g right x) right (has y.right) (λ c. cond (leb top c && ltb c (top + 4)) (has_bit bits (c - top)) (colour (with_columns g right x) right c))
-      (λ c m. h c ∙ ap (cond (leb top c && ltb c (top + 4)) (has_bit bits (c - top))) (sym (right-colour g right x c k l m)))
+    (λ c m. h c ∙ ap (cond (leb top c && ltb c (top + 4)) (has_bit bits (c - top))) (sym (right-colour g right x c k l m)))
     ∙ row-four (with_columns g right x) right top bits)
 
 -- drawing four modules of the left column
@@ -121,24 +122,24 @@ pub left-four : (g : Grid) (right top bits : ℕ) (x y : Columns) → 1 ≤ righ
 left-four g right top bits x y k l e h =
     new-left g right x y e
     ∙ (with_row-same (with_columns g right x) (right - 1) (has y.left) (λ c. cond (leb top c && ltb c (top + 4)) (has_bit bits (c - top)) (colour (with_columns g right x) (right - 1) c))
-      (λ c m. h c ∙ ap (cond (leb top c && ltb c (top + 4)) (has_bit bits (c - top))) (sym (left-colour g right x c k l m)))
+    (λ c m. h c ∙ ap (cond (leb top c && ltb c (top + 4)) (has_bit bits (c - top))) (sym (left-colour g right x c k l m)))
     ∙ row-four (with_columns g right x) (right - 1) top bits)
 
 -- a square with its own rows as columns is the same square
 pub columns-same : (s : ℕ) (g : Grid) (right : ℕ) (x : Columns) → IsSquare s g → ((c : ℕ) → has x.right c ≡ colour g right c) → ((c : ℕ) → has x.left c ≡ colour g (right - 1) c) → with_columns g right x ≡ g
 columns-same s g right x q e f =
     square-same g.side (λ r c. cond (eqb r (right - 1)) (has x.left c) (colour (with_row g right (has x.right)) r c)) (colour g) (λ r c l m.
-      ap (cond (eqb r (right - 1)) (has x.left c)) (colour-square g.side (λ r c. cond (eqb r right) (has x.right c) (colour g r c)) r c l m)
-      ∙ told r c)
+    ap (cond (eqb r (right - 1)) (has x.left c)) (colour-square g.side (λ r c. cond (eqb r right) (has x.right c) (colour g r c)) r c l m)
+    ∙ told r c)
     ∙ sym (q ∙ ap (λ z. square z (colour g)) (sym (ap (λ (z : Grid). z.side) q)))
   where
     told : (r c : ℕ) → cond (eqb r (right - 1)) (has x.left c) (cond (eqb r right) (has x.right c) (colour g r c)) ≡ colour g r c
     told r c = elim (cases_eq r (right - 1)) [
       | inl k ↦ (let t : eqb r (right - 1) ≡ true = grind (arith, nat_tests) in rw t (f c ∙ ap (λ z. colour g z c) (sym k)))
       | inr k ↦ (let t : eqb r (right - 1) ≡ false = grind (arith, nat_tests) in rw t (elim (cases_eq r right) [
-          | inl k ↦ (let t : eqb r right ≡ true = grind (arith, nat_tests) in rw t (e c ∙ ap (λ z. colour g z c) (sym k)))
-          | inr k ↦ (let t : eqb r right ≡ false = grind (arith, nat_tests) in rw t refl)
-        ]))
+        | inl k ↦ (let t : eqb r right ≡ true = grind (arith, nat_tests) in rw t (e c ∙ ap (λ z. colour g z c) (sym k)))
+        | inr k ↦ (let t : eqb r right ≡ false = grind (arith, nat_tests) in rw t refl)
+      ]))
     ]
 
 -- if no row is drawn, the columns and the number stay the same

@@ -1,18 +1,10 @@
 -- The places of the encoding region among all places of a walk.
-use Rattle.std.proofs.Common.{◌≡◌, ℕ, ◌<◌, Bool, true, false, cond, List, [], ◌∷◌, ◌++◌, append-nil, append_assoc, refl, sym, ◌∙◌, ap}
+use Rattle.std.proofs.Common.{◌≡◌, ℕ, Bool, true, false, cond, List, [], ◌∷◌, ◌++◌, append-nil, append_assoc, refl, sym, ◌∙◌, ap}
 use Rattle.qr_layout.specs.declared.region.Module.{Module}
-use Rattle.qr_layout.specs.Version.{side_of}
 use Rattle.qr_layout.specs.Region.{is_in_region}
 use Rattle.qr_layout.specs.Order.{in_region_of}
 use Rattle.qr_layout.specs.Strips.{both_of, rows_from, places_of}
 use Rattle.qr_layout.specs.declared.strips.Strip.{Strip}
-use Rattle.qr_matrix.specs.Grid.{Grid, colour}
-use Rattle.qr_matrix.proofs.Facts.{colour-square}
-use Rattle.qr_symbol.specs.Steps.Drawing.{region_grid}
-
--- the square of the encoding region is dark at a place exactly if the place is in the region
-pub region-told : (v : ℕ) (g : Grid) (m : Module) (t : Bool) → g ≡ region_grid v → m.row < side_of v → m.col < side_of v → t ≡ colour g m.row m.col → t ≡ is_in_region v m.row m.col
-region-told v g m t e l k f = f ∙ (ap (λ (z : Grid). colour z m.row m.col) e ∙ colour-square (side_of v) (is_in_region v) m.row m.col l k)
 
 -- a place in the region is kept
 pub kept-in : (v : ℕ) (m : Module) (ms : List Module) → is_in_region v m.row m.col ≡ true → in_region_of v (m ∷ ms) ≡ m ∷ in_region_of v ms

@@ -103,10 +103,6 @@ pub six-more : (at r c : ℕ) → ((eqb r 6 && ltb c (at + 1)) || (eqb c 6 && lt
     ≡ ((((eqb r 6 && ltb c at) || (eqb c 6 && ltb r at)) || (eqb r 6 && eqb c at)) || (eqb r at && eqb c 6))
 six-more at r c = grind (arith, nat_tests)
 
--- at first no module is painted
-pub six-none : (r c : ℕ) → ((eqb r 6 && ltb c 0) || (eqb c 6 && ltb r 0)) ≡ false
-six-none r c = grind (arith, nat_tests)
-
 -- at the end all modules of row 6 and column 6 are painted
 pub six-all : (s r c : ℕ) → r < s → c < s → ((eqb r 6 && ltb c s) || (eqb c 6 && ltb r s)) ≡ list_any (is_in_rectangle r c) (timing_rectangles s)
 six-all s r c l m = grind (arith, nat_tests)
