@@ -5,7 +5,8 @@
 pub enum Answer {
     /// The value that it returns with ample memory.
     Ordinary,
-    /// The error of this name, because memory was refused.
+    /// The call failed because memory was refused. The text is what is printed: the error, and whether the arguments
+    /// are unchanged.
     Memory(&'static str),
     /// Any other value or error.
     Other,

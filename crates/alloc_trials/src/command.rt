@@ -36,8 +36,8 @@ pub fn settings(alloc: Global) -> Result<Answer, AllocError> {
     Ok(answer.given(are(&list, &words)))
 }
 
-// Runs the command. With ample memory its status is `status`, standard output begins with `prefix`, and the text on
-// standard error contains `part`.
+// Runs the command, and compares the run with what is expected with ample memory: the status `status`, standard output
+// that begins with `prefix`, and `part` in the text on standard error.
 fn ran(
     alloc: Global,
     words: &[&str],

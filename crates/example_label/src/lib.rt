@@ -11,8 +11,8 @@ ghost use Rattle.example_label.specs.Label.{IsLabel, character_of, line_of_row};
 use qr_symbol::{EncodeFault, INPUT_MAX, Level, Matrix, Rule, Version, encode};
 use std::alloc::{AllocError, Global};
 
-/// Returns the label of some words: the rows of their symbol of this level as lines of text, with `#` for a dark
-/// module, in the least version from `smallest` on that the words fit, and then a line with the words. There is no
+/// Returns a label: the symbol of `words`, a line of text for each row with `#` for a dark module, and below it a line
+/// with the words. The symbol has this level, and the least version from `smallest` on that the words fit. There is no
 /// quiet zone, so the paper around the label has to be light.
 ///
 /// # Errors

@@ -64,8 +64,8 @@ bytes_of zero bits = []
 bytes_of (suc n) bits = value (take 8 bits) ∷ bytes_of n (drop 8 bits)
 
 -- `kanji_pair n` is the kanji pair of the value n, as a number of 16 bits. The value is C0 times a high byte plus a low
--- byte. The pair is the number of these two bytes plus 8140 if the high byte is at most 1E, and otherwise plus C140 (all
--- hexadecimal) (ISO/IEC 18004:2015, 7.4.6)
+-- byte. The pair is the 16-bit number with this high and this low byte, plus 8140 if the high byte is at most 1E, and
+-- otherwise plus C140 (all hexadecimal) (ISO/IEC 18004:2015, 7.4.6)
 unfoldable pub kanji_pair : ℕ → ℕ
 kanji_pair n =
     let rest = 256 * (n / 0xC0) + n % 0xC0 in

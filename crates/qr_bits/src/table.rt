@@ -1,10 +1,10 @@
 //! Finds the best mode for each byte: a table that is filled from the last byte to the first.
 //!
-//! The bits that the remaining bytes add depend only on the state before them, a `RunState`. So for each
-//! state the best mode is the mode with the fewest bits for the next byte and the best rest after it.
-//! A choice is one number: four times its bits plus the rank of its mode. So the least number is the
-//! choice with the fewest bits, and of choices with equally many bits the one with the lowest rank. A
-//! row of the table contains the modes for one byte, two bits for each state.
+//! The bits that the remaining bytes add depend only on the state before them, a `RunState`. So for each state the best
+//! mode is the one for which the bits of the next byte, plus the fewest bits of the bytes after it, are least. A choice
+//! is one number: four times its bits plus the rank of its mode. So the least number is the choice with the fewest
+//! bits, and of choices with equally many bits the one with the lowest rank. A row of the table contains the modes for
+//! one byte, two bits for each state.
 
 ghost use Rattle.std.specs.Prelude.{◌≡◌, ◌+◌, ◌*◌, ◌/◌, ◌%◌, ◌<◌, ◌≤◌, ℕ, Bool, true, false, length, reverse, IfOk, vec_len};
 ghost use Rattle.qr_bits.specs.declared.modes.Mode.{Mode};
@@ -99,8 +99,9 @@ fn choices(
     let no_digits = characters.min(others);
     let no_characters = digits.min(others);
     let start = digits.min(no_digits);
-    // A run that continues takes fewer bits than a new segment of the same mode, and both lead to the same state. So
-    // the new segment is never the best choice, and `start`, the least number of all new segments, may include it.
+    // A run that continues takes fewer bits than a new segment of the same mode, and both lead to the same state. So a
+    // new segment of the same mode is never the best choice, and `start`, the least number of all new segments, may
+    // include its number.
     let digit2 = number_if(digit, number(3, Mode::Numeric), rest.digit2);
     let digit3 = number_if(digit, number(3, Mode::Numeric), rest.digit3);
     let digit1 = number_if(digit, number(4, Mode::Numeric), rest.digit1);

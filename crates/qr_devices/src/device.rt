@@ -9,7 +9,7 @@ ghost use Rattle.qr_devices.specs.Device.{flush_counted, read_counted, write_cou
 ghost use Rattle.qr_devices.specs.declared.device.ReadCounts.{ReadCounts};
 ghost use Rattle.qr_devices.specs.declared.device.WriteCounts.{WriteCounts};
 
-/// How many interruptions (EINTR) of one device are tried again.
+/// How many interrupted calls (EINTR) of one device are tried again.
 pub const INTERRUPTIONS_MAX: u16 = 999;
 
 /// Why a read, a write or a flush of a device failed.

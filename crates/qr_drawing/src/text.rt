@@ -282,8 +282,9 @@ fn push_cells(
     }
 }
 
-// Adds the cells of the square's columns in row `row` of the raster: eight at a time, and then four if at least four
-// remain. The last columns, fewer than four, are not added.
+// Adds the characters for the square's columns without the margin: those of row `row` of the raster, and with half
+// blocks also those of the row below. Adds eight columns at a time, and then four if at least four remain. The last
+// columns, fewer than four, are not added.
 #[inline(always)]
 fn push_columns(
     text: &mut ArrayVec<u8, 1200>,

@@ -6,8 +6,8 @@ ghost use Rattle.qr_layout.specs.Format.{format_word_of, version_word_of};
 use crate::level::Level;
 use crate::version::Version;
 
-// The words of the format information. The index is the two bits of the level followed by the three bits of the mask (Annex
-// C, Table C.1).
+// The words of the format information, to which the mask 101010000010010 is already applied. The index is the two bits
+// of the level followed by the three bits of the mask (Annex C, Table C.1).
 static FORMAT_WORDS: [u16; 32] = [
     0x5412, 0x5125, 0x5E7C, 0x5B4B, 0x45F9, 0x40CE, 0x4F97, 0x4AA0, 0x77C4, 0x72F3, 0x7DAA, 0x789D,
     0x662F, 0x6318, 0x6C41, 0x6976, 0x1689, 0x13BE, 0x1CE7, 0x19D0, 0x0762, 0x0255, 0x0D0C, 0x083B,

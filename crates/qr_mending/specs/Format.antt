@@ -43,9 +43,9 @@ abbrev pub wrong_bit : Bool → Bool → Bool → ℕ
 wrong_bit true shown wanted = 1
 wrong_bit false shown wanted = bit_difference shown wanted
 
--- The number of modules of a copy of the format information that were not read, or in which the square g differs from
--- the format information of the level and the mask. The dark modules of `unknown` were not read
--- (ISO/IEC 18004:2015, 7.9.1).
+-- The number of wrong modules in a copy of the format information. A module is wrong if it was not read, or if its
+-- colour in the square g is not that for the level and the mask. The dark modules of `unknown` were not read (ISO/IEC
+-- 18004:2015, 7.9.1).
 abbrev pub wrong_bits_without : Grid → FormatCopy → Grid → Level → ℕ → ℕ
 wrong_bits_without unknown copy g l mask = sum_below 15 (λ i. wrong_bit (copy_bit copy unknown i) (copy_bit copy g i) (word_bit (format_word_of l mask) i))
 

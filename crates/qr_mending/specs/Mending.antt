@@ -36,15 +36,16 @@ pub record HoldsDamagedWithout (unknown : Option Grid) (v : ℕ) (l : Level) (ma
 abbrev pub HoldsDamaged : ℕ → Level → ℕ → Grid → List ℕ → List ℕ → Type 0
 HoldsDamaged v l mask g message changed = HoldsDamagedWithout None v l mask g message changed
 
--- `IsOfNoUseWithout unknown copy v g` holds if this copy of the format information is of no use for mending the square
--- g: it is near to no level and mask, or some block has more damage under them than can be mended. A codeword with a
--- module that was not read is erased (ISO/IEC 18004:2015, 7.5.1, 7.9.1, 12).
+-- `IsOfNoUseWithout unknown copy v g` holds if the square g cannot be mended by this copy of the format information: for
+-- each level and mask, the copy is not near to their format information, or some block has more damage than can be
+-- mended. A codeword with a module that was not read is erased (ISO/IEC 18004:2015, 7.5.1, 7.9.1, 12).
 abbrev pub IsOfNoUseWithout : Option Grid → FormatCopy → ℕ → Grid → Type 0
 IsOfNoUseWithout unknown copy v g = (l : Level) (mask : ℕ) → IsNearFormat copy g l mask
     → (message changed : List ℕ) → HoldsDamagedWithout unknown v l mask g message changed → ⊥
 
--- `IsOfNoUse copy v g` holds if this copy of the format information is of no use for mending the square g: it is near to
--- no level and mask, or some block has more damage under them than can be mended (ISO/IEC 18004:2015, 7.5.1, 7.9.1, 12).
+-- `IsOfNoUse copy v g` holds if the square g cannot be mended by this copy of the format information: for each level and
+-- mask, the copy is not near to their format information, or some block has more damage than can be mended
+-- (ISO/IEC 18004:2015, 7.5.1, 7.9.1, 12).
 abbrev pub IsOfNoUse : FormatCopy → ℕ → Grid → Type 0
 IsOfNoUse copy v g = IsOfNoUseWithout None copy v g
 
@@ -126,8 +127,8 @@ abbrev pub DiffersFromSymbol : Grid → ℕ → Level → ℕ → List ℕ → �
 DiffersFromSymbol g v l mask message wrong = DiffersFromSymbolWithout None g v l mask message wrong
 
 -- `HasWrongModulesWithout unknown g v l mask changed wrong` holds if `wrong` modules of the square g were not read, or
--- differ from the symbol of which it is a damaged form. So `wrong` is 0 exactly if all modules were read and the square
--- is that symbol (ISO/IEC 18004:2015, 7.5.2, 7.6, 7.7, 7.8).
+-- differ from the symbol of which it is a damaged form. So `wrong` is 0 exactly if all modules were read and each has
+-- the colour that it has in that symbol (ISO/IEC 18004:2015, 7.5.2, 7.6, 7.7, 7.8).
 pub record HasWrongModulesWithout (unknown : Option Grid) (g : Grid) (v : ℕ) (l : Level) (mask : ℕ) (changed : List ℕ) (wrong : ℕ) : Type 0 where
   pub message : List ℕ
   pub form : IsDamagedFormWithout unknown g v l mask message changed

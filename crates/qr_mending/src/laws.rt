@@ -201,9 +201,9 @@ pub fn damaged_symbols_without_modules_are_mended(
     mend_symbol_without(alloc, damaged, unknown)
 }
 
-/// A damaged symbol of an input is mended to exactly this input, unless memory is refused, if few of its modules are
-/// wrong: in each block at most `changed_max` modules, and in the first copy of the format information at most three.
-/// All other modules may have any colour.
+/// A symbol with few wrong modules is mended to exactly its input, unless memory is refused. Few are at most
+/// `changed_max` modules in each block, as many as codewords of a block can be mended, and at most three modules in the
+/// first copy of the format information. All other modules may have any colour.
 pub fn few_wrong_modules_are_mended(alloc: Global, damaged: &Matrix) -> Result<Mended, ReadFault>
     ensures { (smallest : ℕ) (l : Level) (rule : Rule) (x : List ℕ) (v mask : ℕ) (g : Grid) → 1 ≤ smallest
         → (s : IsSymbol smallest l rule x v mask g) → damaged.now.side ≡ g.side → DifferInFewModules v l damaged.now g

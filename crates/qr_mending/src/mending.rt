@@ -135,7 +135,8 @@ pub struct Mended {
     /// The number of wrong modules among the 30 modules of both copies of the format information.
     pub wrong_format_modules: u8,
     /// The number of modules of the whole square that differ from the symbol of the mended message. Function patterns,
-    /// version information and remainder bits count too. It is 0 exactly if the square is that symbol.
+    /// version information and remainder bits count too. The number is 0 exactly if every module of the square has the
+    /// colour that it has in that symbol.
     pub wrong_modules: u32,
     /// For each block, the number of its codewords that were changed.
     pub changed: Vec<usize>,

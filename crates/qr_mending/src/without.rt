@@ -92,12 +92,12 @@ fn count_wrong_modules_without(
     Ok(count_wrong(unknown, matrix, &symbol))
 }
 
-/// Reads a symbol of which some modules could not be read, and mends its damage
-/// (ISO/IEC 18004:2015, 7.5.1, 7.9.1 and 12). `unknown` is a square of the same side, whose dark modules are those that
-/// could not be read. A codeword with such a module is erased. An erased codeword takes half as much of the error
-/// correction as a misread codeword: in each block the number of erased codewords, plus twice the number of misread
-/// codewords, may be at most twice `changed_max`. In a copy of the format information, a module that could not be read
-/// has the colour that it has in `matrix`.
+/// Reads a symbol of which some modules could not be read, and mends its damage (ISO/IEC 18004:2015, 7.5.1, 7.9.1 and
+/// 12). `unknown` is a square of the same side, whose dark modules are those that could not be read. A codeword with
+/// such a module is erased. An erased codeword takes half as much of the error correction as a misread codeword: in
+/// each block the number of erased codewords, plus twice the number of misread codewords, may be at most twice
+/// `changed_max`, the number of misread codewords that can be mended in a block without erased ones. In a copy of the
+/// format information, a module that could not be read has the colour that it has in `matrix`.
 ///
 /// `Mended::changed` counts the misread codewords only. A module that could not be read counts as a wrong module,
 /// whatever colour it has in `matrix`. Everything else is as in `mend_symbol`.

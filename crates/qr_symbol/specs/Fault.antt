@@ -14,7 +14,7 @@ abbrev pub fault_of : BitFault → EncodeFault
 fault_of bit.Memory = fault.Memory
 fault_of bit.TooLong = fault.TooLong
 
--- The number of a fault of reading, from 1 to 6 [own].
+-- The number of a fault of reading in this crate, from 1 to 6. The library for C has other numbers [own].
 abbrev pub read_fault_number : ReadFault → ℕ
 read_fault_number unread.Memory = 1
 read_fault_number unread.Side = 2

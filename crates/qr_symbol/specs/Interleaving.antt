@@ -12,8 +12,8 @@ use Rattle.qr_symbol.specs.declared.interleaving.BlockSizes.{BlockSizes}
 abbrev pub block_count : BlockSizes → ℕ
 block_count c = c.short + c.long
 
--- The number of codewords of block i of the blocks with the sizes c, counted from 0: the short blocks come first, then
--- the long blocks, which have one codeword more (ISO/IEC 18004:2015, 7.5.1, Table 9).
+-- The number of codewords in block i of the blocks with the sizes c, which are numbered from 0. The short blocks come
+-- first; each long block has one codeword more (ISO/IEC 18004:2015, 7.5.1, Table 9).
 abbrev pub block_len : BlockSizes → ℕ → ℕ
 block_len c i = if nat_lt i c.short then c.short_len else c.short_len + 1
 

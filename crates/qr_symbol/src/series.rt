@@ -146,8 +146,8 @@ fn prefix_len(
     Ok(longest_fit(alloc, prefix, version, level, rule)?)
 }
 
-// Returns the symbols of the parts that have these lengths, each with its header (8.1 to 8.3). They are drawn on one
-// canvas.
+// Returns the symbols of the parts that have these lengths, each with its header (8.1 to 8.3). They are drawn one after
+// the other with the same `Canvas`, so the function patterns and the region are drawn only once.
 fn part_symbols(
     alloc: Global,
     input: &[u8],

@@ -11,8 +11,8 @@ pub fn command_lines()
     ensures { CommandLines }
 {}
 
-/// The limits that other contracts name: at most 113,425 bytes of input are read, one write offers at most 1,200 bytes,
-/// and 999 interruptions of one device are tried again.
+/// The values of three constants that other contracts name: at most 113,425 bytes of input are read, one write offers
+/// at most 1,200 bytes, and for each device up to 999 interrupted calls are tried again.
 pub fn limits()
     ensures input { INPUT_MAX ≡ 113425 }
     ensures piece { WRITE_MAX ≡ 1200 }

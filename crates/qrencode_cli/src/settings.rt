@@ -253,8 +253,8 @@ fn settings_in(alloc: Global, matches: &ArgMatches<'_>) -> Result<Settings, Usag
     })
 }
 
-/// Parses a command line, of which the first text is the program's name. The arguments mean what `clap` states of a
-/// simple command.
+/// Parses a command line, of which the first text is the program's name. `clap` decides which arguments are valid and
+/// which values the options have; its contract states both for commands without subcommands.
 ///
 /// # Errors
 ///

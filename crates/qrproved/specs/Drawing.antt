@@ -1,4 +1,4 @@
--- What the call that draws squares writes, and when a buffer is too short.
+-- What `qrproved_draw` writes, and when it refuses a buffer as too short.
 use Rattle.std.specs.Prelude.{◌≡◌, ℕ, zero, suc, ◌*◌, ◌<◌, ◌≤◌, ◌==◌, ◌++◌, if◌then◌else◌, List, [], ◌∷◌, drop, length}
 use Rattle.qr_matrix.specs.Grid.{Grid}
 use Rattle.qr_drawing.specs.declared.drawing.Drawing.{Drawing}

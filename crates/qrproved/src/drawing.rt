@@ -91,8 +91,8 @@ fn drawn(alloc: Global, modules: &[u8], asked: DrawingSettings) -> Result<Vec<u8
 ///
 /// The causes of a refusal are checked in this order: the numbers (1 to 177 modules on a side, 1 to 16 squares, a type,
 /// a margin of 0 to 100 modules), too few modules in `modules`, and a buffer `text` that is too short for the drawing.
-/// If there are too few modules, `written` becomes 0; if `text` is too short, it becomes the length of the drawing. The
-/// first two causes are found without any allocation.
+/// If there are too few modules, `written` becomes 0. If `text` is too short, `written` becomes the length of the
+/// drawing. The first two causes are found without any allocation.
 ///
 /// On status 0 the text is the drawing of the squares whose modules are in the buffer, in the type and with the margin
 /// asked for, and its length is written.

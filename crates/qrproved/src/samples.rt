@@ -7,7 +7,7 @@ use qr_layout::{Level, Version};
 use qr_symbol::{build_masked, interleave};
 use std::test::Fail;
 
-/// Returns the modules of eight digits in version 1-M.
+/// Returns the modules of the symbol of version 1 and level M that contains the digits 01234567.
 pub(crate) fn eight_digits(rt: &HostRuntime) -> Result<[u8; 441], Fail> {
     let mut modules = [0u8; 441];
     let mut symbol = QrprovedSymbol {

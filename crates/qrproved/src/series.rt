@@ -32,8 +32,9 @@ pub struct QrprovedSeries {
 /// is too short. Numbers out of range, an empty input and an input of more than 113,425 bytes are refused before any
 /// allocation.
 ///
-/// On status 0 the buffer contains exactly the series of the input, symbol after symbol, and the symbols are joined to
-/// the input. Without kanji mode no shorter series exists. The struct contains the number of symbols and their side.
+/// On status 0 the buffer contains exactly the series of the input, symbol after symbol. If the symbols are read and
+/// joined, the result is the input. Without kanji mode no shorter series exists. The struct contains the number of
+/// symbols and their side.
 #[unsafe(no_mangle)]
 pub extern "C" fn qrproved_encode_series(
     alloc: Global,

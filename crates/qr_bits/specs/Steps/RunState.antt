@@ -105,8 +105,9 @@ pub record IsChoice (v : ℕ) (r : Rule) (p : RunState) (x : ℕ) (pair : Bool) 
   pub least : (k : Mode) → IsTrue (may_take r p x pair k) → n ≤ byte_cost v p k + cost (state_after p k)
   pub first : (k : Mode) → IsTrue (may_take r p x pair k) → byte_cost v p k + cost (state_after p k) ≡ n → rank m ≤ rank k
 
--- `choice_number may bits m` is the number of a choice: four times its bits plus the rank of its mode. If the mode may not be
--- used, it is greater than the number of any choice.
+-- `choice_number may bits m` says by one number that mode m is chosen for the next byte, and that the bytes from there
+-- on then take `bits` bits: four times the bits plus the rank of the mode. So the better of two choices has the smaller
+-- number. If the mode may not be used, the number is greater than that of any choice.
 abbrev pub choice_number : Bool → ℕ → Mode → ℕ
 choice_number may bits m = if may then 4 * bits + rank m else 4294967295
 

@@ -19,7 +19,7 @@ in_state b InBytes = b.in_bytes
 in_state b HalfPair = b.half_pair
 in_state b WholePair = b.whole_pair
 
--- The number of bits of the choice for state p, from the number of the choice
+-- The bits that the choice for state p takes: a quarter of the number of the choice, rounded down
 abbrev pub bits_at : PerState ℕ → RunState → ℕ
 bits_at numbers p = in_state numbers p / 4
 

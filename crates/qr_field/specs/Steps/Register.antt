@@ -26,8 +26,8 @@ zero_register = record { low = 0; high = 0 }
 abbrev pub divisor_of : ℕ → List ℕ
 divisor_of n = drop 1 (generator_of n)
 
--- `HasMultiples g shift bound rows` holds if row f, for each f below the bound, contains the multiple of g by f times
--- 2^shift
+-- `HasMultiples g shift bound rows` holds if there are 16 rows, and row f, for each f below `bound`, contains the
+-- coefficients g, each multiplied in the field by the element f * 2^shift
 pub record HasMultiples (g : List ℕ) (shift bound : ℕ) (rows : List Register) : Type 0 where
   pub many : length rows ≡ 16
   pub each : (f : ℕ) → f < bound → value_of (slice_index_or rows f zero_register) ≡ packed (scaled (f * 2 ^ shift) g)

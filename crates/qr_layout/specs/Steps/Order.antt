@@ -58,7 +58,7 @@ to_come v a = places_within v (left_of (side_of v) a) a
 abbrev pub first_cursor : ℕ → Cursor
 first_cursor v = record { strips = 8 + 2 * v; row = 16 + 4 * v; at_left = false; upward = true }
 
--- The position of a module
+-- The position of the walk at a module: its strip, its row, its half of the strip, and the direction of the strip
 unfoldable pub cursor_at : Module → Cursor
 cursor_at m =
     let c = (if nat_lt m.col 6 then m.col else m.col - 1) in

@@ -20,8 +20,9 @@ abbrev pub weighted : List ℕ → List ℕ → List ℕ
 weighted p [] = []
 weighted p (c ∷ e) = product c (eval (power (length e)) p) ∷ weighted p e
 
--- `IsLocated p e` holds if the polynomial p, listed from the lowest power of x to the leading coefficient 1, has a root
--- for each error in e. The values of e then form a recurrence: each of them follows from the values before it.
+-- `IsLocated p e` holds if the polynomial p has the root 2^m for each power x^m whose coefficient in e is not 0, and
+-- the values of e follow the recurrence of p: each follows from the values before it. The coefficients of p are listed
+-- from the lowest power of x on, and the leading coefficient is 1.
 pub record IsLocated (p e : List ℕ) : Type 0 where
   pub bytes : All IsByte e
   pub most : length e ≤ 255

@@ -66,7 +66,8 @@ AreNext cw number bits = (k : ℕ) → k < 8 → has_bit bits (7 - k) ≡ codewo
 
 -- `IsDrawnAcross v cw ms first before next after` holds if the modules ms were drawn in the square `before`, which
 -- became the square `after`. Each of them in the encoding region took one bit of the codewords cw, from bit `first` on,
--- and `next` is the number of the bit after those. Both squares are transposed.
+-- and `next` is the number of the bit after those. In both squares rows and columns are exchanged; the modules ms have
+-- the rows and columns of the symbol.
 pub record IsDrawnAcross (v : ℕ) (cw : List ℕ) (ms : List Module) (first : ℕ) (before : Grid) (next : ℕ) (after : Grid) : Type 0 where
   pub number : next ≡ number_along v ms first
   pub placed : transposed after ≡ placed_along v cw ms first (transposed before)

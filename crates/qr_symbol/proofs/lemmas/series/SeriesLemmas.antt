@@ -102,7 +102,7 @@ symbols-read v l b last parity k x (p ∷ ps) (s ∷ ss) i j cut h =
       bytes = ap (λ (ys : List ℕ). p ++ ys) rest.bytes ∙ (ap (λ (ys : List ℕ). ys ++ drop cut.0 x) cut.3 ∙ take-append-drop cut.0 x);
     }
 
--- the bytes of a symbol without a header are joined to the input
+-- joining a symbol without a header has its bytes as the result
 lone-joined : (x : List ℕ) (l : Level) (b : Rule) (v : ℕ) (ss : List Symbol) → 1 ≤ v → v ≤ 40 → IsPlainSymbol v l b x ss → IsJoined (squares_of ss) x
 unfolding AreReadBy
 lone-joined x l b v ss i j h =

@@ -59,7 +59,7 @@ held-folded s rule input bytes fold same e = rw (fold, ← same) (sym e)
 pub held-plain : (s : SettingsView) (input : List ℕ) → s.fold ≡ false → held s input ≡ input
 held-plain s input fold = rw fold refl
 
--- if a symbol is read as the input, it is joined to the input
+-- if a symbol is read as the input, joining it alone has the input as its result
 joined-one : (input : List ℕ) (v : ℕ) (b : Rule) (g : Grid) → IsReadBack v b input g → IsJoined (g ∷ []) input
 unfolding AreReadBy
 joined-one input v b g h = record {
