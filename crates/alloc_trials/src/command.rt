@@ -1,4 +1,4 @@
-//! The calls of `qrencode_cli`, with devices in memory.
+//! Trials of the functions of `qrencode_cli` that allocate memory, with a reader and writers in memory.
 
 use crate::answer::Answer;
 use qrencode_cli::{Faults, Trial, UsageFault, options, run};

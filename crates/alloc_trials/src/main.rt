@@ -1,5 +1,6 @@
-//! Trials of the calls that allocate memory. The program's argument names a call. The program makes this call once, and
-//! prints a line that says what it returned. `tests/refused_growths` runs each trial with one growth of memory refused.
+//! A test program for the public functions that allocate memory. Its argument names a function. The program calls this
+//! function once, and prints a line that says what it returned. `tests/refused_growths` runs each trial with one growth
+//! of memory refused.
 //!
 //! The arguments of a call are made before it. After the call they are compared with the values that they were made
 //! from.

@@ -67,7 +67,8 @@ mod tests {
     use super::*;
     use std::test::Fail;
 
-    // The first and the last line of `A` in version 1-L in alphanumeric mode, as another encoder draws it.
+    // The label of `A` in version 1-L has 21 lines of 21 modules and the line `A`. Its first line begins with the seven
+    // dark modules of a finder pattern.
     #[test]
     fn a_letter_at_1_l(rt: HostRuntime) -> Result<(), Fail> {
         let version = Version::new(1).ok_or("version 1")?;

@@ -27,7 +27,7 @@ eleven_characters = 0x20 ∷ 0x5B ∷ 0x0B ∷ 0x78 ∷ 0xD1 ∷ 0x72 ∷ 0xDC �
 abbrev pub two_kanji : List ℕ
 two_kanji = 0x93 ∷ 0x5F ∷ 0xE4 ∷ 0xAA ∷ []
 
--- The 9 data codewords of the two kanji characters in version 1, with an odd number of pad codewords [own]
+-- The 9 data codewords of `two_kanji` in version 1 and level H: six, and then three pad codewords [own]
 abbrev pub two_kanji_data : List ℕ
 two_kanji_data = 0x80 ∷ 0x26 ∷ 0xCF ∷ 0xEA ∷ 0xA8 ∷ 0x00 ∷ 0xEC ∷ 0x11 ∷ 0xEC ∷ []
 

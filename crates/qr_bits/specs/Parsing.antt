@@ -132,7 +132,8 @@ segments_at (suc n) v bits =
 unfoldable pub segments_of : ℕ → List Bool → Result (List Segment × List ℕ) ParseFault
 segments_of v bits = segments_at (length bits) v bits
 
--- `begins_header bits` holds if the first four bits are the indicator of a header (ISO/IEC 18004:2015, 8.1)
+-- `begins_header bits` holds if the first four bits are the mode indicator of structured append, with which a header
+-- begins (ISO/IEC 18004:2015, 8.1)
 unfoldable pub begins_header : List Bool → Bool
 begins_header bits = nat_le 4 (length bits) && value (take 4 bits) == header_indicator
 

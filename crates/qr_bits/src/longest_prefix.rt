@@ -62,7 +62,8 @@ fn longest_by_rows(input: &[u8], version: Version, rule: Rule, room: u64) -> usi
 }
 
 /// Returns the length of the longest prefix of the input that fits a symbol after a header, in the segments with the
-/// fewest bits. A shorter prefix may not fit even though this prefix does. The call never fails.
+/// fewest bits. In kanji mode it is possible that this prefix fits and a shorter one does not: a prefix that ends
+/// inside a kanji pair needs byte mode for its last byte. The call never fails.
 ///
 /// # Notes
 ///

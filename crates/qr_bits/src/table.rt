@@ -51,8 +51,9 @@ fn may_begin(rule: Rule, byte: u8, mode: Mode) -> bool
     }
 }
 
-// Returns the number of a choice, or `NO_CHOICE` if `may` is false. `first` is the number of the choice for its byte alone,
-// and `rest` is the number of the best choice for the bytes after it.
+// Returns a choice of mode as one number, four times its bits plus the rank of its mode, or `NO_CHOICE` if the mode may
+// not be used (`may` is false). `first` is the number of the choice for its byte alone, and `rest` is the number of the
+// best choice for the bytes after it.
 #[inline(always)]
 fn number_if(may: bool, first: u32, rest: u32) -> u32
     requires first { first ≤ 135 }
@@ -99,9 +100,9 @@ fn choices(
     let no_digits = characters.min(others);
     let no_characters = digits.min(others);
     let start = digits.min(no_digits);
-    // A run that continues takes fewer bits than a new segment of the same mode, and both lead to the same state. So a
-    // new segment of the same mode is never the best choice, and `start`, the least number of all new segments, may
-    // include its number.
+    // To continue a segment takes fewer bits than to begin a new segment of the same mode, and both lead to the same
+    // `RunState`. So a new segment of the same mode is never the best choice, and `start`, the least number of all new
+    // segments, may include its number.
     let digit2 = number_if(digit, number(3, Mode::Numeric), rest.digit2);
     let digit3 = number_if(digit, number(3, Mode::Numeric), rest.digit3);
     let digit1 = number_if(digit, number(4, Mode::Numeric), rest.digit1);

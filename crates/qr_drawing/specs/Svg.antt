@@ -73,8 +73,8 @@ foreground margin squares = codes "<path fill=\"#000000\" d=\"" ++ stack_path ma
 unfoldable pub closing : List ℕ
 closing = codes "</svg>\n"
 
--- `svg_document margin squares` is the document of symbols of one side. It is as wide as the first raster, and as high
--- as all rasters together [own]
+-- `svg_document margin squares` is the document with symbols of equal size, one below the other. It is as wide as the
+-- first raster, and as high as all rasters together [own]
 unfoldable pub svg_document : ℕ → List Grid → List ℕ
 svg_document margin squares =
     let width = raster_width margin (square_at squares 0) in

@@ -23,8 +23,8 @@ const HEAD_MAX: usize = 300;
 // The number of bytes after the paths.
 const TAIL: usize = 11;
 
-// Adds a digit. The numbers of a path are added digit by digit: with `itoa` the largest symbol would take 36 % more
-// instructions.
+// Adds a digit. The numbers in a path are appended one digit at a time: with `itoa`, drawing the largest symbol would
+// take 36 % more instructions.
 fn push_digit(text: &mut ArrayVec<u8, 1200>, digit: u16)
     requires digit { digit < 10 }
     requires room { array_vec_len text.old < 1200 }

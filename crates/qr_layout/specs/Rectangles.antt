@@ -22,6 +22,7 @@ abbrev pub version_rectangles : ℕ → ℕ → List Rectangle
 version_rectangles v s =
     if nat_lt v 7 then [] else (record { top = 0; bottom = 6; left = s - 11; right = s - 8 } ∷ record { top = s - 11; bottom = s - 8; left = 0; right = 6 } ∷ [])
 
--- All these rectangles of version v: five of them, and from version 7 on seven (ISO/IEC 18004:2015, 6.3.3 to 6.3.5, 7.9, 7.10)
+-- The rectangles of version v: three corners, two timing patterns and, from version 7 on, two blocks of version
+-- information (ISO/IEC 18004:2015, 6.3.3 to 6.3.5, 7.9, 7.10)
 abbrev pub fixed_rectangles : ℕ → List Rectangle
 fixed_rectangles v = corner_rectangles (side_of v) ++ timing_rectangles (side_of v) ++ version_rectangles v (side_of v)

@@ -20,7 +20,8 @@ abbrev pub places_of : ℕ → List Strip → List Module
 places_of s [] = []
 places_of s (x ∷ xs) = both_of (rows_from s x 0 s) ++ places_of s xs
 
--- Strip p, counted from the left and from 1; no strip contains column 6 (ISO/IEC 18004:2015, 7.7.3)
+-- Strip p, the p-th pair of columns that are filled together, counted from the left and from 1; column 6 is in no strip
+-- (ISO/IEC 18004:2015, 7.7.3)
 abbrev pub strip_at : ℕ → Strip
 strip_at p = record { right = (let c = 2 * p - 1 in if nat_lt c 6 then c else c + 1); upward = p % 2 == 0 }
 

@@ -126,9 +126,10 @@ pub record DiffersFromSymbolWithout (unknown : Option Grid) (g : Grid) (v : ℕ)
 abbrev pub DiffersFromSymbol : Grid → ℕ → Level → ℕ → List ℕ → ℕ → Type 0
 DiffersFromSymbol g v l mask message wrong = DiffersFromSymbolWithout None g v l mask message wrong
 
--- `HasWrongModulesWithout unknown g v l mask changed wrong` holds if `wrong` modules of the square g were not read, or
--- differ from the symbol of which it is a damaged form. So `wrong` is 0 exactly if all modules were read and each has
--- the colour that it has in that symbol (ISO/IEC 18004:2015, 7.5.2, 7.6, 7.7, 7.8).
+-- `HasWrongModulesWithout unknown g v l mask changed wrong` holds if the square g is a damaged form of a symbol of
+-- version v, level l and this mask, and `wrong` of its modules are dark in `unknown`, which means that they were not
+-- read, or differ from that symbol. So `wrong` is 0 exactly if all modules were read and each has the colour that it
+-- has in that symbol (ISO/IEC 18004:2015, 7.5.2, 7.6, 7.7, 7.8).
 pub record HasWrongModulesWithout (unknown : Option Grid) (g : Grid) (v : ℕ) (l : Level) (mask : ℕ) (changed : List ℕ) (wrong : ℕ) : Type 0 where
   pub message : List ℕ
   pub form : IsDamagedFormWithout unknown g v l mask message changed
@@ -163,9 +164,9 @@ IsUnmendedWithout unknown g unread.Check = IsBeyondMendingWithout unknown g
 IsUnmendedWithout unknown g (unread.Segments e) = (e ≢ unparsed.Memory) × (v : ℕ) × (l : Level) × (mask : ℕ) × (changed : List ℕ) × IsMendedAsWithout unknown g v l mask (Err e) changed
 IsUnmendedWithout unknown g unread.Series = ⊥
 
--- `IsUnmended g e` holds if the square g is not mended because of the fault e. `Side`: no version has its side.
--- `Format`: a version has its side, but no copy of the format information is near to a level and a mask. `Check`: there
--- is more damage than can be mended. `Segments`: the mended message cannot be parsed. `Memory` is possible for every
--- square, and `Series` for none (ISO/IEC 18004:2015, 12).
+-- `IsUnmended g e` holds if mending the square g may fail with the fault e. `Side`: no version has its side. `Format`:
+-- a version has its side, but no copy of the format information is near to a level and a mask. `Check`: there is more
+-- damage than can be mended. `Segments`: the mended message cannot be parsed. `Memory` is possible for every square,
+-- and `Series` for none (ISO/IEC 18004:2015, 12).
 abbrev pub IsUnmended : Grid → ReadFault → Type 0
 IsUnmended g e = IsUnmendedWithout None g e

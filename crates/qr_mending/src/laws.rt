@@ -176,11 +176,12 @@ pub fn damaged_symbols_are_mended(alloc: Global, damaged: &Matrix) -> Result<Men
     mend_symbol(alloc, damaged)
 }
 
-/// A damaged symbol of an input, of which some modules could not be read, is mended to exactly this input, unless memory
-/// is refused. This holds for any square of the symbol's side and any unread modules under two conditions. In each block
-/// the number of erased codewords plus twice the number of misread ones is at most twice `changed_max`. At most three
-/// modules of the first copy of the format information are wrong, or at most three of the second copy if the first is of
-/// no use. The numbers of misread codewords and wrong modules are those of the damage.
+/// A damaged symbol of an input, of which some modules could not be read, is mended to exactly this input, unless
+/// memory is refused. `damaged` may be any square with as many rows as the symbol, and any of its modules may be
+/// unread, under two conditions. In each block the number of erased codewords plus twice the number of misread ones is
+/// at most twice `changed_max`. At most three modules of the first copy of the format information are wrong, or at most
+/// three of the second copy if the first is of no use. The numbers of misread codewords and wrong modules are those of
+/// the damage.
 pub fn damaged_symbols_without_modules_are_mended(
     alloc: Global,
     damaged: &Matrix,

@@ -19,8 +19,8 @@ fn monomials(t: usize) -> ArrayVec<Polynomial, 16>
     pool
 }
 
-// Returns the index of the first polynomial that does not solve the equation of the window, or the number of polynomials
-// if all of them solve it. A polynomial solves it if the sum of the products of coefficients and values is 0.
+// Returns the index of the first polynomial of `pool` whose coefficients, multiplied by the values in `window` and
+// added, do not give 0. Returns the number of polynomials if there is no such polynomial.
 fn first_miss(pool: &[Polynomial], window: &[u8], t: usize) -> usize
     requires degrees { HasDegrees t pool.now }
     requires small { t ≤ 15 }

@@ -50,7 +50,7 @@ mod tests {
     use std::test::Fail;
 
     // Returns the two symbols of `ABCDEFGH` at 1-H, which contain `ABCDE` and `FGH`, with one module of each inverted.
-    // In version 1 and level H eight codewords may be changed.
+    // In version 1 and level H up to eight wrong codewords can be mended.
     fn damaged_parts(rt: &HostRuntime) -> Result<Vec<Matrix>, Fail> {
         let symbols = encode_series(
             rt.alloc(),

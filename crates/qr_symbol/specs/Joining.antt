@@ -80,7 +80,7 @@ IsUnjoinedBy reads refuses squares e = IsFirstRefused reads refuses squares e
 abbrev pub IsJoined : List Grid → List ℕ → Type 0
 IsJoined squares bytes = IsJoinedBy IsReading squares bytes
 
--- `IsUnjoined squares e` holds if the squares, read without mending, are not joined because of the fault e
--- (ISO/IEC 18004:2015, 12).
+-- `IsUnjoined squares e` holds if reading the squares without mending, and joining their bytes, may fail with the fault
+-- e (ISO/IEC 18004:2015, 12).
 abbrev pub IsUnjoined : List Grid → ReadFault → Type 0
 IsUnjoined squares e = IsUnjoinedBy IsReading IsUnread squares e

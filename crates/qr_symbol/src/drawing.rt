@@ -83,10 +83,10 @@ fn eight_bits(next: CodewordBits, number: usize) -> u8
 }
 
 // Splits eight bits of the codewords, as they fill four rows of a strip: the bits alternate between the right and the
-// left column. The higher four bits of an entry are those of the right column (the first, third, fifth and seventh), the
-// lower four those of the left column. In each four the lowest bit is that of the topmost row. The first table is for
-// strips that go downward, where the first two of the eight bits are in the topmost row; the second table is for strips
-// that go upward.
+// left column. The higher four bits of an entry are those of the right column (the first, third, fifth and seventh),
+// the lower four those of the left column. In each half of an entry the lowest bit is that of the topmost of the four
+// rows. The first table is for strips that go downward, where the first two of the eight bits are in the topmost row;
+// the second table is for strips that go upward.
 static SPLITS: [[u8; 256]; 2] = [
     [
         0x00, 0x08, 0x80, 0x88, 0x04, 0x0C, 0x84, 0x8C, 0x40, 0x48, 0xC0, 0xC8, 0x44, 0x4C, 0xC4,

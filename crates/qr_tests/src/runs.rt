@@ -15,7 +15,8 @@ pub struct Run {
     pub err: Trial,
 }
 
-/// How the three devices of a run behave, and how many bytes each of the two writers takes.
+/// The faults of standard input, standard output and standard error in a test of the command, and how many bytes each
+/// of the two writers takes.
 #[derive(Clone, Copy)]
 pub struct Devices {
     pub input: Faults,

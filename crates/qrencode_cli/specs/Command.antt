@@ -126,10 +126,11 @@ ErrorHolds old new line = AppendsBeginning old.taken new.taken line
     × (old.counts ≡ no_writes → is_write_fault new.counts ≡ false → new.counts.taken ≡ counted (length line))
     × (new.counts.flushes ≡ old.counts.flushes)
 
--- `Runs` says what a run of the command returns and does to its devices, for its outcome: success or a fault. If the
--- counts of the devices start at 0, the outcome is one of three: what the arguments and the input determine; lack of
--- memory; or a fault of a device, and then the counts show this fault. Standard error receives nothing after success,
--- and otherwise the line of the fault. The status is 0 after success, and otherwise 1 [own]
+-- `Runs` says what a run of the command returns and does to its devices, for its outcome: success or a fault. The
+-- outcome is one of three: what the arguments and the input determine; lack of memory; or a fault of a device. If the
+-- counts of calls and bytes of the devices were 0 before the run, the counts after it show a fault of a device.
+-- Standard error receives nothing after success, and otherwise the line of the fault. The status is 0 after success,
+-- and otherwise 1 [own]
 pub record Runs (words : List Text) (in0 in1 : Reader) (out0 out1 err0 err1 : Writer) (outcome : Result (Unit {0}) Fault) (status : ℕ) : Type 0 where
   pub given : List ℕ
   pub is_input : IsInputOf in0.remaining given

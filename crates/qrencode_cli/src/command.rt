@@ -129,7 +129,7 @@ fn run_to_result<R: Source, W: Sink>(
 /// last byte. `err` received nothing, and the status is 0.
 ///
 /// If the symbols that were drawn are read and joined, the result is exactly the input, and no byte of it was cut off.
-/// With `-i` the result is the folded input.
+/// With `-i` the result is the folded input, in which letters are capitals as said below.
 ///
 /// With `-8` the whole input is in byte mode. Without `-8`, kanji mode may be used only with `-k`.
 ///

@@ -258,8 +258,8 @@ fn settings_in(alloc: Global, matches: &ArgMatches<'_>) -> Result<Settings, Usag
 ///
 /// # Errors
 ///
-/// Returns the first fault that applies: `Words` only if `clap` states a fault for the arguments, then `Level`, `Kind`
-/// and `NeedsVersion`. Returns `Memory` if memory is refused before another fault is found.
+/// Returns the first fault that applies, in the order `Words`, `Level`, `Kind`, `NeedsVersion`. `Words` is returned
+/// only if `clap` refuses the arguments. Returns `Memory` if memory is refused before another fault is found.
 pub fn options(alloc: Global, words: &[String]) -> Result<Settings, UsageFault>
     ensures settings { MatchResult result (λ s. settings_for (map string_bytes words.now) ≡ Ok s)
         (IsUsageFault (settings_for (map string_bytes words.now))) }

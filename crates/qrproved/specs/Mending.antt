@@ -41,8 +41,8 @@ pub record IsGreatest (xs : List ℕ) (n : ℕ) : Type 0 where
 
 -- `TellsDamage m changed side modules` holds if the struct m contains the damage of the square: the number of wrong
 -- modules in the whole square and in the format information, the greatest number of codewords changed in a block, and
--- the number that may be changed. `changed` lists for each block the number of changed codewords, without those with a
--- module that is not known (ISO/IEC 18004:2015, 7.5.1, 7.9.1).
+-- the number that may be changed. `changed` lists, for each block, how many codewords were corrected; codewords with a
+-- module that is not known do not count (ISO/IEC 18004:2015, 7.5.1, 7.9.1).
 pub record TellsDamage (m : QrprovedMended) (changed : List ℕ) (side : ℕ) (modules : List ℕ) : Type 0 where
   pub whole : HasWrongModulesWithout (unknown_in side modules) (square_of_bytes side modules) m.version (level_of m.level) m.mask changed m.wrong_modules
   pub format : m.wrong_format_modules ≡ wrong_format_modules_without (unknown_in side modules) (square_of_bytes side modules) (level_of m.level) m.mask

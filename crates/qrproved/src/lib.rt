@@ -1,7 +1,7 @@
 //! The calls for C, and for all languages that can call C. They encode an input as a symbol or as a series, read a
-//! symbol, mend a damaged symbol, and draw squares as text or as SVG. Modules are bytes in the caller's buffer, and all
-//! else about them is written to the caller's struct. A call keeps no memory, and leaves none to be freed.
-//! `include/qrproved.h` declares the calls.
+//! symbol, mend a damaged symbol, and draw squares as text or as SVG. The modules of a symbol, the bytes that were read
+//! and the text of a drawing are written to buffers of the caller, and numbers such as the version and the side to a
+//! struct of the caller. A call keeps no memory, and leaves none to be freed. `include/qrproved.h` declares the calls.
 //!
 //! The promises of a call hold if its caller meets the conditions under 'What the caller owes' in `docs/LIBRARY.md`. Bytes
 //! after the last byte asked for are unchanged. On any status but 0 the buffer and the struct are unchanged. Each status

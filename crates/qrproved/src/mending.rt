@@ -168,8 +168,8 @@ fn mended_of(len: usize, mended: &Mended) -> QrprovedMended
 /// more than 2, the format information, the codewords, the parse of the data codewords, a buffer `bytes` that is too
 /// short. The first three are found without any allocation.
 ///
-/// On status 0 the modules in the buffer are a damaged form of one symbol. This symbol contains the bytes and the
-/// header that were written, and has the version, level and mask that were written.
+/// On status 0 the modules in the buffer are a damaged form of one symbol. The call wrote the bytes and the header that
+/// this symbol contains, and its version, level and mask.
 ///
 /// The struct also contains four counts: how many modules of the whole square are not those of the symbol or not known,
 /// which is 0 exactly if the square is the symbol; how many of the 30 modules of format information are wrong or not

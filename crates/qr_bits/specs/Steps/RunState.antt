@@ -89,7 +89,8 @@ unfoldable pub cost_of : ℕ → RunState → List Mode → ℕ
 cost_of v p [] = 0
 cost_of v p (m ∷ ms) = byte_cost v p m + cost_of v (state_after p m) ms
 
--- `IsBestRest v r test p xs ms n` holds if ms is the best assignment of modes to the rest xs after state p, and adds n bits.
+-- `IsBestRest v r test p xs ms n` holds if ms, of the assignments of modes to the remaining bytes xs that are allowed
+-- after state p, adds the fewest bits, which are n, and is the first of those that add as few.
 pub record IsBestRest (v : ℕ) (r : Rule) (test : ℕ → ℕ → Bool) (p : RunState) (xs : List ℕ) (ms : List Mode) (n : ℕ) : Type 0 where
   pub is_allowed : IsTrue (allowed r test p xs ms)
   pub has_bits : cost_of v p ms ≡ n
@@ -97,8 +98,8 @@ pub record IsBestRest (v : ℕ) (r : Rule) (test : ℕ → ℕ → Bool) (p : Ru
   pub first : (ks : List Mode) → IsTrue (allowed r test p xs ks) → cost_of v p ks ≡ n → IsNotAfter ms ks
 
 -- `IsChoice v r p x pair cost m n` holds if, after state p, the byte x and the bytes after it take the fewest bits if x
--- has the mode m. They then take n bits. If several modes lead to n bits, m is the mode of the lowest rank. `cost` is
--- the number of bits of the bytes after x, for each state.
+-- has the mode m. They then take n bits. If several modes lead to n bits, m is the mode of the lowest rank. `cost q` is
+-- the number of bits that the bytes after x add if they follow state q.
 pub record IsChoice (v : ℕ) (r : Rule) (p : RunState) (x : ℕ) (pair : Bool) (cost : RunState → ℕ) (m : Mode) (n : ℕ) : Type 0 where
   pub is_allowed : IsTrue (may_take r p x pair m)
   pub has_bits : n ≡ byte_cost v p m + cost (state_after p m)

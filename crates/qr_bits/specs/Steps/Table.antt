@@ -23,7 +23,8 @@ in_state b WholePair = b.whole_pair
 abbrev pub bits_at : PerState ℕ → RunState → ℕ
 bits_at numbers p = in_state numbers p / 4
 
--- `IsSmall n` holds if the number for each state is below 40,000,000, as it is for the rest of any input
+-- `IsSmall n` holds if the number of the choice for each state is below 40,000,000. It is, for every input of at most
+-- `INPUT_MAX` bytes, so sums of 32 bits do not overflow
 abbrev pub IsSmall : PerState ℕ → Type 0
 IsSmall n =
     (n.start < 40000000) × (n.digit1 < 40000000) × (n.digit2 < 40000000) × (n.digit3 < 40000000) × (n.character1 < 40000000)
