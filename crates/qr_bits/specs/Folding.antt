@@ -10,16 +10,17 @@ abbrev pub capital : ℕ → ℕ
 capital b = if nat_le 97 b && nat_le b 122 then b - 32 else b
 
 -- `folded_around_pairs xs` is the list of the bytes `xs` with small letters replaced by capitals, except in kanji
--- pairs. The bytes are read from the left: if the next two bytes are a kanji pair, both are kept, and otherwise the
--- next byte is replaced by its capital [own]
+-- pairs. A kanji pair is two bytes that kanji mode writes as one character. The bytes are read from the left: if the
+-- next two bytes are a kanji pair, both are kept, and otherwise the next byte is replaced by its capital [own]
 unfoldable pub folded_around_pairs : List ℕ → List ℕ
 folded_around_pairs [] = []
 folded_around_pairs (x ∷ []) = capital x ∷ []
 folded_around_pairs (x ∷ y ∷ xs) =
     if is_kanji_pair x y then x ∷ y ∷ folded_around_pairs xs else capital x ∷ folded_around_pairs (y ∷ xs)
 
--- `folded r xs` is the input `xs` with its small letters replaced by capitals, as the rule `r` requires. Under
--- `BytesOnly` all bytes are kept, and under `WithKanji` the bytes of kanji pairs are kept [own]
+-- `folded r xs` is the input `xs` after folding under the rule `r`. Under `Auto`, all small letters are replaced by
+-- capitals. Under `BytesOnly`, all bytes are kept. Under `WithKanji`, small letters are replaced by capitals, but kanji
+-- pairs are kept [own]
 abbrev pub folded : Rule → List ℕ → List ℕ
 folded Auto xs = map capital xs
 folded BytesOnly xs = xs

@@ -5,8 +5,8 @@ use Rattle.std.specs.Option.{ForSome, option_map_or}
 use Rattle.qr_bits.specs.declared.header.Header.{Header}
 use Rattle.qr_bits.specs.Bits.{field}
 
--- `header_indicator` is the mode indicator of structured append, as a number. A structured append header begins with it
--- (ISO/IEC 18004:2015, 7.4.1, Table 2)
+-- `header_indicator` is the mode indicator of structured append, as a number. A structured append header begins with
+-- this mode indicator (ISO/IEC 18004:2015, 7.4.1, Table 2)
 abbrev pub header_indicator : ℕ
 header_indicator = 3
 
@@ -15,9 +15,9 @@ header_indicator = 3
 abbrev pub header_bits : Option Header → ℕ
 header_bits header = option_map_or (λ _. 20) header 0
 
--- `HeaderFits header` holds if there is no structured append header, or if the numbers in it fit their fields. The
--- position has 4 bits, the number of symbols less 1 has 4 bits, and the parity has 8 bits (ISO/IEC 18004:2015, 8.2,
--- 8.3)
+-- `HeaderFits header` holds if there is no structured append header, or if the numbers of the header fit their fields.
+-- The position of the symbol has 4 bits, the number of symbols less 1 has 4 bits, and the parity has 8 bits (ISO/IEC
+-- 18004:2015, 8.2, 8.3)
 abbrev pub HeaderFits : Option Header → Type 0
 HeaderFits header = ForSome header (λ h. (h.position < 16) × (h.last < 16) × (h.parity < 256))
 

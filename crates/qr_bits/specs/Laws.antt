@@ -1,4 +1,4 @@
--- Laws of the definitions of this crate: statements that follow from the definitions.
+-- States the laws of this crate's definitions: facts that follow from the definitions and that are proved.
 use Rattle.std.specs.Prelude.{◌≡◌, ℕ, ◌+◌, ◌*◌, ◌<◌, ◌≤◌, ◌↔◌, Bool, true, false, List, ◌++◌, length, Option, Ok}
 use Rattle.std.specs.List.{slice_index_or}
 use Rattle.qr_layout.specs.declared.level.Level.{Level}

@@ -75,9 +75,9 @@ in_twos test (x ∷ []) = false
 in_twos test (x ∷ y ∷ xs) = test x y && in_twos test xs
 
 -- `kanji_value high low` is the value of the kanji pair with the bytes `high` and `low`: the number that kanji mode
--- writes in 13 bits. First, 8140 is subtracted from a pair up to 9FFC, and C140 from a greater pair. The value is then
--- C0 times the high byte of the difference, plus the low byte of the difference. The numbers 8140, 9FFC, C140 and C0
--- are hexadecimal (ISO/IEC 18004:2015, 7.4.6)
+-- writes in 13 bits. From the pair as a number of 16 bits, 8140 is subtracted if the pair is at most 9FFC, and C140
+-- otherwise. The value is C0 times the high byte of the difference, plus the low byte of the difference. The numbers
+-- 8140, 9FFC, C140 and C0 are hexadecimal (ISO/IEC 18004:2015, 7.4.6)
 unfoldable pub kanji_value : ℕ → ℕ → ℕ
 kanji_value high low =
     let pair = 256 * high + low in
@@ -91,12 +91,12 @@ suits Alphanumeric xs = list_all is_alphanumeric xs
 suits Byte xs = true
 suits Kanji xs = in_twos is_kanji_pair xs
 
--- `payload_bits m n` is the number of bits of the data of a segment of `n` bytes in the mode `m`, without its two
--- indicators. In numeric mode, three digits take 10 bits; two digits that remain at the end take 7 bits, and one digit
--- takes 4 bits. In alphanumeric mode, two characters take 11 bits, and one character that remains at the end takes 6
--- bits. In byte mode, a byte takes 8 bits. In kanji mode, a kanji pair of two bytes takes 13 bits (ISO/IEC 18004:2015,
--- 7.4.3 to 7.4.6). If a single byte remains in kanji mode, it counts as a whole pair; no valid assignment of modes to
--- bytes leads to such a segment.
+-- `payload_bits m n` is the number of bits of the data of a segment of `n` bytes in the mode `m`, without the mode
+-- indicator and the character count indicator. In numeric mode, three digits take 10 bits. Two digits that remain at
+-- the end take 7 bits, and one digit that remains takes 4 bits. In alphanumeric mode, two characters take 11 bits, and
+-- one character that remains at the end takes 6 bits. In byte mode, a byte takes 8 bits. In kanji mode, a kanji pair of
+-- two bytes takes 13 bits (ISO/IEC 18004:2015, 7.4.3 to 7.4.6). If a single byte remains at the end in kanji mode, this
+-- byte counts as a whole pair. No valid assignment of modes to bytes leads to such a segment.
 abbrev pub payload_bits : Mode → ℕ → ℕ
 payload_bits Numeric n = 10 * (n / 3) + (if n % 3 == 0 then 0 else (if n % 3 == 1 then 4 else 7))
 payload_bits Alphanumeric n = 11 * (n / 2) + 6 * (n % 2)

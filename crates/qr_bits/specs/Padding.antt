@@ -18,7 +18,7 @@ abbrev pub room_of : ℕ → Level → ℕ
 room_of v l = capacity_of v l - 20
 
 -- `terminated capacity stream` is the bit stream `stream`, followed by its terminator. The terminator is four zero
--- bits, or fewer if the data codewords, which have `capacity` bits, have no room for four (ISO/IEC 18004:2015, 7.4.9)
+-- bits, or fewer if fewer than four of the `capacity` bits of a symbol remain (ISO/IEC 18004:2015, 7.4.9)
 abbrev pub terminated : ℕ → List Bool → List Bool
 terminated capacity stream = stream ++ replicate (min 4 (capacity - length stream)) false
 

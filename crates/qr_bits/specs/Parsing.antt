@@ -1,5 +1,5 @@
--- Defines the parse of data codewords: the header, the segments and the bytes that are read from their bits, or the
--- fault if they cannot be read.
+-- Defines the parse of data codewords. The result is the header, the segments and the bytes that are read from the bits
+-- of the codewords, or a fault.
 use Rattle.std.specs.Prelude.{◌≡◌, ◌⊎◌, ℕ, zero, suc, ◌+◌, ◌*◌, ◌/◌, ◌%◌, Bool, ◌&&◌, ◌||◌, ◌==◌, nat_lt, nat_le, if◌then◌else◌, List, [], ◌∷◌, ◌++◌, length, take, drop, Result, Ok, Err, Option, Some, None}
 use Rattle.std.specs.List.{slice_index_or}
 use Rattle.qr_bits.specs.declared.modes.Mode.{Mode}
@@ -18,13 +18,13 @@ abbrev pub ◌>>=◌ : {A B : Type 0} → Result A ParseFault → (A → Result 
 (Ok x) >>= f = f x
 (Err e) >>= f = Err e
 
--- `IsFaultOf e read` compares `e`, the fault that the code returned, with `read`, the result that a definition of this
--- file requires. It holds if `e` is `Memory`, which is lack of memory, or if `read` is the fault `e` [own].
+-- `IsFaultOf e read` holds if `e` is the fault `Memory` (lack of memory), or if `read` is the fault `e`. Here `e` is
+-- the fault that the code returned, and `read` is the result that a definition of this file requires [own].
 abbrev pub IsFaultOf : {A : Type 0} → ParseFault → Result A ParseFault → Type 0
 IsFaultOf e read = (e ≡ Memory) ⊎ (read ≡ Err e)
 
--- `IsResultOf r read` compares `r`, the result that the code returned, with `read`, the result that a definition of
--- this file requires. It holds if `r` is the fault `Memory`, which is lack of memory, or if `r` equals `read` [own].
+-- `IsResultOf r read` holds if `r` is the fault `Memory` (lack of memory), or if `r` equals `read`. Here `r` is the
+-- result that the code returned, and `read` is the result that a definition of this file requires [own].
 abbrev pub IsResultOf : {A : Type 0} → Result A ParseFault → Result A ParseFault → Type 0
 IsResultOf r read = (r ≡ Err Memory) ⊎ (read ≡ r)
 
@@ -33,9 +33,9 @@ abbrev pub digit : ℕ → ℕ
 digit n = 48 + n % 10
 
 -- `digits_of n bits` is the list of the `n` digits, as ASCII codes, that are read from the beginning of `bits` in
--- numeric mode. Three digits are read from 10 bits; at the end, two digits are read from 7 bits, or one digit is read
--- from 4 bits. The result is the fault `BadValue` if the number in a group of bits has too many digits for the group,
--- such as 1000 for three digits (ISO/IEC 18004:2015, 7.4.3)
+-- numeric mode. Three digits are read from 10 bits. Two digits that remain at the end are read from 7 bits, and one
+-- digit that remains is read from 4 bits. The result is the fault `BadValue` if the number in a group of bits is too
+-- large, such as 1000 for three digits (ISO/IEC 18004:2015, 7.4.3)
 unfoldable pub digits_of : ℕ → List Bool → Result (List ℕ) ParseFault
 digits_of zero bits = Ok []
 digits_of (suc zero) bits =
@@ -72,9 +72,9 @@ unfoldable pub bytes_of : ℕ → List Bool → List ℕ
 bytes_of zero bits = []
 bytes_of (suc n) bits = value (take 8 bits) ∷ bytes_of n (drop 8 bits)
 
--- `kanji_pair n` is the kanji pair that has the value `n`, as a number of 16 bits. The value divided by C0 is the high
--- byte of another number of 16 bits, and the remainder is the low byte of this number. The kanji pair is this number
--- plus 8140 if the high byte is at most 1E, and this number plus C140 otherwise. The numbers C0, 8140, 1E and C140 are
+-- `kanji_pair n` is the kanji pair that has the value `n`, as a number of 16 bits. The value is divided by C0: the
+-- quotient is the high byte of a number of 16 bits, and the remainder is the low byte of this number. The kanji pair is
+-- this number plus 8140 if the high byte is at most 1E, and plus C140 otherwise. The numbers C0, 8140, 1E and C140 are
 -- hexadecimal (ISO/IEC 18004:2015, 7.4.6)
 unfoldable pub kanji_pair : ℕ → ℕ
 kanji_pair n =

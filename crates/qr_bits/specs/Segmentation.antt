@@ -61,7 +61,7 @@ IsNotAfter (m ∷ ms) (k ∷ ks) = (rank m < rank k) ⊎ ((m ≡ k) × IsNotAfte
 
 -- `IsBestAssignment v r xs ms` holds if `ms` is the best of all valid assignments of modes to the bytes `xs` under the
 -- rule `r`. The best assignment takes the fewest bits in a symbol of version `v`. If several valid assignments take the
--- fewest bits, the best is the first of these in the lexicographic order by rank [own].
+-- fewest bits, the best is the first of these in the lexicographic order by the ranks of the modes [own].
 pub record IsBestAssignment (v : ℕ) (r : Rule) (xs : List ℕ) (ms : List Mode) : Type 0 where
   pub assignment : IsAssignment r xs ms
   pub least : (ks : List Mode) → IsAssignment r xs ks → bits v (runs_of ms) ≤ bits v (runs_of ks)
@@ -81,8 +81,8 @@ HasFit v r xs n = (ms : List Mode) × IsAssignment r xs ms × (bits v (runs_of m
 -- `least_sixths b` is a lower bound on the number of bits that the byte `b` takes in any mode, in sixths of a bit. A
 -- digit takes at least 20 sixths of a bit, since three digits take 10 bits. Another byte up to `Z` takes at least 33
 -- sixths of a bit, since two characters of alphanumeric mode take 11 bits. No character of alphanumeric mode is greater
--- than `Z`; a greater byte takes at least 39 sixths of a bit, since a kanji pair of two bytes takes 13 bits (ISO/IEC
--- 18004:2015, 7.4.3 to 7.4.6)
+-- than `Z`. So a byte greater than `Z` takes at least 39 sixths of a bit, since a kanji pair of two bytes takes 13 bits
+-- (ISO/IEC 18004:2015, 7.4.3 to 7.4.6)
 abbrev pub least_sixths : ℕ → ℕ
 least_sixths b = if is_digit b then 20 else (if nat_le b 90 then 33 else 39)
 

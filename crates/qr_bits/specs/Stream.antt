@@ -1,5 +1,5 @@
--- Defines the bit stream of segments: how digits, characters, bytes and kanji pairs are written as bits. These
--- definitions do not depend on those of the parser in `Parsing.antt`.
+-- Defines the bit stream of segments: how digits, characters, bytes and kanji pairs are written as bits. The
+-- definitions of this file do not use the definitions of the parser in `Parsing.antt`.
 use Rattle.std.specs.Prelude.{◌≡◌, ℕ, ◌+◌, ◌*◌, ◌<◌, ◌≤◌, Bool, List, [], ◌∷◌, length, take, drop, IsTrue, ◌-◌, ◌^◌, ◌++◌, All, Option}
 use Rattle.qr_bits.specs.declared.modes.Mode.{Mode}
 use Rattle.qr_bits.specs.declared.modes.Mode.TheVariants.{Numeric, Alphanumeric, Byte, Kanji}
@@ -9,32 +9,32 @@ use Rattle.qr_bits.specs.Bits.{field, bits_of}
 use Rattle.qr_bits.specs.Modes.{character_count, count_width, suits, indicator, character_value, kanji_value}
 use Rattle.qr_bits.specs.Header.{header_stream, HeaderFits}
 
--- `digit_bits xs` is the list of the bits of the digits `xs` in numeric mode. Each three digits are written as a number
--- in 10 bits. Two digits that remain at the end are written in 7 bits, and one digit in 4 bits (ISO/IEC 18004:2015,
--- 7.4.3)
+-- `digit_bits xs` is the list of the bits of the digits `xs` in numeric mode. Each group of three digits is written as
+-- a number in 10 bits. Two digits that remain at the end are written in 7 bits, and one digit that remains is written
+-- in 4 bits (ISO/IEC 18004:2015, 7.4.3)
 unfoldable pub digit_bits : List ℕ → List Bool
 digit_bits [] = []
 digit_bits (a ∷ []) = field 4 (a - 48)
 digit_bits (a ∷ b ∷ []) = field 7 (10 * (a - 48) + (b - 48))
 digit_bits (a ∷ b ∷ c ∷ xs) = field 10 (100 * (a - 48) + 10 * (b - 48) + (c - 48)) ++ digit_bits xs
 
--- `character_bits xs` is the list of the bits of the characters `xs` in alphanumeric mode. Each two characters are
--- written as a number in 11 bits, and one character that remains at the end is written in 6 bits (ISO/IEC 18004:2015,
--- 7.4.4)
+-- `character_bits xs` is the list of the bits of the characters `xs` in alphanumeric mode. Each group of two characters
+-- is written as a number in 11 bits, and one character that remains at the end is written in 6 bits (ISO/IEC
+-- 18004:2015, 7.4.4)
 unfoldable pub character_bits : List ℕ → List Bool
 character_bits [] = []
 character_bits (a ∷ []) = field 6 (character_value a)
 character_bits (a ∷ b ∷ xs) = field 11 (45 * character_value a + character_value b) ++ character_bits xs
 
--- `kanji_bits xs` is the list of the bits of the bytes `xs` in kanji mode. Each two bytes are a kanji pair, and the
--- value of the pair is written in 13 bits (ISO/IEC 18004:2015, 7.4.6)
+-- `kanji_bits xs` is the list of the bits of the bytes `xs` in kanji mode. Each group of two bytes is a kanji pair, and
+-- the value of the pair is written in 13 bits (ISO/IEC 18004:2015, 7.4.6)
 unfoldable pub kanji_bits : List ℕ → List Bool
 kanji_bits [] = []
 kanji_bits (a ∷ []) = []
 kanji_bits (a ∷ b ∷ xs) = field 13 (kanji_value a b) ++ kanji_bits xs
 
--- `payload m xs` is the list of the data bits of a segment with the bytes `xs` in the mode `m`, without its two
--- indicators (ISO/IEC 18004:2015, 7.4.3 to 7.4.6)
+-- `payload m xs` is the list of the data bits of a segment with the bytes `xs` in the mode `m`, without the mode
+-- indicator and the character count indicator (ISO/IEC 18004:2015, 7.4.3 to 7.4.6)
 unfoldable pub payload : Mode → List ℕ → List Bool
 payload Numeric xs = digit_bits xs
 payload Alphanumeric xs = character_bits xs
@@ -69,8 +69,8 @@ CountsFit v (s ∷ ss) = (character_count s.mode s.len < 2 ^ count_width v s.mod
 
 -- `IsStream v xs segs h stream` holds if `stream` is the bit stream of the bytes `xs` in the segments `segs`, in a
 -- symbol of version `v`. The bit stream begins with the structured append header `h`, if there is one, and then
--- contains the bits of the segments. The bytes of each segment can be written in the mode of the segment, and all
--- numbers fit their fields (ISO/IEC 18004:2015, 7.4.1, 8.1).
+-- contains the bits of the segments. The bytes of each segment can be written in the mode of the segment. The character
+-- counts and the numbers of the header fit their fields (ISO/IEC 18004:2015, 7.4.1, 8.1).
 pub record IsStream (v : ℕ) (xs : List ℕ) (segs : List Segment) (h : Option Header) (stream : List Bool) : Type 0 where
   pub bytes : All (λ b. b < 256) xs
   pub suit : Suits xs segs

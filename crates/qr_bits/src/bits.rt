@@ -9,7 +9,8 @@ use crate::modes::{STRUCTURED_APPEND, TERMINATOR};
 use std::alloc::{AllocError, Global};
 use std::marker::Model;
 
-/// Collects bits into codewords. In contracts, a `BitWriter` means the list of the bits that were written so far.
+/// Collects bits into codewords. In contracts, the value of a `BitWriter` is the list of the bits that were written so
+/// far.
 #[derive(Drop)]
 pub(crate) struct BitWriter {
     whole: Vec<u8>,
@@ -113,7 +114,7 @@ fn push_bytes(whole: &mut Vec<u8>, width: u8, mut rest: u8, bytes: &[u8]) -> Res
     Ok(rest)
 }
 
-/// Reads the bits of codewords. In contracts, a `BitReader` means the list of the bits that are not read yet.
+/// Reads the bits of codewords. In contracts, the value of a `BitReader` is the list of the bits that are not read yet.
 #[derive(Drop)]
 pub(crate) struct BitReader<'a> {
     bytes: &'a [u8],

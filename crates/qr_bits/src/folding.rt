@@ -9,8 +9,8 @@ use std::alloc::{AllocError, Global};
 
 /// Returns `input` with its letters `a` to `z` turned into capitals. The number of bytes is unchanged.
 ///
-/// Under `Rule::WithKanji`, the input is read from the left, and both bytes of each kanji pair are unchanged. Under
-/// `Rule::BytesOnly`, all bytes are unchanged.
+/// Under `Rule::WithKanji`, the input is read from the left, and both bytes of each kanji pair are unchanged. A kanji
+/// pair is two bytes that kanji mode writes as one character. Under `Rule::BytesOnly`, all bytes are unchanged.
 pub fn fold(alloc: Global, input: &[u8], rule: Rule) -> Result<Vec<u8>, AllocError>
     ensures bytes { IfOk result (λ v. v.items ≡ folded rule input.now) }
     ensures len { IfOk result (λ v. vec_len v ≡ length input.now) }

@@ -1,5 +1,6 @@
-//! Laws of the definitions: statements that follow from the definitions. Some laws hold for every input. The other laws
-//! compute examples, and compare the results with values that the standard prints or that were worked out by hand.
+//! The functions of this file are laws: their contracts state facts that follow from the definitions in `specs/`. Some
+//! laws hold for every input. The other laws compute examples, and compare the results with values that the standard
+//! prints or that were worked out by hand.
 
 ghost use Rattle.std.specs.Prelude.{◌≡◌, ◌-◌, ◌/◌, ◌%◌, ℕ, List, [], ◌∷◌, ◌++◌, true, false, length, map, codes};
 ghost use Rattle.qr_layout.specs.declared.level.Level.{Level};
@@ -62,8 +63,9 @@ pub fn fitting_inputs_are_short()
     ensures { FittingInputsAreShort }
 {}
 
-/// The segments that `IsLeastSegmentation` describes cover their input. For each number n, these segments have at most
-/// n bits exactly if some valid assignment of modes to the bytes of the input takes at most n bits.
+/// The segments that `IsLeastSegmentation` describes cover their input, as `Covers` defines it. For each number n,
+/// these segments have at most n bits exactly if some valid assignment of modes to the bytes of the input
+/// (`IsAssignment`) takes at most n bits.
 pub fn least_segmentations_fit()
     ensures { LeastSegmentationsFit }
 {}
@@ -94,8 +96,8 @@ pub fn limits()
     ensures { INPUT_MAX ≡ 113425 }
 {}
 
-/// For the first and the last version of each range in Table 3, `count_width` computes the width of the character count
-/// indicator that the table prints (7.4.1, Table 3).
+/// For the first and the last version of each range of versions in Table 3, `count_width` computes the width of the
+/// character count indicator that the table prints (7.4.1, Table 3).
 pub fn widths_compute()
     ensures digits { map (λ v. count_width v Numeric) (1 ∷ 9 ∷ 10 ∷ 26 ∷ 27 ∷ 40 ∷ [])
         ≡ 10 ∷ 10 ∷ 12 ∷ 12 ∷ 14 ∷ 14 ∷ [] }
@@ -107,9 +109,9 @@ pub fn widths_compute()
         ≡ 8 ∷ 8 ∷ 10 ∷ 10 ∷ 12 ∷ 12 ∷ [] }
 {}
 
-/// The definitions compute the data bits of the standard's examples `01234567` and `AC-42` (7.4.3, 7.4.4). They also
-/// compute the data bits of `0123`, where one digit remains after a group of three digits, and the values of the last
-/// nine characters of alphanumeric mode (Table 5).
+/// The definitions compute the data bits of the standard's examples `01234567` and `AC-42` (7.4.3, 7.4.4). The
+/// definitions also compute the data bits of `0123`, where one digit remains after a group of three digits. For the
+/// last nine characters of alphanumeric mode, the definitions compute the values of Table 5.
 #[tactic(auto, unfolding(crate::specs::Modes::characters, crate::specs::Stream::digit_bits, crate::specs::Modes::character_value, crate::specs::Stream::character_bits, crate::specs::Bits::field))]
 pub fn payloads_compute()
     ensures digits { digit_bits (codes "01234567") ≡ field 10 12 ++ (field 10 345 ++ field 7 67) }
@@ -121,9 +123,9 @@ pub fn payloads_compute()
 {}
 
 /// The definitions compute the data codewords of four symbols of version 1. Three of these symbols have one segment: of
-/// digits, of characters or of kanji pairs. The fourth symbol is the second symbol in a series of three symbols, and
-/// has one segment in byte mode. The examples show the mode indicators, the character counts, the order of the fields
-/// of a structured append header, the terminator and the pad codewords (7.4.1 to 7.4.10, 8.1).
+/// digits, of characters or of kanji pairs. The fourth symbol is in a series, as the second of three symbols, and has a
+/// structured append header and one segment in byte mode. The examples show the mode indicators, the character counts,
+/// the order of the fields of a structured append header, the terminator and the pad codewords (7.4.1 to 7.4.10, 8.1).
 #[tactic(auto, unfolding(crate::specs::Modes::characters, crate::specs::Modes::character_value, crate::specs::Modes::kanji_value, crate::specs::Stream::digit_bits, crate::specs::Stream::character_bits, crate::specs::Stream::kanji_bits, crate::specs::Stream::payload, crate::specs::Stream::segment_stream, crate::specs::Stream::segments_stream, crate::specs::Header::header_stream, crate::specs::Padding::padded, crate::specs::Padding::pads, crate::specs::Bits::field, crate::specs::Bits::bits_of))]
 pub fn streams_compute()
     ensures digits { padded 16 (segments_stream 1 (codes "01234567") (one Numeric 8)) ≡ bits_of eight_digits }
@@ -133,7 +135,7 @@ pub fn streams_compute()
 {}
 
 /// The definition `parse` computes the content of the second symbol in a series of three symbols. For each row of
-/// `unreadable`, a list of codewords that cannot be parsed, it computes the fault in the row.
+/// `unreadable`, a list of codewords that cannot be parsed, `parse` computes the fault that the row contains.
 #[tactic(auto, unfolding(crate::specs::Parsing::parse, crate::specs::Parsing::first_header, crate::specs::Parsing::begins_header, crate::specs::Parsing::header_at, crate::specs::Parsing::segments_of, crate::specs::Parsing::segments_at, crate::specs::Parsing::segment_at, crate::specs::Parsing::leading_number, crate::specs::Parsing::payload_at, crate::specs::Parsing::values_of, crate::specs::Parsing::digits_of, crate::specs::Parsing::characters_of, crate::specs::Parsing::character, crate::specs::Parsing::bytes_of, crate::specs::Parsing::pairs_of, crate::specs::Parsing::kanji_pair, crate::specs::Parsing::mode_of, crate::specs::Parsing::ends, crate::specs::Modes::characters, crate::specs::Bits::field, crate::specs::Bits::bits_of))]
 pub fn parses_compute()
     ensures series { parse 1 (bits_of middle_data)
@@ -147,8 +149,8 @@ pub fn headers_take_room()
     ensures { (v : ℕ) (l : Level) (h : Header) → room_of v l ≡ capacity_of v l - header_bits (Some h) }
 {}
 
-/// The definition computes the parity data of `ABCDEFGH`, of an input without bytes, and of three bytes, two of which
-/// are equal (8.3).
+/// The definition `parity_of` computes the parity data of `ABCDEFGH`, of an empty input, and of three bytes, two of
+/// which are equal (8.3).
 pub fn parities_compute()
     ensures capitals { parity_of (codes "ABCDEFGH") ≡ 0x08 }
     ensures empty { parity_of [] ≡ 0 }
@@ -163,10 +165,10 @@ pub fn rules_compute()
     ensures kanji { map (may_use Rule.WithKanji) all_modes ≡ true ∷ true ∷ true ∷ true ∷ [] }
 {}
 
-/// The definition computes the folding of three examples. Under the rule `Auto`, the letters `a` and `z` become
-/// capitals, and the characters beside `a` and `z` in ASCII are unchanged. Under the rule `BytesOnly`, the same
-/// characters are all unchanged. Under the rule `WithKanji`, a kanji pair is unchanged even if its second byte is a
-/// small letter. A byte that could begin a kanji pair is unchanged if it is the last byte.
+/// The definition `folded` computes three examples. Under the rule `Auto`, the letters `a` and `z` become capitals, and
+/// the characters beside `a` and `z` in ASCII are unchanged. Under the rule `BytesOnly`, all bytes are unchanged. Under
+/// the rule `WithKanji`, a kanji pair is unchanged even if its second byte is a small letter. A last byte that could
+/// begin a kanji pair is also unchanged.
 #[tactic(auto, unfolding(crate::specs::Folding::folded_around_pairs, crate::specs::Modes::is_kanji_pair))]
 pub fn foldings_compute()
     ensures auto { folded Rule.Auto (codes "@AZ[`az{") ≡ codes "@AZ[`AZ{" }
@@ -175,8 +177,9 @@ pub fn foldings_compute()
         ≡ 0x41 ∷ 0x93 ∷ 0x61 ∷ 0x41 ∷ 0x93 ∷ [] }
 {}
 
-/// The definition computes the lower bound `least_bits` of five short inputs: `012`, `/9:`, `AZ`, `[z` and `1A[`. The
-/// inputs include bytes at the edges of the ranges for which `least_sixths` has different values.
+/// The definition `least_bits` computes a lower bound on the number of bits for five short inputs: `012`, `/9:`, `AZ`,
+/// `[z` and `1A[`. The definition distinguishes digits, other bytes up to `Z`, and greater bytes. The inputs contain
+/// the bytes on both sides of each limit between these ranges.
 #[tactic(auto, unfolding(crate::specs::Segmentation::least_bits))]
 pub fn least_bits_compute()
     ensures { map least_bits (codes "012" ∷ codes "/9:" ∷ codes "AZ" ∷ codes "[z" ∷ codes "1A[" ∷ [])
@@ -209,8 +212,9 @@ pub fn parse_fault_numbers(fault: ParseFault) -> u8
     fault as u8
 }
 
-/// The definitions compute the values of the standard's two kanji examples and of the greatest kanji pair, and the
-/// pairs of these values (7.4.6). They also decide which pairs of bytes at the edges of the two ranges are kanji pairs.
+/// The definitions compute the values of the standard's two kanji examples and of the greatest kanji pair, and compute
+/// these pairs from their values (7.4.6). For pairs of bytes at the edges of the two ranges of kanji pairs, the
+/// definitions decide which are kanji pairs.
 #[tactic(auto, unfolding(crate::specs::Modes::is_kanji_pair, crate::specs::Modes::kanji_value, crate::specs::Parsing::kanji_pair))]
 pub fn kanji_compute()
     ensures first { kanji_value 0x93 0x5F ≡ 0xD9F }

@@ -40,9 +40,10 @@ fn bytes_in(room: u64, version: Version) -> usize
 
 // Returns the length of the longest prefix of `input` that can be written in at most `room` bits.
 //
-// A prefix needs as many bits as the same bytes in reverse order, if the second byte of a kanji pair is then taken as
-// the first. When the prefix grows at its end, the reversed prefix grows at its beginning. So after each turn of the
-// loop, `rest.start / 4` is the least number of bits for the prefix that ends with `input[i]`.
+// A prefix needs as many bits as the same bytes in reverse order, where each kanji pair begins with its second byte.
+// When the prefix grows at its end, the reversed prefix grows at its beginning, where `best_choices` can add a byte.
+// After each turn of the loop, a quarter of `rest.start`, rounded down, is the least number of bits for the prefix that
+// ends with `input[i]`.
 fn longest_by_rows(input: &[u8], version: Version, rule: Rule, room: u64) -> usize
     requires { length input.now ≤ INPUT_MAX }
     ensures { IsLongestFit version rule input.now room result }
@@ -64,13 +65,13 @@ fn longest_by_rows(input: &[u8], version: Version, rule: Rule, room: u64) -> usi
 /// Returns the length of the longest prefix of `input` that fits in a symbol of this version and level after a
 /// structured append header. The segments of the prefix may have the modes that `rule` allows.
 ///
-/// In kanji mode, a prefix may fit although a shorter prefix does not fit. If the shorter prefix ends within a kanji
-/// pair, its last byte needs byte mode. The call never fails.
+/// In kanji mode, a prefix may fit although a shorter prefix does not fit. A shorter prefix that ends within a kanji
+/// pair needs a segment in byte mode for its last byte. The function never returns an error.
 ///
 /// # Notes
 ///
-/// The function never allocates. It has the parameter `_alloc` and returns a `Result` so that its calls look like the
-/// calls of the other functions.
+/// The function never allocates. The parameter `_alloc` and the return type `Result` make its calls look like the calls
+/// of the other functions of this crate.
 pub fn longest_fit(
     _alloc: Global,
     input: &[u8],

@@ -1,5 +1,5 @@
-//! Computes a lower bound on the number of bits that an input takes in any segments. A version whose capacity is less
-//! than this bound is skipped, without splitting the input into segments for the version.
+//! Computes a lower bound on the number of bits that an input takes, however it is split into segments. If the capacity
+//! of a version is less than this bound, the version can be skipped without splitting the input.
 
 ghost use Rattle.std.specs.Prelude.{length, ℕ, ◌/◌, ◌≡◌, ◌≤◌};
 ghost use Rattle.qr_bits.specs.declared.modes.Rule.{Rule};

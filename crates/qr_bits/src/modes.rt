@@ -1,5 +1,5 @@
-//! Describes the four modes of segments: which bytes each mode can write, the mode indicator, the width of the
-//! character count indicator, and the number of bits of the data (ISO/IEC 18004:2015, 7.3 and 7.4.1 to 7.4.6).
+//! Describes the four modes of segments (ISO/IEC 18004:2015, 7.3 and 7.4.1 to 7.4.6). Each mode has a mode indicator, a
+//! width of its character count indicator, a set of bytes that it can write, and a number of bits for these bytes.
 
 ghost use Rattle.std.specs.Prelude.{IsTrue, ◌<◌, ◌==◌, ◌^◌, ◌≡◌, ◌≤◌};
 ghost use Rattle.qr_bits.specs.Modes.{character_value, characters, character_count, count_width, in_twos, indicator, is_alphanumeric, is_digit, is_kanji_pair, kanji_value, byte_count, may_use, payload_bits, suits};
@@ -115,8 +115,8 @@ pub(crate) fn byte_count(mode: Mode, count: usize) -> usize
     }
 }
 
-// Returns the number of bits of the data of a segment of `len` bytes in `mode`, without its two indicators (7.4.3 to
-// 7.4.6).
+// Returns the number of bits of the data of a segment of `len` bytes in `mode`, without the mode indicator and the
+// character count indicator (7.4.3 to 7.4.6).
 pub(crate) fn payload_bits(mode: Mode, len: usize) -> usize
     requires { len < 2 ^ 20 }
     ensures { result ≡ payload_bits mode len }

@@ -16,7 +16,8 @@ use std::alloc::Global;
 use std::marker::Model;
 
 // A group of digits or characters is written as one number. The five constants below are the limits of these numbers:
-// the number for three digits is less than `THREE_DIGITS`, and so on (7.4.3, 7.4.4).
+// for example, the number for three digits is less than `THREE_DIGITS`. `PAIRS` is the limit for two characters, and
+// `SINGLES` is the limit for one character (7.4.3, 7.4.4).
 const THREE_DIGITS: u16 = 1000;
 
 const TWO_DIGITS: u16 = 100;
@@ -52,13 +53,13 @@ impl Model for Parsed {
 }
 
 /// Parses data codewords up to the terminator, or until fewer than four bits are left. All further bits are ignored.
-/// The parse succeeds exactly if the codewords begin with an optional structured append header and segments. The
-/// segments may be chosen in any way, segments may be empty, and the padding may be any bits.
+/// The parse succeeds exactly if the bits before this end are an optional structured append header, followed by
+/// segments. The segments may be chosen in any way and may be empty, and the padding may be any bits.
 ///
-/// Returns the fault that occurs first. The fault is `BadMode` if a mode indicator belongs to no mode, or if a
-/// structured append header is not at the beginning. The fault is `Cut` if the codewords end within a header, a
-/// character count indicator, or the data of a segment. The fault is `BadValue` if the number for a group of digits or
-/// characters is too large, or if a value in kanji mode belongs to no kanji pair.
+/// If the parse fails, returns the fault that occurs first. The fault is `BadMode` if a mode indicator belongs to no
+/// mode, or if a structured append header is not at the beginning. The fault is `Cut` if the codewords end within a
+/// header, a character count indicator, or the data of a segment. The fault is `BadValue` if the number for a group of
+/// digits or characters is too large, or if a value in kanji mode belongs to no kanji pair.
 #[tactic(auto, unfolding(crate::specs::Parsing::parse))]
 pub fn parse(alloc: Global, codewords: &[u8], version: Version) -> Result<Parsed, ParseFault>
     requires { length codewords.now ≤ 3706 }
@@ -89,8 +90,8 @@ fn first_header(reader: &mut BitReader) -> Result<Option<Header>, ParseFault>
     Ok(Some(header))
 }
 
-// Reads a structured append header, without the mode indicator at its beginning, which is already read (8.1). The
-// function does not allocate, so its fault is never `Memory`.
+// Reads the fields of a structured append header; the mode indicator of the header is already read (8.1). The function
+// does not allocate, so its fault is never `Memory`.
 #[tactic(auto, unfolding(crate::specs::Parsing::header_at))]
 fn header(reader: &mut BitReader) -> Result<Header, ParseFault>
     ensures ok { IfOk result (λ h. header_at reader.old ≡ Ok (h, reader.new)) }
@@ -146,7 +147,7 @@ fn segment(
 }
 
 // Reads the mode indicator and the character count indicator of a segment, and checks that the codewords contain all
-// bits of its data. The function does not allocate, so its fault is never `Memory`.
+// bits of the segment's data. The function does not allocate, so its fault is never `Memory`.
 #[tactic(auto, unfolding(crate::specs::Parsing::segment_at, crate::specs::Parsing::leading_number, crate::specs::Parsing::payload_at))]
 fn segment_head(reader: &mut BitReader, version: Version) -> Result<(Mode, u16), ParseFault>
     requires { 4 ≤ length reader.old }

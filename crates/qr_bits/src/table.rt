@@ -1,13 +1,13 @@
-//! Finds the best mode for each byte of an input. The best modes are in a table, which is filled from the last byte to
-//! the first.
+//! Finds a mode for each byte of an input, so that the segments take the fewest bits. A table of the best modes is
+//! filled from the last byte to the first.
 //!
 //! The number of bits that the remaining bytes add depends only on their modes and on the state before them, a
-//! `RunState`. For each state, the best mode of the next byte is the mode with the least sum of two numbers: the bits
-//! that the byte adds in this mode, and the fewest bits that the bytes after it then add.
+//! `RunState`. For each state and each mode of the next byte, there is a sum: the bits that the byte adds, plus the
+//! fewest bits that the bytes after it then add. The best mode for the state is the mode with the least sum.
 //!
 //! One number represents a choice of a mode: four times the number of bits of the choice, plus the rank of the mode. So
-//! the best choice is the choice with the least number: it has the fewest bits, and of the choices with equally many
-//! bits it has the lowest rank. A row of the table contains the best modes of one byte, as two bits for each state.
+//! the best choice has the least number: it has the fewest bits, and the lowest rank among the choices with equally
+//! many bits. A row of the table contains the best modes of one byte, in two bits for each state.
 
 ghost use Rattle.std.specs.Prelude.{◌≡◌, ◌+◌, ◌*◌, ◌/◌, ◌%◌, ◌<◌, ◌≤◌, ℕ, Bool, true, false, length, reverse, IfOk, vec_len};
 ghost use Rattle.qr_bits.specs.declared.modes.Mode.{Mode};
@@ -23,7 +23,8 @@ use crate::run_state::{FirstChoices, NO_BITS, PerState, RunState, number};
 use qr_layout::Version;
 use std::alloc::{AllocError, Global};
 
-// The number for a mode that may not be used. This number is greater than the number of every choice.
+// The number that represents a choice that is not allowed. This number is greater than the number of every allowed
+// choice.
 const NO_CHOICE: u32 = u32::MAX;
 
 // Returns the mode that has the rank `rank`.
@@ -68,8 +69,8 @@ fn number_if(may: bool, first: u32, rest: u32) -> u32
     if may { first + rest / 4 * 4 } else { NO_CHOICE }
 }
 
-// Returns a row of the table, which contains a mode for each state. The number that `numbers` contains for a state
-// represents the choice of this mode.
+// Returns a row of the table, which contains a mode for each state. The rank of this mode is the number that `numbers`
+// contains for the state, modulo 4.
 #[inline(always)]
 fn modes_of(numbers: &PerState<u32>) -> u32
     ensures { (p : RunState) → mode_at result p ≡ ranked (in_state numbers.now p % 4) }
@@ -107,10 +108,10 @@ fn choices(
     let no_digits = characters.min(others);
     let no_characters = digits.min(others);
     let start = digits.min(no_digits);
-    // In the states `digit3`, `character2`, `in_bytes` and `whole_pair`, the last group is complete. To continue the
-    // segment then takes fewer bits than to begin a new segment of the same mode, and both lead to the same `RunState`.
-    // So a new segment of the same mode is never the best choice. For this reason `start`, the least number of all new
-    // segments, can be used for these states although it includes a new segment of the same mode.
+    // In the states `Digit3`, `Character2`, `InBytes` and `WholePair`, the last group of bytes is complete. To continue
+    // the segment then takes fewer bits than to begin a new segment of the same mode, and both lead to the same
+    // `RunState`. So a new segment of the same mode is never the best choice. That is why `start`, the least number of
+    // all new segments, can be used for these states although it includes a new segment of the same mode.
     let digit2 = number_if(digit, number(3, Mode::Numeric), rest.digit2);
     let digit3 = number_if(digit, number(3, Mode::Numeric), rest.digit3);
     let digit1 = number_if(digit, number(4, Mode::Numeric), rest.digit1);
@@ -135,7 +136,8 @@ fn choices(
 
 /// Finds the best choice of a mode for `byte`, for each state before the byte. Returns the chosen modes as a row of the
 /// table, and the numbers that represent the choices. `pair` says whether the byte may be the first byte of a kanji
-/// pair. After the first byte of a kanji pair, only kanji mode is possible, and the second byte adds no bits.
+/// pair. After the first byte of a kanji pair, only kanji mode is possible, and the second byte adds no bits. For each
+/// state after the byte, `rest` contains the number that represents the best choice for the bytes after it.
 #[tactic(auto, unfolding(crate::specs::Steps::RunState::may_begin))]
 #[inline(always)]
 pub(crate) fn best_choices(

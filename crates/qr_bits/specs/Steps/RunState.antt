@@ -1,5 +1,5 @@
--- Defines the state of an assignment of modes after some of the bytes (a `RunState`), and the number of bits that the
--- next byte adds in each mode.
+-- Defines how many bits the next byte of an input adds in each mode. This number depends on the state after the bytes
+-- before it, which is a `RunState`.
 use Rattle.std.specs.Prelude.{◌≡◌, ℕ, ◌+◌, ◌*◌, ◌≤◌, Bool, true, false, ◌&&◌, ◌==◌, if◌then◌else◌, List, [], ◌∷◌, IsTrue}
 use Rattle.qr_bits.specs.declared.modes.Mode.{Mode}
 use Rattle.qr_bits.specs.declared.modes.Mode.TheVariants.{Numeric, Alphanumeric, Byte, Kanji}
@@ -9,7 +9,7 @@ use Rattle.qr_bits.specs.declared.run_state.RunState.TheVariants.{Start, Digit1,
 use Rattle.qr_bits.specs.Modes.{count_width, is_digit, is_alphanumeric, may_use}
 use Rattle.qr_bits.specs.Segmentation.{rank, IsNotAfter}
 
--- `state_after p m` is the state after one more byte, if the state before this byte is `p` and its mode is `m`
+-- `state_after p m` is the state after a byte with the mode `m`, if the state before this byte is `p`
 unfoldable pub state_after : RunState → Mode → RunState
 state_after Digit1 Numeric = Digit2
 state_after Digit2 Numeric = Digit3
@@ -20,8 +20,8 @@ state_after _ Byte = InBytes
 state_after HalfPair Kanji = WholePair
 state_after _ Kanji = HalfPair
 
--- `state_on p` is the state after one more byte, if the state before this byte is `p` and its mode is the mode of the
--- byte before it. At the start there is no byte before it, and its mode is byte mode
+-- `state_on p` is the state that follows the state `p` if the next byte has the mode of the byte before it. For
+-- `Start`, it is the state after a byte in byte mode
 unfoldable pub state_on : RunState → RunState
 state_on Start = InBytes
 state_on Digit1 = Digit2
@@ -83,7 +83,8 @@ may_end HalfPair = false
 may_end _ = true
 
 -- `allowed r test p xs ms` holds if the bytes `xs` may have the modes `ms`, one mode for each byte, after the state `p`
--- under the rule `r`. Two bytes are a kanji pair if they pass `test`.
+-- under the rule `r`. The last byte must not be the first byte of a kanji pair. Two bytes are a kanji pair if they pass
+-- `test`.
 unfoldable pub allowed : Rule → (ℕ → ℕ → Bool) → RunState → List ℕ → List Mode → Bool
 allowed r test p [] [] = may_end p
 allowed r test p [] (m ∷ ms) = false
@@ -98,8 +99,8 @@ cost_of v p (m ∷ ms) = byte_cost v p m + cost_of v (state_after p m) ms
 
 -- `IsBestRest v r test p xs ms n` holds if `ms` is the best of the assignments of modes to the remaining bytes `xs`
 -- that are allowed after the state `p`. The best assignment adds the fewest bits, and `n` is their number. If several
--- assignments add `n` bits, the best is the first of these in the lexicographic order by rank. The version is `v`, the
--- rule is `r`, and two bytes are a kanji pair if they pass `test`.
+-- assignments add `n` bits, the best is the first of these in the lexicographic order by the ranks of the modes. The
+-- version is `v`, the rule is `r`, and two bytes are a kanji pair if they pass `test`.
 pub record IsBestRest (v : ℕ) (r : Rule) (test : ℕ → ℕ → Bool) (p : RunState) (xs : List ℕ) (ms : List Mode) (n : ℕ) : Type 0 where
   pub is_allowed : IsTrue (allowed r test p xs ms)
   pub has_bits : cost_of v p ms ≡ n
@@ -107,7 +108,7 @@ pub record IsBestRest (v : ℕ) (r : Rule) (test : ℕ → ℕ → Bool) (p : Ru
   pub first : (ks : List Mode) → IsTrue (allowed r test p xs ks) → cost_of v p ks ≡ n → IsNotAfter ms ks
 
 -- `IsChoice v r p x pair cost m n` holds if `m` is the best mode for the byte `x` after the state `p`. With this mode,
--- `x` and the bytes after it add `n` bits, and with no other allowed mode do they add fewer bits. If several allowed
+-- `x` and the bytes after it add `n` bits, and every other allowed mode leads to `n` bits or more. If several allowed
 -- modes lead to `n` bits, `m` is the mode of the lowest rank. `cost q` is the number of bits that the bytes after `x`
 -- add after the state `q`. The flag `pair` says whether `x` may be the first byte of a kanji pair.
 pub record IsChoice (v : ℕ) (r : Rule) (p : RunState) (x : ℕ) (pair : Bool) (cost : RunState → ℕ) (m : Mode) (n : ℕ) : Type 0 where

@@ -33,7 +33,7 @@ IsSmall n =
     × (n.character2 < 40000000) × (n.in_bytes < 40000000) × (n.half_pair < 40000000) × (n.whole_pair < 40000000)
 
 -- `shift_of p` is the index of the lower of the two bits that contain the mode for the state `p` in a row of the table.
--- A row is a number with two such bits for each state; index 0 is its lowest bit
+-- A row is a number that has two such bits for each state, and the bit with the index 0 is the lowest bit
 abbrev pub shift_of : RunState → ℕ
 shift_of Start = 0
 shift_of Digit1 = 2
@@ -50,14 +50,14 @@ unfoldable pub mode_at : ℕ → RunState → Mode
 mode_at row p = ranked (row / 2 ^ shift_of p % 4)
 
 -- `IsRow v r x pair rest row numbers` holds if, for each state before the byte `x`, `row` contains the best mode of
--- `x`. For the same states, `numbers` contains the bits that `x` and the bytes after it then add, in the form that
--- `bits_at` reads. For the states after `x`, `rest` contains in this form the bits that the bytes after `x` add. The
--- version is `v`, the rule is `r`, and the flag `pair` says whether `x` may be the first byte of a kanji pair.
+-- `x`. For each of these states `p`, `bits_at numbers p` is the number of bits that `x` and the bytes after it then
+-- add. For each state `q` after `x`, `bits_at rest q` is the number of bits that the bytes after `x` add. The version
+-- is `v`, the rule is `r`, and the flag `pair` says whether `x` may be the first byte of a kanji pair.
 abbrev pub IsRow : ℕ → Rule → ℕ → Bool → PerState ℕ → ℕ → PerState ℕ → Type 0
 IsRow v r x pair rest row numbers = (p : RunState) → IsChoice v r p x pair (bits_at rest) (mode_at row p) (bits_at numbers p)
 
--- `follow p rows` is the list of the modes that are read from the rows of a table, one mode from each row. The mode in
--- the first row is read for the state `p`, and this mode determines the state for which the next row is read
+-- `follow p rows` is the list of the modes that are read from the rows of a table, one mode from each row. The first
+-- row is read for the state `p`. The mode that is read from a row leads to the state for which the next row is read
 unfoldable pub follow : RunState → List ℕ → List Mode
 follow p [] = []
 follow p (row ∷ rows) = mode_at row p ∷ follow (state_after p (mode_at row p)) rows
