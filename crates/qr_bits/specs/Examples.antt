@@ -1,5 +1,5 @@
--- Worked examples: values that the standard prints, or that were worked out by hand. Laws compare the definitions with
--- these values.
+-- Worked examples: values that the standard prints, or that were worked out by hand. The laws in `src/laws.rt` compare
+-- the definitions of this crate with these values.
 use Rattle.std.specs.Prelude.{ℕ, List, [], ◌∷◌}
 use Rattle.qr_bits.specs.declared.modes.Mode.{Mode}
 use Rattle.qr_bits.specs.declared.modes.Mode.TheVariants.{Numeric, Alphanumeric, Byte, Kanji}

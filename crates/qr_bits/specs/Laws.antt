@@ -57,15 +57,15 @@ DataFillTheSymbol =
     (v : ℕ) (l : Level) (xs : List ℕ) (segs : List Segment) (h : Option Header) (cw : List ℕ) → IsData v l xs segs h cw →
     length cw ≡ data_codewords_of v l
 
--- If segments have at most as many bits as the capacity of a symbol, the character count of each segment fits its
+-- If the number of bits of segments is at most the capacity of a symbol, the character count of each segment fits its
 -- character count indicator. The bytes of each segment must be bytes that its mode can write [own].
 abbrev pub CountsFitWhereBitsFit : Type 0
 CountsFitWhereBitsFit =
     (v : ℕ) (l : Level) (xs : List ℕ) (segs : List Segment) → 1 ≤ v → v ≤ 40 → Suits xs segs →
     bits v segs ≤ capacity_of v l → CountsFit v segs
 
--- If some valid assignment of modes to the bytes of an input takes at most as many bits as the capacity of a symbol,
--- the input has at most 7,089 bytes [own].
+-- Suppose that some valid assignment of modes to the bytes of an input takes no more bits than the capacity of a
+-- symbol. Then the input has at most 7,089 bytes [own].
 abbrev pub FittingInputsAreShort : Type 0
 FittingInputsAreShort =
     (v : ℕ) (l : Level) (r : Rule) (xs : List ℕ) → 1 ≤ v → v ≤ 40 → HasFit v r xs (capacity_of v l) → length xs ≤ 7089

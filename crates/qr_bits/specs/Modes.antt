@@ -28,13 +28,13 @@ count_width v Byte = if nat_le v 9 then 8 else 16
 count_width v Kanji = if nat_le v 9 then 8 else (if nat_le v 26 then 10 else 12)
 
 -- `character_count m n` is the character count of a segment of `n` bytes in the mode `m`. A character of kanji mode has
--- two bytes, and a character of each other mode has one byte (ISO/IEC 18004:2015, 7.4.1)
+-- two bytes, and a character of every other mode has one byte (ISO/IEC 18004:2015, 7.4.1)
 abbrev pub character_count : Mode → ℕ → ℕ
 character_count Kanji n = n / 2
 character_count _ n = n
 
 -- `byte_count m n` is the number of bytes of a segment in the mode `m` with the character count `n`. A character of
--- kanji mode has two bytes, and a character of each other mode has one byte (ISO/IEC 18004:2015, 7.4.1)
+-- kanji mode has two bytes, and a character of every other mode has one byte (ISO/IEC 18004:2015, 7.4.1)
 abbrev pub byte_count : Mode → ℕ → ℕ
 byte_count Kanji n = 2 * n
 byte_count _ n = n

@@ -113,8 +113,8 @@ mode_of n =
 unfoldable pub ends : List Bool → Bool
 ends bits = nat_lt (length bits) 4 || value (take 4 bits) == terminator
 
--- `leading_number w bits` is the number that the first `w` bits of `bits` are, together with the bits after these. If
--- `bits` has fewer than `w` bits, the result is the fault `Cut` (ISO/IEC 18004:2015, 7.4.1)
+-- `leading_number w bits` reads a number from the first `w` bits of `bits`. The result is the number, together with the
+-- bits after it. If `bits` has fewer than `w` bits, the result is the fault `Cut` (ISO/IEC 18004:2015, 7.4.1)
 unfoldable pub leading_number : ℕ → List Bool → Result (ℕ × List Bool) ParseFault
 leading_number w bits = if nat_lt (length bits) w then Err Cut else Ok (value (take w bits), drop w bits)
 
@@ -175,9 +175,9 @@ pub record Content : Type 0 where
   pub segments : List Segment
   pub bytes : List ℕ
 
--- `parse v bits` is the content of the data codewords of a symbol of version `v`, or the fault of the parse; `bits` is
--- the list of the bits of the codewords. An optional structured append header is read first. The segments are read
--- after it, until the terminator comes or fewer than four bits remain (ISO/IEC 18004:2015, 7.4.1, 8.1, 12)
+-- `parse v bits` reads the content of data codewords of a symbol of version `v` from `bits`, the list of their bits.
+-- The result is the content or a fault. An optional structured append header is read first. The segments are read after
+-- it, until the terminator comes or fewer than four bits remain (ISO/IEC 18004:2015, 7.4.1, 8.1, 12)
 unfoldable pub parse : ℕ → List Bool → Result Content ParseFault
 parse v bits =
     first_header bits >>= λ h.

@@ -1,5 +1,5 @@
--- Defines how many bits segments take, and which segments are chosen for an input. The choice is made by an assignment:
--- a mode for each byte of the input.
+-- Defines how many bits segments take, and which segments are chosen for an input. The segments are determined by an
+-- assignment, which is a mode for each byte of the input.
 use Rattle.std.specs.Prelude.{◌≡◌, ℕ, ◌+◌, ◌/◌, ◌<◌, ◌≤◌, ◌⊎◌, if◌then◌else◌, ◌==◌, nat_le, List, [], ◌∷◌, length, take, All, IsTrue}
 use Rattle.std.specs.List.{list_all, sum_by}
 use Rattle.qr_bits.specs.declared.modes.Mode.{Mode}

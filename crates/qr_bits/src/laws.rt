@@ -52,8 +52,8 @@ pub fn streams_have_their_bits()
     ensures { StreamsHaveTheirBits }
 {}
 
-/// If segments have at most as many bits as the capacity of a symbol, the character count of each segment fits its
-/// character count indicator.
+/// If the number of bits of segments is at most the capacity of a symbol, the character count of each segment fits its
+/// character count indicator. The bytes of each segment must be bytes that its mode can write.
 pub fn counts_fit_where_bits_fit()
     ensures { CountsFitWhereBitsFit }
 {}
@@ -122,10 +122,11 @@ pub fn payloads_compute()
         ≡ 36 ∷ 37 ∷ 38 ∷ 39 ∷ 40 ∷ 41 ∷ 42 ∷ 43 ∷ 44 ∷ [] }
 {}
 
-/// The definitions compute the data codewords of four symbols of version 1. Three of these symbols have one segment: of
-/// digits, of characters or of kanji pairs. The fourth symbol is in a series, as the second of three symbols, and has a
-/// structured append header and one segment in byte mode. The examples show the mode indicators, the character counts,
-/// the order of the fields of a structured append header, the terminator and the pad codewords (7.4.1 to 7.4.10, 8.1).
+/// The definitions compute the data codewords of four symbols of version 1. Each of the first three symbols has one
+/// segment: of digits, of characters, or of kanji pairs. The fourth symbol is in a series, as the second of three
+/// symbols, and has a structured append header and one segment in byte mode. The examples show the mode indicators, the
+/// character counts, the order of the fields of a structured append header, the terminator and the pad codewords (7.4.1
+/// to 7.4.10, 8.1).
 #[tactic(auto, unfolding(crate::specs::Modes::characters, crate::specs::Modes::character_value, crate::specs::Modes::kanji_value, crate::specs::Stream::digit_bits, crate::specs::Stream::character_bits, crate::specs::Stream::kanji_bits, crate::specs::Stream::payload, crate::specs::Stream::segment_stream, crate::specs::Stream::segments_stream, crate::specs::Header::header_stream, crate::specs::Padding::padded, crate::specs::Padding::pads, crate::specs::Bits::field, crate::specs::Bits::bits_of))]
 pub fn streams_compute()
     ensures digits { padded 16 (segments_stream 1 (codes "01234567") (one Numeric 8)) ≡ bits_of eight_digits }
@@ -213,8 +214,8 @@ pub fn parse_fault_numbers(fault: ParseFault) -> u8
 }
 
 /// The definitions compute the values of the standard's two kanji examples and of the greatest kanji pair, and compute
-/// these pairs from their values (7.4.6). For pairs of bytes at the edges of the two ranges of kanji pairs, the
-/// definitions decide which are kanji pairs.
+/// these pairs from their values (7.4.6). The definitions also decide, at the edges of the two ranges of kanji pairs,
+/// which pairs of bytes are kanji pairs.
 #[tactic(auto, unfolding(crate::specs::Modes::is_kanji_pair, crate::specs::Modes::kanji_value, crate::specs::Parsing::kanji_pair))]
 pub fn kanji_compute()
     ensures first { kanji_value 0x93 0x5F ≡ 0xD9F }
