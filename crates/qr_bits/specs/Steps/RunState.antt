@@ -83,8 +83,7 @@ may_end HalfPair = false
 may_end _ = true
 
 -- `allowed r test p xs ms` holds if the bytes `xs` may have the modes `ms`, one mode for each byte, after the state `p`
--- under the rule `r`. The last byte must not be the first byte of a kanji pair. Two bytes are a kanji pair if they pass
--- `test`.
+-- under the rule `r`. At the end, no kanji pair may be incomplete. Two bytes are a kanji pair if they pass `test`.
 unfoldable pub allowed : Rule → (ℕ → ℕ → Bool) → RunState → List ℕ → List Mode → Bool
 allowed r test p [] [] = may_end p
 allowed r test p [] (m ∷ ms) = false
