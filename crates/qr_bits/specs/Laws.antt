@@ -1,4 +1,4 @@
--- Laws of the definitions.
+-- States the laws of this crate's definitions: facts that follow from the definitions and that are proved.
 use Rattle.std.specs.Prelude.{◌≡◌, ℕ, ◌+◌, ◌*◌, ◌<◌, ◌≤◌, ◌↔◌, Bool, true, false, List, ◌++◌, length, Option, Ok}
 use Rattle.std.specs.List.{slice_index_or}
 use Rattle.qr_layout.specs.declared.level.Level.{Level}
@@ -15,68 +15,77 @@ use Rattle.qr_bits.specs.Padding.{capacity_of, IsData}
 use Rattle.qr_bits.specs.Header.{header_bits}
 use Rattle.qr_bits.specs.Parsing.{ends, parse}
 
--- A parse returns a header, segments and bytes exactly if the bits are the stream of this header, these segments and these
--- bytes, and then an end: fewer than four bits, or the terminator and any bits (ISO/IEC 18004:2015, 7.4.1, 7.4.9, 8.1).
+-- A parse of bits returns a header, segments and bytes exactly if the bits are two lists of bits, one after the other.
+-- The first list is the bit stream of this header, these segments and these bytes. The second list has fewer than four
+-- bits, or begins with the terminator (ISO/IEC 18004:2015, 7.4.1, 7.4.9, 8.1).
 abbrev pub StreamsAreParsed : Type 0
 StreamsAreParsed =
     (v : ℕ) (bits : List Bool) (h : Option Header) (segs : List Segment) (xs : List ℕ) →
     (parse v bits ≡ Ok (record { header = h; segments = segs; bytes = xs })) ↔
     ((front : List Bool) × (tail : List Bool) × IsStream v xs segs h front × (bits ≡ front ++ tail) × (ends tail ≡ true))
 
--- A parse of data codewords returns the header, the segments and the bytes that the codewords were made of [own].
+-- A parse of data codewords returns the header, the segments and the bytes from which the codewords were made [own].
 abbrev pub DataAreParsed : Type 0
 DataAreParsed =
     (v : ℕ) (l : Level) (xs : List ℕ) (segs : List Segment) (h : Option Header) (cw : List ℕ) → IsData v l xs segs h cw →
     parse v (bits_of cw) ≡ Ok (record { header = h; segments = segs; bytes = xs })
 
--- The length of a stream is the number of bits of its header plus the number of bits of its segments [own].
+-- The length of a bit stream is the number of bits of its header, if it has one, plus the number of bits of its
+-- segments [own].
 abbrev pub StreamsHaveTheirBits : Type 0
 StreamsHaveTheirBits =
     (v : ℕ) (xs : List ℕ) (segs : List Segment) (h : Option Header) (stream : List Bool) → IsStream v xs segs h stream →
     length stream ≡ header_bits h + bits v segs
 
--- If a stream is no longer than the capacity of a symbol, there are data codewords for it [own].
+-- For each bit stream whose length is at most the capacity of a symbol, there is a list of data codewords [own].
 abbrev pub DataAreThere : Type 0
 DataAreThere =
     (v : ℕ) (l : Level) (xs : List ℕ) (segs : List Segment) (h : Option Header) (stream : List Bool) → IsStream v xs segs h stream →
     length stream ≤ capacity_of v l → (cw : List ℕ) × IsData v l xs segs h cw
 
--- Bytes in segments after a header have at most one list of data codewords in a symbol [own].
+-- There is at most one list of data codewords for a version, a level, an optional header, segments, and the bytes of
+-- these segments [own].
 abbrev pub DataAreOne : Type 0
 DataAreOne =
     (v : ℕ) (l : Level) (xs : List ℕ) (segs : List Segment) (h : Option Header) (cw dw : List ℕ) →
     IsData v l xs segs h cw → IsData v l xs segs h dw → cw ≡ dw
 
--- The number of data codewords is the number that a symbol of this version and level has (ISO/IEC 18004:2015, 7.4.10).
+-- The number of data codewords is the number that the standard requires for the version and the level of the symbol
+-- (ISO/IEC 18004:2015, 7.4.10).
 abbrev pub DataFillTheSymbol : Type 0
 DataFillTheSymbol =
     (v : ℕ) (l : Level) (xs : List ℕ) (segs : List Segment) (h : Option Header) (cw : List ℕ) → IsData v l xs segs h cw →
     length cw ≡ data_codewords_of v l
 
--- If segments suit the bytes, and their bits fit a symbol, each count fits its character count indicator [own].
+-- If the number of bits of segments is at most the capacity of a symbol, the character count of each segment fits its
+-- character count indicator. The bytes of each segment must be bytes that its mode can write [own].
 abbrev pub CountsFitWhereBitsFit : Type 0
 CountsFitWhereBitsFit =
     (v : ℕ) (l : Level) (xs : List ℕ) (segs : List Segment) → 1 ≤ v → v ≤ 40 → Suits xs segs →
     bits v segs ≤ capacity_of v l → CountsFit v segs
 
--- If some valid assignment of modes to the bytes fits a symbol, there are at most 7,089 bytes [own].
+-- Suppose that some valid assignment of modes to the bytes of an input takes no more bits than the capacity of a
+-- symbol. Then the input has at most 7,089 bytes [own].
 abbrev pub FittingInputsAreShort : Type 0
 FittingInputsAreShort =
     (v : ℕ) (l : Level) (r : Rule) (xs : List ℕ) → 1 ≤ v → v ≤ 40 → HasFit v r xs (capacity_of v l) → length xs ≤ 7089
 
--- The least segmentation covers the bytes, and has at most n bits exactly if some valid assignment of modes to the bytes has
--- at most n bits [own].
+-- The segments that `IsLeastSegmentation` describes cover the bytes of the input, as `Covers` defines it. For each
+-- number n, these segments have at most n bits exactly if some valid assignment of modes to the bytes takes at most n
+-- bits [own].
 abbrev pub LeastSegmentationsFit : Type 0
 LeastSegmentationsFit =
     (v : ℕ) (r : Rule) (xs : List ℕ) (segs : List Segment) → IsLeastSegmentation v r xs segs →
     Covers xs segs × ((n : ℕ) → HasFit v r xs n ↔ (bits v segs ≤ n))
 
--- If an input can be written in at most n bits under a rule without kanji mode, so can each piece of the input [own].
+-- Suppose that some valid assignment of modes to an input takes at most n bits, under a rule without kanji mode. Then
+-- some valid assignment of modes to each contiguous part of the input takes at most n bits [own].
 abbrev pub PiecesNeedNoMore : Type 0
 PiecesNeedNoMore =
     (v : ℕ) (r : Rule) (xs ys zs : List ℕ) (n : ℕ) → may_use r Kanji ≡ false → HasFit v r (xs ++ (ys ++ zs)) n → HasFit v r ys n
 
--- Item k of the list of bits of the codewords cw is `codeword_bit cw k` (ISO/IEC 18004:2015, 7.7.3).
+-- In the list of all bits of the codewords `cw`, the bit with the index `k` is `codeword_bit cw k` (ISO/IEC 18004:2015,
+-- 7.7.3).
 abbrev pub BitsAreCodewordBits : Type 0
 BitsAreCodewordBits =
     (cw : List ℕ) (k : ℕ) → k < 8 * length cw → slice_index_or (bits_of cw) k false ≡ codeword_bit cw k

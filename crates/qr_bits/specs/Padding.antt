@@ -1,4 +1,4 @@
--- The data codewords of a symbol: the stream, the terminator and the padding.
+-- Defines the data codewords of a symbol: they contain a bit stream, its terminator and the padding.
 use Rattle.std.specs.Prelude.{◌≡◌, ℕ, ◌*◌, ◌/◌, ◌%◌, ◌<◌, ◌≤◌, Bool, false, List, [], ◌∷◌, length, ◌-◌, ◌++◌, All, Option, zero, suc, min, replicate}
 use Rattle.qr_bits.specs.declared.segment.Segment.{Segment}
 use Rattle.qr_bits.specs.declared.header.Header.{Header}
@@ -7,37 +7,43 @@ use Rattle.qr_layout.specs.declared.level.Level.{Level}
 use Rattle.qr_layout.specs.Blocks.{data_codewords_of}
 use Rattle.qr_bits.specs.Stream.{IsStream}
 
--- The number of bits of the data codewords of a symbol (ISO/IEC 18004:2015, 7.4.10, Table 7)
+-- `capacity_of v l` is the capacity of a symbol of version `v` and level `l`: the number of bits of its data codewords
+-- (ISO/IEC 18004:2015, 7.4.10, Table 7)
 abbrev pub capacity_of : ℕ → Level → ℕ
 capacity_of v l = 8 * data_codewords_of v l
 
--- The number of bits of the data codewords of a symbol that remain after a header (ISO/IEC 18004:2015, 7.4.10, 8.1)
+-- `room_of v l` is the number of bits that remain in the data codewords of a symbol of version `v` and level `l` after
+-- a structured append header of 20 bits (ISO/IEC 18004:2015, 7.4.10, 8.1)
 abbrev pub room_of : ℕ → Level → ℕ
 room_of v l = capacity_of v l - 20
 
--- A stream and its terminator: four zero bits, or fewer if the capacity has no room for four (ISO/IEC 18004:2015, 7.4.9)
+-- `terminated capacity stream` is the bit stream `stream`, followed by its terminator. The terminator is four zero
+-- bits, or fewer if fewer than four of the `capacity` bits of a symbol remain (ISO/IEC 18004:2015, 7.4.9)
 abbrev pub terminated : ℕ → List Bool → List Bool
 terminated capacity stream = stream ++ replicate (min 4 (capacity - length stream)) false
 
--- A stream with zero bits added up to the end of a codeword (ISO/IEC 18004:2015, 7.4.10)
+-- `filled stream` is the list of bits `stream`, followed by the zero bits that complete its last codeword of eight bits
+-- (ISO/IEC 18004:2015, 7.4.10)
 abbrev pub filled : List Bool → List Bool
 filled stream = stream ++ replicate ((8 - length stream % 8) % 8) false
 
--- A list of n pad codewords: EC and 11 (hexadecimal) in turn (ISO/IEC 18004:2015, 7.4.10)
+-- `pads n` is a list of `n` pad codewords: EC and 11 (hexadecimal) in turn, EC first (ISO/IEC 18004:2015, 7.4.10)
 unfoldable pub pads : ℕ → List ℕ
 pads zero = []
 pads (suc zero) = 0xEC ∷ []
 pads (suc (suc n)) = 0xEC ∷ 0x11 ∷ pads n
 
--- `padded n stream` is the stream with its terminator, filled up to n codewords (ISO/IEC 18004:2015, 7.4.9, 7.4.10)
+-- `padded n stream` is the list of the bits of `n` data codewords: the bit stream `stream`, its terminator, zero bits
+-- up to the end of a codeword, and pad codewords (ISO/IEC 18004:2015, 7.4.9, 7.4.10)
 unfoldable pub padded : ℕ → List Bool → List Bool
 padded n stream =
     let whole = filled (terminated (8 * n) stream) in
     whole ++ bits_of (pads (n - length whole / 8))
 
--- `IsData v l xs segs h cw` holds if cw are the data codewords of the bytes xs in the segments segs after the header h, in a
--- symbol of version v and level l: cw are bytes, and their bits are the padded stream. There are no such codewords if there
--- is no stream, or if the stream is longer than the capacity (ISO/IEC 18004:2015, 7.4.10).
+-- `IsData v l xs segs h cw` holds if `cw` is the list of the data codewords of a symbol of version `v` and level `l`.
+-- The symbol contains the bytes `xs` in the segments `segs`, after the structured append header `h`, if there is one.
+-- The items of `cw` are bytes, and their bits are the padded bit stream. There is no such `cw` if no bit stream
+-- satisfies `IsStream`, or if the bit stream is longer than the capacity of the symbol (ISO/IEC 18004:2015, 7.4.10).
 pub record IsData (v : ℕ) (l : Level) (xs : List ℕ) (segs : List Segment) (h : Option Header) (cw : List ℕ) : Type 0 where
   pub stream : List Bool
   pub is_stream : IsStream v xs segs h stream

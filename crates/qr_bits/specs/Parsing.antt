@@ -1,4 +1,5 @@
--- The parse of the bits of data codewords, by cases on the bits.
+-- Defines the parse of data codewords. The result is the header, the segments and the bytes that are read from the bits
+-- of the codewords, or a fault.
 use Rattle.std.specs.Prelude.{◌≡◌, ◌⊎◌, ℕ, zero, suc, ◌+◌, ◌*◌, ◌/◌, ◌%◌, Bool, ◌&&◌, ◌||◌, ◌==◌, nat_lt, nat_le, if◌then◌else◌, List, [], ◌∷◌, ◌++◌, length, take, drop, Result, Ok, Err, Option, Some, None}
 use Rattle.std.specs.List.{slice_index_or}
 use Rattle.qr_bits.specs.declared.modes.Mode.{Mode}
@@ -12,25 +13,29 @@ use Rattle.qr_bits.specs.Modes.{characters, count_width, indicator, byte_count, 
 use Rattle.qr_bits.specs.Header.{header_indicator}
 
 infixl 10 ◌>>=◌
--- `r >>= f` applies f to the value that r returned; if r is a fault, the result is this fault
+-- `r >>= f` is `f` applied to the value of the result `r`. If `r` is a fault, `r >>= f` is the same fault
 abbrev pub ◌>>=◌ : {A B : Type 0} → Result A ParseFault → (A → Result B ParseFault) → Result B ParseFault
 (Ok x) >>= f = f x
 (Err e) >>= f = Err e
 
--- `IsFaultOf e read` holds if the fault e is `Memory`, or is the fault of the defined result `read` [own].
+-- `IsFaultOf e read` holds if `e` is the fault `Memory` (lack of memory), or if `read` is the fault `e`. Here `e` is
+-- the fault that the code returned, and `read` is the result that a definition of this file requires [own].
 abbrev pub IsFaultOf : {A : Type 0} → ParseFault → Result A ParseFault → Type 0
 IsFaultOf e read = (e ≡ Memory) ⊎ (read ≡ Err e)
 
--- `IsResultOf r read` holds if the returned result r is the fault `Memory`, or is the defined result `read` [own].
+-- `IsResultOf r read` holds if `r` is the fault `Memory` (lack of memory), or if `r` equals `read`. Here `r` is the
+-- result that the code returned, and `read` is the result that a definition of this file requires [own].
 abbrev pub IsResultOf : {A : Type 0} → Result A ParseFault → Result A ParseFault → Type 0
 IsResultOf r read = (r ≡ Err Memory) ⊎ (read ≡ r)
 
--- `digit n` is the last digit of the number n, as its ASCII byte (ISO/IEC 18004:2015, 7.4.3)
+-- `digit n` is the ASCII code of the last decimal digit of the number `n` (ISO/IEC 18004:2015, 7.4.3)
 abbrev pub digit : ℕ → ℕ
 digit n = 48 + n % 10
 
--- `digits_of n bits` reads n digits: three digits from 10 bits, two left over from 7, one left over from 4. A number that is
--- too large for its group, such as 1000 for three digits, is `BadValue` (ISO/IEC 18004:2015, 7.4.3)
+-- `digits_of n bits` is the list of the `n` digits, as ASCII codes, that are read from the beginning of `bits` in
+-- numeric mode. Three digits are read from 10 bits. Two digits that remain at the end are read from 7 bits, and one
+-- digit that remains is read from 4 bits. The result is the fault `BadValue` if the number in a group of bits is too
+-- large, such as 1000 for three digits (ISO/IEC 18004:2015, 7.4.3)
 unfoldable pub digits_of : ℕ → List Bool → Result (List ℕ) ParseFault
 digits_of zero bits = Ok []
 digits_of (suc zero) bits =
@@ -43,12 +48,15 @@ digits_of (suc (suc (suc n))) bits =
     let group = value (take 10 bits) in
     if nat_lt group 1000 then (digits_of n (drop 10 bits) >>= λ ds. Ok (digit (group / 100) ∷ digit (group / 10) ∷ digit group ∷ ds)) else Err BadValue
 
--- `character n` is the character of a value n below 45 (ISO/IEC 18004:2015, 7.4.4, Table 5)
+-- `character n` is the character that has the value `n` in alphanumeric mode; `n` is below 45 (ISO/IEC 18004:2015,
+-- 7.4.4, Table 5)
 unfoldable pub character : ℕ → ℕ
 character n = slice_index_or characters n 0
 
--- `characters_of n bits` reads n characters: two characters from 11 bits, one left over from 6. A number of 2025 or more for
--- two characters, or of 45 or more for one, is `BadValue` (ISO/IEC 18004:2015, 7.4.4)
+-- `characters_of n bits` is the list of the `n` characters that are read from the beginning of `bits` in alphanumeric
+-- mode. Two characters are read from 11 bits, and a single character at the end is read from 6 bits. The result is the
+-- fault `BadValue` if the number for two characters is 2025 or more, or if the number for a single character is 45 or
+-- more (ISO/IEC 18004:2015, 7.4.4)
 unfoldable pub characters_of : ℕ → List Bool → Result (List ℕ) ParseFault
 characters_of zero bits = Ok []
 characters_of (suc zero) bits =
@@ -58,21 +66,24 @@ characters_of (suc (suc n)) bits =
     let pair = value (take 11 bits) in
     if nat_lt pair 2025 then (characters_of n (drop 11 bits) >>= λ cs. Ok (character (pair / 45) ∷ character (pair % 45) ∷ cs)) else Err BadValue
 
--- `bytes_of n bits` reads n bytes, each from 8 bits (ISO/IEC 18004:2015, 7.4.5)
+-- `bytes_of n bits` is the list of the `n` bytes that are read from the beginning of `bits` in byte mode, each byte
+-- from 8 bits (ISO/IEC 18004:2015, 7.4.5)
 unfoldable pub bytes_of : ℕ → List Bool → List ℕ
 bytes_of zero bits = []
 bytes_of (suc n) bits = value (take 8 bits) ∷ bytes_of n (drop 8 bits)
 
--- `kanji_pair n` is the kanji pair of the value n, as a number of 16 bits. The value is C0 times a high byte plus a low
--- byte. The pair is the 16-bit number with this high and this low byte, plus 8140 if the high byte is at most 1E, and
--- otherwise plus C140 (all hexadecimal) (ISO/IEC 18004:2015, 7.4.6)
+-- `kanji_pair n` is the kanji pair that has the value `n`, as a number of 16 bits. The value is divided by C0: the
+-- quotient is the high byte of a number of 16 bits, and the remainder is the low byte of this number. The kanji pair is
+-- this number plus 8140 if the high byte is at most 1E, and plus C140 otherwise. The numbers C0, 8140, 1E and C140 are
+-- hexadecimal (ISO/IEC 18004:2015, 7.4.6)
 unfoldable pub kanji_pair : ℕ → ℕ
 kanji_pair n =
     let rest = 256 * (n / 0xC0) + n % 0xC0 in
     if nat_le (n / 0xC0) 0x1E then rest + 0x8140 else rest + 0xC140
 
--- `pairs_of n bits` reads n kanji pairs, each from 13 bits. A value whose low byte is above BC (hexadecimal) is `BadValue`
--- (ISO/IEC 18004:2015, 7.4.6)
+-- `pairs_of n bits` is the list of the bytes of the `n` kanji pairs that are read from the beginning of `bits` in kanji
+-- mode. The value of each pair is read from 13 bits. The result is the fault `BadValue` if the remainder of a value
+-- divided by C0 is above BC (both numbers are hexadecimal) (ISO/IEC 18004:2015, 7.4.6)
 unfoldable pub pairs_of : ℕ → List Bool → Result (List ℕ) ParseFault
 pairs_of zero bits = Ok []
 pairs_of (suc n) bits =
@@ -80,15 +91,16 @@ pairs_of (suc n) bits =
     let pair = kanji_pair group in
     if nat_le (group % 0xC0) 0xBC then (pairs_of n (drop 13 bits) >>= λ xs. Ok (pair / 256 ∷ pair % 256 ∷ xs)) else Err BadValue
 
--- `values_of m n bits` reads the data of a segment in mode m: n digits, characters, bytes or kanji pairs (ISO/IEC
--- 18004:2015, 7.4.3 to 7.4.6)
+-- `values_of m n bits` is the list of the bytes that are read from `bits`, the data of a segment in the mode `m`. The
+-- character count `n` is the number of digits, characters, bytes or kanji pairs (ISO/IEC 18004:2015, 7.4.3 to 7.4.6)
 unfoldable pub values_of : Mode → ℕ → List Bool → Result (List ℕ) ParseFault
 values_of Numeric n bits = digits_of n bits
 values_of Alphanumeric n bits = characters_of n bits
 values_of Byte n bits = Ok (bytes_of n bits)
 values_of Kanji n bits = pairs_of n bits
 
--- `mode_of n` is the mode with the indicator n; an indicator of no mode is `BadMode` (ISO/IEC 18004:2015, 7.4.1, Table 2)
+-- `mode_of n` is the mode that has the mode indicator `n`. If no mode has this indicator, the result is the fault
+-- `BadMode` (ISO/IEC 18004:2015, 7.4.1, Table 2)
 unfoldable pub mode_of : ℕ → Result Mode ParseFault
 mode_of n =
     if n == indicator Numeric then Ok Numeric else
@@ -96,24 +108,26 @@ mode_of n =
     (if n == indicator Byte then Ok Byte else
     (if n == indicator Kanji then Ok Kanji else Err BadMode)))
 
--- `ends bits` holds if the data ends here: there are fewer than four bits, or the first four are the terminator (ISO/IEC
--- 18004:2015, 7.4.9)
+-- `ends bits` holds if `bits`, the bits that are not read yet, begin with no segment: there are fewer than four bits,
+-- or the first four bits are the terminator (ISO/IEC 18004:2015, 7.4.9)
 unfoldable pub ends : List Bool → Bool
 ends bits = nat_lt (length bits) 4 || value (take 4 bits) == terminator
 
--- `leading_number w bits` reads a number of w bits, and returns it with the bits after it. The fault is `Cut` if there are
--- fewer than w bits (ISO/IEC 18004:2015, 7.4.1)
+-- `leading_number w bits` reads a number from the first `w` bits of `bits`. The result is the number, together with the
+-- bits after it. If `bits` has fewer than `w` bits, the result is the fault `Cut` (ISO/IEC 18004:2015, 7.4.1)
 unfoldable pub leading_number : ℕ → List Bool → Result (ℕ × List Bool) ParseFault
 leading_number w bits = if nat_lt (length bits) w then Err Cut else Ok (value (take w bits), drop w bits)
 
--- `payload_at m n bits` reads the data of a segment with mode m and count n, and returns its bytes with the bits after it.
--- The fault is `Cut` if not all bits of the data are there, whatever their values (ISO/IEC 18004:2015, 7.4.3 to 7.4.6)
+-- `payload_at m n bits` reads the data of a segment with the mode `m` and the character count `n` from the beginning of
+-- `bits`. The result is the bytes of the segment, together with the bits after the data. If `bits` is shorter than the
+-- data, the result is the fault `Cut`, whatever the values of the bits are (ISO/IEC 18004:2015, 7.4.3 to 7.4.6)
 unfoldable pub payload_at : Mode → ℕ → List Bool → Result (List ℕ × List Bool) ParseFault
 payload_at m n bits =
     if nat_lt (length bits) (payload_bits m (byte_count m n)) then Err Cut else (values_of m n bits >>= λ xs. Ok (xs, drop (payload_bits m (byte_count m n)) bits))
 
--- `segment_at v bits` reads a segment, which is indicator, count and data. It returns the segment, its bytes, and the bits
--- after it (ISO/IEC 18004:2015, 7.4.1)
+-- `segment_at v bits` reads a segment from the beginning of `bits`, in a symbol of version `v`: its mode indicator, its
+-- character count indicator and its data. The result is the segment, its bytes, and the bits after the segment (ISO/IEC
+-- 18004:2015, 7.4.1)
 unfoldable pub segment_at : ℕ → List Bool → Result (Segment × List ℕ × List Bool) ParseFault
 segment_at v bits =
     mode_of (value (take 4 bits)) >>= λ m.
@@ -121,42 +135,49 @@ segment_at v bits =
     payload_at m n.0 n.1 >>= λ p.
     Ok (record { mode = m; len = byte_count m n.0 }, p.0, p.1)
 
--- `segments_at n v bits` reads segments up to the end of the data, but at most n of them
+-- `segments_at n v bits` reads at most `n` segments from `bits`, in a symbol of version `v`. Reading ends earlier if
+-- the terminator comes or fewer than four bits remain. The result is the segments, together with the bytes of all
+-- segments.
 unfoldable pub segments_at : ℕ → ℕ → List Bool → Result (List Segment × List ℕ) ParseFault
 segments_at zero v bits = Ok ([], [])
 segments_at (suc n) v bits =
     if ends bits then Ok ([], []) else (segment_at v bits >>= λ s. segments_at n v s.2 >>= λ r. Ok (s.0 ∷ r.0, s.1 ++ r.1))
 
--- `segments_of v bits` reads the segments up to the end of the data, and returns them with their bytes. Each segment has at
--- least four bits, so there are no more segments than bits (ISO/IEC 18004:2015, 7.4.1, 7.4.9)
+-- `segments_of v bits` reads all segments from `bits`, in a symbol of version `v`, until the terminator comes or fewer
+-- than four bits remain. The result is the segments, together with the bytes of all segments. Each segment has at least
+-- four bits, so there are at most as many segments as bits (ISO/IEC 18004:2015, 7.4.1, 7.4.9)
 unfoldable pub segments_of : ℕ → List Bool → Result (List Segment × List ℕ) ParseFault
 segments_of v bits = segments_at (length bits) v bits
 
--- `begins_header bits` holds if the first four bits are the mode indicator of structured append, with which a header
--- begins (ISO/IEC 18004:2015, 8.1)
+-- `begins_header bits` holds if the first four bits of `bits` are the mode indicator of structured append, with which a
+-- structured append header begins (ISO/IEC 18004:2015, 8.1)
 unfoldable pub begins_header : List Bool → Bool
 begins_header bits = nat_le 4 (length bits) && value (take 4 bits) == header_indicator
 
--- `header_at bits` reads a header after its indicator, and returns it with the bits after it (ISO/IEC 18004:2015, 8.1 to
--- 8.3)
+-- `header_at bits` reads a structured append header from `bits`, the bits after the mode indicator of the header. The
+-- result is the header, together with the bits after it. If `bits` has fewer than 16 bits, the result is the fault
+-- `Cut` (ISO/IEC 18004:2015, 8.1 to 8.3)
 unfoldable pub header_at : List Bool → Result (Header × List Bool) ParseFault
 header_at bits =
     if nat_lt (length bits) 16 then Err Cut
     else Ok (record { position = value (take 4 bits); last = value (take 4 (drop 4 bits)); parity = value (take 8 (drop 8 bits)) }, drop 16 bits)
 
--- `first_header bits` reads a header if the bits begin with its indicator, and returns it with the bits after it. Otherwise
--- it returns no header and all of the bits (ISO/IEC 18004:2015, 8.1)
+-- `first_header bits` reads a structured append header if `bits` begins with the mode indicator of a header. The result
+-- is then the header, together with the bits after it. Otherwise the result is no header, together with all of `bits`
+-- (ISO/IEC 18004:2015, 8.1)
 unfoldable pub first_header : List Bool → Result (Option Header × List Bool) ParseFault
 first_header bits = if begins_header bits then (header_at (drop 4 bits) >>= λ h. Ok (Some h.0, h.1)) else Ok (None, bits)
 
--- Parsed data codewords: an optional header, the segments, and their bytes [own]
+-- A `Content` is what data codewords are parsed as: an optional structured append header, the segments, and the bytes
+-- of all segments [own]
 pub record Content : Type 0 where
   pub header : Option Header
   pub segments : List Segment
   pub bytes : List ℕ
 
--- `parse v bits` reads the bits of the data codewords of a symbol of version v: an optional header, then segments up to the
--- end of the data (ISO/IEC 18004:2015, 7.4.1, 8.1, 12)
+-- `parse v bits` reads the content of data codewords of a symbol of version `v` from `bits`, the list of their bits.
+-- The result is the content or a fault. An optional structured append header is read first. The segments are read after
+-- it, until the terminator comes or fewer than four bits remain (ISO/IEC 18004:2015, 7.4.1, 8.1, 12)
 unfoldable pub parse : ℕ → List Bool → Result Content ParseFault
 parse v bits =
     first_header bits >>= λ h.

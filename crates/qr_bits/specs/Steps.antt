@@ -1,5 +1,5 @@
--- Definitions that describe how the program computes. Only the contracts of private functions use them, so a reader who
--- judges the promises need not read them.
+-- Defines the steps by which the code of this crate computes its results. Only contracts of private functions use these
+-- definitions, so a reader of the public contracts can skip this folder.
 pub mod RunState
 pub mod Table
 pub mod Segmentation

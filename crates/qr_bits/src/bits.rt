@@ -1,4 +1,5 @@
-//! Writes and reads numbers as bits of codewords, the highest bit of each codeword first (ISO/IEC 18004:2015, 7.4.10).
+//! Writes numbers as bits of codewords, and reads numbers from bits of codewords. The highest bit of each codeword
+//! comes first (ISO/IEC 18004:2015, 7.4.10).
 
 ghost use Rattle.std.specs.Prelude.{Bool, IfOk, List, OnOk, [], drop, length, take, ◌%◌, ◌*◌, ◌++◌, ◌+◌, ◌<◌, ◌^◌, ◌∷◌, ◌≡◌, ◌≤◌};
 ghost use Rattle.qr_bits.specs.Padding.{filled};
@@ -8,11 +9,12 @@ use crate::modes::{STRUCTURED_APPEND, TERMINATOR};
 use std::alloc::{AllocError, Global};
 use std::marker::Model;
 
-/// Collects bits into codewords. Its view is the list of the bits written so far.
+/// Collects bits into codewords. In contracts, the value of a `BitWriter` is the list of the bits that were written so
+/// far.
 #[derive(Drop)]
 pub(crate) struct BitWriter {
     whole: Vec<u8>,
-    // The bits after the whole codewords, as a number of `width` bits; `width` is less than eight.
+    // The bits after the last whole codeword, as a number of `width` bits. `width` is less than eight.
     rest: u8,
     width: u8,
 }
@@ -37,7 +39,7 @@ impl BitWriter {
         }
     }
 
-    /// Writes `number` in `width` bits.
+    /// Writes the lowest `width` bits of `number`, the most significant bit first.
     pub(crate) fn put(&mut self, width: u8, number: u16) -> Result<(), AllocError>
         requires { width ≤ 16 }
         ensures { OnOk result (self.new ≡ self.old ++ field width number) }
@@ -50,7 +52,7 @@ impl BitWriter {
         Ok(())
     }
 
-    /// Writes bytes, each in eight bits.
+    /// Writes the bits of `bytes`, eight bits for each byte.
     pub(crate) fn put_bytes(&mut self, bytes: &[u8]) -> Result<(), AllocError>
         ensures { OnOk result (self.new ≡ self.old ++ bits_of bytes.now) }
     {
@@ -58,7 +60,7 @@ impl BitWriter {
         Ok(())
     }
 
-    /// Writes zero bits up to the end of the current codeword.
+    /// Writes zero bits up to the end of the current codeword, so that the number of bits becomes a multiple of eight.
     pub(crate) fn fill(&mut self) -> Result<(), AllocError>
         ensures { OnOk result (self.new ≡ filled self.old) }
     {
@@ -69,7 +71,7 @@ impl BitWriter {
         Ok(())
     }
 
-    /// Returns the codewords. The number of bits written must be a multiple of eight.
+    /// Returns the codewords that were written. The number of bits that were written must be a multiple of eight.
     pub(crate) fn into_codewords(self) -> Vec<u8>
         requires { length self % 8 ≡ 0 }
         ensures { bits_of result.items ≡ self }
@@ -79,8 +81,8 @@ impl BitWriter {
     }
 }
 
-// Appends the whole bytes of a number of `width` bits, from its highest bit on. Returns how many of the bits are left, fewer
-// than eight.
+// Cuts `bits`, a number of `width` bits, into bytes from its highest bit on, and appends the whole bytes to `whole`.
+// Returns the number of bits that remain, which is less than eight.
 fn push_whole(whole: &mut Vec<u8>, bits: u32, width: u8) -> Result<u8, AllocError>
     requires { width ≤ 23 }
     ensures few { IfOk result (λ left. left < 8) }
@@ -94,7 +96,8 @@ fn push_whole(whole: &mut Vec<u8>, bits: u32, width: u8) -> Result<u8, AllocErro
     Ok(left)
 }
 
-// Appends bytes after `rest`, a number of `width` bits. Returns the bits that are left, again a number of `width` bits.
+// Puts the bits of `rest`, a number of `width` bits, before the bits of `bytes`, and appends the whole bytes of all
+// these bits to `whole`. Returns the last `width` bits, which do not fill a byte, as a number.
 fn push_bytes(whole: &mut Vec<u8>, width: u8, mut rest: u8, bytes: &[u8]) -> Result<u8, AllocError>
     requires few { width < 8 }
     requires rest { rest < 2 ^ width }
@@ -111,7 +114,7 @@ fn push_bytes(whole: &mut Vec<u8>, width: u8, mut rest: u8, bytes: &[u8]) -> Res
     Ok(rest)
 }
 
-/// Reads the bits of codewords. Its view is the list of the bits that are not read yet.
+/// Reads the bits of codewords. In contracts, the value of a `BitReader` is the list of the bits that are not read yet.
 #[derive(Drop)]
 pub(crate) struct BitReader<'a> {
     bytes: &'a [u8],
@@ -143,7 +146,7 @@ impl<'a> BitReader<'a> {
         8 * self.bytes.len() - self.at
     }
 
-    /// Reads one bit.
+    /// Reads the next bit.
     fn bit(&mut self) -> bool
         requires { 0 < length self.old }
         ensures { self.old ≡ result ∷ self.new }
@@ -153,7 +156,8 @@ impl<'a> BitReader<'a> {
         bit
     }
 
-    /// Reads a number of `width` bits.
+    /// Reads the next `width` bits, and returns them as a number. The first of these bits is the most significant bit
+    /// of the number.
     pub(crate) fn take(&mut self, width: usize) -> u16
         requires there { width ≤ length self.old }
         requires fits { width ≤ 16 }
@@ -167,7 +171,7 @@ impl<'a> BitReader<'a> {
         number
     }
 
-    /// Returns whether the data ends here: fewer than four bits are left, or the next four bits are the terminator.
+    /// Returns whether no segment follows: fewer than four bits are left, or the next four bits are the terminator.
     #[tactic(auto, unfolding(crate::specs::Parsing::ends))]
     pub(crate) fn ends(&self) -> bool
         ensures { result ≡ ends self.now }
@@ -175,7 +179,8 @@ impl<'a> BitReader<'a> {
         self.len() < 4 || self.indicator() == TERMINATOR
     }
 
-    /// Returns whether the next four bits are the indicator of a structured append header.
+    /// Returns whether the next four bits are the mode indicator of structured append, with which a structured append
+    /// header begins.
     #[tactic(auto, unfolding(crate::specs::Parsing::begins_header))]
     pub(crate) fn begins_header(&self) -> bool
         ensures { result ≡ begins_header self.now }
@@ -183,7 +188,7 @@ impl<'a> BitReader<'a> {
         self.len() >= 4 && self.indicator() == STRUCTURED_APPEND
     }
 
-    /// Peeks at the next four bits: returns them as a number and leaves them unread.
+    /// Returns the next four bits as a number, and leaves these bits unread.
     fn indicator(&self) -> u16
         requires { 4 ≤ length self.now }
         ensures { result ≡ value (take 4 self.now) }

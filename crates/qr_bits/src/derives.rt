@@ -1,4 +1,5 @@
-//! Equality and clones of the public types: values are equal exactly if they are the same, and a clone is the same value.
+//! Compares and clones values of the public types. The operator `==` returns `true` exactly if its two operands are the
+//! same value, and a clone is the same value as its original.
 
 ghost use Rattle.std.specs.Prelude.{◌≡◌, ◌↔◌, IsTrue, IfOk};
 
@@ -8,84 +9,84 @@ use crate::modes::{Mode, Rule};
 use crate::segment::Segment;
 use std::alloc::AllocError;
 
-/// Modes are equal exactly if they are the same.
+/// Returns whether `a` and `b` are the same mode.
 pub fn modes_are_equal(a: Mode, b: Mode) -> bool
     ensures { IsTrue result ↔ (a ≡ b) }
 {
     a == b
 }
 
-/// Rules are equal exactly if they are the same.
+/// Returns whether `a` and `b` are the same rule.
 pub fn rules_are_equal(a: Rule, b: Rule) -> bool
     ensures { IsTrue result ↔ (a ≡ b) }
 {
     a == b
 }
 
-/// Segments are equal exactly if both fields are equal.
+/// Returns whether `a` and `b` are the same segment: both fields are equal.
 pub fn segments_are_equal(a: Segment, b: Segment) -> bool
     ensures { IsTrue result ↔ (a ≡ b) }
 {
     a == b
 }
 
-/// Headers are equal exactly if all fields are equal.
+/// Returns whether `a` and `b` are the same header: all three fields are equal.
 pub fn headers_are_equal(a: Header, b: Header) -> bool
     ensures { IsTrue result ↔ (a ≡ b) }
 {
     a == b
 }
 
-/// Faults are equal exactly if they are the same.
+/// Returns whether `a` and `b` are the same fault.
 pub fn bit_faults_are_equal(a: BitFault, b: BitFault) -> bool
     ensures { IsTrue result ↔ (a ≡ b) }
 {
     a == b
 }
 
-/// Faults of a parse are equal exactly if they are the same.
+/// Returns whether `a` and `b` are the same fault of a parse.
 pub fn parse_faults_are_equal(a: ParseFault, b: ParseFault) -> bool
     ensures { IsTrue result ↔ (a ≡ b) }
 {
     a == b
 }
 
-/// A clone of a mode is the same mode.
+/// Returns a clone of the mode `a`. The clone is the same mode.
 pub fn mode_clones(a: Mode) -> Result<Mode, AllocError>
     ensures { IfOk result (λ b. b ≡ a) }
 {
     a.clone()
 }
 
-/// A clone of a rule is the same rule.
+/// Returns a clone of the rule `a`. The clone is the same rule.
 pub fn rule_clones(a: Rule) -> Result<Rule, AllocError>
     ensures { IfOk result (λ b. b ≡ a) }
 {
     a.clone()
 }
 
-/// A clone of a segment is the same segment.
+/// Returns a clone of the segment `a`. The clone is the same segment.
 pub fn segment_clones(a: Segment) -> Result<Segment, AllocError>
     ensures { IfOk result (λ b. b ≡ a) }
 {
     a.clone()
 }
 
-/// A clone of a header is the same header.
+/// Returns a clone of the header `a`. The clone is the same header.
 pub fn header_clones(a: Header) -> Result<Header, AllocError>
     ensures { IfOk result (λ b. b ≡ a) }
 {
     a.clone()
 }
 
-/// A clone of a fault is the same fault.
+/// Returns a clone of the fault `a`. The clone is the same fault.
 pub fn bit_fault_clones(a: BitFault) -> Result<BitFault, AllocError>
     ensures { IfOk result (λ b. b ≡ a) }
 {
     a.clone()
 }
 
-/// A clone of a fault of a parse is the same fault.
+/// Returns a clone of the parse fault `a`. The clone is the same fault.
 pub fn parse_fault_clones(a: ParseFault) -> Result<ParseFault, AllocError>
     ensures { IfOk result (λ b. b ≡ a) }
 {

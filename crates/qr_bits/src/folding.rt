@@ -1,4 +1,4 @@
-//! Folding: turns the small letters of an input into capitals, which alphanumeric mode can write.
+//! Folds an input: turns its small letters into capitals, which alphanumeric mode can write.
 
 ghost use Rattle.std.specs.Prelude.{◌≡◌, length, map, vec_len, IfOk};
 ghost use Rattle.qr_bits.specs.Folding.{capital, folded, folded_around_pairs};
@@ -7,10 +7,10 @@ use crate::modes::Rule;
 use crate::table::begins_with_pair;
 use std::alloc::{AllocError, Global};
 
-/// Returns the input with its letters `a` to `z` turned into capitals. The number of bytes is unchanged.
+/// Returns `input` with its letters `a` to `z` turned into capitals. The number of bytes is unchanged.
 ///
-/// Under `Rule::WithKanji` the input is read from the left, and kanji pairs are unchanged. Under `Rule::BytesOnly` all
-/// bytes are unchanged.
+/// Under `Rule::WithKanji`, the input is read from the left, and both bytes of each kanji pair are unchanged. A kanji
+/// pair is two bytes that kanji mode writes as one character. Under `Rule::BytesOnly`, all bytes are unchanged.
 pub fn fold(alloc: Global, input: &[u8], rule: Rule) -> Result<Vec<u8>, AllocError>
     ensures bytes { IfOk result (λ v. v.items ≡ folded rule input.now) }
     ensures len { IfOk result (λ v. vec_len v ≡ length input.now) }

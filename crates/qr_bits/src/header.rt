@@ -1,9 +1,10 @@
-//! The structured append header, which says which part of a series a symbol is (ISO/IEC 18004:2015, 8).
+//! Defines the structured append header, which contains the position of a symbol in a series of symbols (ISO/IEC
+//! 18004:2015, 8).
 
 ghost use Rattle.std.specs.Prelude.{◌≡◌};
 ghost use Rattle.qr_bits.specs.Header.{header_bits, parity_of};
 
-// The length of a header in bits (8.1).
+// The number of bits of a structured append header (8.1).
 pub(crate) const HEADER_BITS: u64 = 20;
 
 /// The structured append header, which comes before the segments of each symbol of a series (8.1).
@@ -11,9 +12,9 @@ pub(crate) const HEADER_BITS: u64 = 20;
 pub struct Header {
     /// The index of the symbol in the series, from 0 to 15 (8.2).
     pub position: u8,
-    /// The number of symbols of the series less 1, from 0 to 15 (8.2).
+    /// The number of symbols in the series less 1, from 0 to 15 (8.2).
     pub last: u8,
-    /// The parity of the whole input of the series (8.3).
+    /// The parity data of the series: the exclusive or of all bytes of its whole input (8.3).
     pub parity: u8,
 }
 
@@ -26,7 +27,7 @@ pub(crate) fn header_bits(header: Option<Header>) -> u64
     }
 }
 
-/// Returns the parity of the input: the exclusive or of all its bytes (8.3).
+/// Returns the parity data of `input`: the bitwise exclusive or of all its bytes (8.3).
 pub fn parity(input: &[u8]) -> u8
     ensures { result ≡ parity_of input.now }
 {

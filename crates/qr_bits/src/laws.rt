@@ -1,5 +1,6 @@
-//! Laws of the definitions. Some hold for every input. The others compute examples, and compare them with values that the
-//! standard prints or that were worked out by hand.
+//! The functions of this file are laws: their contracts state facts that follow from the definitions in `specs/`. Some
+//! laws hold for every input. The other laws compute examples, and compare the results with values that the standard
+//! prints or that were worked out by hand.
 
 ghost use Rattle.std.specs.Prelude.{◌≡◌, ◌-◌, ◌/◌, ◌%◌, ℕ, List, [], ◌∷◌, ◌++◌, true, false, length, map, codes};
 ghost use Rattle.qr_layout.specs.declared.level.Level.{Level};
@@ -26,72 +27,77 @@ pub use crate::derives::{
 use crate::fault::{BitFault, ParseFault};
 use crate::modes::INPUT_MAX;
 
-/// A parse succeeds exactly if the bits are a stream and then an end. Segments may be empty, and any segmentation and any
-/// padding is read.
+/// A parse succeeds exactly if the bits are a bit stream, followed by fewer than four bits, or by the terminator and
+/// any bits. The segments of the bit stream may be empty and may be chosen in any way.
 pub fn streams_are_parsed()
     ensures { StreamsAreParsed }
 {}
 
-/// Parsing data codewords returns the header, the segments and the bytes that the codewords were made of.
+/// A parse of data codewords returns the header, the segments and the bytes from which the codewords were made.
 pub fn data_are_parsed()
     ensures { DataAreParsed }
 {}
 
-/// If a stream fits a symbol, it has exactly one list of data codewords, as long as the symbol needs.
+/// If the length of a bit stream is at most the capacity of a symbol, there is exactly one list of data codewords for
+/// the bit stream. The number of codewords in this list is the number that the standard requires for the symbol.
 pub fn data_are_one()
     ensures there { DataAreThere }
     ensures one { DataAreOne }
     ensures full { DataFillTheSymbol }
 {}
 
-/// The length of a stream is the number of bits of its header and its segments.
+/// The length of a bit stream is the number of bits of its header, if it has one, plus the number of bits of its
+/// segments.
 pub fn streams_have_their_bits()
     ensures { StreamsHaveTheirBits }
 {}
 
-/// If the bits of segments fit a symbol, each count fits its character count indicator.
+/// If the number of bits of segments is at most the capacity of a symbol, the character count of each segment fits its
+/// character count indicator. The bytes of each segment must be bytes that its mode can write.
 pub fn counts_fit_where_bits_fit()
     ensures { CountsFitWhereBitsFit }
 {}
 
-/// An input that fits a symbol has at most 7,089 bytes.
+/// An input that fits in one symbol has at most 7,089 bytes.
 pub fn fitting_inputs_are_short()
     ensures { FittingInputsAreShort }
 {}
 
-/// The least segmentation covers its input, and fits a number of bits exactly if some assignment of modes does.
+/// The segments that `IsLeastSegmentation` describes cover their input, as `Covers` defines it. For each number n,
+/// these segments have at most n bits exactly if some valid assignment of modes to the bytes of the input
+/// (`IsAssignment`) takes at most n bits.
 pub fn least_segmentations_fit()
     ensures { LeastSegmentationsFit }
 {}
 
-/// An input has at most one least segmentation.
+/// For each input, version and rule, at most one list of segments satisfies `IsLeastSegmentation`.
 pub fn segmentations_are_one()
     ensures { (v : ℕ) (r : Rule) (xs : List ℕ) (ss ts : List Segment)
         → IsLeastSegmentation v r xs ss → IsLeastSegmentation v r xs ts → ss ≡ ts }
 {}
 
-/// Folding keeps the number of bytes.
+/// Folding an input does not change its number of bytes.
 pub fn foldings_keep_lengths()
     ensures { (r : Rule) (xs : List ℕ) → length (folded r xs) ≡ length xs }
 {}
 
-/// Without kanji mode, a piece of an input needs no more bits than the input.
+/// If the rule does not allow kanji mode, a contiguous part of an input needs no more bits than the input.
 pub fn pieces_need_no_more()
     ensures { PiecesNeedNoMore }
 {}
 
-/// Item k of the list of bits of codewords is bit k as `codeword_bit` computes it, the highest bit of a codeword first.
+/// In the list of all bits of codewords, the bit with the index k is the bit that `codeword_bit` computes for k.
 pub fn bits_are_codeword_bits()
     ensures { BitsAreCodewordBits }
 {}
 
-/// An input has at most 113,425 bytes.
+/// `INPUT_MAX`, the greatest length of an input in bytes, is 113,425.
 pub fn limits()
     ensures { INPUT_MAX ≡ 113425 }
 {}
 
-/// The definition computes the widths of the character count indicators that Table 3 prints, in the first and the last
-/// version of each range (7.4.1, Table 3).
+/// For the first and the last version of each range of versions in Table 3, `count_width` computes the width of the
+/// character count indicator that the table prints (7.4.1, Table 3).
 pub fn widths_compute()
     ensures digits { map (λ v. count_width v Numeric) (1 ∷ 9 ∷ 10 ∷ 26 ∷ 27 ∷ 40 ∷ [])
         ≡ 10 ∷ 10 ∷ 12 ∷ 12 ∷ 14 ∷ 14 ∷ [] }
@@ -103,8 +109,9 @@ pub fn widths_compute()
         ≡ 8 ∷ 8 ∷ 10 ∷ 10 ∷ 12 ∷ 12 ∷ [] }
 {}
 
-/// The definitions compute the data bits of the standard's examples (7.4.3 to 7.4.5) and of `0123`, which leaves one
-/// digit over, and the values of the last nine characters (Table 5).
+/// The definitions compute the data bits of the standard's examples `01234567` and `AC-42` (7.4.3, 7.4.4). The
+/// definitions also compute the data bits of `0123`, where one digit remains after a group of three digits. For the
+/// last nine characters of alphanumeric mode, the definitions compute the values of Table 5.
 #[tactic(auto, unfolding(crate::specs::Modes::characters, crate::specs::Stream::digit_bits, crate::specs::Modes::character_value, crate::specs::Stream::character_bits, crate::specs::Bits::field))]
 pub fn payloads_compute()
     ensures digits { digit_bits (codes "01234567") ≡ field 10 12 ++ (field 10 345 ++ field 7 67) }
@@ -115,9 +122,11 @@ pub fn payloads_compute()
         ≡ 36 ∷ 37 ∷ 38 ∷ 39 ∷ 40 ∷ 41 ∷ 42 ∷ 43 ∷ 44 ∷ [] }
 {}
 
-/// The definitions compute data codewords in version 1: of one segment of digits, of characters and of kanji, and of
-/// the middle symbol of a series of three, which is in byte mode. The examples show the indicators, the counts, the
-/// order of a header's fields, the terminator and the pad codewords (7.4.1 to 7.4.10, 8.1).
+/// The definitions compute the data codewords of four symbols of version 1. Each of the first three symbols has one
+/// segment: of digits, of characters, or of kanji pairs. The fourth symbol is in a series, as the second of three
+/// symbols, and has a structured append header and one segment in byte mode. The examples show the mode indicators, the
+/// character counts, the order of the fields of a structured append header, the terminator and the pad codewords (7.4.1
+/// to 7.4.10, 8.1).
 #[tactic(auto, unfolding(crate::specs::Modes::characters, crate::specs::Modes::character_value, crate::specs::Modes::kanji_value, crate::specs::Stream::digit_bits, crate::specs::Stream::character_bits, crate::specs::Stream::kanji_bits, crate::specs::Stream::payload, crate::specs::Stream::segment_stream, crate::specs::Stream::segments_stream, crate::specs::Header::header_stream, crate::specs::Padding::padded, crate::specs::Padding::pads, crate::specs::Bits::field, crate::specs::Bits::bits_of))]
 pub fn streams_compute()
     ensures digits { padded 16 (segments_stream 1 (codes "01234567") (one Numeric 8)) ≡ bits_of eight_digits }
@@ -126,8 +135,8 @@ pub fn streams_compute()
     ensures series { padded 9 (header_stream (Some middle) ++ segments_stream 1 (codes "FGH") (one Byte 3)) ≡ bits_of middle_data }
 {}
 
-/// The definition computes the parse of the middle symbol of a series of three, and the fault of each row of
-/// `unreadable`.
+/// The definition `parse` computes the content of the second symbol in a series of three symbols. For each row of
+/// `unreadable`, a list of codewords that cannot be parsed, `parse` computes the fault that the row contains.
 #[tactic(auto, unfolding(crate::specs::Parsing::parse, crate::specs::Parsing::first_header, crate::specs::Parsing::begins_header, crate::specs::Parsing::header_at, crate::specs::Parsing::segments_of, crate::specs::Parsing::segments_at, crate::specs::Parsing::segment_at, crate::specs::Parsing::leading_number, crate::specs::Parsing::payload_at, crate::specs::Parsing::values_of, crate::specs::Parsing::digits_of, crate::specs::Parsing::characters_of, crate::specs::Parsing::character, crate::specs::Parsing::bytes_of, crate::specs::Parsing::pairs_of, crate::specs::Parsing::kanji_pair, crate::specs::Parsing::mode_of, crate::specs::Parsing::ends, crate::specs::Modes::characters, crate::specs::Bits::field, crate::specs::Bits::bits_of))]
 pub fn parses_compute()
     ensures series { parse 1 (bits_of middle_data)
@@ -135,28 +144,32 @@ pub fn parses_compute()
     ensures faults { map (λ row. parse 1 (bits_of row.0)) unreadable ≡ map (λ row. Err row.1) unreadable }
 {}
 
-/// With a header, a symbol has fewer bits for its segments: its capacity less the bits of the header (8.1).
+/// The number of bits that a symbol has for segments after a structured append header is its capacity less the number
+/// of bits of the header (8.1).
 pub fn headers_take_room()
     ensures { (v : ℕ) (l : Level) (h : Header) → room_of v l ≡ capacity_of v l - header_bits (Some h) }
 {}
 
-/// The definition computes the parity of `ABCDEFGH`, of no byte, and of three bytes of which two are equal (8.3).
+/// The definition `parity_of` computes the parity data of `ABCDEFGH`, of an empty input, and of three bytes, two of
+/// which are equal (8.3).
 pub fn parities_compute()
     ensures capitals { parity_of (codes "ABCDEFGH") ≡ 0x08 }
     ensures empty { parity_of [] ≡ 0 }
     ensures twice { parity_of (0xA5 ∷ 0xA5 ∷ 0x3C ∷ []) ≡ 0x3C }
 {}
 
-/// Each rule allows the modes that are listed, in the order of their indicators.
+/// The rule `Auto` allows all modes except kanji mode, the rule `BytesOnly` allows only byte mode, and the rule
+/// `WithKanji` allows all modes.
 pub fn rules_compute()
     ensures auto { map (may_use Rule.Auto) all_modes ≡ true ∷ true ∷ true ∷ false ∷ [] }
     ensures bytes { map (may_use Rule.BytesOnly) all_modes ≡ false ∷ false ∷ true ∷ false ∷ [] }
     ensures kanji { map (may_use Rule.WithKanji) all_modes ≡ true ∷ true ∷ true ∷ true ∷ [] }
 {}
 
-/// The definition computes the folding of the first and the last letters and of the characters beside them, without
-/// kanji mode. With kanji mode, a kanji pair is unchanged even if its second byte is a small letter, and so is a last
-/// byte that would begin a pair.
+/// The definition `folded` computes three examples. Under the rule `Auto`, the letters `a` and `z` become capitals, and
+/// the characters beside `a` and `z` in ASCII are unchanged. Under the rule `BytesOnly`, all bytes are unchanged. Under
+/// the rule `WithKanji`, a kanji pair is unchanged even if its second byte is a small letter. A last byte that could
+/// begin a kanji pair is also unchanged.
 #[tactic(auto, unfolding(crate::specs::Folding::folded_around_pairs, crate::specs::Modes::is_kanji_pair))]
 pub fn foldings_compute()
     ensures auto { folded Rule.Auto (codes "@AZ[`az{") ≡ codes "@AZ[`AZ{" }
@@ -165,15 +178,16 @@ pub fn foldings_compute()
         ≡ 0x41 ∷ 0x93 ∷ 0x61 ∷ 0x41 ∷ 0x93 ∷ [] }
 {}
 
-/// The definition computes the lower bound `least_bits` of short inputs: of digits, of the characters beside the
-/// digits, of the first and the last capital, of two bytes after `Z`, and of one byte of each kind.
+/// The definition `least_bits` computes a lower bound on the number of bits for five short inputs: `012`, `/9:`, `AZ`,
+/// `[z` and `1A[`. The definition distinguishes digits, other bytes up to `Z`, and greater bytes. The inputs contain
+/// the bytes on both sides of each limit between these ranges.
 #[tactic(auto, unfolding(crate::specs::Segmentation::least_bits))]
 pub fn least_bits_compute()
     ensures { map least_bits (codes "012" ∷ codes "/9:" ∷ codes "AZ" ∷ codes "[z" ∷ codes "1A[" ∷ [])
         ≡ 10 ∷ 14 ∷ 11 ∷ 13 ∷ 15 ∷ [] }
 {}
 
-/// The discriminants of `BitFault` are those that are listed.
+/// Returns the discriminant of `fault`: 1 for `Memory`, and 2 for `TooLong`.
 ///
 /// # Notes
 ///
@@ -185,7 +199,7 @@ pub fn bit_fault_numbers(fault: BitFault) -> u8
     fault as u8
 }
 
-/// The discriminants of `ParseFault` are those that are listed.
+/// Returns the discriminant of `fault`: 1 for `Memory`, 2 for `BadMode`, 3 for `Cut`, and 4 for `BadValue`.
 ///
 /// # Notes
 ///
@@ -199,8 +213,9 @@ pub fn parse_fault_numbers(fault: ParseFault) -> u8
     fault as u8
 }
 
-/// The definitions compute the values of the standard's two kanji examples and of the last kanji (7.4.6), and which
-/// pairs at the edges of the two ranges are kanji pairs.
+/// The definitions compute the values of the standard's two kanji examples and of the greatest kanji pair, and compute
+/// these pairs from their values (7.4.6). The definitions also decide, at the edges of the two ranges of kanji pairs,
+/// which pairs of bytes are kanji pairs.
 #[tactic(auto, unfolding(crate::specs::Modes::is_kanji_pair, crate::specs::Modes::kanji_value, crate::specs::Parsing::kanji_pair))]
 pub fn kanji_compute()
     ensures first { kanji_value 0x93 0x5F ≡ 0xD9F }

@@ -1,4 +1,4 @@
-//! Finds the longest prefix of an input that fits a symbol of a series.
+//! Finds the longest prefix of an input that fits in one symbol of a series.
 
 ghost use Rattle.std.specs.Prelude.{IsOkAnd, length, reverse, ℕ, ◌+◌, ◌*◌, ◌<◌, ◌≡◌, ◌≤◌};
 ghost use Rattle.qr_bits.specs.declared.modes.Mode.{Mode};
@@ -16,7 +16,7 @@ use crate::table::best_choices;
 use qr_layout::{Level, Version};
 use std::alloc::Global;
 
-// Returns whether the rule allows kanji mode and the bytes end with a kanji pair.
+// Returns whether `rule` allows kanji mode and the last two bytes of `bytes` are a kanji pair.
 fn ends_with_pair(rule: Rule, bytes: &[u8]) -> bool
     ensures { result ≡ begins_with_pair rule (swapped is_kanji_pair) (reverse bytes.now) }
 {
@@ -27,7 +27,8 @@ fn ends_with_pair(rule: Rule, bytes: &[u8]) -> bool
     may_use(rule, Mode::Kanji) && is_kanji_pair(bytes[len - 2], bytes[len - 1])
 }
 
-// Returns the greatest length of a byte segment that has at most `room` bits (7.4.5).
+// Returns the greatest number of bytes in a segment of byte mode that has at most `room` bits in a symbol of this
+// version (7.4.5).
 fn bytes_in(room: u64, version: Version) -> usize
     requires { 20 ≤ room }
     ensures fits { 4 + count_width version Mode.Byte + 8 * result ≤ room }
@@ -37,12 +38,12 @@ fn bytes_in(room: u64, version: Version) -> usize
     ((room - head) / 8) as usize
 }
 
-// Returns the length of the longest prefix whose segments with the fewest bits have at most `room`
-// bits.
+// Returns the length of the longest prefix of `input` that can be written in at most `room` bits.
 //
-// A prefix takes as many bits as the same bytes in reverse, in which a kanji pair begins with its
-// second byte. When the prefix grows at its end, its reverse grows at its beginning. So after each
-// row, `rest.start / 4` is the least number of bits of the prefix that ends with this byte.
+// A prefix needs as many bits as the same bytes in reverse order, where each kanji pair begins with its second byte.
+// When the prefix grows at its end, the reversed prefix grows at its beginning, where `best_choices` can add a byte.
+// After each turn of the loop, a quarter of `rest.start`, rounded down, is the least number of bits for the prefix that
+// ends with `input[i]`.
 fn longest_by_rows(input: &[u8], version: Version, rule: Rule, room: u64) -> usize
     requires { length input.now ≤ INPUT_MAX }
     ensures { IsLongestFit version rule input.now room result }
@@ -61,13 +62,16 @@ fn longest_by_rows(input: &[u8], version: Version, rule: Rule, room: u64) -> usi
     longest
 }
 
-/// Returns the length of the longest prefix of the input that fits a symbol after a header, in the segments with the
-/// fewest bits. In kanji mode it is possible that this prefix fits and a shorter one does not: a prefix that ends
-/// inside a kanji pair needs byte mode for its last byte. The call never fails.
+/// Returns the length of the longest prefix of `input` that fits in a symbol of this version and level after a
+/// structured append header. The segments of the prefix may have the modes that `rule` allows.
+///
+/// In kanji mode, a prefix may fit although a shorter prefix does not fit. A shorter prefix that ends within a kanji
+/// pair needs a segment in byte mode for its last byte. The function never returns an error.
 ///
 /// # Notes
 ///
-/// Never allocates. `_alloc` and `Result` are kept so that all calls look alike.
+/// The function never allocates. The parameter `_alloc` and the return type `Result` make its calls look like the calls
+/// of the other functions of this crate.
 pub fn longest_fit(
     _alloc: Global,
     input: &[u8],

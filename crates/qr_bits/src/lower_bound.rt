@@ -1,5 +1,5 @@
-//! A lower bound on the number of bits of an input in any segments. A version that has less room than this bound is skipped
-//! without a segmentation.
+//! Computes a lower bound on the number of bits that an input takes, however it is split into segments. If the capacity
+//! of a version is less than this bound, the version can be skipped without splitting the input.
 
 ghost use Rattle.std.specs.Prelude.{length, ℕ, ◌/◌, ◌≡◌, ◌≤◌};
 ghost use Rattle.qr_bits.specs.declared.modes.Rule.{Rule};
@@ -7,7 +7,7 @@ ghost use Rattle.qr_bits.specs.Segmentation.{HasFit, least_bits, least_sixths};
 
 use crate::modes::INPUT_MAX;
 
-// Returns a lower bound on the number of bits that a byte takes, in sixths of a bit.
+// Returns a lower bound on the number of bits that `byte` takes in any mode, in sixths of a bit.
 fn least_sixths(byte: u8) -> u32
     ensures value { result ≡ least_sixths byte }
     ensures most { result ≤ 39 }
@@ -21,8 +21,10 @@ fn least_sixths(byte: u8) -> u32
     }
 }
 
-/// Returns a lower bound on the number of bits of the input in any segments. Each byte counts at most the lowest rate
-/// that any mode has for it, without mode indicators and counts (ISO/IEC 18004:2015, 7.4.3 to 7.4.6).
+/// Returns a lower bound on the number of bits that `input` takes, however it is split into segments. The bound is a
+/// sum over the bytes, rounded down: 10/3 bits for a digit, 11/2 bits for another byte up to `Z`, and 13/2 bits for a
+/// byte greater than `Z`. The bound does not include mode indicators and character count indicators (ISO/IEC
+/// 18004:2015, 7.4.3 to 7.4.6).
 ///
 /// # Notes
 ///

@@ -1,5 +1,5 @@
-//! The four modes: which bytes each mode can write, its indicator, the width of its character count, and the length of its
-//! data (ISO/IEC 18004:2015, 7.3 and 7.4.1 to 7.4.6).
+//! Describes the four modes of segments (ISO/IEC 18004:2015, 7.3 and 7.4.1 to 7.4.6). Each mode has a mode indicator, a
+//! width of its character count indicator, a set of bytes that it can write, and a number of bits for these bytes.
 
 ghost use Rattle.std.specs.Prelude.{IsTrue, ◌<◌, ◌==◌, ◌^◌, ◌≡◌, ◌≤◌};
 ghost use Rattle.qr_bits.specs.Modes.{character_value, characters, character_count, count_width, in_twos, indicator, is_alphanumeric, is_digit, is_kanji_pair, kanji_value, byte_count, may_use, payload_bits, suits};
@@ -9,33 +9,34 @@ ghost use Rattle.qr_bits.specs.Parsing.{character, mode_of};
 use crate::fault::ParseFault;
 use qr_layout::Version;
 
-/// The greatest length of an input in bytes: 16 times the 7,089 digits of the largest symbol, and one
-/// byte more.
+/// The greatest length of an input, in bytes: 16 times 7,089 bytes, and one byte more. A symbol contains at most 7,089
+/// bytes, so an input of this length does not fit in 16 symbols.
 pub const INPUT_MAX: usize = 113_425;
 
-/// How the bytes of a segment are written (7.3.3 to 7.3.6).
+/// The mode of a segment, which determines how the bytes of the segment are written as bits (7.3.3 to 7.3.6).
 #[derive(Clone, Copy, Debug, PartialEq, Eq)]
 pub enum Mode {
-    /// Digits, three in ten bits.
+    /// Writes digits; three digits take ten bits.
     Numeric,
-    /// Digits, capital letters, space and `$%*+-./:`, two in eleven bits.
+    /// Writes digits, capital letters, space and `$%*+-./:`; two of these characters take eleven bits.
     Alphanumeric,
-    /// Any bytes, each in eight bits.
+    /// Writes any bytes; each byte takes eight bits.
     Byte,
-    /// Pairs of bytes that are Shift JIS characters, each pair in thirteen bits.
+    /// Writes pairs of bytes that are Shift JIS characters; each pair takes thirteen bits.
     Kanji,
 }
 
-/// The modes that a segmentation may use.
+/// Determines which modes the segments of an input may have.
 #[derive(Clone, Copy, Debug, PartialEq, Eq)]
 pub enum Rule {
-    /// All modes but kanji mode.
+    /// All modes except kanji mode.
     Auto,
     BytesOnly,
     WithKanji,
 }
 
-// The mode indicators, the indicator of a structured append header, and the terminator (7.4.1, Table 2).
+// The six constants below are the mode indicators of the four modes, the mode indicator of structured append, and the
+// terminator (7.4.1, Table 2).
 pub(crate) const TERMINATOR: u16 = 0b0000;
 
 const NUMERIC: u16 = 0b0001;
@@ -60,7 +61,7 @@ pub(crate) fn indicator(mode: Mode) -> u16
     }
 }
 
-// Returns the mode of an indicator, or `BadMode` if it belongs to no mode.
+// Returns the mode that has the mode indicator `indicator`, or `BadMode` if no mode has this indicator.
 #[tactic(auto, unfolding(crate::specs::Parsing::mode_of))]
 pub(crate) fn mode_of(indicator: u16) -> Result<Mode, ParseFault>
     ensures { result ≡ mode_of indicator }
@@ -74,7 +75,7 @@ pub(crate) fn mode_of(indicator: u16) -> Result<Mode, ParseFault>
     }
 }
 
-// Returns the width of the character count indicator in bits (7.4.1, Table 3).
+// Returns the width, in bits, of the character count indicator of `mode` in symbols of this version (7.4.1, Table 3).
 pub(crate) fn count_width(version: Version, mode: Mode) -> u8
     ensures value { result ≡ count_width version mode }
     ensures most { result ≤ 16 }
@@ -92,7 +93,8 @@ pub(crate) fn count_width(version: Version, mode: Mode) -> u8
     }
 }
 
-// Returns the character count of a segment of `len` bytes; a kanji character has two bytes (7.4.1).
+// Returns the character count of a segment of `len` bytes in `mode`. In kanji mode, each character has two bytes
+// (7.4.1).
 pub(crate) fn character_count(mode: Mode, len: usize) -> usize
     ensures { result ≡ character_count mode len }
 {
@@ -102,7 +104,7 @@ pub(crate) fn character_count(mode: Mode, len: usize) -> usize
     }
 }
 
-// Returns the number of bytes of a segment with this character count (7.4.1).
+// Returns the number of bytes of a segment in `mode` that has the character count `count` (7.4.1).
 pub(crate) fn byte_count(mode: Mode, count: usize) -> usize
     requires { count < 2 ^ 16 }
     ensures { result ≡ byte_count mode count }
@@ -113,7 +115,8 @@ pub(crate) fn byte_count(mode: Mode, count: usize) -> usize
     }
 }
 
-// Returns the length in bits of the data of a segment of `len` bytes (7.4.3 to 7.4.6).
+// Returns the number of bits of the data of a segment of `len` bytes in `mode`, without the mode indicator and the
+// character count indicator (7.4.3 to 7.4.6).
 pub(crate) fn payload_bits(mode: Mode, len: usize) -> usize
     requires { len < 2 ^ 20 }
     ensures { result ≡ payload_bits mode len }
@@ -133,7 +136,7 @@ pub(crate) fn payload_bits(mode: Mode, len: usize) -> usize
     }
 }
 
-// The characters of alphanumeric mode, in the order of their values (7.4.4, Table 5).
+// The 45 characters of alphanumeric mode. The index of a character is its value (7.4.4, Table 5).
 pub(crate) const CHARACTERS: [u8; 45] = *b"0123456789ABCDEFGHIJKLMNOPQRSTUVWXYZ $%*+-./:";
 
 pub(crate) fn is_digit(byte: u8) -> bool
@@ -146,7 +149,7 @@ pub(crate) fn is_digit(byte: u8) -> bool
 pub(crate) fn is_alphanumeric(byte: u8) -> bool
     ensures { result ≡ is_alphanumeric byte }
 {
-    // None of the 45 characters is greater than `Z`.
+    // No character of alphanumeric mode is greater than `Z`.
     if byte > b'Z' {
         return false;
     }
@@ -162,7 +165,7 @@ pub(crate) fn is_kanji_pair(high: u8, low: u8) -> bool
         && (0x40 <= low && low <= 0xFC)
 }
 
-// Returns the value of a character: its index among the 45 characters (7.4.4, Table 5).
+// Returns the value of `character` in alphanumeric mode, which is its index in `CHARACTERS` (7.4.4, Table 5).
 pub(crate) fn character_value(character: u8) -> u16
     requires { IsTrue (is_alphanumeric character) }
     ensures value { result ≡ character_value character }
@@ -178,7 +181,8 @@ fn place_of(character: u8) -> Option<usize>
     CHARACTERS.iter().position(|other| *other == character)
 }
 
-// Returns the value of a kanji pair (7.4.6).
+// Returns the value of the kanji pair with the bytes `high` and `low`: the number that kanji mode writes in 13 bits
+// (7.4.6).
 #[tactic(auto, unfolding(crate::specs::Modes::kanji_value))]
 pub(crate) fn kanji_value(high: u8, low: u8) -> u16
     requires { IsTrue (is_kanji_pair high low) }

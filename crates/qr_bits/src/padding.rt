@@ -1,4 +1,5 @@
-//! Turns segments into data codewords: bit stream, terminator, pad codewords (ISO/IEC 18004:2015, 7.4.9 and 7.4.10).
+//! Turns segments into the data codewords of a symbol: the bit stream, a terminator and pad codewords (ISO/IEC
+//! 18004:2015, 7.4.9 and 7.4.10).
 
 ghost use Rattle.std.specs.Prelude.{All, Err, IfOk, OnOk, length, vec_len, ◌++◌, ◌+◌, ◌-◌, ◌<◌, ◌↔◌, ◌≡◌, ◌≤◌};
 ghost use Rattle.qr_bits.specs.Segmentation.{Covers, bits};
@@ -15,25 +16,26 @@ use crate::stream::{put_header, put_segments};
 use qr_layout::{Level, Version};
 use std::alloc::{AllocError, Global};
 
-// The length of a terminator in bits, if the symbol has room for all of it (7.4.9).
+// The number of bits of a terminator, if the symbol has room for a whole terminator (7.4.9).
 const TERMINATOR_BITS: u64 = 4;
 
-/// Returns the number of bits of a symbol's data codewords.
+/// Returns the capacity of a symbol of this version and level: the number of bits of its data codewords.
 pub(crate) fn capacity(version: Version, level: Level) -> u64
     ensures value { result ≡ capacity_of version level }
     ensures first { 1 ≤ version }
     ensures last { version ≤ 40 }
     ensures least { 72 ≤ result }
 {
-    // For the proof: the call ensures that the version is from 1 to 40.
+    // This call serves only the proof: its contract states that the version is from 1 to 40.
     let _ = version.number();
     8 * u64::from(version.data_codewords(level))
 }
 
-/// Returns the data codewords of a symbol: the bits of the header, if there is one, the bits of the
-/// segments, a terminator, and pad codewords (7.4.9, 7.4.10).
+/// Returns the data codewords of a symbol of this version and level, which contains `input` in the segments `segs`. The
+/// data codewords are the bits of the structured append header, if there is one, the bits of the segments, a
+/// terminator, and pad codewords (7.4.9, 7.4.10).
 ///
-/// Returns `TooLong` if header and segments have more bits than the symbol's data codewords.
+/// Returns `TooLong` if the header and the segments together have more bits than the data codewords of the symbol.
 pub fn codewords(
     alloc: Global,
     input: &[u8],
@@ -64,7 +66,7 @@ pub fn codewords(
     Ok(codewords)
 }
 
-// Appends the pad codewords EC and 11 in turn until there are `len` codewords (7.4.10).
+// Appends the pad codewords EC and 11 (hexadecimal) in turn, until `codewords` has `len` codewords (7.4.10).
 fn pad(codewords: &mut Vec<u8>, len: usize) -> Result<(), AllocError>
     ensures written { OnOk result (codewords.new.items
         ≡ codewords.old.items ++ pads (len - vec_len codewords.old)) }

@@ -1,4 +1,5 @@
-//! Parses data codewords: header, segments and their bytes (ISO/IEC 18004:2015, 7.4.1 to 7.4.6, 8 and 12).
+//! Parses data codewords: reads an optional structured append header, the segments and their bytes (ISO/IEC 18004:2015,
+//! 7.4.1 to 7.4.6, 8 and 12).
 
 ghost use Rattle.std.specs.Prelude.{Err, IfErr, IfOk, List, OnOk, drop, length, take, ℕ, ◌%◌, ◌*◌, ◌++◌, ◌+◌, ◌<◌, ◌≡◌, ◌≤◌};
 ghost use Rattle.qr_bits.specs.Modes.{count_width, byte_count, payload_bits};
@@ -14,8 +15,9 @@ use qr_layout::Version;
 use std::alloc::Global;
 use std::marker::Model;
 
-// A group of digits or characters is written as one number. Each such number is below the limit for its group (7.4.3,
-// 7.4.4).
+// A group of digits or characters is written as one number. The five constants below are the limits of these numbers:
+// for example, the number for three digits is less than `THREE_DIGITS`. `PAIRS` is the limit for two characters, and
+// `SINGLES` is the limit for one character (7.4.3, 7.4.4).
 const THREE_DIGITS: u16 = 1000;
 
 const TWO_DIGITS: u16 = 100;
@@ -26,10 +28,11 @@ const PAIRS: u16 = 2025;
 
 const SINGLES: u16 = 45;
 
-// The greatest low byte `value % 0xC0` of the value of a kanji pair (7.4.6).
+// The greatest value of `value % 0xC0`, where `value` is the value of a kanji pair (7.4.6).
 const LOW_MAX: u16 = 0xBC;
 
-/// Parsed data codewords: an optional header, the segments in order, and the bytes of all segments.
+/// The content of parsed data codewords: an optional structured append header, the segments in their order, and the
+/// bytes of all segments.
 #[derive(Debug, Drop)]
 pub struct Parsed {
     pub header: Option<Header>,
@@ -49,12 +52,14 @@ impl Model for Parsed {
     } };
 }
 
-/// Parses data codewords up to the terminator, or until fewer than four bits are left. The bits after that are ignored.
-/// Accepts exactly the bit streams of segments, in any segmentation, also with empty segments, and with any padding.
+/// Parses data codewords up to the terminator, or until fewer than four bits are left. All further bits are ignored.
+/// The parse succeeds exactly if the bits before this end are an optional structured append header, followed by
+/// segments. The segments may be chosen in any way and may be empty, and the padding may be any bits.
 ///
-/// Returns the fault of the first cause: `BadMode` if an indicator belongs to no mode, or if a header is not at the
-/// beginning; `Cut` if the codewords end within a header, a count or the data of a segment; `BadValue` if a group of
-/// digits or characters is too large a number for its length, or a kanji value is that of no pair.
+/// If the parse fails, returns the fault that occurs first. The fault is `BadMode` if a mode indicator belongs to no
+/// mode, or if a structured append header is not at the beginning. The fault is `Cut` if the codewords end within a
+/// header, a character count indicator, or the data of a segment. The fault is `BadValue` if the number for a group of
+/// digits or characters is too large, or if a value in kanji mode belongs to no kanji pair.
 #[tactic(auto, unfolding(crate::specs::Parsing::parse))]
 pub fn parse(alloc: Global, codewords: &[u8], version: Version) -> Result<Parsed, ParseFault>
     requires { length codewords.now ≤ 3706 }
@@ -70,7 +75,8 @@ pub fn parse(alloc: Global, codewords: &[u8], version: Version) -> Result<Parsed
     })
 }
 
-// Reads the header, if the first indicator is that of a header (8.1). It does not allocate, so a fault is never `Memory`.
+// Reads a structured append header if the bits begin with its mode indicator, and otherwise reads nothing (8.1). The
+// function does not allocate, so its fault is never `Memory`.
 #[tactic(auto, unfolding(crate::specs::Parsing::first_header))]
 fn first_header(reader: &mut BitReader) -> Result<Option<Header>, ParseFault>
     ensures ok { IfOk result (λ h. first_header reader.old ≡ Ok (h, reader.new)) }
@@ -84,7 +90,8 @@ fn first_header(reader: &mut BitReader) -> Result<Option<Header>, ParseFault>
     Ok(Some(header))
 }
 
-// Reads a header after its indicator (8.1). It does not allocate.
+// Reads the fields of a structured append header; the mode indicator of the header is already read (8.1). The function
+// does not allocate, so its fault is never `Memory`.
 #[tactic(auto, unfolding(crate::specs::Parsing::header_at))]
 fn header(reader: &mut BitReader) -> Result<Header, ParseFault>
     ensures ok { IfOk result (λ h. header_at reader.old ≡ Ok (h, reader.new)) }
@@ -100,7 +107,8 @@ fn header(reader: &mut BitReader) -> Result<Header, ParseFault>
     })
 }
 
-// Reads segments up to the end of the data.
+// Reads segments until the terminator comes or fewer than four bits are left. Returns the segments, and the bytes of
+// all segments.
 fn segments(
     alloc: Global,
     mut reader: BitReader,
@@ -118,7 +126,7 @@ fn segments(
     Ok((segments, bytes))
 }
 
-// Reads a segment, and appends its bytes to `out`.
+// Reads one segment, and appends its bytes to `out`.
 #[tactic(auto, unfolding(crate::specs::Parsing::segment_at, crate::specs::Parsing::payload_at))]
 fn segment(
     reader: &mut BitReader,
@@ -138,8 +146,8 @@ fn segment(
     Ok(Segment { mode, len })
 }
 
-// Reads the mode and the count of a segment, and checks that all bits of its data are there. It does not allocate, so a
-// fault is never `Memory`.
+// Reads the mode indicator and the character count indicator of a segment, and checks that the codewords contain all
+// bits of the segment's data. The function does not allocate, so its fault is never `Memory`.
 #[tactic(auto, unfolding(crate::specs::Parsing::segment_at, crate::specs::Parsing::leading_number, crate::specs::Parsing::payload_at))]
 fn segment_head(reader: &mut BitReader, version: Version) -> Result<(Mode, u16), ParseFault>
     requires { 4 ≤ length reader.old }
@@ -161,8 +169,8 @@ fn segment_head(reader: &mut BitReader, version: Version) -> Result<(Mode, u16),
     Ok((mode, count))
 }
 
-// Reads the data of a segment, and appends its bytes to `out`. All bits of the data have to be there.
-// `count` is the number of digits, characters, bytes or kanji pairs.
+// Reads the data of a segment in `mode`, and appends its bytes to `out`. The bits that are not read yet must include
+// all bits of the data. `count` is the number of digits, characters, bytes or kanji pairs.
 #[tactic(auto, unfolding(crate::specs::Parsing::values_of))]
 fn values(
     reader: &mut BitReader,
@@ -216,7 +224,7 @@ fn digits(reader: &mut BitReader, count: usize, out: &mut Vec<u8>) -> Result<(),
     Ok(())
 }
 
-// Returns the last digit of a number as its ASCII byte.
+// Returns the last decimal digit of `number` as its ASCII byte.
 fn digit(number: u16) -> u8
     ensures { result ≡ 48 + number % 10 }
 {
@@ -249,7 +257,7 @@ fn characters(reader: &mut BitReader, count: usize, out: &mut Vec<u8>) -> Result
     Ok(())
 }
 
-// Returns the character of a value (7.4.4, Table 5).
+// Returns the character that has the value `value` in alphanumeric mode (7.4.4, Table 5).
 #[tactic(auto, unfolding(crate::specs::Modes::characters, crate::specs::Parsing::character))]
 fn character(value: u16) -> u8
     requires { value < 45 }
@@ -290,7 +298,8 @@ fn kanji(reader: &mut BitReader, count: usize, out: &mut Vec<u8>) -> Result<(), 
     Ok(())
 }
 
-// Returns the kanji pair of a value as a number whose high byte is the first byte of the pair (7.4.6).
+// Returns the kanji pair that has the value `value` in kanji mode. The high byte of the result is the first byte of the
+// pair (7.4.6).
 #[tactic(auto, unfolding(crate::specs::Parsing::kanji_pair))]
 fn kanji_pair(value: u16) -> u16
     requires { value < 8192 }

@@ -1,4 +1,5 @@
-//! A segment, the test whether segments cover an input, and the number of bits of segments (ISO/IEC 18004:2015, 7.4.1).
+//! Defines segments, tests whether segments cover an input, and computes the number of bits of segments (ISO/IEC
+//! 18004:2015, 7.4.1).
 
 ghost use Rattle.std.specs.Prelude.{All, IsTrue, sum_by, ◌+◌, ◌<◌, ◌↔◌, ◌≡◌, ◌≤◌};
 ghost use Rattle.qr_bits.specs.Segmentation.{Covers, bits, segment_bits};
@@ -6,16 +7,17 @@ ghost use Rattle.qr_bits.specs.Segmentation.{Covers, bits, segment_bits};
 use crate::modes::{INPUT_MAX, Mode, count_width, payload_bits, suits};
 use qr_layout::Version;
 
-/// The next `len` bytes of the input, after those of the segments before, written in one mode.
+/// A segment: `len` bytes of the input that are written in the mode `mode`. The bytes of each segment follow the bytes
+/// of the segment before it.
 #[derive(Clone, Copy, Debug, PartialEq, Eq)]
 pub struct Segment {
     pub mode: Mode,
-    /// The number of bytes of the input; a character of kanji mode has two.
+    /// The number of bytes of the segment. In kanji mode, each character has two bytes.
     pub len: usize,
 }
 
-/// Returns whether the segments cover the whole input: no segment is empty, their lengths add up to
-/// the length of the input, and the bytes of each segment can be written in its mode.
+/// Returns whether the segments `segs` cover the whole `input`. Segments cover an input if no segment is empty, their
+/// lengths add up to the length of the input, and the bytes of each segment can be written in its mode.
 pub fn covers(input: &[u8], segs: &[Segment]) -> bool
     ensures { IsTrue result ↔ Covers input.now segs.now }
 {
@@ -34,8 +36,8 @@ pub fn covers(input: &[u8], segs: &[Segment]) -> bool
     rest.is_empty()
 }
 
-/// Returns the length of the segments in bits in a symbol of this version: mode indicators, character
-/// count indicators and data, without a header.
+/// Returns the number of bits of the segments `segs` in a symbol of this version. The number includes mode indicators,
+/// character count indicators and data, but no structured append header.
 pub fn bit_len(segs: &[Segment], version: Version) -> u64
     requires nonempty { All (λ s. 0 < s.len) segs.now }
     requires short { sum_by (λ s. s.len) segs.now ≤ INPUT_MAX }

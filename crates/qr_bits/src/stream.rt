@@ -1,4 +1,5 @@
-//! Writes the bit stream of segments, after an optional header (ISO/IEC 18004:2015, 7.4.1 to 7.4.6 and 8.1).
+//! Writes the bit stream of a symbol: an optional structured append header, and then the segments (ISO/IEC 18004:2015,
+//! 7.4.1 to 7.4.6 and 8.1).
 
 ghost use Rattle.std.specs.Prelude.{IsTrue, OnOk, length, ◌++◌, ◌+◌, ◌-◌, ◌<◌, ◌^◌, ◌≡◌, ◌≤◌};
 ghost use Rattle.qr_bits.specs.Modes.{characters, in_twos, is_alphanumeric, is_digit, is_kanji_pair, suits};
@@ -52,7 +53,7 @@ pub(crate) fn put_segments(
     Ok(())
 }
 
-// Writes one segment: mode indicator, character count indicator, data (7.4.1).
+// Writes one segment: its mode indicator, its character count indicator, and its data (7.4.1).
 #[tactic(auto, unfolding(crate::specs::Stream::segment_stream))]
 fn put_segment(
     writer: &mut BitWriter,
@@ -85,7 +86,8 @@ fn put_payload(writer: &mut BitWriter, mode: Mode, bytes: &[u8]) -> Result<(), A
     }
 }
 
-// Writes digits: three in ten bits, two left over in seven, one left over in four (7.4.3).
+// Writes `digits` in numeric mode. Three digits are written in ten bits; at the end, two remaining digits are written
+// in seven bits, or one remaining digit in four bits (7.4.3).
 #[tactic(auto, unfolding(crate::specs::Stream::digit_bits), using(crate::proofs::lemmas::stream::WritingLemmas::all_rest, std::proofs::lemmas::List::append_assoc))]
 fn put_digits(writer: &mut BitWriter, digits: &[u8]) -> Result<(), AllocError>
     requires { IsTrue (list_all is_digit digits.now) }
@@ -112,7 +114,8 @@ fn digit_value(digit: u8) -> u16
     u16::from(digit - b'0')
 }
 
-// Writes characters: two in eleven bits, one left over in six (7.4.4).
+// Writes `characters` in alphanumeric mode. Two characters are written in eleven bits, and one character that remains
+// at the end is written in six bits (7.4.4).
 #[tactic(auto, unfolding(crate::specs::Stream::character_bits))]
 fn put_characters(writer: &mut BitWriter, characters: &[u8]) -> Result<(), AllocError>
     requires { IsTrue (list_all is_alphanumeric characters.now) }
@@ -129,7 +132,7 @@ fn put_characters(writer: &mut BitWriter, characters: &[u8]) -> Result<(), Alloc
     }
 }
 
-// Writes kanji pairs, each in thirteen bits (7.4.6).
+// Writes the kanji pairs `bytes` in kanji mode, each pair of two bytes in thirteen bits (7.4.6).
 #[tactic(auto, unfolding(crate::specs::Stream::kanji_bits))]
 fn put_kanji(writer: &mut BitWriter, bytes: &[u8]) -> Result<(), AllocError>
     requires { IsTrue (in_twos is_kanji_pair bytes.now) }

@@ -1,10 +1,13 @@
-//! Finds the best mode for each byte: a table that is filled from the last byte to the first.
+//! Finds a mode for each byte of an input, so that the segments take the fewest bits. A table of the best modes is
+//! filled from the last byte to the first.
 //!
-//! The bits that the remaining bytes add depend only on the state before them, a `RunState`. So for each state the best
-//! mode is the one for which the bits of the next byte, plus the fewest bits of the bytes after it, are least. A choice
-//! is one number: four times its bits plus the rank of its mode. So the least number is the choice with the fewest
-//! bits, and of choices with equally many bits the one with the lowest rank. A row of the table contains the modes for
-//! one byte, two bits for each state.
+//! The number of bits that the remaining bytes add depends only on their modes and on the state before them, a
+//! `RunState`. For each state and each mode of the next byte, there is a sum: the bits that the byte adds, plus the
+//! fewest bits that the bytes after it then add. The best mode for the state is the mode with the least sum.
+//!
+//! One number represents a choice of a mode: four times the number of bits of the choice, plus the rank of the mode. So
+//! the best choice has the least number: it has the fewest bits, and the lowest rank among the choices with equally
+//! many bits. A row of the table contains the best modes of one byte, in two bits for each state.
 
 ghost use Rattle.std.specs.Prelude.{◌≡◌, ◌+◌, ◌*◌, ◌/◌, ◌%◌, ◌<◌, ◌≤◌, ℕ, Bool, true, false, length, reverse, IfOk, vec_len};
 ghost use Rattle.qr_bits.specs.declared.modes.Mode.{Mode};
@@ -20,10 +23,11 @@ use crate::run_state::{FirstChoices, NO_BITS, PerState, RunState, number};
 use qr_layout::Version;
 use std::alloc::{AllocError, Global};
 
-// The number of a mode that may not be used. It is greater than the number of any choice.
+// The number that represents a choice that is not allowed. This number is greater than the number of every allowed
+// choice.
 const NO_CHOICE: u32 = u32::MAX;
 
-// Returns the mode that has this rank.
+// Returns the mode that has the rank `rank`.
 #[inline(always)]
 fn ranked(rank: u32) -> Mode
     ensures { result ≡ ranked rank }
@@ -36,7 +40,8 @@ fn ranked(rank: u32) -> Mode
     }
 }
 
-// Returns whether `mode`, which is not kanji mode, may be used for `byte`, if `byte` is not the second of a kanji pair.
+// Returns whether `byte` may have the mode `mode` under `rule`. The mode must not be kanji mode. The byte must not be
+// the second byte of a kanji pair.
 #[tactic(auto, unfolding(crate::specs::Steps::RunState::may_begin))]
 #[inline(always)]
 fn may_begin(rule: Rule, byte: u8, mode: Mode) -> bool
@@ -51,9 +56,10 @@ fn may_begin(rule: Rule, byte: u8, mode: Mode) -> bool
     }
 }
 
-// Returns a choice of mode as one number, four times its bits plus the rank of its mode, or `NO_CHOICE` if the mode may
-// not be used (`may` is false). `first` is the number of the choice for its byte alone, and `rest` is the number of the
-// best choice for the bytes after it.
+// Returns the number that represents the choice of a mode for a byte: four times the number of bits of the choice, plus
+// the rank of the mode. If `may` is false, the mode may not be used, and the result is `NO_CHOICE`. `first` is the
+// number of the choice if only the bits of the byte are counted. `rest` is the number of the best choice for the bytes
+// after the byte.
 #[inline(always)]
 fn number_if(may: bool, first: u32, rest: u32) -> u32
     requires first { first ≤ 135 }
@@ -63,7 +69,8 @@ fn number_if(may: bool, first: u32, rest: u32) -> u32
     if may { first + rest / 4 * 4 } else { NO_CHOICE }
 }
 
-// Returns a row of the table: for each state, the mode of the choice that has this number.
+// Returns a row of the table, which contains a mode for each state. The rank of this mode is the number that `numbers`
+// contains for the state, modulo 4.
 #[inline(always)]
 fn modes_of(numbers: &PerState<u32>) -> u32
     ensures { (p : RunState) → mode_at result p ≡ ranked (in_state numbers.now p % 4) }
@@ -75,10 +82,11 @@ fn modes_of(numbers: &PerState<u32>) -> u32
     numbers.start % 4 + 4 * last
 }
 
-// Finds the best choice of a mode for a byte, from each state before it. Returns the modes as a row of the table, and
-// the numbers of these choices. The flags say whether the byte may be written as a digit, as a character and as the
-// first byte of a kanji pair. For each state after the byte, `rest` contains the number of the best choice for the
-// bytes that follow: four times its bits plus the rank of its mode.
+// Finds the best choice of a mode for a byte, for each state before the byte. Returns the chosen modes as a row of the
+// table, and the numbers that represent the choices. `digit` and `character` say whether the byte may be written in
+// numeric mode and in alphanumeric mode. `pair` says whether the byte may be the first byte of a kanji pair. For each
+// state after the byte, `rest` contains the number that represents the best choice for the bytes after it. This number
+// is four times the number of bits of the choice, plus the rank of its mode.
 #[inline(always)]
 fn choices(
     first_choices: &FirstChoices,
@@ -100,9 +108,10 @@ fn choices(
     let no_digits = characters.min(others);
     let no_characters = digits.min(others);
     let start = digits.min(no_digits);
-    // To continue a segment takes fewer bits than to begin a new segment of the same mode, and both lead to the same
-    // `RunState`. So a new segment of the same mode is never the best choice, and `start`, the least number of all new
-    // segments, may include its number.
+    // In the states `Digit3`, `Character2`, `InBytes` and `WholePair`, the last group of bytes is complete. To continue
+    // the segment then takes fewer bits than to begin a new segment of the same mode, and both lead to the same
+    // `RunState`. So a new segment of the same mode is never the best choice. That is why `start`, the least number of
+    // all new segments, can be used for these states although it includes a new segment of the same mode.
     let digit2 = number_if(digit, number(3, Mode::Numeric), rest.digit2);
     let digit3 = number_if(digit, number(3, Mode::Numeric), rest.digit3);
     let digit1 = number_if(digit, number(4, Mode::Numeric), rest.digit1);
@@ -125,9 +134,10 @@ fn choices(
     (modes_of(&numbers), numbers)
 }
 
-/// Finds the best choice of a mode for this byte, from each state before it. Returns the modes as a row of the table,
-/// and the numbers of these choices. `pair` says whether the byte may begin a kanji pair. After the first byte of a
-/// pair only kanji mode is possible, and the second byte adds no bits.
+/// Finds the best choice of a mode for `byte`, for each state before the byte. Returns the chosen modes as a row of the
+/// table, and the numbers that represent the choices. `pair` says whether the byte may be the first byte of a kanji
+/// pair. After the first byte of a kanji pair, only kanji mode is possible, and the second byte adds no bits. For each
+/// state after the byte, `rest` contains the number that represents the best choice for the bytes after it.
 #[tactic(auto, unfolding(crate::specs::Steps::RunState::may_begin))]
 #[inline(always)]
 pub(crate) fn best_choices(
@@ -140,7 +150,8 @@ pub(crate) fn best_choices(
     requires { IsSmall rest.now }
     ensures { IsRow first_choices.now.version rule byte pair rest.now result.0 result.1 }
 {
-    // Flags that are constant let the compiler drop the cases that they rule out. Every digit is also a character.
+    // The calls below pass constants as flags where this is possible, so that the compiler can drop the cases that the
+    // constants exclude. A byte that may be written in numeric mode may also be written in alphanumeric mode.
     if pair {
         let digit = may_begin(rule, byte, Mode::Numeric);
         let character = may_begin(rule, byte, Mode::Alphanumeric);
@@ -154,7 +165,7 @@ pub(crate) fn best_choices(
     }
 }
 
-// Returns whether the rule allows kanji mode and the bytes begin with a kanji pair.
+// Returns whether `rule` allows kanji mode and the first two bytes of `bytes` are a kanji pair.
 #[tactic(auto, unfolding(crate::specs::Steps::RunState::begins_with_pair))]
 pub(crate) fn begins_with_pair(rule: Rule, bytes: &[u8]) -> bool
     ensures { result ≡ begins_with_pair rule is_kanji_pair bytes.now }
@@ -165,7 +176,8 @@ pub(crate) fn begins_with_pair(rule: Rule, bytes: &[u8]) -> bool
     }
 }
 
-/// Returns one row for each byte, from the last byte to the first: the best mode from each state.
+/// Returns the table of best modes, with one row for each byte of `input`, from the last byte to the first. Each row
+/// contains the best mode of the byte for each state before the byte.
 pub(crate) fn best_modes(
     alloc: Global,
     input: &[u8],
@@ -188,7 +200,7 @@ pub(crate) fn best_modes(
     Ok(table)
 }
 
-// Returns at which bit of a row of the table the mode for `state` begins.
+// Returns the index of the lower of the two bits that contain the mode for `state` in a row of the table.
 #[inline(always)]
 fn shift_of(state: RunState) -> u32
     ensures value { result ≡ shift_of state }
@@ -207,7 +219,7 @@ fn shift_of(state: RunState) -> u32
     }
 }
 
-/// Returns the mode for `state` in a row of the table.
+/// Returns the mode that `row`, a row of the table, contains for `state`.
 #[tactic(auto, unfolding(crate::specs::Steps::Table::mode_at))]
 #[inline(always)]
 pub(crate) fn mode_at(row: u32, state: RunState) -> Mode

@@ -1,4 +1,5 @@
--- A value for each state of an assignment, and a table of best modes.
+-- Defines the table of best modes for an input. The table has a row for each byte; the row contains the best mode of
+-- the byte for each state (`RunState`) before the byte.
 use Rattle.std.specs.Prelude.{ℕ, ◌<◌, ◌/◌, ◌%◌, ◌^◌, Bool, List, [], ◌∷◌, IsTrue}
 use Rattle.qr_bits.specs.declared.modes.Mode.{Mode}
 use Rattle.qr_bits.specs.declared.modes.Rule.{Rule}
@@ -7,7 +8,7 @@ use Rattle.qr_bits.specs.declared.run_state.RunState.TheVariants.{Start, Digit1,
 use Rattle.qr_bits.specs.declared.run_state.PerState.{PerState}
 use Rattle.qr_bits.specs.Steps.RunState.{state_after, allowed, ranked, IsBestRest, IsChoice}
 
--- The value for a state
+-- `in_state b p` is the value that `b` contains for the state `p`
 unfoldable pub in_state : {T : Type 0} → PerState T → RunState → T
 in_state b Start = b.start
 in_state b Digit1 = b.digit1
@@ -19,19 +20,20 @@ in_state b InBytes = b.in_bytes
 in_state b HalfPair = b.half_pair
 in_state b WholePair = b.whole_pair
 
--- The bits that the choice for state p takes: a quarter of the number of the choice, rounded down
+-- `bits_at numbers p` is the number of bits that the choice for the state `p` takes. For each state, `numbers` contains
+-- four times the number of bits of the choice, plus the rank of the chosen mode.
 abbrev pub bits_at : PerState ℕ → RunState → ℕ
 bits_at numbers p = in_state numbers p / 4
 
--- `IsSmall n` holds if the number of the choice for each state is below 40,000,000. It is, for every input of at most
--- `INPUT_MAX` bytes, so sums of 32 bits do not overflow
+-- `IsSmall n` holds if each of the nine numbers in `n`, one for each state, is below 40,000,000. For an input of at
+-- most `INPUT_MAX` bytes, all numbers of choices are below this bound, so sums of 32 bits do not overflow.
 abbrev pub IsSmall : PerState ℕ → Type 0
 IsSmall n =
     (n.start < 40000000) × (n.digit1 < 40000000) × (n.digit2 < 40000000) × (n.digit3 < 40000000) × (n.character1 < 40000000)
     × (n.character2 < 40000000) × (n.in_bytes < 40000000) × (n.half_pair < 40000000) × (n.whole_pair < 40000000)
 
--- A row of the table has two bits for the mode of each state. `shift_of p` is the index of the lower one of these bits
--- for state p
+-- `shift_of p` is the index of the lower of the two bits that contain the mode for the state `p` in a row of the table.
+-- A row is a number that has two such bits for each state, and the bit with the index 0 is the lowest bit
 abbrev pub shift_of : RunState → ℕ
 shift_of Start = 0
 shift_of Digit1 = 2
@@ -43,20 +45,25 @@ shift_of InBytes = 12
 shift_of HalfPair = 14
 shift_of WholePair = 16
 
--- The mode for state p in a row of the table
+-- `mode_at row p` is the mode that the row `row` of the table contains for the state `p`
 unfoldable pub mode_at : ℕ → RunState → Mode
 mode_at row p = ranked (row / 2 ^ shift_of p % 4)
 
--- `IsRow v r x pair rest row numbers` holds if, for each state before the byte x, `row` contains the mode of the best choice
--- and `numbers` its number. `rest` contains the numbers for the bytes after x.
+-- `IsRow v r x pair rest row numbers` holds if, for each state before the byte `x`, `row` contains the best mode of
+-- `x`. For each of these states `p`, `bits_at numbers p` is the number of bits that `x` and the bytes after it then
+-- add. For each state `q` after `x`, `bits_at rest q` is the number of bits that the bytes after `x` add. The version
+-- is `v`, the rule is `r`, and the flag `pair` says whether `x` may be the first byte of a kanji pair.
 abbrev pub IsRow : ℕ → Rule → ℕ → Bool → PerState ℕ → ℕ → PerState ℕ → Type 0
 IsRow v r x pair rest row numbers = (p : RunState) → IsChoice v r p x pair (bits_at rest) (mode_at row p) (bits_at numbers p)
 
--- `follow p rows` is the modes to which a table leads from state p, one row for each byte
+-- `follow p rows` is the list of the modes that are read from the rows of a table, one mode from each row. The first
+-- row is read for the state `p`. The mode that is read from a row leads to the state for which the next row is read
 unfoldable pub follow : RunState → List ℕ → List Mode
 follow p [] = []
 follow p (row ∷ rows) = mode_at row p ∷ follow (state_after p (mode_at row p)) rows
 
--- `IsBestTable v r test xs rows` holds if the table leads to the best rest from each state from which some rest is allowed.
+-- `IsBestTable v r test xs rows` holds if `rows` is a table of the best modes for the bytes `xs`. From each state in
+-- which some assignment of modes to `xs` is allowed, `follow` reads the best of the allowed assignments from this
+-- table. The version is `v`, the rule is `r`, and two bytes are a kanji pair if they pass `test`.
 abbrev pub IsBestTable : ℕ → Rule → (ℕ → ℕ → Bool) → List ℕ → List ℕ → Type 0
 IsBestTable v r test xs rows = (p : RunState) (ks : List Mode) → IsTrue (allowed r test p xs ks) → (n : ℕ) × IsBestRest v r test p xs (follow p rows) n
