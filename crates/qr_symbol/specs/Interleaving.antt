@@ -49,8 +49,8 @@ pub record Position : Type 0 where
 abbrev pub ComesBefore : Position → Position → Type 0
 ComesBefore t u = (t.place < u.place) ⊎ ((t.place ≡ u.place) × (t.block < u.block))
 
--- `IsPosition c t` holds if t is the position of a codeword in blocks that have the sizes c. This means that a block
--- has the number `t.block`, and that this block has a codeword with the index `t.place` [own].
+-- `IsPosition c t` holds if t is the position of a codeword in blocks that have the sizes c. There must be a block with
+-- the number `t.block`, and this block must have a codeword with the index `t.place` [own].
 abbrev pub IsPosition : BlockSizes → Position → Type 0
 IsPosition c t = (t.block < block_count c) × (t.place < block_len c t.block)
 
@@ -100,8 +100,8 @@ abbrev pub IsInterleaved : ℕ → Level → List ℕ → List ℕ → Type 0
 IsInterleaved v l d cw = IsFinalMessage (blocks_of v l) d cw
 
 -- `IsGathered c interleaved xs` holds if the list xs contains, block after block, the codewords with which the sequence
--- `interleaved` begins. The blocks have the sizes c. In the sequence, the codewords of these blocks are in interleaved
--- order (ISO/IEC 18004:2015, 7.6).
+-- `interleaved` begins. The blocks have the sizes c. The sequence `interleaved` begins with the first codewords of all
+-- blocks, then has the second codewords of all blocks, and so on (ISO/IEC 18004:2015, 7.6).
 pub record IsGathered (c : BlockSizes) (interleaved xs : List ℕ) : Type 0 where
   pub long : length xs ≡ codeword_count c
   pub positions : List Position

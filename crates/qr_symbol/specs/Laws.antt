@@ -1,5 +1,5 @@
--- This file contains rows of the mask patterns that were worked out by hand, and functions for the laws that compare
--- such values with the definitions.
+-- This file contains rows of the mask patterns that were worked out by hand. The laws compare the definition of the
+-- mask patterns with these rows.
 use Rattle.std.specs.Prelude.{ℕ, ◌-◌, Bool, List, [], ◌∷◌, map}
 use Rattle.std.specs.List.{range_with_len}
 use Rattle.qr_bits.specs.Bits.{value}
@@ -28,7 +28,7 @@ computed_rows =
     (0b111111 ∷ 0b111000 ∷ 0b110110 ∷ 0b101010 ∷ 0b101101 ∷ 0b100011 ∷ 0b111111 ∷ 0b111000 ∷ 0b110110 ∷ 0b101010 ∷ 0b101101 ∷ 0b100011 ∷ []) ∷
     (0b101010 ∷ 0b000111 ∷ 0b100011 ∷ 0b010101 ∷ 0b111000 ∷ 0b011100 ∷ 0b101010 ∷ 0b000111 ∷ 0b100011 ∷ 0b010101 ∷ 0b111000 ∷ 0b011100 ∷ []) ∷ []
 
--- `bits_down n bit` is the number with the n binary digits `bit (n - 1)` down to `bit 0`, where `bit (n - 1)` is the
--- highest digit [own].
+-- `bits_down n bit` is the number with the n binary digits `bit (n - 1)` down to `bit 0`. The highest digit is `bit (n
+-- - 1)` [own].
 abbrev pub bits_down : ℕ → (ℕ → Bool) → ℕ
 bits_down n bit = value (map (λ i. bit (n - 1 - i)) (range_with_len 0 n))

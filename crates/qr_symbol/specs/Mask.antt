@@ -1,8 +1,8 @@
 -- This file defines the eight mask patterns: which modules each of them inverts.
 use Rattle.std.specs.Prelude.{ℕ, ◌+◌, ◌*◌, ◌/◌, ◌%◌, ◌==◌, Bool, if◌then◌else◌, not}
 
--- `inverts mask r c` is true if the mask pattern `mask`, from 0 to 7, inverts the module in row r and column c. Only
--- modules of the encoding region are inverted (ISO/IEC 18004:2015, 7.8.2, Table 10).
+-- `inverts mask r c` is true if the mask pattern `mask`, from 0 to 7, inverts the module in row r and column c. A mask
+-- pattern is applied only to modules of the encoding region (ISO/IEC 18004:2015, 7.8.2, Table 10).
 unfoldable pub inverts : ℕ → ℕ → ℕ → Bool
 inverts mask r c =
     if mask == 0 then (r + c) % 2 == 0

@@ -1,5 +1,5 @@
--- This file defines how a symbol is read. The definitions use the layout of the symbol's version, its blocks and the
--- order of its modules. They do not use `grid_of`, which defines how a symbol is drawn.
+-- This file defines how a symbol is read. The definitions use the layout, the blocks and the order of modules that
+-- belong to the version of the symbol. The definitions do not use `grid_of`, which defines how a symbol is drawn.
 use Rattle.std.specs.Prelude.{◌≡◌, ◌≢◌, ℕ, ◌-◌, ◌*◌, ◌<◌, ◌≤◌, Bool, false, List, ◌++◌, map, take, length, replicate, Result, Ok, Err, None}
 use Rattle.std.specs.List.{All}
 use Rattle.qr_layout.specs.declared.level.Level.{Level}
@@ -28,9 +28,9 @@ use Rattle.qr_symbol.specs.Interleaving.{IsInterleaved}
 abbrev pub unmasked : ℕ → Grid → Module → Bool
 unmasked mask g m = inverted (inverts mask m.row m.col) (colour g m.row m.col)
 
--- `read_bits v mask g ms` is the list of all codeword bits in the square of modules g of version v. One bit is read
--- from each of the first modules of the list ms: the bit is the module's colour after the mask pattern `mask` was
--- undone. If ms has fewer modules than there are codeword bits, the missing bits are 0 (ISO/IEC 18004:2015, 7.7.3, 12).
+-- `read_bits v mask g ms` is the list of all codeword bits in the square of modules g of version v. The bits are the
+-- colours of the first modules of the list ms after the mask pattern `mask` was undone, one bit for each module. If ms
+-- has fewer modules than there are codeword bits, the missing bits are 0 (ISO/IEC 18004:2015, 7.7.3, 12).
 abbrev pub read_bits : ℕ → ℕ → Grid → List Module → List Bool
 read_bits v mask g ms = map (unmasked mask g) (take (8 * total_codewords_of v) ms) ++ replicate (8 * total_codewords_of v - length ms) false
 
@@ -44,7 +44,7 @@ pub record IsRead (v mask : ℕ) (g : Grid) (cw : List ℕ) : Type 0 where
   pub bits : bits_of cw ≡ read_bits v mask g places
 
 -- `IsMessage v l mask g d` holds if d are the data codewords in the square of modules g, which has version v, level l
--- and the mask pattern `mask`. This means that g contains the final sequence of codewords for d
+-- and the mask pattern `mask`. The encoding region of g must contain the final sequence of codewords for d
 -- (ISO/IEC 18004:2015, 7.6, 12).
 pub record IsMessage (v : ℕ) (l : Level) (mask : ℕ) (g : Grid) (d : List ℕ) : Type 0 where
   pub codewords : List ℕ
@@ -63,17 +63,17 @@ pub record IsFormat (g : Grid) (l : Level) (mask : ℕ) : Type 0 where
   pub in_range : mask < 8
   pub bits : (i : ℕ) → i < 15 → format_bit g i ≡ word_bit (format_word_of l mask) i
 
--- `IsOfVersion g v` holds if v is a version, from 1 to 40, and g is a square of modules with the side of this version,
--- in modules (ISO/IEC 18004:2015, 6.3.2, 12).
+-- `IsOfVersion g v` holds if v is a version, from 1 to 40, and the square of modules g has the side of a symbol of
+-- version v. The side is the number of modules in a row or a column (ISO/IEC 18004:2015, 6.3.2, 12).
 pub record IsOfVersion (g : Grid) (v : ℕ) : Type 0 where
   pub least : 1 ≤ v
   pub most : v ≤ 40
   pub side : g.side ≡ side_of v
 
 -- `IsParsedAs g outcome` holds if the square of modules g can be read as far as its data codewords, and `outcome` is
--- the result of parsing them. The side of g must be that of a version. Its format information must be that of a level
--- and a mask pattern. Its encoding region must contain the final sequence of codewords for the data codewords
--- (ISO/IEC 18004:2015, 12).
+-- the result of parsing them. The side of g, in modules, must be that of a version. The format information of g must be
+-- that of a level and a mask pattern. The encoding region of g must contain the final sequence of codewords for the
+-- data codewords (ISO/IEC 18004:2015, 12).
 pub record IsParsedAs (g : Grid) (outcome : Result Content ParseFault) : Type 0 where
   pub version : ℕ
   pub level : Level
@@ -97,11 +97,11 @@ IsReadBack v rule x g = (segments : List Segment) × IsLeastSegmentation v rule 
     × IsReading g (record { header = None; segments = segments; bytes = x })
 
 -- `IsUnread g e` holds if the square of modules g is not read because of the fault e. The fault is `Side` if no version
--- has the side of g. The fault is `Format` if a version has this side, but the format information is that of no level
--- and mask pattern. The fault is `Check` if the side and the format information are valid, but the codewords are not
--- the final sequence for any data codewords. The fault is `Segments` if g contains data codewords, but they cannot be
--- parsed. The fault `Memory` is possible for every square, and the fault `Series` for no single square
--- (ISO/IEC 18004:2015, 12).
+-- has the side of g, in modules. The fault is `Format` if a version has this side, but the format information is that
+-- of no level and mask pattern. The fault is `Check` if the side and the format information are valid, but the
+-- codewords are not the final sequence for any data codewords. The fault is `Segments` if g contains data codewords,
+-- but they cannot be parsed. The fault `Memory` is possible for every square, and the fault `Series` for no single
+-- square (ISO/IEC 18004:2015, 12).
 abbrev pub IsUnread : Grid → ReadFault → Type 0
 IsUnread g unread.Memory = Unit {0}
 IsUnread g unread.Side = (v : ℕ) → IsOfVersion g v → ⊥

@@ -17,9 +17,9 @@ use qr_matrix::Matrix;
 use std::alloc::{AllocError, Global};
 use std::mem;
 
-// The format information that is drawn in the square `plain`: only bit 7 is dark. With this format information, the
-// function patterns are the same when rows and columns are exchanged. The exchange swaps the dark module with a module
-// of bit 7, which is dark too.
+// The format information that is drawn in the square `plain` of a canvas: only bit 7 is dark. With this format
+// information, the function patterns are the same when rows and columns are exchanged. The exchange swaps the dark
+// module with a module of bit 7, which is dark too.
 const SYMMETRIC_FORMAT: u32 = 1 << 7;
 
 /// Two squares of modules from which the symbols of a series are made. The square `plain` is a symbol without a mask
@@ -37,8 +37,8 @@ pub(crate) struct Canvas {
 }
 
 impl Canvas {
-    // Returns a canvas for symbols of this version and level. Its square `plain` contains the function patterns and the
-    // version information, but no codewords. Allocates twice, once for each square.
+    // Returns a canvas for symbols of this version and level. The square `plain` of the canvas contains the function
+    // patterns and the version information, but no codewords. Allocates twice, once for each square.
     #[inline(never)]
     pub(crate) fn new(alloc: Global, version: Version, level: Level) -> Result<Canvas, AllocError>
         ensures version { IfOk result (λ c. c.version ≡ version) }

@@ -254,9 +254,9 @@ fn draw_four(
 }
 
 // Draws the bits of the codewords, from bit `first` on, in a strip (two columns that are filled together). Each module
-// of the strip that is in the encoding region gets the next bit. Returns the number of the bit after the last bit that
-// was drawn. The side of a symbol, in modules, is one more than a multiple of four. So the bottom row is drawn by
-// itself, and the rows above it are drawn in groups of four.
+// of the strip that is in the encoding region gets the next bit. Returns the number of the next bit to be drawn. The
+// side of a symbol, in modules, is one more than a multiple of four. So the bottom row is drawn by itself, and the rows
+// above it are drawn in groups of four.
 #[inline(always)]
 fn draw_columns(
     columns: &mut Columns,
@@ -293,8 +293,8 @@ fn draw_columns(
 }
 
 // Draws the bits of the codewords, from bit `first` on, in a strip (two columns that are filled together). Each module
-// of the strip that is in the encoding region gets the next bit. Returns the number of the bit after the last bit that
-// was drawn. `draw_columns` is called in two places here, so that it is compiled once for each direction of a strip.
+// of the strip that is in the encoding region gets the next bit. Returns the number of the next bit to be drawn.
+// `draw_columns` is called in two places here, so that it is compiled once for each direction of a strip.
 fn draw_strip(
     across: &mut Matrix,
     v: Version,

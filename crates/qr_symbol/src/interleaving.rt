@@ -88,7 +88,7 @@ impl BlockSizes {
 
     /// Undoes the interleaving of `codewords`, and returns the codewords block after block. Interleaved codewords are
     /// the first codeword of each block, then the second codeword of each block, and so on (ISO/IEC 18004:2015, 7.6).
-    /// If `codewords` contains more codewords than the blocks have, the last ones are ignored.
+    /// If `codewords` contains more codewords than the blocks have, the additional codewords at the end are ignored.
     pub fn gather(self, alloc: Global, codewords: &[u8]) -> Result<Vec<u8>, AllocError>
         requires { codeword_count self ≤ length codewords.now }
         ensures { IfOk result (λ d. IsGathered self codewords.now d.items) }

@@ -61,9 +61,9 @@ fn has_header(content: &Parsed, position: usize, last: usize, parity: u8) -> boo
     }
 }
 
-// Returns whether the contents are those of a whole series of symbols, in its order: there is at least one content, and
-// each content has the correct structured append header. This header contains the position of the content, the number
-// of contents less 1, and `parity` (8.1 to 8.3).
+// Returns whether the contents are those of a whole series of symbols, in the order of the series. There must be at
+// least one content, and each content must have a structured append header. This header must contain the position of
+// the content, the number of contents less 1, and `parity` (8.1 to 8.3).
 fn are_in_series(contents: &[Parsed], parity: u8) -> bool
     ensures { Decides result ((0 < length contents.now)
         × HaveHeaders (length contents.now - 1) parity 0 contents.now) }
@@ -87,7 +87,7 @@ fn are_in_series(contents: &[Parsed], parity: u8) -> bool
 /// # Errors
 ///
 /// Returns `Series` if the contents are neither one content without a structured append header nor those of a whole
-/// series; this includes the case that there is no content. Returns `Memory` if an allocation is refused.
+/// series. If there is no content, returns `Series` too. Returns `Memory` if an allocation is refused.
 pub fn join(alloc: Global, contents: &[Parsed]) -> Result<Vec<u8>, ReadFault>
     ensures { MatchResult result
         (λ bytes. BelongTogether contents.now × (bytes.items ≡ bytes_of_all contents.now))
@@ -109,9 +109,10 @@ pub fn join(alloc: Global, contents: &[Parsed]) -> Result<Vec<u8>, ReadFault>
 ///
 /// # Errors
 ///
-/// Returns the fault of the first symbol that cannot be read; the structured append headers are checked only if all
-/// symbols can be read. Returns `Series` if all symbols can be read, but are neither one symbol without a header nor a
-/// whole series; this includes the case that there is no symbol. Returns `Memory` if an allocation is refused.
+/// If some symbol cannot be read, returns the fault of the first such symbol. The structured append headers are checked
+/// only if all symbols can be read. Returns `Series` if all symbols can be read, but are neither one symbol without a
+/// structured append header nor a whole series. If there is no symbol, returns `Series` too. Returns `Memory` if an
+/// allocation is refused.
 pub fn read_series(alloc: Global, symbols: &[Symbol]) -> Result<Vec<u8>, ReadFault>
     ensures { MatchResult result
         (λ bytes. IsJoined (squares_of symbols.now) bytes.items)

@@ -1,6 +1,6 @@
-//! This file contains the laws of mask patterns, of interleaving, of reading and of series of symbols. Most of its
-//! functions contain no code: the contract of such a function is the law. The other functions build, read, compare or
-//! clone values, and the contract of such a function is a law about its result.
+//! This file contains the laws of mask patterns, of interleaving, of reading and of series of symbols. Most functions
+//! of this file contain no code: the contract of such a function is the law. The other functions build, read, compare
+//! or clone values, and the contract of such a function is a law about its result.
 
 ghost use Rattle.std.specs.Prelude.{◌≡◌, ◌<◌, ◌≤◌, ◌+◌, ◌%◌, ◌⊎◌, ℕ, false, List, length, map, None, ◌∷◌, IfOk, IfErr, ◌≢◌, ◌↔◌, Err};
 ghost use Rattle.std.specs.List.{All};
@@ -46,8 +46,8 @@ use qr_layout::{Level, Version};
 use qr_matrix::Matrix;
 use std::alloc::Global;
 
-/// Each mask pattern repeats every twelve rows and every six columns. Its first twelve rows, in the first six columns,
-/// are equal to rows that were worked out by hand from Table 10.
+/// Each mask pattern repeats every twelve rows and every six columns. The first twelve rows of each mask pattern, in
+/// the first six columns, are equal to rows that were worked out by hand from Table 10.
 pub fn masks_compute()
     ensures repeated { (mask r c : ℕ) → mask < 8 → inverts mask r c ≡ inverts mask (r % 12) (c % 6) }
     ensures rows { map first_rows all_masks ≡ computed_rows }
@@ -98,7 +98,7 @@ pub fn interleaving_is_one(version: Version, level: Level)
 {}
 
 /// Any two squares of modules of one version and level that contain different data codewords are far apart. In at least
-/// one block, they differ in more codewords than the block has error correction codewords.
+/// one block, two such squares differ in more codewords than the block has error correction codewords.
 pub fn messages_lie_apart(version: Version, level: Level)
     ensures { MessagesLieApart version level }
 {}

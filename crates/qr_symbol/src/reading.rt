@@ -107,8 +107,11 @@ pub fn read_codewords(
 ///
 /// # Errors
 ///
-/// Returns the fault of the first of these four conditions that does not hold, or `Memory` if an allocation is refused.
-/// The faults `Side` and `Format` are returned before any allocation.
+/// The causes are checked in the following order. Returns `Side` if the side of the square is that of no version.
+/// Returns `Format` if the format information is that of no level and mask pattern. Returns `Check` if the error
+/// correction codewords of some block do not belong to its data codewords. Returns `Segments` if the data codewords
+/// cannot be parsed. Returns `Memory` if an allocation is refused; `Side` and `Format` are returned before any
+/// allocation.
 pub fn read_symbol(alloc: Global, matrix: &Matrix) -> Result<Parsed, ReadFault>
     ensures read { MatchResult result (IsReading matrix.now) (IsUnread matrix.now) }
     ensures side { IsUnread matrix.now ReadFault.Side → result ≡ Err ReadFault.Side }

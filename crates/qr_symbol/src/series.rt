@@ -150,9 +150,9 @@ fn prefix_len(
     Ok(longest_fit(alloc, prefix, version, level, rule)?)
 }
 
-// Returns the symbols of the parts that have these lengths, each with its structured append header (8.1 to 8.3). The
-// symbols are drawn one after the other on the same `Canvas`, so the function patterns and the encoding region are
-// drawn only once.
+// Cuts the input into parts of these lengths, and returns the symbols of the parts, each with its structured append
+// header (8.1 to 8.3). The symbols are drawn one after the other on the same `Canvas`, so the function patterns and the
+// encoding region are drawn only once.
 fn part_symbols(
     alloc: Global,
     input: &[u8],

@@ -1,5 +1,5 @@
--- This file defines which colours the modules have after single steps of drawing the codewords. The bits of all
--- codewords are numbered in turn: bit 0 is the highest bit of the first codeword.
+-- This file defines which colours the modules have after each step of drawing the codewords. The bits of all codewords
+-- are numbered in turn: bit 0 is the highest bit of the first codeword.
 use Rattle.std.specs.Prelude.{◌≡◌, ◌<◌, ◌≤◌, ℕ, ◌+◌, ◌-◌, ◌&&◌, Bool, false, if◌then◌else◌, List, [], ◌∷◌}
 use Rattle.qr_layout.specs.declared.level.Level.{Level}
 use Rattle.qr_layout.specs.declared.region.Module.{Module}
@@ -20,34 +20,35 @@ use Rattle.qr_symbol.specs.Steps.Patterns.{format_or, paint_of, symmetric_format
 use Rattle.qr_matrix.specs.Penalty.{penalty_of}
 
 -- `placed_colour v cw other r c` is the colour in row r and column c of a square of modules after the codewords cw were
--- placed. The square has the side of version v. A module in the encoding region has the colour of its codeword bit.
--- Every other module has the colour `other r c`.
+-- placed. The square has the side of version v. A module in the encoding region has the colour of the codeword bit that
+-- is placed there. Every other module has the colour `other r c`.
 unfoldable pub placed_colour : ℕ → List ℕ → (ℕ → ℕ → Bool) → ℕ → ℕ → Bool
 placed_colour v cw other r c =
     if is_in_region v r c then codeword_bit cw (number_of v (record { row = r; col = c })) else other r c
 
 -- `walked_colour v cw mask other r c` is the colour in row r and column c of a square of modules after the codewords cw
 -- were placed under the mask pattern `mask`. The square has the side of version v. A module in the encoding region has
--- the colour of its codeword bit, inverted if the mask pattern inverts this module. Every other module has the colour
--- `other r c`.
+-- the colour of the codeword bit that is placed there, inverted if the mask pattern inverts this module. Every other
+-- module has the colour `other r c`.
 unfoldable pub walked_colour : ℕ → List ℕ → ℕ → (ℕ → ℕ → Bool) → ℕ → ℕ → Bool
 walked_colour v cw mask other r c =
     if is_in_region v r c then inverted (inverts mask r c) (codeword_bit cw (number_of v (record { row = r; col = c }))) else other r c
 
--- `placed_if is_in cw number g row col` is the square of modules g after the module in row `row` and column `col` was
--- visited. If `is_in` is true, this module is in the encoding region, and gets the colour of bit `number` of the
--- codewords cw. If `is_in` is false, the module is outside the encoding region, and g is unchanged.
+-- `placed_if is_in cw number g row col` is the square of modules g after the drawing step for the module in row `row`
+-- and column `col`. If `is_in` is true, this module is in the encoding region, and gets the colour of bit `number` of
+-- the codewords cw. If `is_in` is false, the module is outside the encoding region, and g is unchanged.
 abbrev pub placed_if : Bool → List ℕ → ℕ → Grid → ℕ → ℕ → Grid
 placed_if is_in cw number g row col = if is_in then painted g row col (codeword_bit cw number) else g
 
--- `number_after is_in number` is the number of the codeword bit that is to be drawn after a module, if bit `number` was
--- to be drawn before it. If `is_in` is true, the module is in the encoding region and uses bit `number`, so the result
--- is `number + 1`. Otherwise the result is `number`.
+-- `number_after is_in number` is the number of the next codeword bit after the drawing step for one module. Before this
+-- step, bit `number` was the next codeword bit. If `is_in` is true, the module is in the encoding region and uses bit
+-- `number`, so the result is `number + 1`. Otherwise the result is `number`.
 abbrev pub number_after : Bool → ℕ → ℕ
 number_after is_in number = if is_in then number + 1 else number
 
--- `number_along v ms number` is the number of the codeword bit that is to be drawn after the modules ms, if bit
--- `number` was to be drawn before them. Each module of ms that is in the encoding region of version v uses one bit.
+-- `number_along v ms number` is the number of the next codeword bit after the drawing steps for the modules ms. Before
+-- these steps, bit `number` was the next codeword bit. Each module of ms that is in the encoding region of version v
+-- uses one bit.
 abbrev pub number_along : ℕ → List Module → ℕ → ℕ
 number_along v [] number = number
 number_along v (m ∷ ms) number = number_along v ms (number_after (is_in_region v m.row m.col) number)
@@ -72,9 +73,9 @@ AreNext cw number bits = (k : ℕ) → k < 8 → has_bit bits (7 - k) ≡ codewo
 
 -- `IsDrawnAcross v cw ms first before next after` holds if drawing the modules ms in turn changes the square of modules
 -- `before` into the square `after`. Each module of ms that is in the encoding region of version v gets the colour of
--- one bit of the codewords cw, from bit `first` on. `next` is the number of the bit after the last bit that was used.
--- Both squares are transposed, which means that rows and columns are exchanged; but the modules ms have the rows and
--- columns of the symbol.
+-- one bit of the codewords cw, from bit `first` on. `next` is the number of the next bit to be drawn. Both squares are
+-- transposed, which means that rows and columns are exchanged; but the modules ms have the rows and columns of the
+-- symbol.
 pub record IsDrawnAcross (v : ℕ) (cw : List ℕ) (ms : List Module) (first : ℕ) (before : Grid) (next : ℕ) (after : Grid) : Type 0 where
   pub number : next ≡ number_along v ms first
   pub placed : transposed after ≡ placed_along v cw ms first (transposed before)
@@ -99,22 +100,21 @@ IsRegion v right x = (row : ℕ) → row < side_of v → (has x.right row ≡ is
 -- `AreDrawn v cw strip k n first before next after` holds if drawing n rows of a strip changes the columns of the strip
 -- from `before` to `after`. A strip is two columns of the symbol that are filled together. The first of the n rows is
 -- row k, counted from 0 in the direction of the strip. The drawing uses the bits of the codewords cw from bit `first`
--- on, and `next` is the number of the bit after the last bit that was used. The change is the same in every square of
--- modules of version v that has these columns.
+-- on, and `next` is the number of the next bit to be drawn. The other columns of the symbol may have any colours.
 abbrev pub AreDrawn : ℕ → List ℕ → Strip → ℕ → ℕ → ℕ → Columns → ℕ → Columns → Type 0
 AreDrawn v cw strip k n first before next after = (g : Grid) → g.side ≡ side_of v
     → IsDrawnAcross v cw (both_of (rows_from (side_of v) strip k n)) first (with_columns g strip.right before) next (with_columns g strip.right after)
 
 -- `masked_colour v format mask region plain r c` is the colour in row r and column c of a symbol of version v. The
 -- symbol is the square of modules `plain` after the mask pattern `mask` was applied and the format information was
--- drawn. The bits of the number `format` are the format information. In the square `region`, only the modules of the
--- encoding region are dark.
+-- drawn. The bits of the number `format` are the format information. The mask pattern is applied only to modules that
+-- are dark in the square `region`: the modules of the encoding region.
 unfoldable pub masked_colour : ℕ → ℕ → ℕ → Grid → Grid → ℕ → ℕ → Bool
 masked_colour v format mask region plain r c = format_or format (role_of v r c) (inverted (colour region r c && inverts mask r c) (colour plain r c))
 
 -- `masked_grid v l mask region plain` is the square of modules `plain` after the mask pattern `mask` was applied and
--- the format information was drawn. The symbol has version v and level l. In the square `region`, only the modules of
--- the encoding region are dark.
+-- the format information was drawn. The symbol has version v and level l. The mask pattern is applied only to modules
+-- that are dark in the square `region`: the modules of the encoding region.
 abbrev pub masked_grid : ℕ → Level → ℕ → Grid → Grid → Grid
 masked_grid v l mask region plain = square (side_of v) (masked_colour v (format_word_of l mask) mask region plain)
 
@@ -129,7 +129,7 @@ abbrev pub plain_grid : ℕ → List ℕ → Grid
 plain_grid v cw = square (side_of v) (placed_colour v cw (paint_of v symmetric_format))
 
 -- `masked_penalty v l region plain mask` is the penalty of the square of modules `plain` after the mask pattern `mask`
--- was applied and the format information was drawn. The symbol has version v and level l. In the square `region`, only
--- the modules of the encoding region are dark.
+-- was applied and the format information was drawn. The symbol has version v and level l. The mask pattern is applied
+-- only to modules that are dark in the square `region`: the modules of the encoding region.
 abbrev pub masked_penalty : ℕ → Level → Grid → Grid → ℕ → ℕ
 masked_penalty v l region plain mask = penalty_of (side_of v) (colour (masked_grid v l mask region plain))

@@ -1,4 +1,4 @@
--- This file defines sequences of codewords after single steps of interleaving.
+-- This file defines which codewords a list contains after each step of interleaving.
 use Rattle.std.specs.Prelude.{◌≡◌, ℕ, ◌<◌, List, [], ◌++◌, map, length, slice_index_or}
 use Rattle.qr_field.specs.Polynomial.{IsCorrection}
 use Rattle.qr_layout.specs.declared.blocks.Blocks.{Blocks}
@@ -6,7 +6,8 @@ use Rattle.qr_symbol.specs.declared.interleaving.BlockSizes.{BlockSizes}
 use Rattle.qr_symbol.specs.Interleaving.{Position, IsPosition, IsPositionOrder, start_of, correction_sizes, codeword_at, block_of, check_at}
 
 -- `AppendsInterleaved c d before after` holds if the list `after` is the list `before`, followed by the codewords d in
--- interleaved order. The list d contains the codewords block after block, in blocks that have the sizes c.
+-- interleaved order: the first codewords of all blocks, then the second codewords of all blocks, and so on. The list d
+-- contains the codewords block after block, in blocks that have the sizes c.
 pub record AppendsInterleaved (c : BlockSizes) (d before after : List ℕ) : Type 0 where
   pub positions : List Position
   pub order : IsPositionOrder c positions

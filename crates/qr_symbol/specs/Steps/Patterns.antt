@@ -1,4 +1,4 @@
--- This file defines which colours the modules outside the encoding region have after single steps of drawing.
+-- This file defines which colours the modules outside the encoding region have after each step of drawing.
 use Rattle.std.specs.Prelude.{ℕ, ◌-◌, ◌%◌, ◌==◌, ◌||◌, nat_le, nat_lt, Bool, false}
 use Rattle.qr_layout.specs.declared.role.Role.{Role}
 use Rattle.qr_layout.specs.declared.role.Role.TheVariants.{Fixed, FormatBit, VersionBit, Region}

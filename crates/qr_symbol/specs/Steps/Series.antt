@@ -6,8 +6,8 @@ use Rattle.qr_bits.specs.Segmentation.{IsLongestFit}
 use Rattle.qr_bits.specs.Padding.{room_of}
 
 -- `AreLengths v l rule x lengths` holds if these are the lengths of the parts into which the bytes x are cut. Each part
--- is the longest prefix of the remaining bytes that fits a symbol of version v and level l after a structured append
--- header. `rule` says which modes may be used, and no part is empty.
+-- is the longest prefix of the remaining bytes that fits a symbol after a structured append header, and no part is
+-- empty. The symbol has version v and level l, and `rule` says which modes the segments may have.
 unfoldable pub AreLengths : ℕ → Level → Rule → List ℕ → List ℕ → Type 0
 AreLengths v l rule x [] = x ≡ []
 AreLengths v l rule x (n ∷ ns) = (0 < n) × IsLongestFit v rule x (room_of v l) n × AreLengths v l rule (drop n x) ns
