@@ -1,4 +1,4 @@
--- The choice of the mask.
+-- This file defines which mask pattern is chosen for a symbol.
 use Rattle.std.specs.Prelude.{◌≡◌, ℕ, ◌<◌, ◌≤◌, ◌⊎◌, List}
 use Rattle.qr_layout.specs.declared.level.Level.{Level}
 use Rattle.qr_layout.specs.Version.{side_of}
@@ -6,18 +6,19 @@ use Rattle.qr_matrix.specs.Grid.{colour}
 use Rattle.qr_symbol.specs.Symbol.{grid_of}
 use Rattle.qr_matrix.specs.Penalty.{penalty_of}
 
--- `IsFirstLeast n f m` holds if m is the number below n with the least value f m. If several numbers have equal least
--- values, m is the smallest of them [own].
+-- `IsFirstLeast n f m` holds if m is the number below n at which the function f has its least value. If f has this
+-- least value at several numbers below n, m is the smallest of these numbers [own].
 pub record IsFirstLeast (n : ℕ) (f : ℕ → ℕ) (m : ℕ) : Type 0 where
   pub in_range : m < n
   pub least : (k : ℕ) → k < n → (f m < f k) ⊎ ((f m ≡ f k) × (m ≤ k))
 
--- The penalty of the whole symbol of version v and level l that contains the codewords cw under the mask
--- (ISO/IEC 18004:2015, 7.8.3).
+-- `mask_penalty v l cw mask` is the penalty of a whole symbol under the mask pattern `mask`. The symbol has version v
+-- and level l, and contains the codewords cw (ISO/IEC 18004:2015, 7.8.3).
 abbrev pub mask_penalty : ℕ → Level → List ℕ → ℕ → ℕ
 mask_penalty v l cw mask = penalty_of (side_of v) (colour (grid_of v l mask cw))
 
--- `IsMask v l cw mask` holds if the symbol has the least penalty under this mask. If several masks have equal least
--- penalties, it is the one with the smallest number (ISO/IEC 18004:2015, 7.8.3; among equals [own]).
+-- `IsMask v l cw mask` holds if `mask`, from 0 to 7, is the mask pattern under which a symbol has the least penalty.
+-- The symbol has version v and level l, and contains the codewords cw. If several mask patterns have equal least
+-- penalties, `mask` is the one with the smallest number (ISO/IEC 18004:2015, 7.8.3; among equals [own]).
 abbrev pub IsMask : ℕ → Level → List ℕ → ℕ → Type 0
 IsMask v l cw mask = IsFirstLeast 8 (mask_penalty v l cw) mask

@@ -1,4 +1,4 @@
--- How many codewords of a block differ between two symbols.
+-- This file states in how many codewords the blocks of two symbols differ.
 use Rattle.std.specs.Prelude.{◌≡◌, ℕ, ◌+◌, ◌*◌, ◌<◌, ◌≤◌, Option, List, [], ◌++◌, slice_index_or}
 use Rattle.qr_field.specs.Distance.{differences, erasures, errors}
 use Rattle.qr_layout.specs.declared.level.Level.{Level}
@@ -7,26 +7,30 @@ use Rattle.qr_matrix.specs.Grid.{Grid}
 use Rattle.qr_symbol.specs.Interleaving.{block_count, data_sizes, block_of}
 use Rattle.qr_symbol.specs.Reading.{IsMessage}
 
--- The number of blocks of a symbol of version v and level l (ISO/IEC 18004:2015, 7.5.1, Table 9).
+-- `blocks_in v l` is the number of blocks of a symbol of version v and level l (ISO/IEC 18004:2015, 7.5.1, Table 9).
 abbrev pub blocks_in : ℕ → Level → ℕ
 blocks_in v l = block_count (data_sizes (blocks_of v l))
 
--- Block i of the message d that the square g contains: its data codewords, and then its error correction codewords
--- (ISO/IEC 18004:2015, 7.5.1).
+-- `held_block v l mask g d m i` is block i, counted from 0, of the codewords in the square of modules g: the data
+-- codewords of the block, and then its error correction codewords. The list d contains all data codewords in g, which
+-- has version v, level l and the mask pattern `mask`. m is the proof of this (ISO/IEC 18004:2015, 7.5.1).
 abbrev pub held_block : (v : ℕ) (l : Level) (mask : ℕ) (g : Grid) (d : List ℕ) → IsMessage v l mask g d → ℕ → List ℕ
 held_block v l mask g d m i = block_of (blocks_of v l) d i ++ slice_index_or m.interleaved.corrections i []
 
--- `MessagesLieApart v l` holds if every two squares of version v and level l that contain different messages differ in
--- at least one block by more codewords than this block has error correction codewords [own].
+-- `MessagesLieApart v l` holds if any two squares of modules of version v and level l that contain different data
+-- codewords are far apart. In at least one block, two such squares differ in more codewords than the block has error
+-- correction codewords [own].
 abbrev pub MessagesLieApart : ℕ → Level → Type 0
 MessagesLieApart v l =
     (mask mask' : ℕ) (g g' : Grid) (d d' : List ℕ) → (m : IsMessage v l mask g d) → (m' : IsMessage v l mask' g' d')
     → (d ≡ d' → ⊥) → (i : ℕ) × (i < blocks_in v l)
     × ((blocks_of v l).ec_len + 1 ≤ differences (held_block v l mask g d m i) (held_block v l mask' g' d' m' i))
 
--- `DamagedMessagesAreOne v l` holds if the codewords that were read from a damaged square of version v and level l
--- belong to one message at most, as long as in each block the number of erased codewords, plus twice the number of
--- misread codewords, is at most the number of its error correction codewords (ISO/IEC 18004:2015, 7.5.1).
+-- `DamagedMessagesAreOne v l` holds if the codewords that were read from a damaged symbol of version v and level l
+-- belong to at most one message. A message is the list of the data codewords of a symbol. The damage to each block must
+-- be limited: the number of erased codewords, plus twice the number of misread codewords, is at most the number of
+-- error correction codewords. An erased codeword is known to be unreadable, and a misread codeword was read with
+-- another value (ISO/IEC 18004:2015, 7.5.1).
 abbrev pub DamagedMessagesAreOne : ℕ → Level → Type 0
 DamagedMessagesAreOne v l =
     (mask mask' : ℕ) (g g' : Grid) (d d' : List ℕ) → (m : IsMessage v l mask g d) → (m' : IsMessage v l mask' g' d')

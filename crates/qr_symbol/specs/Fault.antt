@@ -1,4 +1,5 @@
--- The faults of this crate for faults of `qr_bits`, and the numbers of the faults of reading.
+-- This file defines which fault of this crate follows from a fault of the crate `qr_bits`. The file also numbers the
+-- faults of reading symbols.
 use Rattle.std.specs.Prelude.{ℕ}
 use Rattle.qr_bits.specs.declared.fault.BitFault.{BitFault}
 use Rattle.qr_bits.specs.declared.fault.BitFault.TheVariants as bit
@@ -9,12 +10,14 @@ use Rattle.qr_symbol.specs.declared.fault.EncodeFault.TheVariants as fault
 use Rattle.qr_symbol.specs.declared.fault.ReadFault.{ReadFault}
 use Rattle.qr_symbol.specs.declared.fault.ReadFault.TheVariants as unread
 
--- The fault of encoding with the same cause as a fault of writing bits [own].
+-- `fault_of e` is the fault of encoding an input that has the same cause as e, a fault of writing bits in the crate
+-- `qr_bits` [own].
 abbrev pub fault_of : BitFault → EncodeFault
 fault_of bit.Memory = fault.Memory
 fault_of bit.TooLong = fault.TooLong
 
--- The number of a fault of reading in this crate, from 1 to 6. The library for C has other numbers [own].
+-- `read_fault_number e` is the number, from 1 to 6, of the fault e of reading symbols. The library for C uses other
+-- numbers for these faults [own].
 abbrev pub read_fault_number : ReadFault → ℕ
 read_fault_number unread.Memory = 1
 read_fault_number unread.Side = 2
@@ -23,8 +26,8 @@ read_fault_number unread.Check = 4
 read_fault_number (unread.Segments why) = 5
 read_fault_number unread.Series = 6
 
--- The fault of reading for a fault of parsing: `Memory` for lack of memory, otherwise `Segments` with the fault of
--- parsing [own].
+-- `unread_for e` is the fault of reading a symbol if parsing its data codewords failed with the fault e. The result is
+-- `Memory` if e is lack of memory. Otherwise the result is `Segments`, with e inside [own].
 abbrev pub unread_for : ParseFault → ReadFault
 unread_for unparsed.Memory = unread.Memory
 unread_for e = unread.Segments e

@@ -1,5 +1,6 @@
--- The final sequence of codewords: the interleaved data codewords of all blocks, and then their interleaved error
--- correction codewords. Block sizes say how codewords that are listed block after block are divided into blocks.
+-- This file defines the final sequence of codewords: the interleaved data codewords of all blocks, and then the
+-- interleaved error correction codewords of all blocks. Before the interleaving, the codewords are listed block after
+-- block. A value of the type `BlockSizes` says how many codewords each block has.
 use Rattle.std.specs.Prelude.{◌≡◌, ℕ, ◌+◌, ◌-◌, ◌*◌, ◌<◌, ◌⊎◌, nat_lt, if◌then◌else◌, List, [], ◌++◌, map, take, drop, length, slice_index_or}
 use Rattle.std.specs.List.{All, AllPairs, Contains}
 use Rattle.qr_field.specs.Polynomial.{IsCorrection}
@@ -8,76 +9,81 @@ use Rattle.qr_layout.specs.declared.level.Level.{Level}
 use Rattle.qr_layout.specs.Blocks.{blocks_of}
 use Rattle.qr_symbol.specs.declared.interleaving.BlockSizes.{BlockSizes}
 
--- The number of blocks with the sizes c [own].
+-- `block_count c` is the number of all blocks, short and long; c contains the sizes of the blocks [own].
 abbrev pub block_count : BlockSizes → ℕ
 block_count c = c.short + c.long
 
--- The number of codewords in block i of the blocks with the sizes c, which are numbered from 0. The short blocks come
--- first; each long block has one codeword more (ISO/IEC 18004:2015, 7.5.1, Table 9).
+-- `block_len c i` is the number of codewords in block i, counted from 0; c contains the sizes of the blocks. The short
+-- blocks come first, and each long block has one codeword more than a short block (ISO/IEC 18004:2015, 7.5.1, Table 9).
 abbrev pub block_len : BlockSizes → ℕ → ℕ
 block_len c i = if nat_lt i c.short then c.short_len else c.short_len + 1
 
--- The number of codewords before block i of the blocks with the sizes c. If i is the number of blocks, it is the number
--- of all codewords [own].
+-- `start_of c i` is the number of codewords in the blocks before block i, counted from 0; c contains the sizes of the
+-- blocks. If i is the number of blocks, `start_of c i` is the number of codewords in all blocks [own].
 abbrev pub start_of : BlockSizes → ℕ → ℕ
 start_of c i = c.short_len * i + (i - c.short)
 
--- The number of codewords in all blocks with the sizes c [own].
+-- `codeword_count c` is the number of codewords in all blocks together; c contains the sizes of the blocks [own].
 abbrev pub codeword_count : BlockSizes → ℕ
 codeword_count c = start_of c (block_count c)
 
--- The sizes of the blocks b in data codewords (ISO/IEC 18004:2015, 7.5.1).
+-- `data_sizes b` contains the sizes of the blocks b, counted in data codewords (ISO/IEC 18004:2015, 7.5.1).
 abbrev pub data_sizes : Blocks → BlockSizes
 data_sizes b = record { short = b.short; short_len = b.short_len; long = b.long }
 
--- The sizes of the blocks b in error correction codewords, of which all blocks have the same number
+-- `correction_sizes b` contains the sizes of the blocks b, counted in error correction codewords. All blocks of a
+-- symbol have the same number of error correction codewords, so there are no long blocks here
 -- (ISO/IEC 18004:2015, 7.5.1).
 abbrev pub correction_sizes : Blocks → BlockSizes
 correction_sizes b = record { short = b.short + b.long; short_len = b.ec_len; long = 0 }
 
--- The position of a codeword: its index in its block, which is called its place here, and the number of its block. Both are
--- counted from 0 (ISO/IEC 18004:2015, 7.6).
+-- A position says where a codeword is in the blocks of a symbol. `block` is the number of its block, and `place` is the
+-- index of the codeword in this block. Both numbers are counted from 0 (ISO/IEC 18004:2015, 7.6).
 pub record Position : Type 0 where
   pub place : ℕ
   pub block : ℕ
 
 -- `ComesBefore t u` holds if the codeword at position t comes before the codeword at position u in the interleaved
--- sequence. The first codewords of all blocks come first, then their second codewords, and so on; of codewords with the
--- same index, the one of the earlier block comes first (ISO/IEC 18004:2015, 7.6).
+-- sequence. This sequence contains the first codewords of all blocks, then the second codewords of all blocks, and so
+-- on. Codewords with the same index in their blocks are in the order of the blocks (ISO/IEC 18004:2015, 7.6).
 abbrev pub ComesBefore : Position → Position → Type 0
 ComesBefore t u = (t.place < u.place) ⊎ ((t.place ≡ u.place) × (t.block < u.block))
 
--- `IsPosition c t` holds if t is the position of a codeword of the blocks with the sizes c: the block exists, and it has
--- a codeword with that index [own].
+-- `IsPosition c t` holds if t is the position of a codeword in blocks that have the sizes c. There must be a block with
+-- the number `t.block`, and this block must have a codeword with the index `t.place` [own].
 abbrev pub IsPosition : BlockSizes → Position → Type 0
 IsPosition c t = (t.block < block_count c) × (t.place < block_len c t.block)
 
--- `IsPositionOrder c ts` holds if ts lists the positions of all codewords of the blocks with the sizes c, in the order of
--- the interleaved sequence (ISO/IEC 18004:2015, 7.6).
+-- `IsPositionOrder c ts` holds if the list ts contains the positions of all codewords, in the order of the interleaved
+-- sequence. The codewords are in blocks that have the sizes c (ISO/IEC 18004:2015, 7.6).
 pub record IsPositionOrder (c : BlockSizes) (ts : List Position) : Type 0 where
   pub in_blocks : All (IsPosition c) ts
   pub complete : (t : Position) → IsPosition c t → Contains ts t
   pub rising : AllPairs ComesBefore ts
 
--- The codeword at position t, where d lists the codewords of the blocks with the sizes c block after block [own].
+-- `codeword_at c d t` is the codeword at position t. The list d contains the codewords block after block, in blocks
+-- that have the sizes c [own].
 abbrev pub codeword_at : BlockSizes → List ℕ → Position → ℕ
 codeword_at c d t = slice_index_or d (start_of c t.block + t.place) 0
 
--- Block i, where d lists the codewords of the blocks with the sizes c block after block (ISO/IEC 18004:2015, 7.5.1).
+-- `part_of c d i` is the list of the codewords in block i, counted from 0. The list d contains the codewords of all
+-- blocks, block after block, and c contains the sizes of the blocks (ISO/IEC 18004:2015, 7.5.1).
 abbrev pub part_of : BlockSizes → List ℕ → ℕ → List ℕ
 part_of c d i = take (block_len c i) (drop (start_of c i) d)
 
--- Block i of the data codewords d (ISO/IEC 18004:2015, 7.5.1).
+-- `block_of b d i` is the list of the data codewords in block i, counted from 0. The list d contains all data codewords
+-- of a symbol, and b are the blocks of the symbol (ISO/IEC 18004:2015, 7.5.1).
 abbrev pub block_of : Blocks → List ℕ → ℕ → List ℕ
 block_of b d i = part_of (data_sizes b) d i
 
--- The error correction codeword at position t, where `corrections` contains one list for each block [own].
+-- `check_at corrections t` is the error correction codeword at position t. The list `corrections` contains one list for
+-- each block: the error correction codewords of this block [own].
 abbrev pub check_at : List (List ℕ) → Position → ℕ
 check_at corrections t = slice_index_or (slice_index_or corrections t.block []) t.place 0
 
--- `IsFinalMessage b d cw` holds if cw is the final sequence of codewords for the data codewords d in the blocks b: the
--- data codewords of all blocks, followed by the error correction codewords of all blocks, both in the order of their
--- positions (ISO/IEC 18004:2015, 7.5.2, 7.6).
+-- `IsFinalMessage b d cw` holds if cw is the final sequence of codewords for the data codewords d, which are divided
+-- into the blocks b. First come the data codewords of all blocks, interleaved. Then come the error correction codewords
+-- of all blocks, interleaved in the same way (ISO/IEC 18004:2015, 7.5.2, 7.6).
 pub record IsFinalMessage (b : Blocks) (d cw : List ℕ) : Type 0 where
   pub data_positions : List Position
   pub data_order : IsPositionOrder (data_sizes b) data_positions
@@ -93,8 +99,9 @@ pub record IsFinalMessage (b : Blocks) (d cw : List ℕ) : Type 0 where
 abbrev pub IsInterleaved : ℕ → Level → List ℕ → List ℕ → Type 0
 IsInterleaved v l d cw = IsFinalMessage (blocks_of v l) d cw
 
--- `IsGathered c interleaved xs` holds if xs lists, block after block, the codewords with which the sequence `interleaved`
--- begins: put in the order of their positions, they are its first codewords (ISO/IEC 18004:2015, 7.6).
+-- `IsGathered c interleaved xs` holds if the list xs contains, block after block, the codewords with which the sequence
+-- `interleaved` begins. The blocks have the sizes c. The sequence `interleaved` begins with the first codewords of all
+-- blocks, then has the second codewords of all blocks, and so on (ISO/IEC 18004:2015, 7.6).
 pub record IsGathered (c : BlockSizes) (interleaved xs : List ℕ) : Type 0 where
   pub long : length xs ≡ codeword_count c
   pub positions : List Position

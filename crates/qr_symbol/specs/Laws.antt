@@ -1,20 +1,22 @@
--- Values that were worked out by hand or are printed in the standard. The laws compare the definitions with them.
+-- This file contains rows of the mask patterns that were worked out by hand. The laws compare the definition of the
+-- mask patterns with these rows.
 use Rattle.std.specs.Prelude.{ℕ, ◌-◌, Bool, List, [], ◌∷◌, map}
 use Rattle.std.specs.List.{range_with_len}
 use Rattle.qr_bits.specs.Bits.{value}
 use Rattle.qr_symbol.specs.Mask.{inverts}
 
--- The numbers of the eight masks, 0 to 7 (ISO/IEC 18004:2015, 7.8.2).
+-- `all_masks` is the list of the numbers of the eight mask patterns, 0 to 7 (ISO/IEC 18004:2015, 7.8.2).
 abbrev pub all_masks : List ℕ
 all_masks = range_with_len 0 8
 
--- Rows 0 to 11 of a mask at columns 0 to 5. Each row is a number of six binary digits, column 0 the highest; a digit is
--- 1 if the mask inverts there [own].
+-- `first_rows mask` is the list of the rows 0 to 11 of the mask pattern `mask`, in the columns 0 to 5. Each row is a
+-- number of six binary digits, and its highest digit is that of column 0. A digit is 1 if the mask pattern inverts the
+-- module in its row and column [own].
 abbrev pub first_rows : ℕ → List ℕ
 first_rows mask = map (λ r. value (map (inverts mask r) (range_with_len 0 6))) (range_with_len 0 12)
 
--- The values of `first_rows` for the masks 0 to 7, worked out from Table 10 without this program
--- (ISO/IEC 18004:2015, 7.8.2).
+-- `computed_rows` contains the values of `first_rows` for the mask patterns 0 to 7. These values were worked out from
+-- Table 10 without this program (ISO/IEC 18004:2015, 7.8.2).
 abbrev pub computed_rows : List (List ℕ)
 computed_rows =
     (0b101010 ∷ 0b010101 ∷ 0b101010 ∷ 0b010101 ∷ 0b101010 ∷ 0b010101 ∷ 0b101010 ∷ 0b010101 ∷ 0b101010 ∷ 0b010101 ∷ 0b101010 ∷ 0b010101 ∷ []) ∷
@@ -26,6 +28,7 @@ computed_rows =
     (0b111111 ∷ 0b111000 ∷ 0b110110 ∷ 0b101010 ∷ 0b101101 ∷ 0b100011 ∷ 0b111111 ∷ 0b111000 ∷ 0b110110 ∷ 0b101010 ∷ 0b101101 ∷ 0b100011 ∷ []) ∷
     (0b101010 ∷ 0b000111 ∷ 0b100011 ∷ 0b010101 ∷ 0b111000 ∷ 0b011100 ∷ 0b101010 ∷ 0b000111 ∷ 0b100011 ∷ 0b010101 ∷ 0b111000 ∷ 0b011100 ∷ []) ∷ []
 
--- The number whose n binary digits are `bit (n - 1)` down to `bit 0`, the highest first [own].
+-- `bits_down n bit` is the number with the n binary digits `bit (n - 1)` down to `bit 0`. The highest digit is `bit (n
+-- - 1)` [own].
 abbrev pub bits_down : ℕ → (ℕ → Bool) → ℕ
 bits_down n bit = value (map (λ i. bit (n - 1 - i)) (range_with_len 0 n))

@@ -1,8 +1,8 @@
--- The eight mask patterns.
+-- This file defines the eight mask patterns: which modules each of them inverts.
 use Rattle.std.specs.Prelude.{ℕ, ◌+◌, ◌*◌, ◌/◌, ◌%◌, ◌==◌, Bool, if◌then◌else◌, not}
 
--- The mask conditions: `inverts mask r c` is true if the mask, from 0 to 7, inverts the module in row r and column c of
--- the encoding region (ISO/IEC 18004:2015, 7.8.2, Table 10).
+-- `inverts mask r c` is true if the mask pattern `mask`, from 0 to 7, inverts the module in row r and column c. A mask
+-- pattern is applied only to modules of the encoding region (ISO/IEC 18004:2015, 7.8.2, Table 10).
 unfoldable pub inverts : ℕ → ℕ → ℕ → Bool
 inverts mask r c =
     if mask == 0 then (r + c) % 2 == 0
@@ -14,6 +14,7 @@ inverts mask r c =
     else if mask == 6 then (r * c % 2 + r * c % 3) % 2 == 0
     else ((r + c) % 2 + r * c % 3) % 2 == 0
 
--- The bit `bit`, inverted if `is_to_be` is true (ISO/IEC 18004:2015, 7.8.2).
+-- `inverted is_to_be bit` is the opposite of `bit` if `is_to_be` is true. Otherwise the result is `bit`
+-- (ISO/IEC 18004:2015, 7.8.2).
 abbrev pub inverted : Bool → Bool → Bool
 inverted is_to_be bit = if is_to_be then not bit else bit

@@ -1,5 +1,5 @@
--- Definitions that describe how the program computes. Only the contracts of private functions use them, so a reader who
--- judges the promises need not read them.
+-- The definitions in these files describe single steps of how the program computes. Only the contracts of private
+-- functions use these definitions, so a reader who judges the promises of public functions need not read them.
 pub mod Patterns
 pub mod Drawing
 pub mod Canvas

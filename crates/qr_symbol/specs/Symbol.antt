@@ -1,4 +1,4 @@
--- The colour of each module of a symbol.
+-- This file defines the colour of each module of a symbol.
 use Rattle.std.specs.Prelude.{ℕ, ◌/◌, ◌%◌, ◌^◌, ◌==◌, Bool, List}
 use Rattle.qr_layout.specs.declared.level.Level.{Level}
 use Rattle.qr_layout.specs.declared.role.Role.{Role}
@@ -11,13 +11,17 @@ use Rattle.qr_bits.specs.Bits.{codeword_bit}
 use Rattle.qr_matrix.specs.Grid.{Grid, square}
 use Rattle.qr_symbol.specs.Mask.{inverts, inverted}
 
--- `word_bit word i` is true if bit i of the number `word` is 1. Bit 0 is the lowest (ISO/IEC 18004:2015, 7.9.1, 7.10).
+-- `word_bit word i` is true if bit i of the number `word` is 1. Bit 0 is the lowest bit
+-- (ISO/IEC 18004:2015, 7.9.1, 7.10).
 abbrev pub word_bit : ℕ → ℕ → Bool
 word_bit word i = word / 2 ^ i % 2 == 1
 
--- The colour of the module in row r and column c by its role: a fixed colour, a bit of the format or version
--- information, or, in the encoding region, the codeword bit with the module's number, inverted if the mask inverts
--- there. The bits after the last codeword, the remainder bits, are 0, and the mask inverts them too. True is dark
+-- `colour_by v l mask cw r c role` is the colour of the module in row r and column c of a symbol; true is dark. The
+-- symbol has version v and level l, and contains the codewords cw under the mask pattern `mask`. `role` says what the
+-- module is for. A module of a function pattern has a fixed colour. A module of the format information or the version
+-- information is dark if its bit is 1. The modules of the encoding region are numbered in the standard's order, and
+-- each of them has the colour of the codeword bit with its number, inverted if the mask pattern inverts this module.
+-- The remainder bits, which follow the last codeword, are 0, and the mask pattern inverts them too
 -- (ISO/IEC 18004:2015, 7.7.2, 7.7.3, 7.8.1, 7.9.1, 7.10).
 abbrev pub colour_by : ℕ → Level → ℕ → List ℕ → ℕ → ℕ → Role → Bool
 colour_by v l mask cw r c (Fixed dark) = dark
@@ -25,12 +29,13 @@ colour_by v l mask cw r c (FormatBit i) = word_bit (format_word_of l mask) i
 colour_by v l mask cw r c (VersionBit i) = word_bit (version_word_of v) i
 colour_by v l mask cw r c Region = inverted (inverts mask r c) (codeword_bit cw (number_of v (record { row = r; col = c })))
 
--- The colour of the module in row r and column c of the symbol of version v and level l that contains the codewords cw
--- under the mask. True is dark (ISO/IEC 18004:2015, 7.7.2, 7.7.3, 7.8.1, 7.9.1, 7.10).
+-- `colour_of v l mask cw r c` is the colour of the module in row r and column c of a symbol; true is dark. The symbol
+-- has version v and level l, and contains the codewords cw under the mask pattern `mask`
+-- (ISO/IEC 18004:2015, 7.7.2, 7.7.3, 7.8.1, 7.9.1, 7.10).
 unfoldable pub colour_of : ℕ → Level → ℕ → List ℕ → ℕ → ℕ → Bool
 colour_of v l mask cw r c = colour_by v l mask cw r c (role_of v r c)
 
--- All modules of the symbol of version v and level l that contains the codewords cw under the mask, without its quiet
--- zone (ISO/IEC 18004:2015, 7.7, 7.8).
+-- `grid_of v l mask cw` is the square of all modules of a symbol, without the quiet zone. The symbol has version v and
+-- level l, and contains the codewords cw under the mask pattern `mask` (ISO/IEC 18004:2015, 7.7, 7.8).
 abbrev pub grid_of : ℕ → Level → ℕ → List ℕ → Grid
 grid_of v l mask cw = square (side_of v) (colour_of v l mask cw)

@@ -1,5 +1,7 @@
-//! Draws what all symbols of one version have in common once, what all masks of a symbol have in common once for each
-//! symbol, and then the symbol under each mask (ISO/IEC 18004:2015, 7.7 and 7.8).
+//! Draws symbols on a canvas, which is two squares of modules that all symbols of a series share (ISO/IEC 18004:2015,
+//! 7.7 and 7.8). The function patterns and the version information are drawn once for all symbols of the series. The
+//! codewords are drawn once for each symbol. The mask pattern and the format information are drawn once for each mask
+//! pattern that is tried.
 
 ghost use Rattle.std.specs.Prelude.{◌≡◌, ◌<◌, IfOk};
 ghost use Rattle.qr_layout.specs.Version.{side_of};
@@ -15,12 +17,15 @@ use qr_matrix::Matrix;
 use std::alloc::{AllocError, Global};
 use std::mem;
 
-// The format information of `plain`: bit 7 alone is dark. This bit is opposite the dark module, so the function patterns
-// are the same when rows and columns are exchanged.
+// The format information that is drawn in the square `plain` of a canvas: only bit 7 is dark. With this format
+// information, the function patterns are the same when rows and columns are exchanged. The exchange swaps the dark
+// module with a module of bit 7, which is dark too.
 const SYMMETRIC_FORMAT: u32 = 1 << 7;
 
-/// A symbol without mask and format information (`plain`), and a square in which its encoding region is dark (`region`).
-/// All symbols of a series are drawn on one canvas, since they have the same function patterns and the same region.
+/// Two squares of modules from which the symbols of a series are made. The square `plain` is a symbol without a mask
+/// pattern and without its format information. In the square `region`, only the modules of the encoding region are
+/// dark. All symbols of a series are drawn on one canvas, since they have the same function patterns and the same
+/// encoding region.
 #[derive(Drop)]
 pub(crate) struct Canvas {
     pub version: Version,
@@ -32,7 +37,8 @@ pub(crate) struct Canvas {
 }
 
 impl Canvas {
-    // Returns the canvas with the function patterns of the version, before any codeword is drawn. Allocates twice.
+    // Returns a canvas for symbols of this version and level. The square `plain` of the canvas contains the function
+    // patterns and the version information, but no codewords. Allocates twice, once for each square.
     #[inline(never)]
     pub(crate) fn new(alloc: Global, version: Version, level: Level) -> Result<Canvas, AllocError>
         ensures version { IfOk result (λ c. c.version ≡ version) }
@@ -50,9 +56,10 @@ impl Canvas {
         })
     }
 
-    // Draws the codewords over those of the symbol before. The squares change places: the old `plain` has the function
-    // patterns in transposed form too, so the codewords are drawn on it, and it is then transposed into `across`, whose old
-    // colours do not matter. Afterwards `across` is the transposed square.
+    // Draws the codewords into the square `plain`, over the codewords of the previous symbol. First `plain` and
+    // `across` are swapped. The codewords are drawn into `across` in transposed form, which means that rows and columns
+    // are exchanged; the function patterns in `across` are the same in both forms. Then `across` is transposed into
+    // `plain`, and this replaces all colours of `plain`. Afterwards `across` contains the transposed form of `plain`.
     #[inline(never)]
     pub(crate) fn draw_data(&mut self, across: &mut Matrix, codewords: &[u8])
         requires { IsSquare (side_of self.old.version) across.old }
@@ -61,14 +68,15 @@ impl Canvas {
         ensures plain { self.new.plain ≡ plain_grid self.old.version codewords.now }
         ensures square { IsSquare (side_of self.old.version) across.new }
     {
-        // For the proof: brings in the range of versions.
+        // Reminds the prover that the number of a version is at most 40.
         prove!(self.version.number() <= 40);
         mem::swap(&mut self.plain, across);
         draw_codewords(across, self.version, &self.region, codewords);
         self.plain.set_transposed(across);
     }
 
-    // Draws the symbol into `matrix`, with the mask and its format information.
+    // Draws the symbol into `matrix`. First the modules of `plain` are copied, and the mask pattern `mask` is applied
+    // to them. Then the format information of the level and this mask pattern is drawn over them.
     pub(crate) fn draw_masked(&self, matrix: &mut Matrix, mask: u8)
         requires mask_in { mask < 8 }
         requires square { IsSquare (side_of self.now.version) matrix.old }

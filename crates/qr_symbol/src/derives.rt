@@ -1,4 +1,5 @@
-//! The laws of the derived `==` and `clone` of the public types: they compare and clone the values.
+//! The laws in this file are about `==` and `clone`, which are derived for the public types. `==` returns true exactly
+//! if the two values are the same, and `clone` returns the same value.
 
 ghost use Rattle.std.specs.Prelude.{◌≡◌, ◌↔◌, IsTrue, IfOk};
 

@@ -1,5 +1,6 @@
-//! Draws the bits of the codewords, either strip by strip or module by module, in the order of `qr_layout::walk`
-//! (ISO/IEC 18004:2015, 7.7.2 and 7.7.3).
+//! Draws the bits of the codewords into the encoding region, in the order of `qr_layout::walk` (ISO/IEC 18004:2015,
+//! 7.7.2 and 7.7.3). `draw_codewords` draws strip by strip, where a strip is two columns that are filled together.
+//! `draw_along_walk` draws module by module.
 
 ghost use Rattle.std.specs.Prelude.{◌≡◌, ℕ, List, ◌*◌, ◌%◌, ◌+◌, ◌-◌, ◌<◌, ◌≤◌, ◌==◌, ◌&&◌, if◌then◌else◌, false, length, slice_index};
 ghost use Rattle.qr_layout.specs.Version.{side_of};
@@ -14,14 +15,15 @@ use crate::patterns::is_bit_set;
 use qr_layout::{Module, Strip, Version, all_strips, walk};
 use qr_matrix::{BitRow, Matrix};
 
-// Returns the codeword with this index, or 0 after the last codeword.
+// Returns the codeword with the index `place`, or 0 if `place` is after the last codeword.
 fn codeword_at(codewords: &[u8], place: usize) -> u8
     ensures { result ≡ slice_index codewords.now place }
 {
     codewords.get(place).copied().unwrap_or(0)
 }
 
-// Returns the eight codewords from index `place` on as one word, the first of them as its highest byte.
+// Returns the eight codewords from index `place` on as one word of 64 bits. The first of these codewords is the highest
+// byte of the word.
 fn eight_codewords(codewords: &[u8], place: usize) -> u64
     requires { place + 8 ≤ length codewords.now }
     ensures { (k : ℕ) → k < 64 → has_bit result (63 - k) ≡ codeword_bit codewords.now (8 * place + k) }
@@ -33,7 +35,8 @@ fn eight_codewords(codewords: &[u8], place: usize) -> u64
     bits
 }
 
-// Does the same as `eight_codewords`, where zeros follow the last codeword.
+// Returns the eight codewords from index `place` on as one word of 64 bits, as `eight_codewords` does. If there are
+// fewer than eight codewords, zeros follow the last codeword.
 #[inline(never)]
 fn last_codewords(codewords: &[u8], place: usize) -> u64
     requires { place ≤ 5000 }
@@ -46,15 +49,16 @@ fn last_codewords(codewords: &[u8], place: usize) -> u64
     bits
 }
 
-// Eight codewords as one word, the first of them its highest byte. `first` is the number of its highest bit among the
-// bits of all codewords.
+// Eight codewords as one word of 64 bits; the first codeword is the highest byte of the word. The bits of all codewords
+// are numbered from 0, and `first` is the number of the highest bit of this word.
 #[derive(Clone, Copy)]
 struct CodewordBits {
     bits: u64,
     first: usize,
 }
 
-// Returns the eight codewords from the codeword of bit `number` on.
+// Returns eight codewords as one word: the codeword that contains the bit with the number `number`, and the seven
+// codewords after it. The bits of all codewords are numbered from 0.
 fn codeword_bits_at(codewords: &[u8], number: usize) -> CodewordBits
     requires { number ≤ 40000 }
     ensures bits { IsCodewordBits codewords.now result }
@@ -73,7 +77,8 @@ fn codeword_bits_at(codewords: &[u8], number: usize) -> CodewordBits
     }
 }
 
-// Returns the eight bits of `next` from bit `number` on, the first of them as the highest.
+// Returns eight bits of the word `next`, from the bit with the number `number` on. The bits of all codewords are
+// numbered from 0. The first of the eight bits is the highest bit of the result.
 fn eight_bits(next: CodewordBits, number: usize) -> u8
     requires least { next.first ≤ number }
     requires most { number ≤ next.first + 56 }
@@ -82,11 +87,12 @@ fn eight_bits(next: CodewordBits, number: usize) -> u8
     (next.bits >> (56 - (number - next.first)) & 255) as u8
 }
 
-// Splits eight bits of the codewords, as they fill four rows of a strip: the bits alternate between the right and the
-// left column. The higher four bits of an entry are those of the right column (the first, third, fifth and seventh),
-// the lower four those of the left column. In each half of an entry the lowest bit is that of the topmost of the four
-// rows. The first table is for strips that go downward, where the first two of the eight bits are in the topmost row;
-// the second table is for strips that go upward.
+// Two tables that divide eight codeword bits between the two columns of a strip, which are filled together. The index
+// of an entry is the eight bits. The bits fill four rows of the strip, and alternate between the right and the left
+// column. In each entry, the higher four bits are those of the right column: the first, third, fifth and seventh of the
+// eight bits. The lower four bits are those of the left column. In each half of an entry, the lowest bit is that of the
+// topmost of the four rows. The first table is for strips that are filled downward: there the first two of the eight
+// bits are in the topmost row. The second table is for strips that are filled upward.
 static SPLITS: [[u8; 256]; 2] = [
     [
         0x00, 0x08, 0x80, 0x88, 0x04, 0x0C, 0x84, 0x8C, 0x40, 0x48, 0xC0, 0xC8, 0x44, 0x4C, 0xC4,
@@ -130,14 +136,16 @@ static SPLITS: [[u8; 256]; 2] = [
     ],
 ];
 
-// The two columns of a strip as bit rows. They are two rows of the transposed square.
+// The right and the left column of a strip, which is two columns of the symbol that are filled together. In the
+// transposed square of modules, where rows and columns are exchanged, these two columns are two rows.
 #[derive(Clone, Copy)]
 struct Columns {
     right: BitRow,
     left: BitRow,
 }
 
-// Returns the columns of the strip whose right column is column `right`. `across` is transposed, so they are rows in it.
+// Returns the two columns of the strip with the right column `right`; the two columns are filled together. The square
+// of modules `across` is transposed: its rows are the columns of the symbol.
 fn columns_of(across: &Matrix, right: u8) -> Columns
     requires left_in { 1 ≤ right }
     requires right_in { right < across.now.side }
@@ -151,9 +159,9 @@ fn columns_of(across: &Matrix, right: u8) -> Columns
     }
 }
 
-// If the module in row `row` of a column is in the encoding region, draws the next of the eight bits `bits` there, of
-// which `taken` are drawn already. Returns how many of the eight bits are drawn after the call. `region` contains the rows
-// of the column that are in the encoding region.
+// Draws the next of the eight bits `bits` in row `row` of a column, if the module there is in the encoding region.
+// Before the call, `taken` of the eight bits were drawn. Returns how many of the eight bits are drawn after the call.
+// In `region`, a bit is 1 if the module in its row of the column is in the encoding region.
 fn draw_module(column: &mut BitRow, region: &BitRow, bits: u8, taken: u8, row: u8) -> u8
     requires row_in { row < 192 }
     requires taken { taken < 8 }
@@ -169,8 +177,10 @@ fn draw_module(column: &mut BitRow, region: &BitRow, bits: u8, taken: u8, row: u
     taken + 1
 }
 
-// Draws the next of eight bits at each module of the encoding region in `count` rows of a strip, at most four. Returns
-// the number of bits that are drawn. Few rows are drawn by this function; `draw_four` draws most of them.
+// Draws the first bits of `bits` in `count` rows of a strip (two columns that are filled together). Each module of
+// these rows that is in the encoding region gets the next bit. `passed` is the number of rows of the strip that come
+// before these rows. Returns the number of bits that were drawn. Most rows of a strip are drawn by `draw_four`, and
+// only a few by this function.
 #[inline(never)]
 fn draw_rows(
     columns: &mut Columns,
@@ -202,9 +212,11 @@ fn draw_rows(
     taken
 }
 
-// Draws up to eight bits in four rows of a strip: one bit in each module that is in the encoding region. Returns how many
-// of them are drawn. `both` contains the rows in which both columns are in the encoding region; if they are all four, four
-// modules of each column are set at once.
+// Draws the first bits of `bits` in four rows of a strip (two columns that are filled together). Each module of these
+// rows that is in the encoding region gets the next bit. `passed` is the number of rows of the strip that come before
+// these rows. Returns the number of bits that were drawn. In `both`, the bit of a row is 1 if both modules of the strip
+// in this row are in the encoding region. If all eight modules are in the encoding region, four modules of each column
+// are set at once.
 #[inline(always)]
 fn draw_four(
     columns: &mut Columns,
@@ -241,9 +253,10 @@ fn draw_four(
     draw_rows(columns, v, region, bits, strip, passed, 4)
 }
 
-// Draws the bits of the codewords, from bit `first` on, at the modules of a strip that are in the encoding region.
-// Returns the number of the next bit. The side is one more than a multiple of four: the topmost rows form groups of
-// four, and the bottom row is drawn by itself.
+// Draws the bits of the codewords, from bit `first` on, in a strip (two columns that are filled together). Each module
+// of the strip that is in the encoding region gets the next bit. Returns the number of the next bit to be drawn. The
+// side of a symbol, in modules, is one more than a multiple of four. So the bottom row is drawn by itself, and the rows
+// above it are drawn in groups of four.
 #[inline(always)]
 fn draw_columns(
     columns: &mut Columns,
@@ -279,8 +292,9 @@ fn draw_columns(
     number + usize::from(draw_rows(columns, v, region, bits, strip, before + last, 1 - before))
 }
 
-// Draws the bits of the codewords, from bit `first` on, at the modules of a strip that are in the encoding region.
-// Returns the number of the next bit. `draw_columns` is compiled twice here, once for each direction.
+// Draws the bits of the codewords, from bit `first` on, in a strip (two columns that are filled together). Each module
+// of the strip that is in the encoding region gets the next bit. Returns the number of the next bit to be drawn.
+// `draw_columns` is called in two places here, so that it is compiled once for each direction of a strip.
 fn draw_strip(
     across: &mut Matrix,
     v: Version,
@@ -318,8 +332,10 @@ fn draw_strip(
     next
 }
 
-// Draws the codeword bits at the modules of the encoding region, strip by strip. `across` is transposed: the encoding
-// region is the same when rows and columns are exchanged, so the columns of a strip are two rows of both squares.
+// Draws the codeword bits at the modules of the encoding region, strip by strip; a strip is two columns that are filled
+// together. The square `across` is transposed, which means that rows and columns are exchanged. So the two columns of a
+// strip are two rows of `across`. The two columns are also two rows of `region`, since the encoding region is the same
+// when rows and columns are exchanged.
 pub(crate) fn draw_codewords(across: &mut Matrix, v: Version, region: &Matrix, codewords: &[u8])
     requires square { IsSquare (side_of v) across.old }
     requires region { region.now ≡ region_grid v }
@@ -333,7 +349,8 @@ pub(crate) fn draw_codewords(across: &mut Matrix, v: Version, region: &Matrix, c
     }
 }
 
-// Returns bit `number` of the codewords, counted from the highest bit of the first codeword; 0 after the last codeword.
+// Returns bit `number` of the codewords, where bit 0 is the highest bit of the first codeword. After the last codeword
+// every bit is 0, which is `false`.
 fn bit_at(codewords: &[u8], number: usize) -> bool
     ensures { result ≡ codeword_bit codewords.now number }
 {
@@ -341,8 +358,9 @@ fn bit_at(codewords: &[u8], number: usize) -> bool
     is_bit_set(u32::from(codeword), 7 - (number % 8) as u8)
 }
 
-// Draws the codeword bits under a mask at the modules of the encoding region, module by module in the order of `walk`.
-// The remainder bits are 0 before they are masked, and the mask inverts them too.
+// Draws the codeword bits under the mask pattern `mask` at the modules of the encoding region, one module after the
+// other in the order of `walk`. The remainder bits are 0 before the mask pattern is applied, and the mask pattern
+// inverts them too.
 pub(crate) fn draw_along_walk(matrix: &mut Matrix, v: Version, codewords: &[u8], mask: u8)
     requires { IsSquare (side_of v) matrix.old }
     ensures { matrix.new ≡ square (side_of v) (walked_colour v codewords.now mask (colour matrix.old)) }

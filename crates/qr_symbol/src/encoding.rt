@@ -22,26 +22,28 @@ use qr_bits::{Header, INPUT_MAX, Rule, Segment, codewords};
 use qr_layout::{Level, Version};
 use std::alloc::Global;
 
-// The largest number of bytes that a symbol can contain: 7,089 digits in version 40 and level L (7.4.10, Table 7).
+// The largest number of bytes that one symbol can contain: 7,089 digits in version 40 at level L (7.4.10, Table 7).
 pub(crate) const SYMBOL_BYTES_MAX: usize = 7089;
 
-/// Encodes the input as one symbol (ISO/IEC 18004:2015, 7.1), in the least version from `smallest` on that it fits.
-/// `rule` says which modes the segments may have. The symbol has the segments that take the fewest bits in these modes,
-/// the standard's codewords, and the mask of least penalty. If several masks have the least penalty, it has the first
-/// of them.
+/// Encodes the input as one symbol (ISO/IEC 18004:2015, 7.1), in the least version, from `smallest` on, that the input
+/// fits. `rule` says which modes the segments may have. The input is cut into the segments that take the fewest bits in
+/// these modes. The symbol contains the codewords that the standard requires for these segments, and has the mask
+/// pattern with the least penalty. If several mask patterns have the least penalty, the symbol has the one with the
+/// smallest number.
 ///
-/// If the modules of the symbol are read in the order of the walk, unmasked, deinterleaved and parsed, the result is
-/// exactly the input, in these segments.
+/// If the modules of the symbol are read in the standard's order, unmasked, deinterleaved and parsed, the result is
+/// exactly the input, in the same segments.
 ///
 /// # Errors
 ///
-/// Returns `Empty` exactly if the input has no byte. Unless memory is refused, returns `TooLong` exactly if the input
-/// fits no version from `smallest` on. An input of more than 7,089 bytes fits no version, and is refused before any
-/// allocation. Returns `Memory` if memory is refused.
+/// Returns `Empty` exactly if the input has no byte. Unless an allocation is refused, returns `TooLong` exactly if the
+/// input fits no version from `smallest` on. An input of more than 7,089 bytes fits no version; for such an input,
+/// `TooLong` is returned before any allocation. Returns `Memory` if an allocation is refused.
 ///
 /// # Notes
 ///
-/// The level comes before the version here, and after it in `encode_series`.
+/// In the parameters of this function, the level comes before the version. In the parameters of `encode_series`, the
+/// version comes first.
 pub fn encode(
     alloc: Global,
     input: &[u8],
@@ -71,7 +73,8 @@ pub fn encode(
     symbol_at(alloc, input, &fit.segments, None, fit.version, level)
 }
 
-// Returns the symbol of the bytes in these segments, after the optional header (7.1, 8.1).
+// Returns the symbol that contains the bytes `input` in these segments, after the optional structured append header
+// (7.1, 8.1).
 pub(crate) fn symbol_at(
     alloc: Global,
     input: &[u8],
@@ -93,7 +96,8 @@ pub(crate) fn symbol_at(
     symbol_on(alloc, &mut canvas, input, segments, header)
 }
 
-// Returns the symbol as `symbol_at` does, with the version and the level of the canvas.
+// Returns the symbol that contains the bytes `input` in these segments, after the optional structured append header.
+// The symbol is drawn on `canvas`, and has the version and the level of the canvas.
 pub(crate) fn symbol_on(
     alloc: Global,
     canvas: &mut Canvas,

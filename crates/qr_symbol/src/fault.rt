@@ -1,4 +1,4 @@
-//! The faults of encoding an input and of reading symbols.
+//! Defines the faults of encoding an input and of reading symbols.
 
 ghost use Rattle.std.specs.Prelude.{◌≡◌};
 
@@ -6,8 +6,8 @@ use qr_bits::{BitFault, ParseFault};
 use std::alloc::{AllocError, AllocFailed};
 use thiserror::Error;
 
-/// The fault of encoding an input. The causes before `Memory` are checked in this order; memory may be refused at any
-/// step after the first.
+/// The reason why an input is not encoded. The causes before `Memory` are checked in the order of this list. Memory may
+/// be refused at any step after the check for `Empty`.
 #[derive(Clone, Copy, Debug, PartialEq, Eq, Error)]
 pub enum EncodeFault {
     /// The input has no byte.
@@ -16,7 +16,7 @@ pub enum EncodeFault {
     /// The input fits no version that the caller allows.
     #[error("input does not fit")]
     TooLong = 2,
-    /// The input needs more than 16 symbols.
+    /// The series of symbols for the input would have more than 16 symbols.
     #[error("more than 16 symbols")]
     TooMany = 3,
     /// An allocation was refused.
@@ -60,25 +60,26 @@ impl From<BitFault> for EncodeFault {
     }
 }
 
-/// The fault of reading symbols. The causes from `Side` on are checked in this order; memory may be refused at any step.
+/// The reason why symbols are not read. The causes from `Side` on are checked in the order of this list. Memory may be
+/// refused at any step.
 #[derive(Clone, Copy, Debug, PartialEq, Eq, Error)]
 pub enum ReadFault {
     /// An allocation was refused.
     #[error("out of memory")]
     Memory,
-    /// No version has this side.
+    /// No version has as many modules on each side as the square that was read.
     #[error("no version has this side")]
     Side,
-    /// The format information beside the top left finder pattern belongs to no level and mask.
+    /// The format information beside the top left finder pattern is that of no level and mask pattern.
     #[error("the format information is damaged")]
     Format,
-    /// A block's error correction codewords are not those of its data codewords.
+    /// The error correction codewords of a block do not belong to its data codewords.
     #[error("a codeword is damaged")]
     Check,
-    /// The data codewords cannot be parsed. The fault inside is never `ParseFault::Memory`.
+    /// The data codewords cannot be parsed. The parse fault inside is never `ParseFault::Memory`.
     #[error("the data codewords cannot be parsed: {0}")]
     Segments(ParseFault),
-    /// The symbols do not form a series.
+    /// The symbols are neither one symbol without a structured append header nor a whole series.
     #[error("the symbols do not form a series")]
     Series,
 }

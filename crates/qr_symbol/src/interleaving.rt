@@ -1,5 +1,5 @@
-//! Computes the final sequence of codewords, data and error correction codewords interleaved, and takes it apart again
-//! (ISO/IEC 18004:2015, 7.5.2 and 7.6).
+//! Computes the final sequence of codewords, which contains the interleaved data codewords and then the interleaved
+//! error correction codewords (ISO/IEC 18004:2015, 7.5.2 and 7.6). Also undoes the interleaving.
 
 ghost use Rattle.std.specs.Prelude.{◌≡◌, ◌≢◌, ◌↔◌, ℕ, ◌+◌, ◌<◌, ◌≤◌, ◌⊎◌, List, length, Err, IfOk, IfErr};
 ghost use Rattle.qr_layout.specs.Blocks.{data_codewords_of};
@@ -13,8 +13,8 @@ use qr_field::Divisor;
 use qr_layout::{Blocks, Level, Version};
 use std::alloc::{AllocError, Global};
 
-/// How codewords that are listed block after block are divided into blocks: `short` blocks of `short_len` codewords, and
-/// then `long` blocks with one codeword more (ISO/IEC 18004:2015, 7.5.1).
+/// The sizes of the blocks into which a list of codewords is divided. First come `short` blocks of `short_len`
+/// codewords each. Then come `long` blocks, each with one codeword more than a short block (ISO/IEC 18004:2015, 7.5.1).
 #[derive(Clone, Copy)]
 pub struct BlockSizes {
     /// The number of short blocks.
@@ -26,7 +26,7 @@ pub struct BlockSizes {
 }
 
 impl BlockSizes {
-    /// Returns the sizes of the blocks in data codewords.
+    /// Returns the sizes of the blocks, counted in data codewords.
     pub fn of_data(blocks: Blocks) -> BlockSizes
         ensures { result ≡ data_sizes blocks }
     {
@@ -37,7 +37,8 @@ impl BlockSizes {
         }
     }
 
-    /// Returns the sizes of the blocks in error correction codewords, which are all the same.
+    /// Returns the sizes of the blocks, counted in error correction codewords. All blocks have the same number of error
+    /// correction codewords.
     pub fn of_corrections(blocks: Blocks) -> BlockSizes
         ensures { result ≡ correction_sizes blocks }
     {
@@ -48,7 +49,7 @@ impl BlockSizes {
         }
     }
 
-    /// Returns the number of blocks.
+    /// Returns the number of all blocks, short and long.
     pub fn count(self) -> usize
         ensures { result ≡ block_count self }
     {
@@ -73,7 +74,8 @@ impl BlockSizes {
         usize::from(self.short_len) * block + block.saturating_sub(usize::from(self.short))
     }
 
-    /// Returns block `block` of the codewords, which are listed block after block.
+    /// Returns the codewords of block `block`, counted from 0. The slice `codewords` contains the codewords of all
+    /// blocks, block after block.
     pub fn part(self, codewords: &[u8], block: usize) -> &[u8]
         requires within { block < block_count self }
         requires whole { length codewords.now ≡ codeword_count self }
@@ -84,8 +86,9 @@ impl BlockSizes {
         &codewords[start..start + self.len(block)]
     }
 
-    /// Returns the codewords block after block, from interleaved codewords: the first of each block, then the second of
-    /// each, and so on (ISO/IEC 18004:2015, 7.6). Codewords after those of the blocks are ignored.
+    /// Undoes the interleaving of `codewords`, and returns the codewords block after block. Interleaved codewords are
+    /// the first codeword of each block, then the second codeword of each block, and so on (ISO/IEC 18004:2015, 7.6).
+    /// If `codewords` contains more codewords than the blocks have, the additional codewords at the end are ignored.
     pub fn gather(self, alloc: Global, codewords: &[u8]) -> Result<Vec<u8>, AllocError>
         requires { codeword_count self ≤ length codewords.now }
         ensures { IfOk result (λ d. IsGathered self codewords.now d.items) }
@@ -96,7 +99,8 @@ impl BlockSizes {
     }
 }
 
-// Appends the codewords of the blocks to `interleaved`: the first of each block, then the second of each, and so on.
+// Appends the codewords of all blocks to `interleaved`: the first codeword of each block, then the second codeword of
+// each block, and so on.
 fn interleave_into(
     interleaved: &mut Vec<u8>,
     sizes: BlockSizes,
@@ -119,7 +123,7 @@ fn interleave_into(
     Ok(())
 }
 
-// Returns the error correction codewords of all blocks, block after block.
+// Returns the error correction codewords for the data codewords `message`, block after block.
 fn corrections(alloc: Global, blocks: Blocks, message: &[u8]) -> Result<Vec<u8>, AllocError>
     requires whole { length message.now ≡ codeword_count (data_sizes blocks) }
     requires least { 1 ≤ blocks.ec_len }
@@ -155,8 +159,9 @@ fn interleave_blocks(alloc: Global, blocks: Blocks, message: &[u8]) -> Result<Ve
     Ok(interleaved)
 }
 
-/// Returns the final sequence of codewords for the data codewords `message`: the data codewords by position and then by
-/// block, and then the error correction codewords in the same way (ISO/IEC 18004:2015, 7.5.2 and 7.6).
+/// Returns the final sequence of codewords for the data codewords `message` (ISO/IEC 18004:2015, 7.5.2 and 7.6). First
+/// come the data codewords: the first data codeword of each block, then the second of each block, and so on. The error
+/// correction codewords follow in the same order.
 pub fn interleave(
     alloc: Global,
     version: Version,
@@ -170,7 +175,7 @@ pub fn interleave(
     interleave_blocks(alloc, version.blocks(level), message)
 }
 
-// Undoes the interleaving: writes the codewords to `message` block after block.
+// Undoes the interleaving of `codewords`: writes the codewords to `message`, block after block.
 fn deinterleave_into(message: &mut Vec<u8>, sizes: BlockSizes, codewords: &[u8])
     requires room { length message.old.items ≡ codeword_count sizes }
     requires interleaved { codeword_count sizes ≤ length codewords.now }
@@ -188,8 +193,8 @@ fn deinterleave_into(message: &mut Vec<u8>, sizes: BlockSizes, codewords: &[u8])
     }
 }
 
-// Undoes the interleaving, and returns the data codewords. The fault is `Check` if the error correction codewords in
-// `codewords` do not belong to these data codewords.
+// Undoes the interleaving of `codewords`, and returns the data codewords. Returns the fault `Check` if the error
+// correction codewords in `codewords` do not belong to these data codewords.
 fn deinterleave_blocks(
     alloc: Global,
     blocks: Blocks,
@@ -216,8 +221,9 @@ fn deinterleave_blocks(
     }
 }
 
-/// Returns the data codewords of a final sequence of codewords (ISO/IEC 18004:2015, 7.6 and 12). Returns `Check`
-/// exactly if the error correction codewords of some block do not belong to its data codewords.
+/// Returns the data codewords of a final sequence of codewords (ISO/IEC 18004:2015, 7.6 and 12). Unless an allocation
+/// is refused, returns the fault `Check` exactly if the error correction codewords of some block do not belong to its
+/// data codewords.
 pub fn deinterleave(
     alloc: Global,
     version: Version,

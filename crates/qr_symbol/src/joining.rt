@@ -1,4 +1,4 @@
-//! Reads symbols together: joins the bytes of a series of symbols in their order (ISO/IEC 18004:2015, 8).
+//! Reads the symbols of a series, and joins their bytes in the order of the symbols (ISO/IEC 18004:2015, 8).
 
 ghost use Rattle.std.specs.Prelude.{◌≡◌, ◌⊎◌, ◌-◌, ◌<◌, length, Some, IfOk, MatchResult};
 ghost use Rattle.std.specs.Bool.{Decides};
@@ -11,7 +11,7 @@ use crate::symbol::Symbol;
 use qr_bits::{Parsed, parity};
 use std::alloc::{AllocError, Global};
 
-// Returns the content of each symbol.
+// Reads each symbol, and returns the contents in the order of the symbols.
 fn read_all(alloc: Global, symbols: &[Symbol]) -> Result<Vec<Parsed>, ReadFault>
     ensures { MatchResult result
         (λ contents. AreReadings (squares_of symbols.now) contents.items)
@@ -24,7 +24,7 @@ fn read_all(alloc: Global, symbols: &[Symbol]) -> Result<Vec<Parsed>, ReadFault>
     Ok(contents)
 }
 
-// Returns the bytes of the contents, one after another.
+// Returns the bytes of all contents, one content after another.
 fn joined_bytes(alloc: Global, contents: &[Parsed]) -> Result<Vec<u8>, AllocError>
     ensures { IfOk result (λ bytes. bytes.items ≡ bytes_of_all contents.now) }
 {
@@ -35,7 +35,7 @@ fn joined_bytes(alloc: Global, contents: &[Parsed]) -> Result<Vec<u8>, AllocErro
     Ok(bytes)
 }
 
-// Returns whether there is exactly one content, and it has no header.
+// Returns whether there is exactly one content, and this content has no structured append header.
 fn is_plain(contents: &[Parsed]) -> bool
     ensures { Decides result (IsPlain contents.now) }
 {
@@ -45,7 +45,8 @@ fn is_plain(contents: &[Parsed]) -> bool
     }
 }
 
-// Returns whether the content has a header with this position, number of symbols less 1 (`last`), and parity.
+// Returns whether the content has a structured append header that contains `position`, the number of symbols less 1
+// (`last`), and `parity`.
 fn has_header(content: &Parsed, position: usize, last: usize, parity: u8) -> bool
     ensures { Decides result (content.now.header
         ≡ Some (record { position = position; last = last; parity = parity })) }
@@ -60,8 +61,9 @@ fn has_header(content: &Parsed, position: usize, last: usize, parity: u8) -> boo
     }
 }
 
-// Returns whether there is at least one content, and the header of each contains its position, the number of contents
-// less 1, and this parity (8.1 to 8.3).
+// Returns whether the contents are those of a whole series of symbols, in the order of the series. There must be at
+// least one content, and each content must have a structured append header. This header must contain the position of
+// the content, the number of contents less 1, and `parity` (8.1 to 8.3).
 fn are_in_series(contents: &[Parsed], parity: u8) -> bool
     ensures { Decides result ((0 < length contents.now)
         × HaveHeaders (length contents.now - 1) parity 0 contents.now) }
@@ -78,14 +80,14 @@ fn are_in_series(contents: &[Parsed], parity: u8) -> bool
     true
 }
 
-/// Joins the contents of symbols, in their order (ISO/IEC 18004:2015, 8): one content without a header, or those of a
-/// whole series. The header of each content of a series must contain its position, counted from 0, the number of symbols
-/// less 1, and the parity of all bytes.
+/// Joins the bytes of the contents of symbols, in their order (ISO/IEC 18004:2015, 8). The contents must be one content
+/// without a structured append header, or those of a whole series. In a series, the header of each content must contain
+/// its position, counted from 0, the number of symbols less 1, and the parity data of all bytes.
 ///
 /// # Errors
 ///
-/// Returns `Series` if the contents do not belong together, or if there is no content. Returns `Memory` if memory is
-/// refused.
+/// Returns `Series` if the contents are neither one content without a structured append header nor those of a whole
+/// series. If there is no content, returns `Series` too. Returns `Memory` if an allocation is refused.
 pub fn join(alloc: Global, contents: &[Parsed]) -> Result<Vec<u8>, ReadFault>
     ensures { MatchResult result
         (λ bytes. BelongTogether contents.now × (bytes.items ≡ bytes_of_all contents.now))
@@ -100,14 +102,17 @@ pub fn join(alloc: Global, contents: &[Parsed]) -> Result<Vec<u8>, ReadFault>
     }
 }
 
-/// Reads the symbols and joins their bytes, in their order (ISO/IEC 18004:2015, 8): the symbols are one symbol without a
-/// header, or a whole series. The header of each symbol of a series must contain its position, counted from 0, the
-/// number of symbols less 1, and the parity of all bytes. Of each symbol only its matrix is read.
+/// Reads the symbols and joins their bytes, in their order (ISO/IEC 18004:2015, 8). The symbols must be one symbol
+/// without a structured append header, or those of a whole series. In a series, the header of each symbol must contain
+/// its position, counted from 0, the number of symbols less 1, and the parity data of all bytes. Only the matrix of
+/// each symbol is read, not its other fields.
 ///
 /// # Errors
 ///
-/// Returns the fault of the first symbol that cannot be read, before any header is checked. Returns `Series` if all
-/// symbols can be read but do not belong together, or if there is no symbol.
+/// If some symbol cannot be read, returns the fault of the first such symbol. The structured append headers are checked
+/// only if all symbols can be read. Returns `Series` if all symbols can be read, but are neither one symbol without a
+/// structured append header nor a whole series. If there is no symbol, returns `Series` too. Returns `Memory` if an
+/// allocation is refused.
 pub fn read_series(alloc: Global, symbols: &[Symbol]) -> Result<Vec<u8>, ReadFault>
     ensures { MatchResult result
         (λ bytes. IsJoined (squares_of symbols.now) bytes.items)

@@ -1,5 +1,6 @@
-//! The laws of masks, of interleaving, of reading and of series. Most functions do nothing: their contract is the law.
-//! The others build, read, compare or clone, and their contract is a law about the result.
+//! This file contains the laws of mask patterns, of interleaving, of reading and of series of symbols. Most functions
+//! of this file contain no code: the contract of such a function is the law. The other functions build, read, compare
+//! or clone values, and the contract of such a function is a law about its result.
 
 ghost use Rattle.std.specs.Prelude.{◌≡◌, ◌<◌, ◌≤◌, ◌+◌, ◌%◌, ◌⊎◌, ℕ, false, List, length, map, None, ◌∷◌, IfOk, IfErr, ◌≢◌, ◌↔◌, Err};
 ghost use Rattle.std.specs.List.{All};
@@ -45,15 +46,15 @@ use qr_layout::{Level, Version};
 use qr_matrix::Matrix;
 use std::alloc::Global;
 
-/// Each mask repeats after twelve rows and six columns, and its first twelve rows of six columns are those that were
-/// worked out from Table 10.
+/// Each mask pattern repeats every twelve rows and every six columns. The first twelve rows of each mask pattern, in
+/// the first six columns, are equal to rows that were worked out by hand from Table 10.
 pub fn masks_compute()
     ensures repeated { (mask r c : ℕ) → mask < 8 → inverts mask r c ≡ inverts mask (r % 12) (c % 6) }
     ensures rows { map first_rows all_masks ≡ computed_rows }
 {}
 
-/// The plain way and the fast way make the same symbol: `build_masked`, called with the mask that `build` chose, returns
-/// a symbol that equals the symbol of `build` in all fields.
+/// `build_masked` draws module by module, and `build` draws several modules at once, but both make the same symbol. If
+/// `build_masked` is called with the mask pattern that `build` chose, the two symbols are equal in all fields.
 pub fn plain_and_fast_symbols_are_one(
     alloc: Global,
     version: Version,
@@ -73,7 +74,8 @@ pub fn plain_and_fast_symbols_are_one(
     Ok((plain, fast))
 }
 
-/// The blocks of the data codewords follow one another without a gap, from the first codeword to the last.
+/// The blocks of a symbol divide its data codewords without a gap. The first block begins at the first data codeword,
+/// each other block begins where the block before it ends, and the last block ends at the last data codeword.
 pub fn blocks_are_cut_exactly(version: Version, level: Level)
     ensures first { start_of (data_sizes (blocks_of version level)) 0 ≡ 0 }
     ensures next { (i : ℕ) → i < block_count (data_sizes (blocks_of version level))
@@ -83,8 +85,8 @@ pub fn blocks_are_cut_exactly(version: Version, level: Level)
     ensures whole { codeword_count (data_sizes (blocks_of version level)) ≡ data_codewords_of version level }
 {}
 
-/// Data codewords have at most one final sequence of codewords. It has as many codewords as the symbol, and no other
-/// data codewords have the same final sequence.
+/// Data codewords have at most one final sequence of codewords, and this sequence has as many codewords as a symbol of
+/// the version. No other data codewords of the same version and level have the same final sequence.
 pub fn interleaving_is_one(version: Version, level: Level)
     ensures interleaved { (d xs ys : List ℕ) → IsInterleaved version level d xs
         → IsInterleaved version level d ys → xs ≡ ys }
@@ -95,26 +97,30 @@ pub fn interleaving_is_one(version: Version, level: Level)
         → IsInterleaved version level d xs → IsInterleaved version level e xs → d ≡ e }
 {}
 
-/// Two squares of a version and a level that contain different messages differ in at least one block by more codewords
-/// than the block has error correction codewords.
+/// Any two squares of modules of one version and level that contain different data codewords are far apart. In at least
+/// one block, two such squares differ in more codewords than the block has error correction codewords.
 pub fn messages_lie_apart(version: Version, level: Level)
     ensures { MessagesLieApart version level }
 {}
 
-/// The codewords read from a damaged square belong to one message at most, as long as in each block the number of erased
-/// codewords, plus twice the number of misread codewords, is at most the number of its error correction codewords.
+/// The codewords that were read from a damaged symbol belong to at most one message, which is a list of data codewords.
+/// The damage to each block must be limited: the number of erased codewords, plus twice the number of misread
+/// codewords, is at most the number of error correction codewords. An erased codeword is known to be unreadable, and a
+/// misread codeword was read with another value.
 pub fn damaged_messages_are_one(version: Version, level: Level)
     ensures { DamagedMessagesAreOne version level }
 {}
 
-/// The square that is drawn for codewords is read as the bits of these codewords.
+/// If a square of modules is drawn from codewords, and its codeword bits are then read, the result is the bits of the
+/// same codewords.
 pub fn squares_give_their_bits(version: Version)
     ensures { (l : Level) (mask : ℕ) (cw : List ℕ) (ms : List Module) → IsOrder version ms
         → length cw ≡ total_codewords_of version
         → read_bits version mask (grid_of version l mask cw) ms ≡ bits_of cw }
 {}
 
-/// Every square with the side of a version contains exactly one list of codewords under a mask, and at most one message.
+/// Under each mask pattern, every square of modules that has the side of the version contains exactly one list of
+/// codewords. These codewords are the final sequence for at most one list of data codewords.
 pub fn reading_is_one(version: Version, level: Level)
     ensures some { (mask : ℕ) (g : Grid) → (cw : List ℕ) × IsRead version mask g cw }
     ensures codewords { (mask : ℕ) (g : Grid) (cw ds : List ℕ) → IsRead version mask g cw
@@ -123,19 +129,19 @@ pub fn reading_is_one(version: Version, level: Level)
         → IsMessage version level mask g e → d ≡ e }
 {}
 
-/// The format information of a square belongs to at most one level and mask.
+/// The format information of a square of modules is that of at most one level and mask pattern.
 pub fn format_is_one()
     ensures { (g : Grid) (l k : Level) (m n : ℕ) → IsFormat g l m → IsFormat g k n
         → (l ≡ k) × (m ≡ n) }
 {}
 
-/// A square is read as at most one content.
+/// A square of modules is read as at most one content: an optional structured append header, segments and bytes.
 pub fn contents_are_one()
     ensures { (g : Grid) (p q : Content) → IsReading g p → IsReading g q → p ≡ q }
 {}
 
-/// A square that is read as a content can only be refused for lack of memory. Apart from lack of memory, a square is
-/// refused for at most one reason.
+/// If a square of modules is read as a content, it can be refused only for lack of memory. Apart from lack of memory, a
+/// square is refused for at most one fault.
 pub fn refusals_are_one()
     ensures read { (g : Grid) (p : Content) (e : ReadFault) → IsReading g p → IsUnread g e
         → e ≡ ReadFault.Memory }
@@ -143,7 +149,8 @@ pub fn refusals_are_one()
         → (e ≡ ReadFault.Memory) ⊎ (f ≡ ReadFault.Memory) ⊎ (e ≡ f) }
 {}
 
-/// If memory is not refused, a square is refused for a fault exactly if it has this fault.
+/// Unless an allocation is refused, `read_symbol` refuses a square of modules for a fault exactly if the square has
+/// this fault.
 pub fn readings_are_refused_exactly(alloc: Global, matrix: &Matrix) -> Result<Parsed, ReadFault>
     ensures { (e : ReadFault) → e ≢ ReadFault.Memory
         → (result ≡ Err e) ↔ ((result ≢ Err ReadFault.Memory) × IsUnread matrix.now e) }
@@ -151,13 +158,13 @@ pub fn readings_are_refused_exactly(alloc: Global, matrix: &Matrix) -> Result<Pa
     read_symbol(alloc, matrix)
 }
 
-/// Squares are joined to at most one list of bytes.
+/// A list of squares of modules is joined to at most one list of bytes.
 pub fn joinings_are_one()
     ensures { (gs : List Grid) (x y : List ℕ) → IsJoined gs x → IsJoined gs y → x ≡ y }
 {}
 
-/// Squares that are joined to bytes can only be refused for lack of memory. Apart from lack of memory, squares are
-/// refused for at most one reason.
+/// If squares of modules are joined to bytes, they can be refused only for lack of memory. Apart from lack of memory, a
+/// list of squares is refused for at most one fault.
 pub fn joining_refusals_are_one()
     ensures joined { (gs : List Grid) (x : List ℕ) (e : ReadFault) → IsJoined gs x
         → IsUnjoined gs e → e ≡ ReadFault.Memory }
@@ -165,7 +172,8 @@ pub fn joining_refusals_are_one()
         → (e ≡ ReadFault.Memory) ⊎ (f ≡ ReadFault.Memory) ⊎ (e ≡ f) }
 {}
 
-/// If memory is not refused, symbols are refused for a fault exactly if their squares have this fault.
+/// Unless an allocation is refused, `read_series` refuses symbols for a fault exactly if the squares of modules of the
+/// symbols have this fault.
 pub fn joinings_are_refused_exactly(alloc: Global, symbols: &[Symbol]) -> Result<Vec<u8>, ReadFault>
     ensures { (e : ReadFault) → e ≢ ReadFault.Memory
         → (result ≡ Err e) ↔ ((result ≢ Err ReadFault.Memory) × IsUnjoined (squares_of symbols.now) e) }
@@ -173,26 +181,27 @@ pub fn joinings_are_refused_exactly(alloc: Global, symbols: &[Symbol]) -> Result
     read_series(alloc, symbols)
 }
 
-/// An input has at most one symbol for a level, a rule and a smallest version.
+/// An input has at most one symbol for a level, a rule and a smallest version; the rule says which modes may be used.
 pub fn symbols_are_one()
     ensures { SymbolsAreOne }
 {}
 
-/// The symbol of an input is read as this input, in the segments with the fewest bits and without a header.
+/// The symbol of an input is read as this input, without a structured append header and in the segments with the fewest
+/// bits.
 pub fn symbols_are_read(smallest: Version)
     ensures { (x : List ℕ) (l : Level) (rule : Rule) (v mask : ℕ) (g : Grid)
         → (s : IsSymbol smallest l rule x v mask g)
         → IsReading g (record { header = None; segments = s.made.segments; bytes = x }) }
 {}
 
-/// An input has at most one series for a version, a level and a rule.
+/// An input has at most one series of symbols for a version, a level and a rule; the rule says which modes may be used.
 pub fn series_are_one()
     ensures { (x : List ℕ) (l : Level) (rule : Rule) (v : ℕ) (ss ts : List Symbol)
         → IsSeries v l rule x ss → IsSeries v l rule x ts → ss ≡ ts }
 {}
 
-/// The parts of an input fit after headers. Without kanji mode no fewer parts fit, so the series of the input is the
-/// shortest possible.
+/// Each part that an input is cut into fits a symbol after a structured append header. Without kanji mode, the input
+/// cannot be cut into fewer parts that fit, so the series of the input is the shortest possible.
 pub fn series_are_shortest()
     ensures fit { (v : ℕ) (l : Level) (rule : Rule) (x : List ℕ) (parts : List (List ℕ))
         → AreParts v l rule x parts → FitParts v l rule x parts }
@@ -203,18 +212,20 @@ pub fn series_are_shortest()
         → IsSeries v l rule x ss → NeedsParts v l rule x (length ss) }
 {}
 
-/// Every input can be cut into parts, since one byte fits any symbol after a header.
+/// Every input can be cut into parts for a series of symbols, since any symbol has room for one byte after a structured
+/// append header.
 pub fn parts_are_there(version: Version, level: Level)
     ensures { (rule : Rule) (x : List ℕ) → (parts : List (List ℕ)) × AreParts version level rule x parts }
 {}
 
-/// A part has at least five bytes, unless it is the whole rest of the input.
+/// Each part that an input is cut into has at least five bytes, unless the part contains all remaining bytes.
 pub fn parts_are_long(version: Version, level: Level)
     ensures { (rule : Rule) (x p : List ℕ) (ps : List (List ℕ))
         → AreParts version level rule x (p ∷ ps) → (5 ≤ length p) ⊎ (p ≡ x) }
 {}
 
-/// The symbols of a series all have the side of its version, and there are at most 16 of them.
+/// All symbols of a series have as many modules on each side as the version of the series requires. A series has at
+/// most 16 symbols.
 pub fn series_have_one_side(version: Version)
     ensures side { (x : List ℕ) (l : Level) (rule : Rule) (ss : List Symbol)
         → IsSeries version l rule x ss → All (λ g. g.side ≡ side_of version) (squares_of ss) }
@@ -222,13 +233,14 @@ pub fn series_have_one_side(version: Version)
         → IsSeries version l rule x ss → length ss ≤ 16 }
 {}
 
-/// The symbols of the series of an input are joined to this input.
+/// If the symbols of the series of an input are read and joined, the result is this input.
 pub fn series_are_joined(version: Version)
     ensures { (x : List ℕ) (l : Level) (rule : Rule) (ss : List Symbol)
         → IsSeries version l rule x ss → IsJoined (squares_of ss) x }
 {}
 
-/// An input of `INPUT_MAX` bytes or more fits no version, and it has no series, since it needs more than 16 symbols.
+/// An input of `INPUT_MAX` bytes or more fits no version. The input has no series of symbols either, since it would
+/// need more than 16 symbols.
 pub fn long_inputs_have_none(version: Version)
     ensures symbol { (x : List ℕ) (l : Level) (rule : Rule) → INPUT_MAX ≤ length x
         → HasNoVersion version l rule x }
@@ -238,8 +250,8 @@ pub fn long_inputs_have_none(version: Version)
         → HasNoSeries version l rule x }
 {}
 
-/// The bits of the format information and the version information are drawn as the standard's examples print them, from
-/// the highest bit to the lowest: level M with mask 101, and version 7.
+/// The format information and the version information are drawn with the bits that the standard prints in its examples,
+/// from the highest bit to the lowest. The examples are level M with the mask pattern 101 (binary), and version 7.
 #[tactic(auto, unfolding(qr_layout::specs::Format::format_word_of, qr_layout::specs::Format::version_word_of, qr_layout::specs::Format::remainder_of))]
 pub fn drawn_bits_compute()
     ensures format { (v r c : ℕ) (cw : List ℕ) → bits_down 15 (λ i. colour_by v Level.M 5 cw r c (FormatBit i))
@@ -248,26 +260,26 @@ pub fn drawn_bits_compute()
         → bits_down 18 (λ i. colour_by 7 l mask cw r c (VersionBit i)) ≡ 0b000111110010010100 }
 {}
 
-/// If several masks have the least penalty, the one with the smallest number is chosen.
+/// If several mask patterns have the least penalty, the one with the smallest number is chosen.
 pub fn ties_go_to_the_smallest()
     ensures { (v : ℕ) (l : Level) (cw : List ℕ) (mask other : ℕ) → IsMask v l cw mask → other < 8
         → mask_penalty v l cw other ≡ mask_penalty v l cw mask → mask ≤ other }
 {}
 
-/// The largest version is 40: no larger version is chosen, and an input that fits version 40 is not refused.
+/// No version larger than 40 is chosen for an input, and an input that fits version 40 is not refused as too long.
 pub fn the_last_version_is_40(smallest: Version)
     ensures chosen { (l : Level) (rule : Rule) (x : List ℕ) (v : ℕ) → IsVersion smallest l rule x v → v ≤ 40 }
     ensures tried { (l : Level) (rule : Rule) (x : List ℕ) → HasNoVersion smallest l rule x
         → FitsVersion 40 l rule x → ⊥ }
 {}
 
-/// An input with at most 16 parts is not refused as too long for a series.
+/// An input that is cut into at most 16 parts is not refused as too long for a series of symbols.
 pub fn sixteen_parts_are_a_series()
     ensures { (v : ℕ) (l : Level) (rule : Rule) (x : List ℕ) (parts : List (List ℕ))
         → AreParts v l rule x parts → length parts ≤ 16 → HasNoSeries v l rule x → ⊥ }
 {}
 
-/// The faults of reading are numbered from 1 to 6, in their order.
+/// The faults of reading symbols are numbered from 1 to 6, in the order in which `ReadFault` lists them.
 pub fn read_faults_are_numbered()
     ensures memory { read_fault_number ReadFault.Memory ≡ 1 }
     ensures side { read_fault_number ReadFault.Side ≡ 2 }

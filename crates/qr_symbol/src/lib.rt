@@ -1,6 +1,7 @@
 //! Encodes an input as one symbol or as a series of symbols, and reads symbols back.
 //!
-//! `encode` makes one symbol. Its square of modules is drawn row by row, here with `#` for a dark module:
+//! `encode` makes one symbol. The following code writes the modules of the symbol as text, row by row, with `#` for
+//! each dark module:
 //!
 //! ```text
 //! let symbol = encode(alloc, words, Level::M, Version::FIRST, Rule::Auto)?;
@@ -12,7 +13,8 @@
 //! }
 //! ```
 //!
-//! The crate `example_label` is this example with a contract. A drawing needs a light margin of four modules on each side.
+//! The crate `example_label` contains this example as a function with a contract. A symbol that is to be scanned needs
+//! a quiet zone, which is a light margin of four modules on each side.
 #![tactic(auto)]
 
 mod canvas;

@@ -1,5 +1,6 @@
-//! Draws the function patterns, the format information and the version information of a symbol, and the encoding region,
-//! which is all the rest (ISO/IEC 18004:2015, 6.3, 7.9 and 7.10).
+//! Draws the function patterns, the format information and the version information of a symbol. Also draws a square in
+//! which only the modules of the encoding region are dark: the modules that the codewords fill (ISO/IEC 18004:2015,
+//! 6.3, 7.9 and 7.10).
 
 ghost use Rattle.std.specs.Prelude.{◌≡◌, ℕ, ◌%◌, ◌+◌, ◌<◌, ◌≤◌, ◌==◌, ◌&&◌, not, if◌then◌else◌, nat_le, nat_lt, false};
 ghost use Rattle.std.specs.List.{list_any, All};
@@ -21,14 +22,15 @@ use qr_layout::{
 };
 use qr_matrix::Matrix;
 
-// Returns bit `i` of a word of format or version information. Bit 0 is the lowest.
+// Returns whether bit `i` of the number `word` is 1. Bit 0 is the lowest bit.
 pub(crate) fn is_bit_set(word: u32, i: u8) -> bool
     ensures { result ≡ word_bit word i }
 {
     i < 32 && word >> i & 1 == 1
 }
 
-// Returns the colour of a module outside the encoding region by its role.
+// Returns the colour of a module outside the encoding region, where `role` says what the module is for; `true` is dark.
+// The bits of the numbers `format` and `version` are the format information and the version information.
 #[tactic(auto, unfolding(crate::specs::Steps::Patterns::fixed_colour))]
 fn fixed_colour(format: u32, version: u32, role: Role) -> bool
     ensures { result ≡ fixed_colour format version role }
@@ -41,7 +43,8 @@ fn fixed_colour(format: u32, version: u32, role: Role) -> bool
     }
 }
 
-// Returns the colour of the module in this row and this column, which is outside the encoding region.
+// Returns the colour of the module in row `row` and column `col`, which must be outside the encoding region. The bits
+// of the number `format` are the format information.
 fn paint(v: Version, format: u32, row: u8, col: u8) -> bool
     requires row_in { row < side_of v }
     requires col_in { col < side_of v }
@@ -51,7 +54,7 @@ fn paint(v: Version, format: u32, row: u8, col: u8) -> bool
     fixed_colour(format, version, cell(v, row, col))
 }
 
-// Paints the modules of row `row` in the columns from `left` to before `right`.
+// Draws the modules of row `row`, from column `left` to the column before `right`, in the colours that `paint` returns.
 fn paint_row(matrix: &mut Matrix, v: Version, format: u32, row: u8, left: u8, right: u8)
     requires square { IsSquare (side_of v) matrix.old }
     requires row_in { row < side_of v }
@@ -65,7 +68,7 @@ fn paint_row(matrix: &mut Matrix, v: Version, format: u32, row: u8, left: u8, ri
     }
 }
 
-// Paints the modules of a rectangle.
+// Draws the modules of a rectangle in the colours that `paint` returns.
 fn paint_rectangle(matrix: &mut Matrix, v: Version, format: u32, rectangle: Rectangle)
     requires square { IsSquare (side_of v) matrix.old }
     requires inside { IsWithin (side_of v) rectangle }
@@ -77,7 +80,7 @@ fn paint_rectangle(matrix: &mut Matrix, v: Version, format: u32, rectangle: Rect
     }
 }
 
-// Paints the modules of all these rectangles.
+// Draws the modules of all these rectangles in the colours that `paint` returns.
 fn paint_rectangles(matrix: &mut Matrix, v: Version, format: u32, rectangles: &[Rectangle])
     requires square { IsSquare (side_of v) matrix.old }
     requires inside { All (IsWithin (side_of v)) rectangles.now }
@@ -107,7 +110,8 @@ fn clear_rectangles(matrix: &mut Matrix, v: Version, rectangles: &[Rectangle])
     }
 }
 
-// Draws a finder pattern round its centre. The centre and the rings 1 and 3 round it are dark, and ring 2 is light.
+// Draws a finder pattern with its centre in row `row` and column `col`. The centre is surrounded by three square rings
+// of modules, counted from the inside. The centre, ring 1 and ring 3 are dark, and ring 2 is light.
 fn draw_finder(matrix: &mut Matrix, row: u8, col: u8)
     requires row_least { 3 ≤ row }
     requires row_most { row + 4 ≤ matrix.old.side }
@@ -122,8 +126,8 @@ fn draw_finder(matrix: &mut Matrix, row: u8, col: u8)
     matrix.fill(row - 1, row + 2, col - 1, col + 2, true);
 }
 
-// Paints a finder pattern with this centre and its separator: the eight by eight modules whose top left module is
-// `block`.
+// Draws a finder pattern with the centre `centre`, and its separator. Both together are a square of eight by eight
+// modules with the top left module `block`.
 fn paint_finder(matrix: &mut Matrix, v: Version, block: Module, centre: Module)
     requires square { IsSquare (side_of v) matrix.old }
     requires bottom_in { block.row + 8 ≤ side_of v }
@@ -140,7 +144,8 @@ fn paint_finder(matrix: &mut Matrix, v: Version, block: Module, centre: Module)
     draw_finder(matrix, centre.row, centre.col);
 }
 
-// Paints the corners: the finder patterns and separators, and the modules of row 8 and column 8 beside them.
+// Draws the three corners of a symbol: the finder patterns, their separators, and the modules of row 8 and column 8
+// that are beside the finder patterns. These modules contain the format information and the dark module.
 fn paint_corners(matrix: &mut Matrix, v: Version, format: u32)
     requires { IsSquare (side_of v) matrix.old }
     ensures { matrix.new ≡ square (side_of v) (λ r c. if list_any (is_in_rectangle r c) (corner_rectangles (side_of v))
@@ -163,15 +168,16 @@ fn paint_corners(matrix: &mut Matrix, v: Version, format: u32)
     paint_rectangles(matrix, v, format, &beside);
 }
 
-// Returns whether the module with index `at` of row 6, or of column 6, is dark. The first and the last seven modules
-// belong to finder patterns, and a timing pattern is between their separators (ISO/IEC 18004:2015, 6.3.5).
+// Returns whether the module with the index `at` in row 6, or in column 6, is dark. The first seven and the last seven
+// modules of this row or column belong to finder patterns. A timing pattern is between the separators of these two
+// finder patterns (ISO/IEC 18004:2015, 6.3.5).
 fn is_dark_in_six(side: u8, at: u8) -> bool
     ensures { result ≡ is_dark_in_six side at }
 {
     at < 7 || at >= side.saturating_sub(7) || at % 2 == 0
 }
 
-// Paints the timing patterns.
+// Draws row 6 and column 6 of a symbol, which contain the timing patterns.
 fn paint_timing(matrix: &mut Matrix, v: Version)
     requires { IsSquare (side_of v) matrix.old }
     ensures { (format : ℕ) → matrix.new ≡ square (side_of v) (λ r c. if list_any (is_in_rectangle r c) (timing_rectangles (side_of v))
@@ -185,8 +191,8 @@ fn paint_timing(matrix: &mut Matrix, v: Version)
     }
 }
 
-// Paints the version information, which versions from 7 on have. The first five of the fixed rectangles are the corners,
-// row 6 and column 6.
+// Draws the version information, which symbols have from version 7 on. The first five rectangles of `fixed_rectangles`
+// are skipped, since they are the three corners, row 6 and column 6.
 fn paint_version(matrix: &mut Matrix, v: Version, format: u32)
     requires { IsSquare (side_of v) matrix.old }
     ensures { matrix.new ≡ square (side_of v) (λ r c. if list_any (is_in_rectangle r c)
@@ -196,7 +202,8 @@ fn paint_version(matrix: &mut Matrix, v: Version, format: u32)
     paint_rectangles(matrix, v, format, &rectangles.as_slice()[5..]);
 }
 
-// Makes all modules of the alignment patterns dark or light, as `dark` says.
+// Makes all modules of the alignment patterns dark if `dark` is true, and light otherwise. `centres` contains the
+// centres of the alignment patterns.
 fn fill_alignment(matrix: &mut Matrix, v: Version, centres: &[Module], dark: bool)
     requires square { IsSquare (side_of v) matrix.old }
     requires centres { centres.now ≡ alignment_places (side_of v) (centres_of v) }
@@ -209,7 +216,7 @@ fn fill_alignment(matrix: &mut Matrix, v: Version, centres: &[Module], dark: boo
     }
 }
 
-// Makes the ring of eight modules round a centre light.
+// Makes the eight modules round the module in row `row` and column `col` light.
 fn clear_ring(matrix: &mut Matrix, row: u8, col: u8)
     requires row_least { 1 ≤ row }
     requires row_most { row + 2 ≤ matrix.old.side }
@@ -225,7 +232,7 @@ fn clear_ring(matrix: &mut Matrix, row: u8, col: u8)
     matrix.fill(row, row + 1, col + 1, col + 2, false);
 }
 
-// Makes the light rings of the alignment patterns light.
+// Makes the light ring of each alignment pattern light: the eight modules round its centre.
 fn clear_rings(matrix: &mut Matrix, v: Version, centres: &[Module])
     requires square { IsSquare (side_of v) matrix.old }
     requires centres { centres.now ≡ alignment_places (side_of v) (centres_of v) }
@@ -238,7 +245,8 @@ fn clear_rings(matrix: &mut Matrix, v: Version, centres: &[Module])
     }
 }
 
-// Draws each module outside the encoding region in its colour.
+// Draws each module outside the encoding region in its colour, and leaves the encoding region unchanged. The bits of
+// the number `format` are the format information.
 pub(crate) fn draw_fixed(matrix: &mut Matrix, v: Version, format: u32)
     requires { IsSquare (side_of v) matrix.old }
     ensures { matrix.new ≡ square (side_of v) (λ r c. if is_in_region v r c then colour matrix.old r c
@@ -252,7 +260,8 @@ pub(crate) fn draw_fixed(matrix: &mut Matrix, v: Version, format: u32)
     paint_version(matrix, v, format);
 }
 
-// Makes each module of the encoding region dark and all other modules light. `matrix` must be light before.
+// Makes each module of the encoding region dark and all other modules light. All modules of `matrix` must be light
+// before the call.
 pub(crate) fn draw_region(matrix: &mut Matrix, v: Version)
     requires { matrix.old ≡ light (side_of v) }
     ensures { matrix.new ≡ region_grid v }
@@ -266,7 +275,8 @@ pub(crate) fn draw_region(matrix: &mut Matrix, v: Version)
 // The number of bits of the format information.
 pub(crate) const FORMAT_BITS: u8 = 15;
 
-// Draws the format information over a symbol, both times.
+// Draws both copies of the format information over a symbol. The bits of the number `format` are the format
+// information.
 pub(crate) fn draw_format(matrix: &mut Matrix, v: Version, format: u32)
     requires { IsSquare (side_of v) matrix.old }
     ensures { matrix.new ≡ square (side_of v) (λ r c. format_or format (role_of v r c) (colour matrix.old r c)) }

@@ -1,5 +1,6 @@
-//! Reads one symbol: its version from the side, its level and mask from the format information, and then its codewords,
-//! its data codewords, and the segments and bytes in these (ISO/IEC 18004:2015, 12).
+//! Reads one symbol (ISO/IEC 18004:2015, 12). The number of modules on a side determines the version, and the format
+//! information contains the level and the mask pattern. Then the codewords are read and deinterleaved, and the data
+//! codewords are parsed as segments and their bytes.
 
 ghost use Rattle.std.specs.Prelude.{◌≡◌, ℕ, ◌<◌, ◌≤◌, Err, length, IfOk, MatchOption, MatchResult};
 ghost use Rattle.std.specs.Bool.{Decides};
@@ -17,7 +18,8 @@ use qr_layout::{Level, Version, format_place, format_word, walk};
 use qr_matrix::Matrix;
 use std::alloc::{AllocError, Global};
 
-// Returns whether the format information beside the top left finder pattern is that of the level and the mask.
+// Returns whether the format information beside the top left finder pattern is that of the level `level` and the mask
+// pattern `mask`.
 fn has_format(matrix: &Matrix, level: Level, mask: u8) -> bool
     requires side { 21 ≤ matrix.now.side }
     requires mask_in { mask < 8 }
@@ -33,7 +35,8 @@ fn has_format(matrix: &Matrix, level: Level, mask: u8) -> bool
     true
 }
 
-// Returns the mask that the format information contains together with this level.
+// Returns the mask pattern of the format information, if the format information is that of the level `level` and some
+// mask pattern. Otherwise returns `None`.
 fn mask_of(matrix: &Matrix, level: Level) -> Option<u8>
     requires { 21 ≤ matrix.now.side }
     ensures { MatchOption result
@@ -48,7 +51,8 @@ fn mask_of(matrix: &Matrix, level: Level) -> Option<u8>
     None
 }
 
-// Returns the level and the mask that the format information contains.
+// Returns the level and the mask pattern of the format information, or `None` if the format information is that of no
+// level and mask pattern.
 fn format_of(matrix: &Matrix) -> Option<(Level, u8)>
     requires { 21 ≤ matrix.now.side }
     ensures { MatchOption result
@@ -63,8 +67,8 @@ fn format_of(matrix: &Matrix) -> Option<(Level, u8)>
     None
 }
 
-/// Reads the codewords from the modules of the encoding region, in the order of `qr_layout::walk`, and undoes the mask.
-/// The remainder bits are ignored (ISO/IEC 18004:2015, 7.7.3 and 12).
+/// Reads the codewords from the modules of the encoding region, in the order of `qr_layout::walk`, and undoes the mask
+/// pattern `mask`. The remainder bits are ignored (ISO/IEC 18004:2015, 7.7.3 and 12).
 pub fn read_codewords(
     alloc: Global,
     version: Version,
@@ -91,18 +95,23 @@ pub fn read_codewords(
     Ok(codewords)
 }
 
-/// Reads a symbol, without any correction of errors (ISO/IEC 18004:2015, 12). The version comes from the side, and the
-/// level and the mask come from the format information beside the top left finder pattern alone. The error correction
-/// codewords must be those of the data codewords. The other function patterns, the second format information, the
-/// version information and the remainder bits are ignored.
+/// Reads a symbol, without any correction of errors (ISO/IEC 18004:2015, 12). The number of modules on a side
+/// determines the version. The level and the mask pattern are read only from the format information beside the top left
+/// finder pattern. The error correction codewords must be those of the data codewords. The function patterns, the
+/// second copy of the format information, the version information and the remainder bits are ignored.
 ///
-/// A square is read if, and only if, its side, its format information, its blocks and its data codewords are those of a
-/// symbol, which may have kanji segments.
+/// Unless an allocation is refused, a square of modules is read exactly if four conditions hold. The side of the square
+/// is that of a version. The format information is that of a level and a mask pattern. The error correction codewords
+/// of each block belong to the data codewords of the block. The data codewords can be parsed; the segments in them may
+/// have any mode, kanji mode too.
 ///
 /// # Errors
 ///
-/// Returns the fault of the first cause. A side of no version, and format information of no level and mask, are refused
-/// before any allocation.
+/// The causes are checked in the following order. Returns `Side` if the side of the square is that of no version.
+/// Returns `Format` if the format information is that of no level and mask pattern. Returns `Check` if the error
+/// correction codewords of some block do not belong to its data codewords. Returns `Segments` if the data codewords
+/// cannot be parsed. Returns `Memory` if an allocation is refused; `Side` and `Format` are returned before any
+/// allocation.
 pub fn read_symbol(alloc: Global, matrix: &Matrix) -> Result<Parsed, ReadFault>
     ensures read { MatchResult result (IsReading matrix.now) (IsUnread matrix.now) }
     ensures side { IsUnread matrix.now ReadFault.Side → result ≡ Err ReadFault.Side }

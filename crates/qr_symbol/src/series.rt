@@ -1,4 +1,4 @@
-//! Encodes an input as a series of symbols, by structured append (ISO/IEC 18004:2015, 8).
+//! Encodes an input as a series of symbols, by Structured Append (ISO/IEC 18004:2015, 8).
 
 ghost use Rattle.std.specs.Prelude.{◌≡◌, ◌≢◌, ◌-◌, ◌<◌, ◌≤◌, ◌↔◌, ◌⊎◌, ℕ, false, List, [], length, None, Some, Err, IfOk, IfErr, MatchOption};
 ghost use Rattle.qr_bits.specs.declared.modes.Rule.{Rule};
@@ -23,23 +23,26 @@ use qr_layout::{Level, Version};
 use std::alloc::Global;
 
 /// Encodes the input as a series of symbols, all of the same version and level (ISO/IEC 18004:2015, 8). If the input
-/// fits one symbol, the series is that symbol, without a header. Otherwise the input is cut into parts: each part is the
-/// longest prefix of the rest that fits a symbol after its header, even if some shorter prefix does not fit. `rule` says
-/// which modes the segments may have. Without kanji mode the series is the shortest possible: no cut into fewer parts
-/// fits.
+/// fits one symbol without a structured append header, the series is that symbol. Otherwise the input is cut into
+/// parts, and each part is encoded as a symbol with a structured append header. Each part is the longest prefix of the
+/// remaining input that fits a symbol after its header, even if some shorter prefix does not fit. `rule` says which
+/// modes the segments may have. Without kanji mode, the series is the shortest possible: the input cannot be cut into
+/// fewer parts that fit.
 ///
-/// A series has at most 16 symbols. Each header contains the position of its symbol, the number of symbols and the parity
-/// of the whole input. If the symbols are read and joined, the result is exactly the input.
+/// A series has at most 16 symbols. Each structured append header contains the position of its symbol, the number of
+/// symbols less 1, and the parity data of the whole input. If the symbols are read and joined, the result is exactly
+/// the input.
 ///
 /// # Errors
 ///
-/// Returns `Empty` exactly if the input has no byte. Unless memory is refused, returns `TooMany` exactly if the input has
-/// no series: it has more than 16 parts. If kanji mode is not allowed, no other cut into 16 parts fits then. Returns
-/// `Memory` if memory is refused.
+/// Returns `Empty` exactly if the input has no byte. Unless an allocation is refused, returns `TooMany` exactly if the
+/// input has no series, since it is cut into more than 16 parts. If kanji mode is not allowed, `TooMany` also means
+/// that the input cannot be cut into at most 16 parts in any other way. Returns `Memory` if an allocation is refused.
 ///
 /// # Notes
 ///
-/// The version comes before the level here, and after it in `encode`.
+/// In the parameters of this function, the version comes before the level. In the parameters of `encode`, the level
+/// comes first.
 pub fn encode_series(
     alloc: Global,
     input: &[u8],
@@ -70,7 +73,8 @@ pub fn encode_series(
     part_symbols(alloc, input, lengths.as_slice(), version, level, rule)
 }
 
-// Returns the symbol of the input without a header, if the input fits it.
+// Returns the symbol of the input without a structured append header, or `None` if the input does not fit such a
+// symbol.
 fn plain_symbol(
     alloc: Global,
     input: &[u8],
@@ -95,8 +99,8 @@ fn plain_symbol(
     Ok(Some(symbol))
 }
 
-// Returns the lengths of the parts of the input: each is the length of the longest prefix of the rest that fits a symbol
-// after a header.
+// Returns the lengths of the parts that the input is cut into. Each part is the longest prefix of the remaining input
+// that fits a symbol after a structured append header. Returns the fault `TooMany` if there are more than 16 parts.
 fn part_lengths(
     alloc: Global,
     input: &[u8],
@@ -126,8 +130,8 @@ fn part_lengths(
     Ok(lengths)
 }
 
-// Returns the length of the longest prefix of `rest` that fits a symbol after a header. Only reads as many bytes as the
-// largest symbol holds.
+// Returns the length of the longest prefix of `rest` that fits a symbol after a structured append header. Only the
+// first 7,089 bytes of `rest` are read, since no symbol can contain more bytes.
 fn prefix_len(
     alloc: Global,
     rest: &[u8],
@@ -146,8 +150,9 @@ fn prefix_len(
     Ok(longest_fit(alloc, prefix, version, level, rule)?)
 }
 
-// Returns the symbols of the parts that have these lengths, each with its header (8.1 to 8.3). They are drawn one after
-// the other with the same `Canvas`, so the function patterns and the region are drawn only once.
+// Cuts the input into parts of these lengths, and returns the symbols of the parts, each with its structured append
+// header (8.1 to 8.3). The symbols are drawn one after the other on the same `Canvas`, so the function patterns and the
+// encoding region are drawn only once.
 fn part_symbols(
     alloc: Global,
     input: &[u8],
@@ -184,7 +189,8 @@ fn part_symbols(
     Ok(symbols)
 }
 
-// Returns the symbol of a part after its header, with the version and the level of the canvas.
+// Returns the symbol that contains a part of the input after its structured append header. The symbol is drawn on
+// `canvas`, and has the version and the level of the canvas.
 fn part_symbol(
     alloc: Global,
     canvas: &mut Canvas,
@@ -204,7 +210,7 @@ fn part_symbol(
     ensures fault { IfErr result (λ e. e ≡ EncodeFault.Memory) }
 {
     let version = canvas.version;
-    // For the proof: brings in the range of versions.
+    // Reminds the prover that the number of a version is at most 40.
     prove!(version.number() <= 40);
     let segments = segments(alloc, part, version, rule)?;
     symbol_on(alloc, canvas, part, &segments, Some(header))

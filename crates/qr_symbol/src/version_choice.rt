@@ -1,8 +1,9 @@
-//! Finds the least version that an input fits, and the segments of the input in it (ISO/IEC 18004:2015, 7.1 and 7.4.1).
+//! Finds the least version that an input fits, and the segments of the input in this version (ISO/IEC 18004:2015, 7.1
+//! and 7.4.1).
 //!
-//! The number of bits of a segment depends on the version only by the width of its character count indicator, which
-//! changes only after the versions 9 and 26. So an input is cut into segments at most once for each of the three ranges
-//! of versions.
+//! The number of bits of a segment depends on the version only through the width of its character count indicator. This
+//! width changes only after version 9 and after version 26, so there are three ranges of versions. An input is cut into
+//! segments at most once for each of these ranges.
 
 ghost use Rattle.std.specs.Prelude.{◌≡◌, ◌≤◌, ◌<◌, ℕ, length, IfOk, MatchOption};
 ghost use Rattle.qr_bits.specs.declared.modes.Rule.{Rule};
@@ -18,23 +19,24 @@ use qr_bits::{BitFault, INPUT_MAX, Rule, Segment, bit_len, least_bits, segments}
 use qr_layout::{Level, Version};
 use std::alloc::Global;
 
-// The most bits that the data codewords of a symbol up to version 9 hold (7.4.10, Table 7).
+// The largest number of bits that the data codewords of a symbol up to version 9 have (7.4.10, Table 7).
 const SMALL_BITS: u32 = 1856;
 
-// The most bits that the data codewords of a symbol up to version 26 hold.
+// The largest number of bits that the data codewords of a symbol up to version 26 have (7.4.10, Table 7).
 const MEDIUM_BITS: u32 = 10960;
 
-// No symbol up to version 26 holds more bytes than this, since three digits take ten bits (7.4.3).
+// An upper bound on the number of bytes that a symbol up to version 26 can contain. Digits take the fewest bits, and
+// three digits take ten bits (7.4.3).
 const MEDIUM_BYTES: usize = 3288;
 
-// A version that an input fits, and the segments of the input in it.
+// A version that an input fits, and the segments of the input in this version.
 #[derive(Drop)]
 pub(crate) struct Fit {
     pub version: Version,
     pub segments: Vec<Segment>,
 }
 
-// Returns the last version whose character count indicators are as wide as those of `version` (7.4.1, Table 3).
+// Returns the last version in which character count indicators are as wide as in `version` (7.4.1, Table 3).
 fn last_of_width(version: Version) -> u8
     ensures least { version ≤ result }
     ensures most { result ≤ 40 }
@@ -48,9 +50,10 @@ fn last_of_width(version: Version) -> u8
     }
 }
 
-// Returns the first version of a range, 1, 10 or 27, such that the input fits no version before it. A range is skipped
-// if all its symbols have too few bits. With byte mode alone a range is skipped only for the length of the
-// input, since to compute its bits as well would save little.
+// Returns 1, 10 or 27: the first version of a range of versions in which character count indicators are equally wide.
+// The input fits no version before the returned version. A range is skipped if none of its symbols has enough bits for
+// the input. With byte mode alone, a range is skipped only because of the length of the input, since computing the
+// number of bits as well would save little time.
 fn first_for(input: &[u8], rule: Rule) -> u8
     requires { length input.now ≤ INPUT_MAX }
     ensures first { 1 ≤ result }
@@ -74,7 +77,8 @@ fn first_for(input: &[u8], rule: Rule) -> u8
     }
 }
 
-// Returns the least version from `first` to `last` whose data codewords have at least `bits` bits.
+// Returns the least version, from `first` to `last`, in which the data codewords have at least `bits` bits at this
+// level. Returns `None` if there is no such version.
 fn first_with_room(level: Level, first: Version, last: u8, bits: u64) -> Option<Version>
     requires { last ≤ 40 }
     ensures { MatchOption result
@@ -91,7 +95,8 @@ fn first_with_room(level: Level, first: Version, last: u8, bits: u64) -> Option<
     None
 }
 
-// Returns the least version from `smallest` on that the input fits, and the segments of the fewest bits in it.
+// Returns the least version, from `smallest` on, that the input fits, and the segments that take the fewest bits in
+// this version.
 pub(crate) fn least_fit(
     alloc: Global,
     input: &[u8],

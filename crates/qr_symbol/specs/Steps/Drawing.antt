@@ -1,5 +1,5 @@
--- The colours of modules after single steps of drawing. A codeword bit is named by its number: bit 0 is the highest bit
--- of the first codeword.
+-- This file defines which colours the modules have after each step of drawing the codewords. The bits of all codewords
+-- are numbered in turn: bit 0 is the highest bit of the first codeword.
 use Rattle.std.specs.Prelude.{◌≡◌, ◌<◌, ◌≤◌, ℕ, ◌+◌, ◌-◌, ◌&&◌, Bool, false, if◌then◌else◌, List, [], ◌∷◌}
 use Rattle.qr_layout.specs.declared.level.Level.{Level}
 use Rattle.qr_layout.specs.declared.region.Module.{Module}
@@ -19,98 +19,117 @@ use Rattle.qr_symbol.specs.Mask.{inverts, inverted}
 use Rattle.qr_symbol.specs.Steps.Patterns.{format_or, paint_of, symmetric_format}
 use Rattle.qr_matrix.specs.Penalty.{penalty_of}
 
--- The colour in row r and column c once the codewords are placed: the codeword bit in the encoding region, `other r c`
--- elsewhere.
+-- `placed_colour v cw other r c` is the colour in row r and column c of a square of modules after the codewords cw were
+-- placed. The square has the side of version v. A module in the encoding region has the colour of the codeword bit that
+-- is placed there. Every other module has the colour `other r c`.
 unfoldable pub placed_colour : ℕ → List ℕ → (ℕ → ℕ → Bool) → ℕ → ℕ → Bool
 placed_colour v cw other r c =
     if is_in_region v r c then codeword_bit cw (number_of v (record { row = r; col = c })) else other r c
 
--- The colour in row r and column c once the codewords are placed under a mask: in the encoding region the codeword bit,
--- inverted if the mask inverts there; elsewhere `other r c`.
+-- `walked_colour v cw mask other r c` is the colour in row r and column c of a square of modules after the codewords cw
+-- were placed under the mask pattern `mask`. The square has the side of version v. A module in the encoding region has
+-- the colour of the codeword bit that is placed there, inverted if the mask pattern inverts this module. Every other
+-- module has the colour `other r c`.
 unfoldable pub walked_colour : ℕ → List ℕ → ℕ → (ℕ → ℕ → Bool) → ℕ → ℕ → Bool
 walked_colour v cw mask other r c =
     if is_in_region v r c then inverted (inverts mask r c) (codeword_bit cw (number_of v (record { row = r; col = c }))) else other r c
 
--- The square g after codeword bit `number` was placed in its row `row` and column `col`. If `is_in` is false, the module
--- is not in the encoding region, and g is unchanged.
+-- `placed_if is_in cw number g row col` is the square of modules g after the drawing step for the module in row `row`
+-- and column `col`. If `is_in` is true, this module is in the encoding region, and gets the colour of bit `number` of
+-- the codewords cw. If `is_in` is false, the module is outside the encoding region, and g is unchanged.
 abbrev pub placed_if : Bool → List ℕ → ℕ → Grid → ℕ → ℕ → Grid
 placed_if is_in cw number g row col = if is_in then painted g row col (codeword_bit cw number) else g
 
--- The number of the next codeword bit after a module. It is `number + 1` if `is_in` is true, since a module in the
--- encoding region takes bit `number`; otherwise it is `number`.
+-- `number_after is_in number` is the number of the next codeword bit after the drawing step for one module. Before this
+-- step, bit `number` was the next codeword bit. If `is_in` is true, the module is in the encoding region and uses bit
+-- `number`, so the result is `number + 1`. Otherwise the result is `number`.
 abbrev pub number_after : Bool → ℕ → ℕ
 number_after is_in number = if is_in then number + 1 else number
 
--- The number of the next codeword bit after a list of modules, of which each module in the encoding region takes one
--- bit.
+-- `number_along v ms number` is the number of the next codeword bit after the drawing steps for the modules ms. Before
+-- these steps, bit `number` was the next codeword bit. Each module of ms that is in the encoding region of version v
+-- uses one bit.
 abbrev pub number_along : ℕ → List Module → ℕ → ℕ
 number_along v [] number = number
 number_along v (m ∷ ms) number = number_along v ms (number_after (is_in_region v m.row m.col) number)
 
--- The square g after a list of modules was drawn, of which each module in the encoding region takes one codeword bit,
--- the first of them bit `number`.
+-- `placed_along v cw ms number g` is the square of modules g after the modules ms were drawn in turn. Each module of ms
+-- that is in the encoding region of version v gets the colour of one bit of the codewords cw, from bit `number` on. All
+-- other modules are unchanged.
 abbrev pub placed_along : ℕ → List ℕ → List Module → ℕ → Grid → Grid
 placed_along v cw [] number g = g
 placed_along v cw (m ∷ ms) number g =
     placed_along v cw ms (number_after (is_in_region v m.row m.col) number) (placed_if (is_in_region v m.row m.col) cw number g m.row m.col)
 
--- `IsCodewordBits cw w` holds if w contains 64 bits of the codewords cw from bit `w.first` on, the first of them as
--- its highest bit.
+-- `IsCodewordBits cw w` holds if the word `w.bits` contains 64 bits of the codewords cw in their order, from bit
+-- `w.first` on. The first of these bits is the highest bit of the word.
 abbrev pub IsCodewordBits : List ℕ → CodewordBits → Type 0
 IsCodewordBits cw w = (k : ℕ) → k < 64 → has_bit w.bits (63 - k) ≡ codeword_bit cw (w.first + k)
 
--- `AreNext cw number bits` holds if `bits` contains the eight bits of the codewords cw from bit `number` on, the first
--- of them as its highest bit.
+-- `AreNext cw number bits` holds if the byte `bits` contains eight bits of the codewords cw in their order, from bit
+-- `number` on. The first of these bits is the highest bit of the byte.
 abbrev pub AreNext : List ℕ → ℕ → ℕ → Type 0
 AreNext cw number bits = (k : ℕ) → k < 8 → has_bit bits (7 - k) ≡ codeword_bit cw (number + k)
 
--- `IsDrawnAcross v cw ms first before next after` holds if the modules ms were drawn in the square `before`, which
--- became the square `after`. Each of them in the encoding region took one bit of the codewords cw, from bit `first` on,
--- and `next` is the number of the bit after those. In both squares rows and columns are exchanged; the modules ms have
--- the rows and columns of the symbol.
+-- `IsDrawnAcross v cw ms first before next after` holds if drawing the modules ms in turn changes the square of modules
+-- `before` into the square `after`. Each module of ms that is in the encoding region of version v gets the colour of
+-- one bit of the codewords cw, from bit `first` on. `next` is the number of the next bit to be drawn. Both squares are
+-- transposed, which means that rows and columns are exchanged; but the modules ms have the rows and columns of the
+-- symbol.
 pub record IsDrawnAcross (v : ℕ) (cw : List ℕ) (ms : List Module) (first : ℕ) (before : Grid) (next : ℕ) (after : Grid) : Type 0 where
   pub number : next ≡ number_along v ms first
   pub placed : transposed after ≡ placed_along v cw ms first (transposed before)
   pub square : IsSquare (side_of v) after
 
--- The square g in which row `right` is the right one of two columns, and the row before it the left one. The square is
--- transposed, so columns are rows in it.
+-- `with_columns g right x` is the square of modules g after two of its rows were replaced by the columns x. The right
+-- column of x becomes row `right`, and the left column becomes the row before it. The square g is transposed, so
+-- columns of the symbol are rows of g.
 abbrev pub with_columns : Grid → ℕ → Columns → Grid
 with_columns g right x = with_row (with_row g right (has x.right)) (right - 1) (has x.left)
 
--- `AreWithin s x` holds if no bit of the columns x from bit s on is set.
+-- `AreWithin s x` holds if, in both of the columns x, no bit with an index of s or more is set.
 abbrev pub AreWithin : ℕ → Columns → Type 0
 AreWithin s x = (row : ℕ) → s ≤ row → (has x.right row ≡ false) × (has x.left row ≡ false)
 
--- `IsRegion v right x` holds if the columns x contain the rows of column `right`, and of the column to its left, that
--- are in the encoding region.
+-- `IsRegion v right x` holds if the columns x show the encoding region of version v in two columns of the symbol:
+-- column `right` and the column to its left. In each of the columns x, the bit with the index of a row is 1 exactly if
+-- the module in this row is in the encoding region.
 abbrev pub IsRegion : ℕ → ℕ → Columns → Type 0
 IsRegion v right x = (row : ℕ) → row < side_of v → (has x.right row ≡ is_in_region v row right) × (has x.left row ≡ is_in_region v row (right - 1))
 
--- `AreDrawn v cw strip k n first before next after` holds if n rows of a strip were drawn, from row k of the strip on,
--- counted in its direction, and the columns `before` became the columns `after`: in any square with these columns, the
--- modules of the rows were drawn, from bit `first` of the codewords cw on, and `next` is the number of the next bit.
+-- `AreDrawn v cw strip k n first before next after` holds if drawing n rows of a strip changes the columns of the strip
+-- from `before` to `after`. A strip is two columns of the symbol that are filled together. The first of the n rows is
+-- row k, counted from 0 in the direction of the strip. The drawing uses the bits of the codewords cw from bit `first`
+-- on, and `next` is the number of the next bit to be drawn. The other columns of the symbol may have any colours.
 abbrev pub AreDrawn : ℕ → List ℕ → Strip → ℕ → ℕ → ℕ → Columns → ℕ → Columns → Type 0
 AreDrawn v cw strip k n first before next after = (g : Grid) → g.side ≡ side_of v
     → IsDrawnAcross v cw (both_of (rows_from (side_of v) strip k n)) first (with_columns g strip.right before) next (with_columns g strip.right after)
 
--- The colour in row r and column c of a symbol with its mask and format information. It is computed from `plain`, the
--- symbol without mask and format information, and `region`, the square in which the encoding region is dark.
+-- `masked_colour v format mask region plain r c` is the colour in row r and column c of a symbol of version v. The
+-- symbol is the square of modules `plain` after the mask pattern `mask` was applied and the format information was
+-- drawn. The bits of the number `format` are the format information. The mask pattern is applied only to modules that
+-- are dark in the square `region`: the modules of the encoding region.
 unfoldable pub masked_colour : ℕ → ℕ → ℕ → Grid → Grid → ℕ → ℕ → Bool
 masked_colour v format mask region plain r c = format_or format (role_of v r c) (inverted (colour region r c && inverts mask r c) (colour plain r c))
 
--- The symbol with its mask and format information: the square of these colours.
+-- `masked_grid v l mask region plain` is the square of modules `plain` after the mask pattern `mask` was applied and
+-- the format information was drawn. The symbol has version v and level l. The mask pattern is applied only to modules
+-- that are dark in the square `region`: the modules of the encoding region.
 abbrev pub masked_grid : ℕ → Level → ℕ → Grid → Grid → Grid
 masked_grid v l mask region plain = square (side_of v) (masked_colour v (format_word_of l mask) mask region plain)
 
--- The square in which the modules of the encoding region are dark, and all other modules are light.
+-- `region_grid v` is the square of modules of version v in which the modules of the encoding region are dark, and all
+-- other modules are light.
 abbrev pub region_grid : ℕ → Grid
 region_grid v = square (side_of v) (is_in_region v)
 
--- The symbol of the codewords cw without mask; of the format information just bit 7 is dark.
+-- `plain_grid v cw` is the square of modules of the symbol of version v that contains the codewords cw, before a mask
+-- pattern is applied. Of the format information in this square, only bit 7 is dark.
 abbrev pub plain_grid : ℕ → List ℕ → Grid
 plain_grid v cw = square (side_of v) (placed_colour v cw (paint_of v symmetric_format))
 
--- The penalty of the symbol with its mask and format information.
+-- `masked_penalty v l region plain mask` is the penalty of the square of modules `plain` after the mask pattern `mask`
+-- was applied and the format information was drawn. The symbol has version v and level l. The mask pattern is applied
+-- only to modules that are dark in the square `region`: the modules of the encoding region.
 abbrev pub masked_penalty : ℕ → Level → Grid → Grid → ℕ → ℕ
 masked_penalty v l region plain mask = penalty_of (side_of v) (colour (masked_grid v l mask region plain))

@@ -1,19 +1,21 @@
--- Sequences of codewords after single steps of interleaving.
+-- This file defines which codewords a list contains after each step of interleaving.
 use Rattle.std.specs.Prelude.{◌≡◌, ℕ, ◌<◌, List, [], ◌++◌, map, length, slice_index_or}
 use Rattle.qr_field.specs.Polynomial.{IsCorrection}
 use Rattle.qr_layout.specs.declared.blocks.Blocks.{Blocks}
 use Rattle.qr_symbol.specs.declared.interleaving.BlockSizes.{BlockSizes}
 use Rattle.qr_symbol.specs.Interleaving.{Position, IsPosition, IsPositionOrder, start_of, correction_sizes, codeword_at, block_of, check_at}
 
--- `AppendsInterleaved c d before after` holds if `after` is `before`, followed by the codewords d of the blocks with the
--- sizes c in the order of their positions.
+-- `AppendsInterleaved c d before after` holds if the list `after` is the list `before`, followed by the codewords d in
+-- interleaved order: the first codewords of all blocks, then the second codewords of all blocks, and so on. The list d
+-- contains the codewords block after block, in blocks that have the sizes c.
 pub record AppendsInterleaved (c : BlockSizes) (d before after : List ℕ) : Type 0 where
   pub positions : List Position
   pub order : IsPositionOrder c positions
   pub interleaved : after ≡ before ++ map (codeword_at c d) positions
 
--- `IsChecks b d blocks xs` holds if xs are the error correction codewords of the first blocks of the data codewords d,
--- block after block; `blocks` is the number of these blocks.
+-- `IsChecks b d blocks xs` holds if the list xs contains the error correction codewords of the first blocks of a
+-- symbol, block after block. The number of these blocks is `blocks`. The symbol has the blocks b and the data codewords
+-- d.
 pub record IsChecks (b : Blocks) (d : List ℕ) (blocks : ℕ) (xs : List ℕ) : Type 0 where
   pub corrections : List (List ℕ)
   pub count : length corrections ≡ blocks

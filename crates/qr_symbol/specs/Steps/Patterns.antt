@@ -1,4 +1,4 @@
--- The colours of modules outside the encoding region after single steps of drawing.
+-- This file defines which colours the modules outside the encoding region have after each step of drawing.
 use Rattle.std.specs.Prelude.{ℕ, ◌-◌, ◌%◌, ◌==◌, ◌||◌, nat_le, nat_lt, Bool, false}
 use Rattle.qr_layout.specs.declared.role.Role.{Role}
 use Rattle.qr_layout.specs.declared.role.Role.TheVariants.{Fixed, FormatBit, VersionBit, Region}
@@ -6,32 +6,35 @@ use Rattle.qr_layout.specs.Format.{version_word_of}
 use Rattle.qr_layout.specs.Role.{role_of}
 use Rattle.qr_symbol.specs.Symbol.{word_bit}
 
--- The colour of a module outside the encoding region by its role, where `format` and `version` are the words of the
--- format and the version information.
+-- `fixed_colour format version role` is the colour of a module outside the encoding region, where `role` says what the
+-- module is for; true is dark. The bits of the numbers `format` and `version` are the format information and the
+-- version information.
 unfoldable pub fixed_colour : ℕ → ℕ → Role → Bool
 fixed_colour format version (Fixed dark) = dark
 fixed_colour format version (FormatBit i) = word_bit format i
 fixed_colour format version (VersionBit i) = word_bit version i
 fixed_colour format version Region = false
 
--- The colour of the module in row r and column c, which is outside the encoding region, where `format` is the word of the
--- format information.
+-- `paint_of v format r c` is the colour of the module in row r and column c of a symbol of version v. The module must
+-- be outside the encoding region. The bits of the number `format` are the format information.
 abbrev pub paint_of : ℕ → ℕ → ℕ → ℕ → Bool
 paint_of v format r c = fixed_colour format (version_word_of v) (role_of v r c)
 
--- The word of the format information in which just bit 7 is 1. If it is drawn, the function patterns are the same with
--- rows and columns exchanged, since bit 7 is opposite the dark module.
+-- `symmetric_format` is the format information in which only bit 7 is 1. If it is drawn, exchanging rows and columns
+-- changes no module outside the encoding region. The reason is that the exchange swaps the dark module with a module of
+-- bit 7, which is dark too.
 abbrev pub symmetric_format : ℕ
 symmetric_format = 128
 
--- `is_dark_in_six s at` is true if the module with index `at` of row 6, or of column 6, is dark, where s is the side.
--- The first seven and the last seven modules belong to finder patterns; the modules at even indices between them belong
--- to a timing pattern.
+-- `is_dark_in_six s at` is true if the module with index `at` in row 6, or in column 6, is dark; s is the side of the
+-- symbol, in modules. The first seven and the last seven modules of this row or column are dark, since they belong to
+-- finder patterns. Of the modules between them, those at even indices are dark, since they belong to a timing pattern.
 abbrev pub is_dark_in_six : ℕ → ℕ → Bool
 is_dark_in_six s at = nat_lt at 7 || nat_le (s - 7) at || at % 2 == 0
 
--- The colour of a module after the format information is drawn: its bit of the format information if its role is such a
--- bit, otherwise the colour `other` that it had.
+-- `format_or format role other` is the colour of a module after the format information was drawn, where `role` says
+-- what the module is for. A module of the format information has the colour of its bit in the number `format`. Every
+-- other module keeps the colour `other` that it had before.
 unfoldable pub format_or : ℕ → Role → Bool → Bool
 format_or format (Fixed dark) other = other
 format_or format (FormatBit i) other = word_bit format i
