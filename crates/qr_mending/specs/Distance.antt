@@ -1,4 +1,4 @@
--- How many modules or codewords differ between two symbols of one version.
+-- Defines in how many modules or codewords two different symbols of the same version have to differ.
 use Rattle.std.specs.Prelude.{◌≡◌, ◌⊎◌, ℕ, ◌*◌, ◌<◌, ◌≤◌, List}
 use Rattle.qr_field.specs.Distance.{differences}
 use Rattle.qr_layout.specs.declared.level.Level.{Level}
@@ -10,19 +10,22 @@ use Rattle.qr_mending.specs.declared.format.FormatCopy.{FormatCopy}
 use Rattle.qr_mending.specs.Format.{bit_differences, copy_bit}
 use Rattle.qr_mending.specs.Message.{tolerance_of}
 
--- `FormatsLieApart g h` holds if in each copy of the format information the squares g and h differ in at least seven
--- modules (ISO/IEC 18004:2015, 7.9.1, Annex C).
+-- `FormatsLieApart g h` holds if the squares `g` and `h` of modules differ in at least seven modules of each copy of
+-- the format information (ISO/IEC 18004:2015, 7.9.1, Annex C).
 abbrev pub FormatsLieApart : Grid → Grid → Type 0
 FormatsLieApart g h = (copy : FormatCopy) → 7 ≤ bit_differences 15 (copy_bit copy g) (copy_bit copy h)
 
--- `SomeBlockLiesApart v l k m n g h d e` holds if in some block the squares g and h differ in more than twice as many
--- codewords as can be mended; g contains the message d, and h the message e (ISO/IEC 18004:2015, 7.5.1).
+-- `SomeBlockLiesApart v l k m n g h d e` holds if the symbols `g` and `h` of version `v` differ widely in some block.
+-- In this block, more than twice as many codewords differ as can be corrected in a block of level `l`. The symbol `g`
+-- has level `l` and mask `m`, and its data codewords are `d`. The symbol `h` has level `k` and mask `n`, and its data
+-- codewords are `e` (ISO/IEC 18004:2015, 7.5.1).
 abbrev pub SomeBlockLiesApart : (v : ℕ) (l k : Level) (m n : ℕ) (g h : Grid) (d e : List ℕ) → IsMessage v l m g d → IsMessage v k n h e → Type 0
 SomeBlockLiesApart v l k m n g h d e a b = (i : ℕ) × (i < blocks_in v l) × (2 * tolerance_of v l < differences (held_block v l m g d a i) (held_block v k n h e b i))
 
--- `SymbolsLieApart v` holds if every two symbols of version v that differ in their level or in their message lie apart.
--- They differ in at least seven modules in each copy of the format information, or they have the same level and mask and
--- differ in some block in more than twice as many codewords as can be mended [own].
+-- `SymbolsLieApart v` holds if one of two conditions is true for every two symbols of version `v` with different levels
+-- or different data codewords. The first condition is that the symbols differ in at least seven modules of each copy of
+-- the format information. The second condition is that the symbols have the same level and mask, and differ widely in
+-- some block. In this block, more than twice as many codewords differ as can be corrected [own].
 abbrev pub SymbolsLieApart : ℕ → Type 0
 SymbolsLieApart v =
     (l k : Level) (m n : ℕ) (cw ds d e : List ℕ) → m < 8 → n < 8

@@ -1,6 +1,7 @@
--- The reading of a damaged symbol. Each definition with `Without` in its name has an optional square, `unknown`, whose
--- dark modules are those that were not read. The definition with the shorter name is for the case that all modules were
--- read.
+-- Defines how a damaged symbol is read and its damage corrected. A definition with `Without` or `without` at the end of
+-- its name is for symbols in which some modules may not have been read. The parameter `unknown` of such a definition is
+-- an optional square of modules, whose dark modules are those that were not read. If there is a definition of the same
+-- name without this ending, it is for symbols of which all modules were read.
 use Rattle.std.specs.Prelude.{◌≡◌, ◌≢◌, ◌⊎◌, ℕ, ◌+◌, Option, None, Some, Result, Ok, Err, List}
 use Rattle.qr_layout.specs.declared.level.Level.{Level}
 use Rattle.qr_bits.specs.Bits.{bits_of}
@@ -20,129 +21,155 @@ use Rattle.qr_mending.specs.declared.format.FormatCopy.TheVariants.{First, Secon
 use Rattle.qr_mending.specs.Format.{IsNearFormat, wrong_bit, wrong_bits, wrong_bits_without}
 use Rattle.qr_mending.specs.Unread.{IsMendedInWithout}
 
--- `HoldsDamagedWithout unknown v l mask g message changed` holds if the square g contains, under the mask, a damaged
--- form of the message, in the blocks of version v and level l. `unknown` is the square of the modules that were not
--- read, if there are such modules. A codeword with a module that was not read is erased,
--- `changed` lists for each block the number of misread codewords, and no block has more damage than can be mended
--- (ISO/IEC 18004:2015, 7.5.1, 7.6, 7.7.3, 12).
+-- `HoldsDamagedWithout unknown v l mask g message changed` holds if the square `g` of modules contains a damaged form
+-- of the data codewords `message`. The symbol has version `v`, level `l` and mask `mask`. If `unknown` contains a
+-- square, the dark modules of this square are those that were not read. A codeword with a module that was not read is
+-- erased. The list `changed` contains for each block the number of misread codewords. No block has more erased and
+-- misread codewords than can be corrected (ISO/IEC 18004:2015, 7.5.1, 7.6, 7.7.3, 12).
 pub record HoldsDamagedWithout (unknown : Option Grid) (v : ℕ) (l : Level) (mask : ℕ) (g : Grid) (message changed : List ℕ) : Type 0 where
   pub codewords : List ℕ
   pub held : IsRead v mask g codewords
   pub mended : IsMendedInWithout unknown v l codewords message changed
 
--- `HoldsDamaged v l mask g message changed` holds if the square g of version v contains, under the mask, a damaged form
--- of the message in the blocks of level l. `changed` lists for each block the number of changed codewords, and no block
--- has more of them than can be mended (ISO/IEC 18004:2015, 7.5.1, 7.6, 12).
+-- `HoldsDamaged v l mask g message changed` holds if the square `g` of modules contains a damaged form of the data
+-- codewords `message`. The symbol has version `v`, level `l` and mask `mask`. The list `changed` contains for each
+-- block the number of changed codewords. No block has more changed codewords than can be corrected
+-- (ISO/IEC 18004:2015, 7.5.1, 7.6, 12).
 abbrev pub HoldsDamaged : ℕ → Level → ℕ → Grid → List ℕ → List ℕ → Type 0
 HoldsDamaged v l mask g message changed = HoldsDamagedWithout None v l mask g message changed
 
--- `IsOfNoUseWithout unknown copy v g` holds if the square g cannot be mended by this copy of the format information: for
--- each level and mask, the copy is not near to their format information, or some block has more damage than can be
--- mended. A codeword with a module that was not read is erased (ISO/IEC 18004:2015, 7.5.1, 7.9.1, 12).
+-- `IsOfNoUseWithout unknown copy v g` holds if one copy of the format information is of no use for mending the square
+-- `g` of modules, which has version `v`. For each level and mask, one of two conditions is true. Either their format
+-- information differs from the copy in more than three modules, or some block has more wrong codewords than can be
+-- corrected. If `unknown` contains a square, the dark modules of this square are those that were not read. A codeword
+-- with a module that was not read is erased (ISO/IEC 18004:2015, 7.5.1, 7.9.1, 12).
 abbrev pub IsOfNoUseWithout : Option Grid → FormatCopy → ℕ → Grid → Type 0
 IsOfNoUseWithout unknown copy v g = (l : Level) (mask : ℕ) → IsNearFormat copy g l mask
     → (message changed : List ℕ) → HoldsDamagedWithout unknown v l mask g message changed → ⊥
 
--- `IsOfNoUse copy v g` holds if the square g cannot be mended by this copy of the format information: for each level and
--- mask, the copy is not near to their format information, or some block has more damage than can be mended
+-- `IsOfNoUse copy v g` holds if one copy of the format information is of no use for mending the square `g` of modules,
+-- which has version `v`. For each level and mask, one of two conditions is true. Either their format information
+-- differs from the copy in more than three modules, or some block has more wrong codewords than can be corrected
 -- (ISO/IEC 18004:2015, 7.5.1, 7.9.1, 12).
 abbrev pub IsOfNoUse : FormatCopy → ℕ → Grid → Type 0
 IsOfNoUse copy v g = IsOfNoUseWithout None copy v g
 
--- `HasFormatWithout unknown v g l mask` holds if the first copy of the format information of the square g is near to the
--- level and the mask, or if the second copy is and the first copy is of no use. The dark modules of `unknown` were not
--- read (ISO/IEC 18004:2015, 7.9.1, 12).
+-- `HasFormatWithout unknown v g l mask` holds if the square `g` of modules, which has version `v`, has to be read with
+-- level `l` and mask `mask`. The format information of this level and mask differs from one copy in `g` in at most
+-- three modules. This copy is the first copy, or the second copy if the first copy is of no use for mending `g`. If
+-- `unknown` contains a square, the dark modules of this square are those that were not read
+-- (ISO/IEC 18004:2015, 7.9.1, 12).
 abbrev pub HasFormatWithout : Option Grid → ℕ → Grid → Level → ℕ → Type 0
 HasFormatWithout unknown v g l mask = IsNearFormat First g l mask ⊎ (IsNearFormat Second g l mask × IsOfNoUseWithout unknown First v g)
 
--- `HasFormat v g l mask` holds if the first copy of the format information of the square g is near to the level and the
--- mask, or if the second copy is and the first copy is of no use (ISO/IEC 18004:2015, 7.9.1, 12).
+-- `HasFormat v g l mask` holds if the square `g` of modules, which has version `v`, has to be read with level `l` and
+-- mask `mask`. The format information of this level and mask differs from one copy in `g` in at most three modules.
+-- This copy is the first copy, or the second copy if the first copy is of no use for mending `g`
+-- (ISO/IEC 18004:2015, 7.9.1, 12).
 abbrev pub HasFormat : ℕ → Grid → Level → ℕ → Type 0
 HasFormat v g l mask = HasFormatWithout None v g l mask
 
--- `IsDamagedFormWithout unknown g v l mask message changed` holds if the square g is a damaged form of the symbol that
--- contains the message in this version, level and mask. The dark modules of `unknown` were not read
--- (ISO/IEC 18004:2015, 7.5.1, 7.9.1, 12).
+-- `IsDamagedFormWithout unknown g v l mask message changed` holds if the square `g` of modules is a damaged form of the
+-- symbol with the data codewords `message`. The symbol has version `v`, level `l` and mask `mask`. The list `changed`
+-- contains for each block the number of misread codewords. If `unknown` contains a square, the dark modules of this
+-- square are those that were not read (ISO/IEC 18004:2015, 7.5.1, 7.9.1, 12).
 pub record IsDamagedFormWithout (unknown : Option Grid) (g : Grid) (v : ℕ) (l : Level) (mask : ℕ) (message changed : List ℕ) : Type 0 where
   pub sized : IsOfVersion g v
   pub format : HasFormatWithout unknown v g l mask
   pub damaged : HoldsDamagedWithout unknown v l mask g message changed
 
--- `IsDamagedForm g v l mask message changed` holds if the square g is a damaged form of the symbol that contains the
--- message in this version, level and mask (ISO/IEC 18004:2015, 7.5.1, 7.9.1, 12).
+-- `IsDamagedForm g v l mask message changed` holds if the square `g` of modules is a damaged form of the symbol with
+-- the data codewords `message`. The symbol has version `v`, level `l` and mask `mask`. The list `changed` contains for
+-- each block the number of changed codewords (ISO/IEC 18004:2015, 7.5.1, 7.9.1, 12).
 abbrev pub IsDamagedForm : Grid → ℕ → Level → ℕ → List ℕ → List ℕ → Type 0
 IsDamagedForm g v l mask message changed = IsDamagedFormWithout None g v l mask message changed
 
--- `IsMendedAsWithout unknown g v l mask outcome changed` holds if the square g is a damaged form, in this version, level
--- and mask, of a message whose parse has this outcome. `changed` lists for each block the number of misread codewords;
--- erased codewords, which have a module that was not read, are not counted (ISO/IEC 18004:2015, 12).
+-- `IsMendedAsWithout unknown g v l mask outcome changed` holds if the square `g` of modules is a damaged form of some
+-- symbol, and parsing the data codewords of the symbol has the outcome `outcome`. The symbol has version `v`, level `l`
+-- and mask `mask`. The list `changed` contains for each block the number of misread codewords. Erased codewords, which
+-- have a module that was not read, are not counted (ISO/IEC 18004:2015, 12).
 pub record IsMendedAsWithout (unknown : Option Grid) (g : Grid) (v : ℕ) (l : Level) (mask : ℕ) (outcome : Result Content ParseFault) (changed : List ℕ) : Type 0 where
   pub message : List ℕ
   pub form : IsDamagedFormWithout unknown g v l mask message changed
   pub parsed : parse v (bits_of message) ≡ outcome
 
--- `IsMendedReadingWithout unknown g v l mask content changed` holds if the square g, once its damage is mended, is read
--- as this content. The dark modules of `unknown` were not read (ISO/IEC 18004:2015, 12).
+-- `IsMendedReadingWithout unknown g v l mask content changed` holds if the square `g` of modules is read as the content
+-- `content` once its damage is corrected. The symbol has version `v`, level `l` and mask `mask`. The list `changed`
+-- contains for each block the number of misread codewords. If `unknown` contains a square, the dark modules of this
+-- square are those that were not read (ISO/IEC 18004:2015, 12).
 abbrev pub IsMendedReadingWithout : Option Grid → Grid → ℕ → Level → ℕ → Content → List ℕ → Type 0
 IsMendedReadingWithout unknown g v l mask content changed = IsMendedAsWithout unknown g v l mask (Ok content) changed
 
--- `IsMendedReading g v l mask content changed` holds if the square g, once its damage is mended, is read as this content
--- (ISO/IEC 18004:2015, 12).
+-- `IsMendedReading g v l mask content changed` holds if the square `g` of modules is read as the content `content` once
+-- its damage is corrected. The symbol has version `v`, level `l` and mask `mask`. The list `changed` contains for each
+-- block the number of changed codewords (ISO/IEC 18004:2015, 12).
 abbrev pub IsMendedReading : Grid → ℕ → Level → ℕ → Content → List ℕ → Type 0
 IsMendedReading g v l mask content changed = IsMendedReadingWithout None g v l mask content changed
 
--- The number of modules in both copies of the format information that were not read, or in which the square g differs
--- from the format information of the level and the mask (ISO/IEC 18004:2015, 7.9.1).
+-- `wrong_format_modules_without unknown g l mask` is the number of wrong modules among the 30 modules of the two copies
+-- of the format information in the square `g`. A module is wrong if it was not read, or if it does not have the colour
+-- that the format information of level `l` and mask `mask` requires. If `unknown` contains a square, the dark modules
+-- of this square are those that were not read (ISO/IEC 18004:2015, 7.9.1).
 abbrev pub wrong_format_modules_without : Option Grid → Grid → Level → ℕ → ℕ
 wrong_format_modules_without None g l mask = wrong_bits First g l mask + wrong_bits Second g l mask
 wrong_format_modules_without (Some unknown) g l mask = wrong_bits_without unknown First g l mask + wrong_bits_without unknown Second g l mask
 
--- The number of modules in both copies of the format information in which the square g differs from the format
--- information of the level and the mask (ISO/IEC 18004:2015, 7.9.1).
+-- `wrong_format_modules g l mask` is the number of wrong modules among the 30 modules of the two copies of the format
+-- information in the square `g`. A module is wrong if it does not have the colour that the format information of level
+-- `l` and mask `mask` requires (ISO/IEC 18004:2015, 7.9.1).
 abbrev pub wrong_format_modules : Grid → Level → ℕ → ℕ
 wrong_format_modules g l mask = wrong_format_modules_without None g l mask
 
--- The number of modules that were not read, or that have one colour in the square g and another in the square h. The
--- dark modules of `unknown` were not read [own].
+-- `wrong_count unknown g h` is the number of modules that were not read, or that have different colours in the squares
+-- `g` and `h` of modules. The dark modules of `unknown` are those that were not read [own].
 unfoldable pub wrong_count : Grid → Grid → Grid → ℕ
 wrong_count unknown g h = sum_below g.side (λ r. sum_below g.side (λ c. wrong_bit (colour unknown r c) (colour g r c) (colour h r c)))
 
--- The number of modules in which the squares g and h differ; a module that was not read counts too [own].
+-- `wrong_modules_without unknown g h` is the number of modules that were not read, or that have different colours in
+-- the squares `g` and `h` of modules. If `unknown` contains a square, the dark modules of this square are those that
+-- were not read. If `unknown` contains no square, all modules were read [own].
 abbrev pub wrong_modules_without : Option Grid → Grid → Grid → ℕ
 wrong_modules_without None g h = difference_count g h
 wrong_modules_without (Some unknown) g h = wrong_count unknown g h
 
--- `DiffersFromSymbolWithout unknown g v l mask message wrong` holds if `wrong` modules of the square g differ from the
--- symbol that contains the message in this version, level and mask. Function patterns, version information and remainder
--- bits count too, and a module that was not read counts as a wrong one (ISO/IEC 18004:2015, 7.5.2, 7.6, 7.7, 7.8).
+-- `DiffersFromSymbolWithout unknown g v l mask message wrong` holds if `wrong` is the number of wrong modules in the
+-- square `g`, compared with an undamaged symbol. The undamaged symbol has version `v`, level `l`, mask `mask` and the
+-- data codewords `message`. A module is wrong if it was not read, or if it does not have the colour that it has in the
+-- undamaged symbol. Modules of function patterns, version information and remainder bits are counted too
+-- (ISO/IEC 18004:2015, 7.5.2, 7.6, 7.7, 7.8).
 pub record DiffersFromSymbolWithout (unknown : Option Grid) (g : Grid) (v : ℕ) (l : Level) (mask : ℕ) (message : List ℕ) (wrong : ℕ) : Type 0 where
   pub codewords : List ℕ
   pub interleaved : IsInterleaved v l message codewords
   pub count : wrong ≡ wrong_modules_without unknown g (grid_of v l mask codewords)
 
--- `DiffersFromSymbol g v l mask message wrong` holds if `wrong` modules of the square g differ from the symbol that
--- contains the message in this version, level and mask. Function patterns, version information and remainder bits count
--- too (ISO/IEC 18004:2015, 7.5.2, 7.6, 7.7, 7.8).
+-- `DiffersFromSymbol g v l mask message wrong` holds if `wrong` is the number of wrong modules in the square `g`,
+-- compared with an undamaged symbol. The undamaged symbol has version `v`, level `l`, mask `mask` and the data
+-- codewords `message`. A module is wrong if it does not have the colour that it has in the undamaged symbol. Modules of
+-- function patterns, version information and remainder bits are counted too (ISO/IEC 18004:2015, 7.5.2, 7.6, 7.7, 7.8).
 abbrev pub DiffersFromSymbol : Grid → ℕ → Level → ℕ → List ℕ → ℕ → Type 0
 DiffersFromSymbol g v l mask message wrong = DiffersFromSymbolWithout None g v l mask message wrong
 
--- `HasWrongModulesWithout unknown g v l mask changed wrong` holds if the square g is a damaged form of a symbol of
--- version v, level l and this mask, and `wrong` of its modules are dark in `unknown`, which means that they were not
--- read, or differ from that symbol. So `wrong` is 0 exactly if all modules were read and each has the colour that it
--- has in that symbol (ISO/IEC 18004:2015, 7.5.2, 7.6, 7.7, 7.8).
+-- `HasWrongModulesWithout unknown g v l mask changed wrong` holds if the square `g` of modules is a damaged form of a
+-- symbol, and `wrong` is the number of wrong modules in `g`. The symbol has version `v`, level `l` and mask `mask`. The
+-- list `changed` contains for each block the number of misread codewords. A module is wrong if it was not read, or if
+-- it does not have the colour that it has in the symbol. So `wrong` is 0 exactly if all modules were read and each
+-- module has the colour that it has in the symbol (ISO/IEC 18004:2015, 7.5.2, 7.6, 7.7, 7.8).
 pub record HasWrongModulesWithout (unknown : Option Grid) (g : Grid) (v : ℕ) (l : Level) (mask : ℕ) (changed : List ℕ) (wrong : ℕ) : Type 0 where
   pub message : List ℕ
   pub form : IsDamagedFormWithout unknown g v l mask message changed
   pub differs : DiffersFromSymbolWithout unknown g v l mask message wrong
 
--- `HasWrongModules g v l mask changed wrong` holds if `wrong` modules of the square g differ from the symbol of which it
--- is a damaged form. So `wrong` is 0 exactly if the square is that symbol (ISO/IEC 18004:2015, 7.5.2, 7.6, 7.7, 7.8).
+-- `HasWrongModules g v l mask changed wrong` holds if the square `g` of modules is a damaged form of a symbol and
+-- differs from this symbol in `wrong` modules. The symbol has version `v`, level `l` and mask `mask`. The list
+-- `changed` contains for each block the number of changed codewords. So `wrong` is 0 exactly if the square is equal to
+-- the symbol (ISO/IEC 18004:2015, 7.5.2, 7.6, 7.7, 7.8).
 abbrev pub HasWrongModules : Grid → ℕ → Level → ℕ → List ℕ → ℕ → Type 0
 HasWrongModules g v l mask changed wrong = HasWrongModulesWithout None g v l mask changed wrong
 
--- `IsBeyondMendingWithout unknown g` holds if at least one copy of the format information of the square g is near to a
--- level and a mask, but under each such level and mask some block has more damage than can be mended. A codeword with a
--- module that was not read is erased (ISO/IEC 18004:2015, 7.5.1, 7.9.1, 12).
+-- `IsBeyondMendingWithout unknown g` holds if the square `g` of modules has more wrong codewords than can be corrected.
+-- At least one level and mask have format information that differs from a copy in `g` in at most three modules. But
+-- with each such level and mask, some block has more wrong codewords than can be corrected. A codeword with a module
+-- that was not read is erased (ISO/IEC 18004:2015, 7.5.1, 7.9.1, 12).
 pub record IsBeyondMendingWithout (unknown : Option Grid) (g : Grid) : Type 0 where
   pub version : ℕ
   pub sized : IsOfVersion g version
@@ -152,10 +179,12 @@ pub record IsBeyondMendingWithout (unknown : Option Grid) (g : Grid) : Type 0 wh
   pub format : IsNearFormat copy g level mask
   pub useless : (any : FormatCopy) → IsOfNoUseWithout unknown any version g
 
--- `IsUnmendedWithout unknown g e` holds if the square g, of which some modules may not have been read, is not mended
--- because of the fault e. `Side`: no version has its side. `Format`: a version has its side, but no copy of the format
--- information is near to a level and a mask. `Check`: there is more damage than can be mended. `Segments`: the mended
--- message cannot be parsed. `Memory` is possible for every square, and `Series` for none (ISO/IEC 18004:2015, 12).
+-- `IsUnmendedWithout unknown g e` holds if mending the square `g` of modules may fail with the fault `e`. Some modules
+-- of `g` may not have been read. The fault is `Side` if no version has as many rows as `g`. The fault is `Format` if a
+-- version has as many rows, but the format information of each level and mask differs from both copies in more than
+-- three modules. The fault is `Check` if more codewords are wrong than can be corrected. The fault is `Segments` if the
+-- mended data codewords cannot be parsed. The fault `Memory` is possible for every square of modules, and the fault
+-- `Series` is impossible (ISO/IEC 18004:2015, 12).
 abbrev pub IsUnmendedWithout : Option Grid → Grid → ReadFault → Type 0
 IsUnmendedWithout unknown g unread.Memory = Unit {0}
 IsUnmendedWithout unknown g unread.Side = (v : ℕ) → IsOfVersion g v → ⊥
@@ -164,9 +193,10 @@ IsUnmendedWithout unknown g unread.Check = IsBeyondMendingWithout unknown g
 IsUnmendedWithout unknown g (unread.Segments e) = (e ≢ unparsed.Memory) × (v : ℕ) × (l : Level) × (mask : ℕ) × (changed : List ℕ) × IsMendedAsWithout unknown g v l mask (Err e) changed
 IsUnmendedWithout unknown g unread.Series = ⊥
 
--- `IsUnmended g e` holds if mending the square g may fail with the fault e. `Side`: no version has its side. `Format`:
--- a version has its side, but no copy of the format information is near to a level and a mask. `Check`: there is more
--- damage than can be mended. `Segments`: the mended message cannot be parsed. `Memory` is possible for every square,
--- and `Series` for none (ISO/IEC 18004:2015, 12).
+-- `IsUnmended g e` holds if mending the square `g` of modules may fail with the fault `e`. The fault is `Side` if no
+-- version has as many rows as `g`. The fault is `Format` if a version has as many rows, but the format information of
+-- each level and mask differs from both copies in more than three modules. The fault is `Check` if more codewords are
+-- wrong than can be corrected. The fault is `Segments` if the mended data codewords cannot be parsed. The fault
+-- `Memory` is possible for every square of modules, and the fault `Series` is impossible (ISO/IEC 18004:2015, 12).
 abbrev pub IsUnmended : Grid → ReadFault → Type 0
 IsUnmended g e = IsUnmendedWithout None g e

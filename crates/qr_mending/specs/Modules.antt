@@ -1,4 +1,4 @@
--- The damage of a symbol, counted in modules instead of codewords.
+-- Defines the damage of a symbol as a number of modules, and not as a number of codewords.
 use Rattle.std.specs.Prelude.{ℕ, ◌+◌, ◌*◌, ◌<◌, ◌≤◌, ◌==◌, ◌&&◌, if◌then◌else◌, List, [], ◌∷◌, take, drop}
 use Prim.Native.Nat.{zero, suc}
 use Rattle.qr_layout.specs.declared.level.Level.{Level}
@@ -12,33 +12,38 @@ use Rattle.qr_mending.specs.declared.format.FormatCopy.TheVariants.{First}
 use Rattle.qr_mending.specs.Format.{bit_difference, bit_differences, copy_bit}
 use Rattle.qr_mending.specs.Message.{tolerance_of}
 
--- The number of the modules in the list in which the squares g and h differ [own].
+-- `module_differences g h modules` is the number of modules in the list `modules` that have different colours in the
+-- squares `g` and `h` [own].
 abbrev pub module_differences : Grid → Grid → List Module → ℕ
 module_differences g h [] = 0
 module_differences g h (m ∷ ms) = bit_difference (colour g m.row m.col) (colour h m.row m.col) + module_differences g h ms
 
--- The index of the position t in a list, or the length of the list if t is not in it [own].
+-- `index_of t positions` is the index of the codeword position `t` in the list `positions`. If `t` is not in the list,
+-- `index_of t positions` is the length of the list [own].
 abbrev pub index_of : Position → List Position → ℕ
 index_of t [] = 0
 index_of t (u ∷ us) = if (t.place == u.place) && (t.block == u.block) then 0 else index_of t us + 1
 
--- The eight modules that contain codeword k of the final sequence, where `places` is the order of all modules
+-- `modules_of places k` lists the eight modules that contain codeword `k` of the interleaved codewords of a symbol.
+-- `places` lists all modules of the encoding region in the order in which the bits of the codewords fill them
 -- (ISO/IEC 18004:2015, 7.7.3).
 abbrev pub modules_of : List Module → ℕ → List Module
 modules_of places k = take 8 (drop (8 * k) places)
 
--- The number of modules, in the first n codewords of block i, in which the squares g and h differ. `positions` lists the
--- positions of codewords in the order of the interleaved sequence, and the first of them is codeword `first` of the final
--- sequence (ISO/IEC 18004:2015, 7.6, 7.7.3).
+-- `part_differences g h places positions first i n` is the number of modules in the first `n` codewords of block `i`
+-- that have different colours in the squares `g` and `h`. `places` lists the modules of the encoding region in the
+-- order in which codewords fill them. `positions` lists the positions of all data codewords, or of all error correction
+-- codewords, in interleaved order. `first` is the index that the first of these codewords has among all interleaved
+-- codewords of the symbol (ISO/IEC 18004:2015, 7.6, 7.7.3).
 abbrev pub part_differences : Grid → Grid → List Module → List Position → (first i n : ℕ) → ℕ
 part_differences g h places positions first i zero = 0
 part_differences g h places positions first i (suc n) =
     module_differences g h (modules_of places (first + index_of (record { place = n; block = i }) positions))
     + part_differences g h places positions first i n
 
--- `DifferInFewModules v l g h` holds if the squares g and h differ in at most three modules of the first copy of the
--- format information, and in each block in at most as many modules as codewords of the block can be mended
--- (ISO/IEC 18004:2015, 7.5.1, 7.9.1).
+-- `DifferInFewModules v l g h` holds if the squares `g` and `h` of modules, both of version `v` and level `l`, differ
+-- in few modules. In the first copy of the format information at most three modules differ. In each block at most as
+-- many modules differ as codewords can be corrected in a block (ISO/IEC 18004:2015, 7.5.1, 7.9.1).
 pub record DifferInFewModules (v : ℕ) (l : Level) (g h : Grid) : Type 0 where
   pub format : bit_differences 15 (copy_bit First g) (copy_bit First h) ≤ 3
   pub places : List Module

@@ -1,4 +1,4 @@
--- The reading of damaged symbols together: the bytes of a damaged series are joined in their order.
+-- Defines how the damaged symbols of a series are read together: their bytes are joined in the order of the symbols.
 use Rattle.std.specs.Prelude.{ℕ, List}
 use Rattle.std.specs.List.{AllZip}
 use Rattle.qr_layout.specs.declared.level.Level.{Level}
@@ -9,23 +9,24 @@ use Rattle.qr_symbol.specs.Reading.{IsFormat, IsMessage, IsOfVersion}
 use Rattle.qr_symbol.specs.Joining.{IsJoinedBy, IsUnjoinedBy}
 use Rattle.qr_mending.specs.Mending.{IsDamagedForm, IsMendedReading, IsUnmended}
 
--- `IsMendedContent g content` holds if the square g, once its damage is mended, is read as this content, whatever its
--- version, level, mask and damage are (ISO/IEC 18004:2015, 12).
+-- `IsMendedContent g content` holds if the square `g` of modules is read as the content `content` once its damage is
+-- corrected. The symbol may have any version, level and mask, and any damage that can be corrected
+-- (ISO/IEC 18004:2015, 12).
 abbrev pub IsMendedContent : Grid → Content → Type 0
 IsMendedContent g content = (v : ℕ) × (l : Level) × (mask : ℕ) × (changed : List ℕ) × IsMendedReading g v l mask content changed
 
--- `IsMendedSeries squares bytes` holds if the squares, once their damage is mended, are joined to these bytes
--- (ISO/IEC 18004:2015, 8.1 to 8.3, 12).
+-- `IsMendedSeries squares bytes` holds if the damaged symbols `squares` are joined to the list `bytes` once their
+-- damage is corrected (ISO/IEC 18004:2015, 8.1 to 8.3, 12).
 abbrev pub IsMendedSeries : List Grid → List ℕ → Type 0
 IsMendedSeries squares bytes = IsJoinedBy IsMendedContent squares bytes
 
--- `IsUnmendedSeries squares e` holds if the squares, even with their damage mended, are not joined because of the fault
--- e (ISO/IEC 18004:2015, 12).
+-- `IsUnmendedSeries squares e` holds if mending the damaged symbols `squares` and joining their bytes may fail with the
+-- fault `e` (ISO/IEC 18004:2015, 12).
 abbrev pub IsUnmendedSeries : List Grid → ReadFault → Type 0
 IsUnmendedSeries squares e = IsUnjoinedBy IsMendedContent IsUnmended squares e
 
--- `IsDamagedSquare damaged whole` holds if the square `damaged` is a damaged form of the square `whole`, which can be
--- read without mending (ISO/IEC 18004:2015, 7.5.1, 7.9.1, 12).
+-- `IsDamagedSquare damaged whole` holds if the square `damaged` of modules is a damaged form of the square `whole`. The
+-- square `whole` can be read without mending (ISO/IEC 18004:2015, 7.5.1, 7.9.1, 12).
 pub record IsDamagedSquare (damaged whole : Grid) : Type 0 where
   pub version : ℕ
   pub level : Level
@@ -37,7 +38,7 @@ pub record IsDamagedSquare (damaged whole : Grid) : Type 0 where
   pub holds : IsMessage version level mask whole message
   pub form : IsDamagedForm damaged version level mask message changed
 
--- `AreDamagedSquares damaged whole` holds if each square in `damaged` is a damaged form of the square with the same
--- index in `whole` [own].
+-- `AreDamagedSquares damaged whole` holds if each square of modules in the list `damaged` is a damaged form of the
+-- square with the same index in the list `whole` [own].
 unfoldable pub AreDamagedSquares : List Grid → List Grid → Type 0
 AreDamagedSquares damaged whole = AllZip IsDamagedSquare damaged whole

@@ -1,4 +1,5 @@
--- The message of a damaged symbol of which some modules could not be read.
+-- Defines what it means to mend the message of a damaged symbol in which some modules could not be read. The message is
+-- the data codewords of the symbol.
 use Rattle.std.specs.Prelude.{◌≡◌, ℕ, ◌+◌, ◌-◌, ◌*◌, ◌<◌, ◌≤◌, ◌==◌, not, Bool, Option, None, Some, List, ◌++◌, map, take, drop, length, slice_index}
 use Rattle.std.specs.List.{All}
 use Rattle.qr_field.specs.Polynomial.{IsCorrection}
@@ -15,51 +16,58 @@ use Rattle.qr_symbol.specs.Interleaving.{block_count, start_of, codeword_count, 
 use Rattle.qr_mending.specs.Erasures.{read_of}
 use Rattle.qr_mending.specs.Message.{received, protection_of, IsMendedIn}
 
--- The colour of the module m of the square g [own].
+-- `colour_at g m` is the colour of the module `m` of the square `g` of modules; true is dark [own].
 abbrev pub colour_at : Grid → Module → Bool
 colour_at g m = colour g m.row m.col
 
--- `AreMarks v unknown marks` holds if the marks are what is read as codewords, without a mask, from the square
--- `unknown`, whose dark modules are those that were not read. So the mark of a codeword is 0 exactly if all of its eight
--- modules were read (ISO/IEC 18004:2015, 7.7.3).
+-- `AreMarks v unknown marks` holds if `marks` lists the marks of the codewords of a symbol of version `v`. The mark of
+-- a codeword is a byte with one bit for each of the eight modules of the codeword. The bit is 1 if the module is dark
+-- in the square `unknown`, which means that the module was not read. So a mark is 0 exactly if all modules of its
+-- codeword were read (ISO/IEC 18004:2015, 7.7.3).
 pub record AreMarks (v : ℕ) (unknown : Grid) (marks : List ℕ) : Type 0 where
   pub bytes : All (λ x. x < 256) marks
   pub places : List Module
   pub order : IsOrder v places
   pub bits : bits_of marks ≡ map (colour_at unknown) (take (8 * total_codewords_of v) places)
 
--- `AreInBlocks b interleaved d e` holds if d and e are the codewords `interleaved`, put back into blocks: d contains the
--- data codewords and e the error correction codewords, both block after block (ISO/IEC 18004:2015, 7.6).
+-- `AreInBlocks b interleaved d e` holds if `d` and `e` list the codewords of `interleaved` block after block. `d` lists
+-- the data codewords, and `e` lists the error correction codewords. `b` contains the sizes of the blocks
+-- (ISO/IEC 18004:2015, 7.6).
 pub record AreInBlocks (b : Blocks) (interleaved d e : List ℕ) : Type 0 where
   pub gathered : IsGathered (data_sizes b) interleaved d
   pub rest : IsGathered (correction_sizes b) (drop (codeword_count (data_sizes b)) interleaved) e
 
--- What was read of a block: a codeword whose mark is not 0 is erased [own].
+-- `read_by codewords marks` lists what was read of a block: `None` for each erased codeword, and the codeword itself
+-- for each other codeword. A codeword is erased if its mark in `marks` is not 0 [own].
 abbrev pub read_by : List ℕ → List ℕ → List (Option ℕ)
 read_by codewords marks = read_of codewords (map (λ mark. not (mark == 0)) marks)
 
--- `IsMendedBlockWithout b spare read message misread i` holds if `read` is a damaged form of block i of the message with
--- its error correction codewords. Exactly `misread` codewords are misread; each erased codeword needs one error
--- correction codeword and each misread codeword needs two, and together they need at most `spare`
--- (ISO/IEC 18004:2015, 7.5.1).
+-- `IsMendedBlockWithout b spare read message misread i` holds if block `i` of a damaged symbol can be mended to block
+-- `i` of the data codewords `message`. `b` contains the sizes of the blocks. `read` lists what was read of block `i`,
+-- with `None` for each erased codeword. Exactly `misread` codewords of the block were misread. Each erased codeword
+-- needs one error correction codeword, and each misread codeword needs two. In total at most `spare` error correction
+-- codewords are needed (ISO/IEC 18004:2015, 7.5.1).
 pub record IsMendedBlockWithout (b : Blocks) (spare : ℕ) (read : List (Option ℕ)) (message : List ℕ) (misread i : ℕ) : Type 0 where
   pub correction : List ℕ
   pub corrects : IsCorrection (part_of (data_sizes b) message i) b.ec_len correction
   pub near : erasures read + 2 * misread ≤ spare
   pub count : misread ≡ errors read (part_of (data_sizes b) message i ++ correction)
 
--- `AreMendedWithout b spare d e u w n message misread` holds if the message consists of n mended blocks. The received
--- data codewords are d, with the marks u, and the received error correction codewords are e, with the marks w. Item i of
--- `misread` is the number of misread codewords in block i [own].
+-- `AreMendedWithout b spare d e u w n message misread` holds if the data codewords `message` consist of `n` mended
+-- blocks. `d` lists the data codewords that were read, and `u` lists their marks. `e` lists the error correction
+-- codewords that were read, and `w` lists their marks. Item i of `misread` is the number of misread codewords in block
+-- i. `b` contains the sizes of the blocks. To mend a block, at most `spare` error correction codewords are needed: one
+-- for each erased codeword and two for each misread codeword [own].
 pub record AreMendedWithout (b : Blocks) (spare : ℕ) (d e u w : List ℕ) (n : ℕ) (message misread : List ℕ) : Type 0 where
   pub long : length message ≡ start_of (data_sizes b) n
   pub many : length misread ≡ n
   pub each : (i : ℕ) → i < n → IsMendedBlockWithout b spare (read_by (received b d e i) (received b u w i)) message (slice_index misread i) i
 
--- `IsMendedMessageWithout b spare cw marks message misread` holds if the codewords cw are a damaged form of the final
--- sequence of the message. Codewords whose mark is not 0 are erased, and item i of `misread` is the number of misread
--- codewords in block i; in each block these can be mended with `spare` error correction codewords
--- (ISO/IEC 18004:2015, 7.5.1, 7.6).
+-- `IsMendedMessageWithout b spare cw marks message misread` holds if the interleaved codewords `cw` can be mended to
+-- the data codewords `message` of a symbol. `b` contains the sizes of the blocks of the symbol. `marks` lists the marks
+-- of the codewords `cw`; a codeword whose mark is not 0 is erased. Item i of `misread` is the number of misread
+-- codewords in block i. To mend a block, at most `spare` error correction codewords are needed: one for each erased
+-- codeword and two for each misread codeword (ISO/IEC 18004:2015, 7.5.1, 7.6).
 pub record IsMendedMessageWithout (b : Blocks) (spare : ℕ) (cw marks message misread : List ℕ) : Type 0 where
   pub codewords : List ℕ
   pub checks : List ℕ
@@ -69,22 +77,25 @@ pub record IsMendedMessageWithout (b : Blocks) (spare : ℕ) (cw marks message m
   pub marked : AreInBlocks b marks unread unread_checks
   pub mended : AreMendedWithout b spare codewords checks unread unread_checks (block_count (data_sizes b)) message misread
 
--- The number of error correction codewords of a block that may be used: all but those that are kept unused, so that a
--- block is not mended to a wrong one (ISO/IEC 18004:2015, 7.5.1, Table 9).
+-- `spare_of v l` is the number of error correction codewords of a block that may be used to correct damage in a symbol
+-- of version `v` and level `l`. The other error correction codewords are kept unused. Keeping them unused makes it less
+-- likely that a damaged block is mended to a wrong block (ISO/IEC 18004:2015, 7.5.1, Table 9).
 abbrev pub spare_of : ℕ → Level → ℕ
 spare_of v l = (blocks_of v l).ec_len - protection_of v l
 
--- `IsMendedBeside unknown v l cw message misread` holds if the codewords cw are a damaged form of the final sequence of
--- the message in a symbol of version v and level l. A codeword is erased if one of its modules is dark in `unknown`,
--- which means that the module was not read (ISO/IEC 18004:2015, 7.5.1, 7.6, 7.7.3).
+-- `IsMendedBeside unknown v l cw message misread` holds if the interleaved codewords `cw`, read from a symbol of
+-- version `v` and level `l`, can be mended to the data codewords `message`. A codeword is erased if one of its modules
+-- is dark in the square `unknown`, which means that the module was not read. Item i of `misread` is the number of
+-- misread codewords in block i (ISO/IEC 18004:2015, 7.5.1, 7.6, 7.7.3).
 pub record IsMendedBeside (unknown : Grid) (v : ℕ) (l : Level) (cw message misread : List ℕ) : Type 0 where
   pub marks : List ℕ
   pub erased : AreMarks v unknown marks
   pub mended : IsMendedMessageWithout (blocks_of v l) (spare_of v l) cw marks message misread
 
--- `IsMendedInWithout unknown v l cw message changed` holds if the codewords cw are a damaged form of the final sequence
--- of the message in a symbol of version v and level l. The dark modules of `unknown`, if there is such a square, are
--- those that were not read; otherwise all modules were read (ISO/IEC 18004:2015, 7.5.1, 7.6, 7.7.3).
+-- `IsMendedInWithout unknown v l cw message changed` holds if the interleaved codewords `cw`, read from a symbol of
+-- version `v` and level `l`, can be mended to the data codewords `message`. If `unknown` contains a square, the dark
+-- modules of this square are those that were not read. If `unknown` contains no square, all modules were read. Item i
+-- of `changed` is the number of misread codewords in block i (ISO/IEC 18004:2015, 7.5.1, 7.6, 7.7.3).
 abbrev pub IsMendedInWithout : Option Grid → ℕ → Level → List ℕ → List ℕ → List ℕ → Type 0
 IsMendedInWithout None v l cw message changed = IsMendedIn v l cw message changed
 IsMendedInWithout (Some unknown) v l cw message changed = IsMendedBeside unknown v l cw message changed

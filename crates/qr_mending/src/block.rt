@@ -1,4 +1,4 @@
-//! Mends damaged blocks (ISO/IEC 18004:2015, 7.5.1 and Annex B).
+//! Mends damaged blocks: corrects the wrong codewords of a block (ISO/IEC 18004:2015, 7.5.1 and Annex B).
 
 ghost use Rattle.std.specs.Prelude.{◌≡◌, ℕ, ◌*◌, ◌≤◌, List, length, IfSome, IfNone};
 ghost use Rattle.std.specs.Bool.{Decides};
@@ -11,8 +11,8 @@ use crate::sums::syndromes;
 use arrayvec::ArrayVec;
 use qr_field::Divisor;
 
-// Returns the block of which `damaged` is a damaged form, if such a block exists, otherwise some other list. A block is
-// at most `t` codewords away from its damaged form.
+// Returns the block with `n` error correction codewords that differs from `damaged` in at most `t` codewords, if there
+// is such a block. Otherwise returns some other list, which is as long as `damaged`.
 fn candidate(n: usize, t: usize, damaged: &[u8]) -> ArrayVec<u8, 255>
     requires most { n ≤ 30 }
     requires half { 2 * t ≤ n }
@@ -26,7 +26,7 @@ fn candidate(n: usize, t: usize, damaged: &[u8]) -> ArrayVec<u8, 255>
     without_errors(coefficients, first.as_slice(), damaged)
 }
 
-// Returns the number of positions at which two lists of the same length differ.
+// Returns the number of indices at which the lists `xs` and `ys` have different items. Both lists have the same length.
 fn count_differences(xs: &[u8], ys: &[u8]) -> usize
     requires { length xs.now ≡ length ys.now }
     ensures { result ≡ differences xs.now ys.now }
@@ -40,7 +40,8 @@ fn count_differences(xs: &[u8], ys: &[u8]) -> usize
     count
 }
 
-// Returns whether the codewords are a block: data codewords followed by their error correction codewords.
+// Returns whether `codewords` is a block: data codewords followed by their error correction codewords. `divisor`
+// determines the number of error correction codewords.
 pub(crate) fn is_block(divisor: &Divisor, codewords: &[u8]) -> bool
     requires { divisor.now ≤ length codewords.now }
     ensures { Decides result (IsBlock divisor.now codewords.now) }
@@ -50,10 +51,10 @@ pub(crate) fn is_block(divisor: &Divisor, codewords: &[u8]) -> bool
     correction.as_slice() == &codewords[start..]
 }
 
-/// Mends a block of which at most `t` codewords have been changed, where 2t is at most the number of its error
-/// correction codewords. Returns the number of codewords that had been changed. Returns `None` if the codewords differ
-/// from every block in more than `t` codewords, and then leaves `codewords` unchanged (ISO/IEC 18004:2015, 7.5.1 and
-/// Annex B).
+/// Mends a damaged block: replaces `codewords` with the block that differs from it in at most `t` codewords. Twice `t`
+/// must be at most the number of error correction codewords, which `divisor` determines. Returns the number of
+/// codewords that were wrong. Returns `None` if every block differs from `codewords` in more than `t` codewords, and
+/// then leaves `codewords` unchanged (ISO/IEC 18004:2015, 7.5.1 and Annex B).
 pub fn mend(divisor: &Divisor, t: usize, codewords: &mut [u8]) -> Option<usize>
     requires half { 2 * t ≤ divisor.now }
     requires least { divisor.now ≤ length codewords.old }

@@ -1,5 +1,6 @@
-//! Mends damaged blocks of which some codewords are known to be unreadable. Such a codeword is an erasure: it needs one
-//! error correction codeword, whereas a misread codeword needs two (ISO/IEC 18004:2015, 7.5.1 and Annex B).
+//! Mends damaged blocks in which some codewords are known to be unreadable. Such a codeword is called erased. To
+//! correct an erased codeword, one error correction codeword is needed. To correct a misread codeword, two error
+//! correction codewords are needed (ISO/IEC 18004:2015, 7.5.1 and Annex B).
 
 ghost use Rattle.std.specs.Prelude.{◌≡◌, ℕ, ◌+◌, ◌≤◌, List, length, IfSome, IfNone};
 ghost use Rattle.std.specs.List.{All, count_by};
@@ -18,8 +19,11 @@ use crate::sums::{dot, syndromes};
 use arrayvec::ArrayVec;
 use qr_field::Divisor;
 
-// Returns the first values of the errors after each error was multiplied by the value of `polynomial` at its position.
-// The number of these values is the number of syndromes less the degree of the polynomial.
+// Returns the modified syndromes of a damaged block. The errors of the codewords are the coefficients of the error
+// polynomial. `syndromes` contains the first values of the error polynomial at the powers of 2. For each m, the
+// coefficient of x^m in the error polynomial is multiplied by the value of `polynomial` at 2^m. The modified syndromes
+// are the first values of the resulting polynomial at the powers of 2. The number of modified syndromes is the number
+// of syndromes less the degree of `polynomial`.
 fn modified_syndromes(polynomial: &[u8], syndromes: &[u8]) -> ArrayVec<u8, 30>
     requires least { 1 ≤ length polynomial.now }
     requires long { length polynomial.now ≤ length syndromes.now + 1 }
@@ -35,8 +39,10 @@ fn modified_syndromes(polynomial: &[u8], syndromes: &[u8]) -> ArrayVec<u8, 30>
     modified
 }
 
-// Returns the block of which `damaged`, with its erased codewords, is a damaged form, if such a block exists, otherwise
-// some other list.
+// Returns the block with `n` error correction codewords to which `damaged` can be mended, if there is such a block.
+// Otherwise returns some other list, which is as long as `damaged`. `erased` is true at the index of each erased
+// codeword, which means that the codeword is known to be unreadable. The number of erased codewords plus twice the
+// number of misread codewords may be at most `spare`.
 fn candidate(n: usize, spare: usize, erased: &[bool], damaged: &[u8]) -> ArrayVec<u8, 255>
     requires most { n ≤ 30 }
     requires spare { spare ≤ n }
@@ -56,7 +62,8 @@ fn candidate(n: usize, spare: usize, erased: &[bool], damaged: &[u8]) -> ArrayVe
     without_errors(all.as_slice(), first.as_slice(), damaged)
 }
 
-// Returns the number of misread codewords: those that differ from the mended codewords and are not erased.
+// Returns the number of misread codewords. A codeword is misread if it is not erased and differs from the codeword with
+// the same index in `mended`.
 fn count_misread(codewords: &[u8], erased: &[bool], mended: &[u8]) -> usize
     requires marks { length erased.now ≡ length codewords.now }
     requires long { length mended.now ≡ length codewords.now }
@@ -72,11 +79,13 @@ fn count_misread(codewords: &[u8], erased: &[bool], mended: &[u8]) -> usize
     count
 }
 
-/// Mends a block of which some codewords could not be read. `erased` is true at their indices, and the values that
-/// `codewords` has there do not matter. Other codewords may be misread. An erased codeword needs one error correction
-/// codeword and a misread codeword needs two, and at most `spare` of them may be used; in a symbol that is twice
-/// `changed_max`. Returns the number of misread codewords; erased codewords do not count. Returns `None` if there is no
-/// such block, and then leaves `codewords` unchanged (ISO/IEC 18004:2015, 7.5.1 and Annex B).
+/// Mends a damaged block in which some codewords could not be read and other codewords may be misread. `erased` is true
+/// at the index of each codeword that could not be read; such a codeword is called erased. The values of erased
+/// codewords in `codewords` have no effect on the mended block. To correct an erased codeword, one error correction
+/// codeword is needed; to correct a misread codeword, two are needed. In total at most `spare` error correction
+/// codewords may be needed. In a symbol, `spare` is twice the number that `changed_max` returns. Returns the number of
+/// misread codewords, without the erased codewords. Returns `None` if there is no block for which `spare` error
+/// correction codewords are enough, and then leaves `codewords` unchanged (ISO/IEC 18004:2015, 7.5.1 and Annex B).
 pub fn mend_with_erasures(
     divisor: &Divisor,
     spare: usize,

@@ -1,6 +1,8 @@
-//! Removes the errors of a damaged block. The errors are the coefficients of a polynomial, and the locator is a
-//! polynomial with a root for each position of an error. The syndromes are the first values of the error polynomial at
-//! the powers of 2; the locator determines its other values, and all values together determine the errors.
+//! Removes the errors of a damaged block. An error is the difference between a codeword as it was read and the correct
+//! codeword. The errors of all codewords are the coefficients of the error polynomial. The locator is a polynomial with
+//! a root for each wrong codeword. The syndromes are the first values of the error polynomial at the powers of 2. From
+//! the locator and the syndromes, the values at all other powers of 2 are computed. The values at all powers of 2
+//! determine the errors.
 
 ghost use Rattle.std.specs.Prelude.{◌≡◌, ℕ, ◌+◌, ◌<◌, ◌≤◌, List, length};
 ghost use Rattle.std.specs.List.{All};
@@ -14,8 +16,10 @@ use crate::sums::{dot, value};
 use arrayvec::ArrayVec;
 use qr_field::power_of;
 
-// Returns the value of the errors at the next power of 2, after those in `series`. `locator` lists the coefficients of
-// the locator, the leading 1 last.
+// Returns the value of the error polynomial at 2 to the power n, where n is the length of `series`. `series` contains
+// the values of the error polynomial at the lower powers of 2. `syndromes` contains the values at the first powers of
+// 2, from 2 to the power 0 on. `locator` lists the coefficients of the locator polynomial; the leading coefficient,
+// which is 1, comes last.
 fn next_value(locator: &[u8], syndromes: &[u8], series: &[u8]) -> u8
     requires least { 1 ≤ length locator.now }
     requires long { length locator.now ≤ length syndromes.now + 1 }
@@ -30,7 +34,8 @@ fn next_value(locator: &[u8], syndromes: &[u8], series: &[u8]) -> u8
     dot(&locator[..degree], &series[count - degree..])
 }
 
-// Returns the values of the errors at all 255 powers of 2; the first values are the syndromes.
+// Returns the values of the error polynomial at all 255 powers of 2, from 2 to the power 0 on. `syndromes` contains the
+// first of these values. `locator` lists the coefficients of the locator polynomial, which determines the other values.
 fn values(locator: &[u8], syndromes: &[u8]) -> ArrayVec<u8, 255>
     requires least { 1 ≤ length locator.now }
     requires long { length locator.now ≤ length syndromes.now + 1 }
@@ -46,7 +51,9 @@ fn values(locator: &[u8], syndromes: &[u8]) -> ArrayVec<u8, 255>
     series
 }
 
-// Returns the error at index `place`, counted from the last codeword.
+// Returns the error of one codeword of a damaged block. `place` is the index of this codeword, counted from the last
+// codeword of the block. `series` contains the values of the error polynomial at all 255 powers of 2. `locator` lists
+// the coefficients of the locator polynomial.
 fn error(locator: &[u8], series: &[u8], place: u8) -> u8
     requires count { length series.now ≡ 255 }
     requires place { place < 255 }
@@ -60,7 +67,8 @@ fn error(locator: &[u8], series: &[u8], place: u8) -> u8
     value(series, power_of(inverse))
 }
 
-// Returns the damaged codewords without their errors.
+// Returns the codewords of the damaged block `damaged` after their errors are removed. `locator` lists the coefficients
+// of the locator polynomial. `syndromes` contains the first values of the error polynomial at the powers of 2.
 pub(crate) fn without_errors(locator: &[u8], syndromes: &[u8], damaged: &[u8]) -> ArrayVec<u8, 255>
     requires least { 1 ≤ length locator.now }
     requires long { length locator.now ≤ length syndromes.now + 1 }

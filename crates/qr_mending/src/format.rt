@@ -1,5 +1,6 @@
-//! Finds the format information of a damaged symbol: the level and the mask whose format information differs from one of
-//! its two copies in few modules (ISO/IEC 18004:2015, 7.9.1 and Annex C).
+//! Finds the level and the mask of a damaged symbol, which contains two copies of its format information. The format
+//! information of this level and mask differs from one of the copies in at most three modules
+//! (ISO/IEC 18004:2015, 7.9.1 and Annex C).
 
 ghost use Rattle.std.specs.Prelude.{◌≡◌, ℕ, ◌+◌, ◌<◌, ◌≤◌, Some, MatchOption};
 ghost use Rattle.qr_layout.specs.declared.level.Level.{Level};
@@ -17,22 +18,22 @@ use qr_matrix::Matrix;
 // The number of bits of the format information.
 const FORMAT_BITS: u8 = 15;
 
-// A copy of the format information is near to a level and a mask if at most this number of its modules differs from
-// their word. Any two words of the format information differ in at least seven bits, so a copy is near to one word at
-// most.
+// A copy of the format information is used if at most this number of its modules are wrong. Any two different pairs of
+// level and mask have format information that differs in at least seven bits. So a copy can be used for at most one
+// pair of level and mask.
 const FORMAT_ERRORS: u8 = 3;
 
-/// The two copies of the format information in a symbol.
+/// One of the two copies of the format information in a symbol.
 #[derive(Clone, Copy)]
 pub(crate) enum FormatCopy {
-    /// Beside the top left finder pattern.
+    /// The copy beside the top left finder pattern.
     First,
-    /// Beside the other two finder patterns.
+    /// The copy beside the other two finder patterns.
     Second,
 }
 
 impl FormatCopy {
-    // Returns the place of a bit of the copy.
+    // Returns the place, a row and a column, of bit `bit` in this copy of the format information.
     fn place(self, version: Version, bit: u8) -> Module
         requires { bit < 15 }
         ensures place { result ≡ copy_place self (side_of version) bit }
@@ -46,7 +47,7 @@ impl FormatCopy {
     }
 }
 
-// Returns whether bit `i` of a word is 1. Bit 0 is the lowest.
+// Returns whether bit `i` of `word` is 1. Bit 0 is the least significant bit.
 fn is_bit_set(word: u32, i: u8) -> bool
     requires { i < 32 }
     ensures { result ≡ word_bit word i }
@@ -54,7 +55,8 @@ fn is_bit_set(word: u32, i: u8) -> bool
     word >> i & 1 == 1
 }
 
-// Counts the modules in which the copy in `matrix` differs from `word`.
+// Returns the number of wrong modules in one copy of the format information in `matrix`. A module is wrong if it does
+// not have the colour that its bit in `word` requires. A bit that is 1 requires a dark module.
 fn wrong_bits(matrix: &Matrix, version: Version, copy: FormatCopy, word: u32) -> u8
     requires { matrix.now.side ≡ side_of version }
     ensures value { result ≡ bit_differences 15 (copy_bit copy matrix.now) (word_bit word) }
@@ -70,7 +72,8 @@ fn wrong_bits(matrix: &Matrix, version: Version, copy: FormatCopy, word: u32) ->
     wrong
 }
 
-// Counts the modules in which both copies in `matrix` differ from the format information of the level and the mask.
+// Returns the number of wrong modules among the 30 modules of the two copies of the format information in `matrix`. A
+// module is wrong if it does not have the colour that the format information of the level and the mask requires.
 pub(crate) fn wrong_format_modules(matrix: &Matrix, version: Version, level: Level, mask: u8) -> u8
     requires side { matrix.now.side ≡ side_of version }
     requires mask_in { mask < 8 }
@@ -81,7 +84,8 @@ pub(crate) fn wrong_format_modules(matrix: &Matrix, version: Version, level: Lev
         + wrong_bits(matrix, version, FormatCopy::Second, word)
 }
 
-// Returns 1 if a module was not read or does not have the colour `wanted`, and 0 otherwise.
+// Returns 1 if a module is wrong, and 0 otherwise. A module is wrong if it was not read (`is_unknown`), or if its
+// colour `dark` differs from the colour `wanted`.
 pub(crate) fn wrong_bit(is_unknown: bool, dark: bool, wanted: bool) -> u8
     ensures value { result ≡ wrong_bit is_unknown dark wanted }
     ensures most { result ≤ 1 }
@@ -92,7 +96,9 @@ pub(crate) fn wrong_bit(is_unknown: bool, dark: bool, wanted: bool) -> u8
     u8::from(dark != wanted)
 }
 
-// Counts the modules of the copy that were not read, or in which `matrix` differs from `word`.
+// Returns the number of wrong modules in one copy of the format information in `matrix`. A module is wrong if it was
+// not read, or if it does not have the colour that its bit in `word` requires. A bit that is 1 requires a dark module.
+// The dark modules of `unknown` are those that were not read.
 fn wrong_bits_without(
     matrix: &Matrix,
     unknown: &Matrix,
@@ -116,8 +122,9 @@ fn wrong_bits_without(
     wrong
 }
 
-// Counts the modules of both copies that were not read, or in which `matrix` differs from the format information of the
-// level and the mask.
+// Returns the number of wrong modules among the 30 modules of the two copies of the format information in `matrix`. A
+// module is wrong if it was not read, or if it does not have the colour that the format information of the level and
+// the mask requires. The dark modules of `unknown` are those that were not read.
 pub(crate) fn wrong_format_modules_without(
     matrix: &Matrix,
     unknown: &Matrix,
@@ -135,8 +142,8 @@ pub(crate) fn wrong_format_modules_without(
     first + wrong_bits_without(matrix, unknown, version, FormatCopy::Second, word)
 }
 
-// Returns the mask that, with `level`, has format information from which the copy differs in at most three modules, if
-// there is one.
+// Returns the mask whose format information, together with `level`, differs from the copy in `matrix` in at most three
+// modules. Returns `None` if there is no such mask.
 fn near_mask_of(matrix: &Matrix, version: Version, copy: FormatCopy, level: Level) -> Option<u8>
     requires { matrix.now.side ≡ side_of version }
     ensures { MatchOption result
@@ -152,7 +159,8 @@ fn near_mask_of(matrix: &Matrix, version: Version, copy: FormatCopy, level: Leve
     None
 }
 
-// Returns the level and the mask that the copy is near to. It is near to one level and one mask at most.
+// Returns the level and the mask whose format information differs from the copy in `matrix` in at most three modules.
+// There is at most one such pair of level and mask. Returns `None` if there is no such pair.
 pub(crate) fn near_format_of(
     matrix: &Matrix,
     version: Version,
@@ -171,8 +179,9 @@ pub(crate) fn near_format_of(
     None
 }
 
-// Returns the level and the mask that the first copy is near to; if there are none, those that the second copy is near
-// to.
+// Returns the level and the mask whose format information differs from the first copy in `matrix` in at most three
+// modules. If there is no such pair of level and mask, the second copy is used in the same way. Returns `None` if there
+// is no such pair for the second copy either.
 pub(crate) fn near_format_of_either(matrix: &Matrix, version: Version) -> Option<(Level, u8)>
     requires { matrix.now.side ≡ side_of version }
     ensures { MatchOption result

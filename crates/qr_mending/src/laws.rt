@@ -1,6 +1,7 @@
-//! The laws of mending: a damaged block or symbol can be mended to one result at most, and nothing that can be mended is
-//! refused. Most functions do nothing: their contract is the law. The others mend, and their contract is a law about the
-//! result.
+//! States laws about the mending of damaged blocks and symbols. A damaged block or symbol can be mended to at most one
+//! result. A symbol that can be mended is not refused, unless memory is refused. Most functions here do nothing: the
+//! contract of such a function is the law. Each of the other functions mends one or more symbols, and its contract is a
+//! law about the result.
 
 ghost use Rattle.std.specs.Prelude.{◌≡◌, ◌≢◌, ◌↔◌, ◌⊎◌, Err, ℕ, ◌*◌, ◌/◌, ◌≤◌, false, List, length, replicate, Option, None, Some, MatchResult};
 ghost use Rattle.std.specs.List.{All};
@@ -36,32 +37,40 @@ use qr_matrix::Matrix;
 use qr_symbol::ReadFault;
 use std::alloc::Global;
 
-/// Codewords are a damaged form of at most one block.
+/// A damaged block of at most 255 codewords can be mended to at most one block. A block is a possible result if it
+/// differs from the damaged block in at most t codewords. Here 2t is at most the number of error correction codewords
+/// of the block.
 pub fn mended_blocks_are_one()
     ensures { (n t : ℕ) (damaged b c : List ℕ) → length damaged ≤ 255 → 2 * t ≤ n
         → IsMended n t damaged b → IsMended n t damaged c → b ≡ c }
 {}
 
-/// What was read of a block, of which some codewords may be erased, is a damaged form of at most one block.
+/// A damaged block of at most 255 codewords, some of which may be erased, can be mended to at most one block. To
+/// correct an erased codeword, one error correction codeword is needed; to correct a misread codeword, two are needed.
+/// In total no more error correction codewords may be needed than the block has.
 pub fn blocks_mended_with_erasures_are_one()
     ensures { (n spare : ℕ) (read : List (Option ℕ)) (b c : List ℕ) → length read ≤ 255 → spare ≤ n
         → IsMendedWithErasures n spare read b → IsMendedWithErasures n spare read c → b ≡ c }
 {}
 
-/// If no codeword is marked as erased, mending a block with erasures and mending it without them mean the same.
+/// If no codeword of a block is erased, the definition of mending with erasures and the definition of mending without
+/// erasures agree. With erasures, at most `spare` error correction codewords may be needed. Without erasures, at most
+/// `spare` / 2 codewords may be wrong.
 pub fn blocks_without_erasures_are_mended_alike()
     ensures { (n spare k : ℕ) (damaged mended : List ℕ)
         → IsMendedWithErasures n spare (read_of damaged (replicate k false)) mended ↔ IsMended n (spare / 2) damaged mended }
 {}
 
-/// A copy of the format information is near to at most one level and mask.
+/// For each copy of the format information in a symbol, at most one pair of level and mask is near to the copy. A pair
+/// is near to the copy if its format information differs from the copy in at most three modules.
 pub fn near_format_is_one()
     ensures { (copy : FormatCopy) (g : Grid) (l k : Level) (m n : ℕ) → IsNearFormat copy g l m → IsNearFormat copy g k n
         → (l ≡ k) × (m ≡ n) }
 {}
 
-/// The definition of the number of codewords of a block that may be changed agrees with Table 9: in the six cases in
-/// which it is less than half of the error correction codewords, and in one other case.
+/// In seven combinations of version and level, the number of codewords that can be corrected in a block agrees with
+/// Table 9 of the standard. In six of these combinations, some error correction codewords of a block are kept unused.
+/// The number of these unused codewords agrees with Table 9 too.
 pub fn tolerances_compute()
     ensures one { tolerance_of 1 Level.L ≡ 2 × tolerance_of 1 Level.M ≡ 4 }
     ensures one_more { tolerance_of 1 Level.Q ≡ 6 × tolerance_of 1 Level.H ≡ 8 }
@@ -73,41 +82,47 @@ pub fn tolerances_compute()
     ensures protection_more { protection_of 2 Level.L ≡ 2 × protection_of 3 Level.L ≡ 1 }
 {}
 
-/// Codewords are a damaged form of at most one message, with one list of numbers of changed codewords.
+/// The codewords that were read from a damaged symbol can be mended to at most one message. The message is the data
+/// codewords of the symbol. The number of changed codewords in each block is unique too.
 pub fn mended_messages_are_one(version: Version, level: Level)
     ensures { (cw m n x y : List ℕ) → IsMendedIn version level cw m x → IsMendedIn version level cw n y
         → (m ≡ n) × (x ≡ y) }
 {}
 
-/// A square, once its damage is mended, is read as at most one content, in one version, level and mask, with one list of
-/// numbers of changed codewords. This is so whether or not all of its modules were read.
+/// Once its damage is mended, a damaged symbol is read as at most one content. The version, the level, the mask and the
+/// number of changed codewords in each block are unique too. This law holds whether or not all modules of the symbol
+/// were read.
 pub fn mended_readings_are_one()
     ensures { (unknown : Option Grid) (g : Grid) (v w : ℕ) (l k : Level) (m n : ℕ) (p q : Content) (x y : List ℕ)
         → IsMendedReadingWithout unknown g v l m p x → IsMendedReadingWithout unknown g w k n q y
         → (v ≡ w) × (l ≡ k) × (m ≡ n) × (p ≡ q) × (x ≡ y) }
 {}
 
-/// A square has at most one number of wrong modules.
+/// The number of wrong modules of a damaged symbol is unique. A module is wrong if it was not read, or if it does not
+/// have the colour that it has in the undamaged symbol.
 pub fn wrong_modules_are_one()
     ensures { (unknown : Option Grid) (g : Grid) (v w : ℕ) (l k : Level) (m n : ℕ) (x y : List ℕ) (a b : ℕ)
         → HasWrongModulesWithout unknown g v l m x a → HasWrongModulesWithout unknown g w k n y b → a ≡ b }
 {}
 
-/// A square has no wrong module exactly if it is the symbol of which it is a damaged form.
+/// If a square of modules is a damaged form of a symbol, the square has no wrong module exactly if it is equal to this
+/// symbol.
 pub fn sound_squares_are_symbols()
     ensures { (g : Grid) (v : ℕ) (l : Level) (mask : ℕ) (changed : List ℕ) (wrong : ℕ)
         → IsSquare g.side g → (w : HasWrongModules g v l mask changed wrong)
         → (wrong ≡ 0) ↔ (g ≡ grid_of v l mask w.differs.codewords) }
 {}
 
-/// A square that is read without mending is read as the same content with mending, and no codeword is changed.
+/// If a square of modules can be read without mending, it is read as the same content with mending. In this case
+/// mending changes no codeword.
 pub fn readings_are_mended_readings()
     ensures { (g : Grid) (p : Content) → (h : IsReading g p)
         → IsMendedReading g h.version h.level h.mask p (replicate (blocks_in h.version h.level) 0) }
 {}
 
-/// The list of numbers of changed codewords of a mended square has at least one item. No item is more than the number of
-/// codewords of a block that may be changed, which is from 2 to 15.
+/// The list of the numbers of changed codewords, one number for each block of a mended symbol, has at least one item.
+/// No item is greater than the number of codewords that can be corrected in a block. For every version and level, this
+/// number is from 2 to 15.
 pub fn changes_are_bounded()
     ensures some { (unknown : Option Grid) (g : Grid) (v : ℕ) (l : Level) (m : ℕ) (p : Content) (x : List ℕ)
         → IsMendedReadingWithout unknown g v l m p x → 1 ≤ length x }
@@ -116,20 +131,21 @@ pub fn changes_are_bounded()
     ensures tolerance { (v : ℕ) (l : Level) → 1 ≤ v → v ≤ 40 → (2 ≤ tolerance_of v l) × (tolerance_of v l ≤ 15) }
 {}
 
-/// A square that can be read with its damage mended can only be refused for lack of memory.
+/// If a damaged symbol can be mended and read, it can be refused for only one fault, which is lack of memory.
 pub fn mended_readings_are_not_refused()
     ensures { (unknown : Option Grid) (g : Grid) (v : ℕ) (l : Level) (m : ℕ) (p : Content) (x : List ℕ) (e : ReadFault)
         → IsMendedReadingWithout unknown g v l m p x → IsUnmendedWithout unknown g e → e ≡ ReadFault.Memory }
 {}
 
-/// Apart from lack of memory, a square is refused for at most one fault.
+/// Apart from lack of memory, there is at most one fault for which a damaged symbol is refused.
 pub fn mending_refusals_are_one()
     ensures { (unknown : Option Grid) (g : Grid) (e f : ReadFault) → IsUnmendedWithout unknown g e
         → IsUnmendedWithout unknown g f
         → (e ≡ ReadFault.Memory) ⊎ (f ≡ ReadFault.Memory) ⊎ (e ≡ f) }
 {}
 
-/// If memory is not refused, a square is refused for a fault exactly if it has this fault.
+/// If memory is not refused, `mend_symbol` returns a fault exactly if `IsUnmended` holds for the damaged symbol and
+/// this fault. The definition `IsUnmended` lists the reasons for each fault.
 pub fn mendings_are_refused_exactly(alloc: Global, damaged: &Matrix) -> Result<Mended, ReadFault>
     ensures { (e : ReadFault) → e ≢ ReadFault.Memory
         → (result ≡ Err e) ↔ ((result ≢ Err ReadFault.Memory) × IsUnmended damaged.now e) }
@@ -137,8 +153,9 @@ pub fn mendings_are_refused_exactly(alloc: Global, damaged: &Matrix) -> Result<M
     mend_symbol(alloc, damaged)
 }
 
-/// If memory is not refused, a square of which some modules could not be read is refused for a fault exactly if it has
-/// this fault.
+/// If memory is not refused, `mend_symbol_without` returns a fault exactly if `IsUnmendedWithout` holds for the damaged
+/// symbol and this fault. The definition `IsUnmendedWithout` lists the reasons for each fault. The dark modules of
+/// `unknown` are those that were not read.
 pub fn mendings_without_are_refused_exactly(
     alloc: Global,
     damaged: &Matrix,
@@ -151,18 +168,19 @@ pub fn mendings_without_are_refused_exactly(
     mend_symbol_without(alloc, damaged, unknown)
 }
 
-/// Two symbols of a version that contain different messages, or have different levels, lie far apart. They differ in at
-/// least seven modules in each copy of the format information, or in some block in more than twice as many codewords as
-/// can be mended.
+/// Two symbols of the same version differ in many modules or codewords if their messages or their levels are different.
+/// Either each copy of the format information differs in at least seven modules, or some block differs in more than
+/// twice as many codewords as can be corrected in it.
 pub fn symbols_lie_apart(version: Version)
     ensures { SymbolsLieApart version }
 {}
 
-/// A damaged symbol of an input is mended to exactly this input, unless memory is refused. This holds for any square of
-/// the symbol's side under two conditions. In each block at most `changed_max` codewords are wrong. At most three
-/// modules of the first copy of the format information are wrong, or at most three of the second copy if the first is of
-/// no use. All other modules may have any colour. The numbers of changed codewords and wrong modules are those of the
-/// damage.
+/// If the symbol of an input is damaged, mending the symbol yields exactly this input, unless memory is refused.
+/// `damaged` may be any square of modules with as many rows as the symbol, under two conditions. The first condition is
+/// that in each block at most `changed_max` codewords are wrong. The second condition is that at most three modules of
+/// the first copy of the format information are wrong. If the symbol cannot be mended with the first copy, it is enough
+/// that at most three modules of the second copy are wrong. All other modules may have any colour. The result contains
+/// the exact numbers of changed codewords and of wrong modules.
 pub fn damaged_symbols_are_mended(alloc: Global, damaged: &Matrix) -> Result<Mended, ReadFault>
     ensures { (smallest : ℕ) (l : Level) (rule : Rule) (x : List ℕ) (v mask : ℕ) (g : Grid) (changed : List ℕ)
         → 1 ≤ smallest → (s : IsSymbol smallest l rule x v mask g) → damaged.now.side ≡ g.side
@@ -176,12 +194,13 @@ pub fn damaged_symbols_are_mended(alloc: Global, damaged: &Matrix) -> Result<Men
     mend_symbol(alloc, damaged)
 }
 
-/// A damaged symbol of an input, of which some modules could not be read, is mended to exactly this input, unless
-/// memory is refused. `damaged` may be any square with as many rows as the symbol, and any of its modules may be
-/// unread, under two conditions. In each block the number of erased codewords plus twice the number of misread ones is
-/// at most twice `changed_max`. At most three modules of the first copy of the format information are wrong, or at most
-/// three of the second copy if the first is of no use. The numbers of misread codewords and wrong modules are those of
-/// the damage.
+/// If the symbol of an input is damaged and some modules could not be read, mending the symbol yields exactly this
+/// input, unless memory is refused. `damaged` may be any square of modules with as many rows as the symbol, under two
+/// conditions. Any of its modules may be unread; these modules are dark in `unknown`. The first condition is that in
+/// each block the number of erased codewords, plus twice the number of misread codewords, is at most twice
+/// `changed_max`. The second condition is that at most three modules of the first copy of the format information are
+/// wrong. If the symbol cannot be mended with the first copy, it is enough that at most three modules of the second
+/// copy are wrong. The result contains the exact numbers of misread codewords and of wrong modules.
 pub fn damaged_symbols_without_modules_are_mended(
     alloc: Global,
     damaged: &Matrix,
@@ -202,9 +221,10 @@ pub fn damaged_symbols_without_modules_are_mended(
     mend_symbol_without(alloc, damaged, unknown)
 }
 
-/// A symbol with few wrong modules is mended to exactly its input, unless memory is refused. Few are at most
-/// `changed_max` modules in each block, as many as codewords of a block can be mended, and at most three modules in the
-/// first copy of the format information. All other modules may have any colour.
+/// If few modules of the symbol of an input are wrong, mending the symbol yields exactly this input, unless memory is
+/// refused. In each block at most `changed_max` modules may be wrong: as many as codewords can be corrected in a block.
+/// In the first copy of the format information at most three modules may be wrong. All other modules may have any
+/// colour.
 pub fn few_wrong_modules_are_mended(alloc: Global, damaged: &Matrix) -> Result<Mended, ReadFault>
     ensures { (smallest : ℕ) (l : Level) (rule : Rule) (x : List ℕ) (v mask : ℕ) (g : Grid) → 1 ≤ smallest
         → (s : IsSymbol smallest l rule x v mask g) → damaged.now.side ≡ g.side → DifferInFewModules v l damaged.now g
@@ -215,7 +235,8 @@ pub fn few_wrong_modules_are_mended(alloc: Global, damaged: &Matrix) -> Result<M
     mend_symbol(alloc, damaged)
 }
 
-/// If memory is not refused, damaged symbols are refused for a fault exactly if they have this fault.
+/// If memory is not refused, `mend_series` returns a fault exactly if `IsUnmendedSeries` holds for the damaged symbols
+/// and this fault. The definition `IsUnmendedSeries` lists the reasons for each fault.
 pub fn series_mendings_are_refused_exactly(
     alloc: Global,
     damaged: &[Matrix],
@@ -226,8 +247,9 @@ pub fn series_mendings_are_refused_exactly(
     mend_series(alloc, damaged)
 }
 
-/// A damaged series of an input is mended to exactly this input, unless memory is refused. Likewise, if undamaged
-/// squares are joined to some bytes, the damaged squares are mended to these bytes, whoever drew them.
+/// If the symbols of a series for an input are damaged, mending the symbols yields exactly this input, unless memory is
+/// refused. Each symbol may have only as much damage as can be mended. The symbols may also be those of another
+/// encoder. Mending then yields the bytes to which the undamaged symbols are joined.
 pub fn damaged_series_are_mended(alloc: Global, damaged: &[Matrix]) -> Result<Vec<u8>, ReadFault>
     ensures series { (v : ℕ) (l : Level) (rule : Rule) (x : List ℕ) (ss : List Symbol) → 1 ≤ v → v ≤ 40
         → IsSeries v l rule x ss → AreDamagedSquares damaged.now (squares_of ss)

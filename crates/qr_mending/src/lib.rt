@@ -1,5 +1,6 @@
-//! Mends damaged QR Code symbols: uses the nearest format information, and finds in each block the codewords that were
-//! changed, as far as the standard allows (ISO/IEC 18004:2015, 7.5.1, 7.9.1 and 12, Annexes B and C).
+//! Mends damaged QR Code symbols: reads them and corrects their wrong codewords (ISO/IEC 18004:2015, 7.5.1, 7.9.1 and
+//! 12, Annexes B and C). The level and the mask are those whose format information differs in at most three modules
+//! from a copy in the symbol. A block can be mended if it has at most as many wrong codewords as the standard allows.
 #![tactic(auto)]
 
 mod block;

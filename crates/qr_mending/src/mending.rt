@@ -1,4 +1,4 @@
-//! Reads damaged symbols (ISO/IEC 18004:2015, 7.5.1, 7.9.1 and 12).
+//! Reads damaged symbols and corrects their wrong codewords (ISO/IEC 18004:2015, 7.5.1, 7.9.1 and 12).
 
 ghost use Rattle.std.specs.Prelude.{◌≡◌, ◌<◌, ◌⊎◌, length, IfErr, IfOk, Option, MatchOption, MatchResult};
 ghost use Rattle.qr_layout.specs.Blocks.{data_codewords_of};
@@ -19,8 +19,8 @@ use qr_matrix::{Matrix, differences};
 use qr_symbol::{ReadFault, draw_symbol, interleave, read_codewords};
 use std::alloc::{AllocError, Global};
 
-// The mended message of a damaged symbol, the level and the mask that it was mended under, and for each block the number
-// of changed codewords.
+// The mended codewords of a damaged symbol. The symbol was read with the level `level` and the mask `mask`. `message`
+// contains the mended data codewords. `changed` contains for each block the number of its codewords that were misread.
 #[derive(Drop)]
 pub(crate) struct MendedSquare {
     pub level: Level,
@@ -29,9 +29,10 @@ pub(crate) struct MendedSquare {
     pub changed: Vec<usize>,
 }
 
-// Mends the square under the level and the mask that a copy of its format information is near to. Codewords whose mark
-// is not 0 are erased; if `marks` is empty, all codewords were read. Returns `None` if the copy is of no use: if it is
-// near to no level and mask, or if a block has more damage than can be mended.
+// Mends the symbol in `matrix` by means of one copy of its format information. The level and the mask are those whose
+// format information differs from this copy in at most three modules. A codeword is erased if its mark in `marks` is
+// not 0, which means that it is known to be unreadable. If `marks` is empty, no codeword is erased. Returns `None` if
+// there is no such level and mask, or if some block has more wrong codewords than can be corrected.
 fn mend_by(
     alloc: Global,
     version: Version,
@@ -64,7 +65,10 @@ fn mend_by(
     }
 }
 
-// Mends the square by the first copy of its format information, or by the second copy if the first is of no use.
+// Mends the symbol in `matrix` by means of the first copy of its format information. If the symbol cannot be mended
+// with the first copy, the second copy is used. A codeword is erased if its mark in `marks` is not 0, which means that
+// it is known to be unreadable. If `marks` is empty, no codeword is erased. Returns `None` if the symbol can be mended
+// with neither copy.
 pub(crate) fn mend_by_either(
     alloc: Global,
     version: Version,
@@ -86,7 +90,8 @@ pub(crate) fn mend_by_either(
     }
 }
 
-// Mends a square of which all modules were read.
+// Mends the symbol in `matrix`, of which all modules were read. Returns `None` if the symbol can be mended with neither
+// copy of its format information.
 fn mend_square(
     alloc: Global,
     version: Version,
@@ -102,7 +107,8 @@ fn mend_square(
     mend_by_either(alloc, version, matrix, &[])
 }
 
-// Draws the symbol that contains the message, and returns the number of modules in which the square differs from it.
+// Draws the undamaged symbol whose data codewords are `message`, and returns the number of modules in which `matrix`
+// differs from this symbol.
 fn count_wrong_modules(
     alloc: Global,
     version: Version,
@@ -121,38 +127,42 @@ fn count_wrong_modules(
     Ok(differences(matrix, &symbol))
 }
 
-/// The content of a damaged symbol, and how much damage was mended.
+/// The content of a damaged symbol after its damage was corrected, and numbers that describe the damage.
 #[derive(Drop)]
 pub struct Mended {
-    /// The version, which is determined by the side.
+    /// The version of the symbol, which follows from the number of its rows.
     pub version: Version,
-    /// The level of error correction.
+    /// The error correction level of the symbol.
     pub level: Level,
-    /// The mask, from 0 to 7.
+    /// The number of the mask pattern, from 0 to 7.
     pub mask: u8,
-    /// The content of the symbol.
+    /// The content of the symbol: an optional structured append header, the segments, and the bytes of all segments.
     pub parsed: Parsed,
-    /// The number of wrong modules among the 30 modules of both copies of the format information.
+    /// The number of wrong modules among the 30 modules of the two copies of the format information.
     pub wrong_format_modules: u8,
-    /// The number of modules of the whole square that differ from the symbol of the mended message. Function patterns,
-    /// version information and remainder bits count too. The number is 0 exactly if every module of the square has the
-    /// colour that it has in that symbol.
+    /// The number of wrong modules in the whole symbol. A module is wrong if it could not be read, or if it does not
+    /// have the colour that it has in the undamaged symbol. The modules of function patterns, version information and
+    /// remainder bits are counted too. The number is 0 exactly if every module was read and has the colour that it has
+    /// in the undamaged symbol.
     pub wrong_modules: u32,
-    /// For each block, the number of its codewords that were changed.
+    /// For each block, the number of codewords that were misread. Codewords that are known to be unreadable are not
+    /// counted.
     pub changed: Vec<usize>,
 }
 
-/// Reads a symbol and mends its damage (ISO/IEC 18004:2015, 7.5.1, 7.9.1 and 12). The version is determined by the side.
-/// The level and the mask are those whose format information differs in at most three modules from the copy beside the
-/// top left finder pattern. If there are none, or if some block cannot be mended under them, the other copy is used. In
-/// each block up to `changed_max` codewords are mended. The function patterns, the version information and the remainder
-/// bits are ignored for reading; the number of wrong modules shows whether they are damaged.
+/// Reads a damaged symbol and corrects its wrong codewords (ISO/IEC 18004:2015, 7.5.1, 7.9.1 and 12). The version
+/// follows from the number of rows of `matrix`. The level and the mask are those whose format information differs in at
+/// most three modules from the copy beside the top left finder pattern. If there is no such level and mask, or if some
+/// block cannot be mended with them, the other copy is used in the same way. In each block up to `changed_max` wrong
+/// codewords are corrected. The function patterns, the version information and the remainder bits have no effect on the
+/// content that is read. Wrong modules of these parts are counted in `Mended::wrong_modules`.
 ///
 /// # Errors
 ///
-/// `Side` if no version has the side; `Format` if both copies of the format information have more than three wrong
-/// modules for every level and mask; `Check` if some block has more damage than can be mended; `Segments` if the mended
-/// data codewords cannot be parsed; `Memory`.
+/// Returns `Side` if no version has as many rows as `matrix`. Returns `Format` if, for every level and mask, both
+/// copies of the format information have more than three wrong modules. Returns `Check` if some block has more wrong
+/// codewords than can be corrected, whichever copy is used. Returns `Segments` if the mended data codewords cannot be
+/// parsed. Returns `Memory` if memory is refused.
 pub fn mend_symbol(alloc: Global, matrix: &Matrix) -> Result<Mended, ReadFault>
     ensures mended { MatchResult result
         (λ m. IsMendedReading matrix.now m.version m.level m.mask m.parsed m.changed.items) (IsUnmended matrix.now) }

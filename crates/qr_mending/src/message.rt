@@ -1,4 +1,5 @@
-//! Mends the message of a damaged symbol, block by block (ISO/IEC 18004:2015, 7.5.1 and 7.6).
+//! Mends the message of a damaged symbol: corrects the wrong codewords of each block. The message is the data codewords
+//! of the symbol (ISO/IEC 18004:2015, 7.5.1 and 7.6).
 
 ghost use Rattle.std.specs.Prelude.{◌≡◌, ℕ, ◌+◌, ◌*◌, ◌≤◌, ◌⊎◌, ◌++◌, List, length, Err, IfOk, IfErr};
 ghost use Rattle.qr_field.specs.Polynomial.{IsCorrection};
@@ -16,14 +17,17 @@ use qr_layout::{Blocks, Level, Version};
 use qr_symbol::{BlockSizes, ReadFault};
 use std::alloc::Global;
 
-// The data codewords of a mended block, and the number of codewords of the block that were changed.
+// A mended block. `message` contains the data codewords of the block. `changed` is the number of codewords of the block
+// that were misread. Codewords that are known to be unreadable are not counted.
 #[derive(Drop)]
 pub(crate) struct MendedBlock {
     pub message: Vec<u8>,
     pub changed: usize,
 }
 
-// Mends a block of which at most `t` codewords have been changed.
+// Mends a damaged block in which at most `t` codewords are wrong. `message` contains the data codewords that were read,
+// and `checks` contains the error correction codewords that were read. Returns `ReadFault::Check` if every block
+// differs from these codewords in more than `t` codewords.
 fn mend_block(
     alloc: Global,
     divisor: &Divisor,
@@ -55,15 +59,18 @@ fn mend_block(
     })
 }
 
-// The data codewords of all mended blocks, and for each block the number of its codewords that were changed.
+// A mended message, which is the data codewords of a symbol. `message` contains the data codewords of all blocks, block
+// after block. `changed` contains for each block the number of codewords that were misread. Codewords that are known to
+// be unreadable are not counted.
 #[derive(Drop)]
 pub(crate) struct MendedMessage {
     pub message: Vec<u8>,
     pub changed: Vec<usize>,
 }
 
-// Mends all blocks: `codewords` are their data codewords and `checks` their error correction codewords, block after
-// block.
+// Mends all blocks of a symbol; in each block at most `t` codewords may be wrong. `codewords` contains the data
+// codewords that were read, block after block. `checks` contains the error correction codewords that were read, block
+// after block.
 fn mend_parts(
     alloc: Global,
     blocks: Blocks,
@@ -103,7 +110,8 @@ fn mend_parts(
     Ok(MendedMessage { message, changed })
 }
 
-// Returns the message whose final sequence differs from `codewords` in at most `t` codewords of each block.
+// Returns the mended message of a damaged symbol: its data codewords, block after block. `codewords` contains the
+// interleaved codewords that were read from the symbol. In each block at most `t` of these codewords may be wrong.
 fn mend_blocks(
     alloc: Global,
     blocks: Blocks,
@@ -127,8 +135,9 @@ fn mend_blocks(
     mend_parts(alloc, blocks, t, &received, &checks)
 }
 
-// Returns the number of error correction codewords of a block that are kept unused, so that a block is not mended to a
-// wrong one.
+// Returns the number of error correction codewords of a block that are kept unused
+// (ISO/IEC 18004:2015, 7.5.1, Table 9). Keeping them unused makes it less likely that a damaged block is mended to a
+// wrong block.
 fn protection(version: Version, level: Level) -> u8
     ensures { result ≡ protection_of version level }
 {
@@ -140,7 +149,8 @@ fn protection(version: Version, level: Level) -> u8
     }
 }
 
-// Returns the number of error correction codewords of a block that may be used.
+// Returns the number of error correction codewords of a block that may be used to correct wrong codewords, in a symbol
+// of this version and level.
 pub(crate) fn spare(version: Version, level: Level) -> u8
     ensures { result ≡ spare_of version level }
 {
@@ -148,16 +158,17 @@ pub(crate) fn spare(version: Version, level: Level) -> u8
     count.saturating_sub(protection(version, level))
 }
 
-/// Returns the largest number of codewords of each block that may be changed in a symbol of this version and level, from
-/// 2 to 15: half of the block's error correction codewords, or less for some levels of versions 1 to 3
-/// (ISO/IEC 18004:2015, 7.5.1, Table 9).
+/// Returns the largest number of wrong codewords that can be corrected in each block of a symbol of this version and
+/// level (ISO/IEC 18004:2015, 7.5.1, Table 9). The returned number is from 2 to 15. The number is half the number of
+/// error correction codewords of a block; for some levels of versions 1 to 3 it is less than half.
 pub fn changed_max(version: Version, level: Level) -> u8
     ensures { result ≡ tolerance_of version level }
 {
     spare(version, level) / 2
 }
 
-// Returns the message of which the codewords are a damaged form, in the blocks of this version and level.
+// Returns the mended message of a damaged symbol of this version and level: its data codewords, block after block.
+// `codewords` contains the interleaved codewords that were read from the symbol, and some of these may be wrong.
 pub(crate) fn mend_message(
     alloc: Global,
     version: Version,

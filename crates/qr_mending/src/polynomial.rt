@@ -1,4 +1,5 @@
-//! Polynomials over the field of 256 elements whose leading coefficient is 1.
+//! Computes with polynomials over the field of 256 elements whose leading coefficient is 1. The leading coefficient is
+//! that of the highest power of x.
 
 ghost use Rattle.std.specs.Prelude.{◌≡◌, ◌+◌, ◌<◌, ◌≤◌, ◌≢◌, length};
 ghost use Rattle.std.specs.List.{All};
@@ -8,8 +9,9 @@ ghost use Rattle.qr_mending.specs.Steps.Polynomial.{all_of, IsMonic, miss_of, Is
 use crate::sums::dot;
 use qr_field::{div, mul};
 
-// A polynomial: its coefficients from the lowest power of x on. The coefficient at index `degree` is 1; the items of
-// `terms` after it are not used.
+// A polynomial over the field of 256 elements. The items of `terms` up to index `degree` are the coefficients; that of
+// the lowest power of x comes first. The coefficient at index `degree` is 1, except in the default value. The items of
+// `terms` after index `degree` are not used.
 #[derive(Clone, Copy)]
 pub(crate) struct Polynomial {
     pub(crate) degree: usize,
@@ -26,7 +28,7 @@ impl Default for Polynomial {
 }
 
 impl Polynomial {
-    // Returns x to the power `degree`.
+    // Returns the polynomial x to the power `degree`.
     pub(crate) fn monomial(degree: usize) -> Polynomial
         requires { degree < 16 }
         ensures degree { result.degree ≡ degree }
@@ -37,7 +39,7 @@ impl Polynomial {
         Polynomial { degree, terms }
     }
 
-    // Returns all coefficients, from the lowest power of x on.
+    // Returns all coefficients of the polynomial; that of the lowest power of x comes first.
     pub(crate) fn coefficients(&self) -> &[u8]
         requires { self.now.degree < 16 }
         ensures value { result.now ≡ all_of self.now }
@@ -47,7 +49,8 @@ impl Polynomial {
         &self.terms[..self.degree + 1]
     }
 
-    // Returns the sum of the products of the coefficients and the values in `window`.
+    // Returns the sum of the products of each coefficient and the value in `window` with the same index. If this sum is
+    // 0, the polynomial solves the equation of `window`.
     pub(crate) fn miss(&self, window: &[u8]) -> u8
         requires fits { self.now.degree < 16 }
         requires long { self.now.degree < length window.now }
@@ -58,7 +61,8 @@ impl Polynomial {
         dot(self.coefficients(), window)
     }
 
-    // Returns the sum of this polynomial and `factor` times `other`, which has a lower degree.
+    // Returns the sum of this polynomial and `factor` times the polynomial `other`. The degree of `other` is lower than
+    // the degree of this polynomial.
     fn plus(&self, factor: u8, other: &Polynomial) -> Polynomial
         requires lower { other.now.degree < self.now.degree }
         requires fits { self.now.degree < 16 }
@@ -76,8 +80,9 @@ impl Polynomial {
         }
     }
 
-    // Returns the sum of this polynomial and a multiple of `pivot`, which has a lower degree. The multiple is chosen so
-    // that the result solves the equation of the window: its `miss` is 0.
+    // Returns the sum of this polynomial and a multiple of the polynomial `pivot`, which has a lower degree. The
+    // multiple is chosen so that the returned polynomial solves the equation of `window`. A polynomial solves this
+    // equation if `miss` returns 0 for the polynomial and `window`.
     pub(crate) fn relieved(&self, pivot: &Polynomial, window: &[u8]) -> Polynomial
         requires lower { pivot.now.degree < self.now.degree }
         requires fits { self.now.degree < 16 }

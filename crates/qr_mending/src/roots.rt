@@ -1,4 +1,5 @@
-//! Polynomials with a root for each erased codeword.
+//! Computes polynomials with a root for each erased codeword of a block. A codeword is erased if it is known to be
+//! unreadable.
 
 ghost use Rattle.std.specs.Prelude.{◌≡◌, ◌+◌, ◌<◌, ◌≤◌, length};
 ghost use Rattle.std.specs.List.{All, count_by};
@@ -9,14 +10,15 @@ ghost use Rattle.qr_mending.specs.Steps.Roots.{rooted, times_root};
 use arrayvec::ArrayVec;
 use qr_field::{mul, power_of};
 
-// Returns the number of erased codewords.
+// Returns the number of erased codewords, which is the number of items of `erased` that are true.
 pub(crate) fn count_erased(erased: &[bool]) -> usize
     ensures { result ≡ count_by (λ e. e) erased.now }
 {
     erased.iter().filter(|place| **place).count()
 }
 
-// Returns the product of a polynomial and x + root. Coefficients are listed from the lowest power of x on.
+// Returns the product of the polynomial `polynomial` and x + `root`. The coefficients of each polynomial are listed
+// from that of the lowest power of x on.
 fn with_root(polynomial: &[u8], root: u8) -> ArrayVec<u8, 31>
     requires { length polynomial.now < 31 }
     ensures { result.items ≡ times_root root 0 polynomial.now }
@@ -31,8 +33,9 @@ fn with_root(polynomial: &[u8], root: u8) -> ArrayVec<u8, 31>
     product
 }
 
-// Returns the product of a polynomial and a factor with a root for each erased codeword. The root is 2 to the power m,
-// where m is the number of codewords after the erased one.
+// Returns the product of the polynomial `polynomial` and one factor for each erased codeword of a block. `erased` is
+// true at the index of each erased codeword. The factor of an erased codeword is x + 2^m, where m is the number of
+// codewords after it in the block.
 pub(crate) fn with_roots(erased: &[bool], polynomial: &[u8]) -> ArrayVec<u8, 31>
     requires small { length erased.now ≤ 255 }
     requires fits { length polynomial.now + count_by (λ e. e) erased.now ≤ 31 }

@@ -1,4 +1,5 @@
-//! Reads damaged symbols together: joins the bytes of a damaged series in their order (ISO/IEC 18004:2015, 8).
+//! Reads the damaged symbols of a series, corrects their wrong codewords, and joins their bytes in the order of the
+//! symbols (ISO/IEC 18004:2015, 8).
 
 ghost use Rattle.std.specs.Prelude.{MatchResult};
 ghost use Rattle.qr_symbol.specs.Joining.{AreReadBy};
@@ -10,7 +11,7 @@ use qr_matrix::Matrix;
 use qr_symbol::{ReadFault, join};
 use std::alloc::Global;
 
-// Returns the content of each symbol, with its damage mended.
+// Returns the content of each damaged symbol after its wrong codewords were corrected.
 fn mend_all(alloc: Global, damaged: &[Matrix]) -> Result<Vec<Parsed>, ReadFault>
     ensures { MatchResult result (λ contents. AreReadBy IsMendedContent damaged.now contents.items)
         (IsUnmendedSeries damaged.now) }
@@ -22,18 +23,20 @@ fn mend_all(alloc: Global, damaged: &[Matrix]) -> Result<Vec<Parsed>, ReadFault>
     Ok(contents)
 }
 
-/// Reads symbols, mends their damage and joins their bytes, in their order (ISO/IEC 18004:2015, 8 and 12). The symbols
-/// are one symbol without a header, or a whole series: each header must contain the position of its symbol, counted
-/// from 0, the number of symbols less 1, and the parity of all bytes.
+/// Reads damaged symbols, corrects their wrong codewords, and joins the bytes of the symbols in their order
+/// (ISO/IEC 18004:2015, 8 and 12). `damaged` must contain one symbol without a structured append header, or all symbols
+/// of a series in their order. In a series, the structured append header of each symbol must contain the position of
+/// the symbol, counted from 0. The header must also contain the number of symbols less 1 and the parity of all bytes.
 ///
 /// # Errors
 ///
-/// The fault of the first symbol that cannot be mended, whatever the headers contain; `Series` if all symbols are
-/// mended but do not belong together, or if there is no symbol.
+/// Returns the fault of the first symbol that cannot be mended, whatever the headers of the symbols contain. Returns
+/// `Series` if all symbols are mended, but they are neither one symbol without a header nor a whole series. Returns
+/// `Series` also if `damaged` is empty.
 ///
 /// # Notes
 ///
-/// `mend_symbol` also returns the damage of a single symbol.
+/// To learn how much damage a symbol has, call `mend_symbol`.
 pub fn mend_series(alloc: Global, damaged: &[Matrix]) -> Result<Vec<u8>, ReadFault>
     ensures { MatchResult result (λ bytes. IsMendedSeries damaged.now bytes.items) (IsUnmendedSeries damaged.now) }
 {

@@ -1,4 +1,4 @@
-//! Values of polynomials over the field of 256 elements, and sums of products.
+//! Computes values of polynomials over the field of 256 elements, and sums of products in this field.
 
 ghost use Rattle.std.specs.Prelude.{◌≡◌, ◌<◌, ◌≤◌, ℕ, length, slice_index};
 ghost use Rattle.arrayvec.specs.ArrayVec.{array_vec_len};
@@ -10,7 +10,8 @@ ghost use Rattle.qr_mending.specs.Steps.Sums.{dot_of, eval, HasValues};
 use arrayvec::ArrayVec;
 use qr_field::{mul, power_of};
 
-// Returns the sum of the products of the items with the same index in two lists, up to the end of `terms`.
+// Returns the sum of the products of `terms[j]` and `window[j]` for all indices `j` of `terms`, in the field of 256
+// elements.
 pub(crate) fn dot(terms: &[u8], window: &[u8]) -> u8
     requires { length terms.now ≤ length window.now }
     ensures value { result ≡ dot_of terms.now window.now }
@@ -23,7 +24,8 @@ pub(crate) fn dot(terms: &[u8], window: &[u8]) -> u8
     sum
 }
 
-// Returns the value at x of a polynomial whose coefficients are listed from the lowest power on.
+// Returns the value at `x` of the polynomial whose coefficients are `terms`. The coefficient of the lowest power of x
+// comes first.
 pub(crate) fn value(terms: &[u8], x: u8) -> u8
     ensures { result ≡ eval x terms.now }
 {
@@ -34,8 +36,8 @@ pub(crate) fn value(terms: &[u8], x: u8) -> u8
     value
 }
 
-// Returns the value at 2 to the power `exponent` of a polynomial whose coefficients are listed from the highest power
-// on.
+// Returns the value at 2 to the power `exponent` of the polynomial whose coefficients are the codewords of `block`. The
+// coefficient of the highest power of x comes first.
 fn syndrome(block: &[u8], exponent: u8) -> u8
     requires { exponent < 255 }
     ensures { result ≡ value_at exponent block.now }
@@ -48,8 +50,9 @@ fn syndrome(block: &[u8], exponent: u8) -> u8
     value
 }
 
-// Returns the values of a block at the first `n` powers of 2, from 2 to the power 0 on. They are all 0 if it has no
-// errors.
+// Returns the syndromes of a block: the values of a polynomial at the first `n` powers of 2, from 2 to the power 0 on.
+// The codewords of `block` are the coefficients of this polynomial; that of the highest power of x comes first. If the
+// block has `n` error correction codewords and no codeword is wrong, all syndromes are 0.
 pub(crate) fn syndromes(block: &[u8], n: usize) -> ArrayVec<u8, 30>
     requires { n ≤ 30 }
     ensures count { array_vec_len result ≡ n }

@@ -1,4 +1,5 @@
-//! Reads damaged symbols of which some modules could not be read (ISO/IEC 18004:2015, 7.5.1, 7.9.1 and 12).
+//! Reads damaged symbols in which some modules could not be read, and corrects their wrong codewords
+//! (ISO/IEC 18004:2015, 7.5.1, 7.9.1 and 12).
 
 ghost use Rattle.std.specs.Prelude.{◌≡◌, ◌<◌, ◌≤◌, length, IfErr, IfOk, Some, MatchOption, MatchResult};
 ghost use Rattle.qr_layout.specs.Blocks.{data_codewords_of};
@@ -19,7 +20,9 @@ use qr_matrix::Matrix;
 use qr_symbol::{ReadFault, draw_symbol, interleave};
 use std::alloc::{AllocError, Global};
 
-// Mends the square. A codeword with a module that was not read is erased.
+// Mends the symbol in `matrix`, of which some modules were not read. The dark modules of `unknown` are those that were
+// not read. A codeword with such a module is erased. Returns `None` if the symbol can be mended with neither copy of
+// its format information.
 fn mend_square_without(
     alloc: Global,
     version: Version,
@@ -39,7 +42,8 @@ fn mend_square_without(
     mend_by_either(alloc, version, matrix, &marks)
 }
 
-// Counts the modules of a row that were not read or differ from those of `symbol`.
+// Returns the number of wrong modules in row `row` of `matrix`. A module is wrong if it was not read, or if it does not
+// have the colour that it has in `symbol`. The dark modules of `unknown` are those that were not read.
 fn wrong_in_row(unknown: &Matrix, matrix: &Matrix, symbol: &Matrix, row: u8) -> u32
     requires unknown_side { unknown.now.side ≡ matrix.now.side }
     requires side { symbol.now.side ≡ matrix.now.side }
@@ -57,7 +61,8 @@ fn wrong_in_row(unknown: &Matrix, matrix: &Matrix, symbol: &Matrix, row: u8) -> 
     wrong
 }
 
-// Counts the modules that were not read or differ from those of `symbol`.
+// Returns the number of wrong modules in `matrix`. A module is wrong if it was not read, or if it does not have the
+// colour that it has in `symbol`. The dark modules of `unknown` are those that were not read.
 fn count_wrong(unknown: &Matrix, matrix: &Matrix, symbol: &Matrix) -> u32
     requires unknown_side { unknown.now.side ≡ matrix.now.side }
     requires side { symbol.now.side ≡ matrix.now.side }
@@ -70,8 +75,9 @@ fn count_wrong(unknown: &Matrix, matrix: &Matrix, symbol: &Matrix) -> u32
     wrong
 }
 
-// Draws the symbol that contains the message, and returns the number of modules that were not read or in which the
-// square differs from it.
+// Draws the undamaged symbol whose data codewords are `message`, and returns the number of wrong modules in `matrix`. A
+// module is wrong if it was not read, or if it does not have the colour that it has in the undamaged symbol. The dark
+// modules of `unknown` are those that were not read.
 fn count_wrong_modules_without(
     alloc: Global,
     version: Version,
@@ -92,19 +98,21 @@ fn count_wrong_modules_without(
     Ok(count_wrong(unknown, matrix, &symbol))
 }
 
-/// Reads a symbol of which some modules could not be read, and mends its damage (ISO/IEC 18004:2015, 7.5.1, 7.9.1 and
-/// 12). `unknown` is a square of the same side, whose dark modules are those that could not be read. A codeword with
-/// such a module is erased. An erased codeword takes half as much of the error correction as a misread codeword: in
-/// each block the number of erased codewords, plus twice the number of misread codewords, may be at most twice
-/// `changed_max`, the number of misread codewords that can be mended in a block without erased ones. In a copy of the
-/// format information, a module that could not be read has the colour that it has in `matrix`.
+/// Reads a damaged symbol in which some modules could not be read, and corrects its wrong codewords
+/// (ISO/IEC 18004:2015, 7.5.1, 7.9.1 and 12). `unknown` has as many rows as `matrix`, and its dark modules are those
+/// that could not be read. A codeword with a module that could not be read is called erased. To correct an erased
+/// codeword, half as much error correction is needed as to correct a misread codeword. In each block, the number of
+/// erased codewords plus twice the number of misread codewords may be at most twice `changed_max`. Here `changed_max`
+/// is the number of misread codewords that can be corrected in a block without erased codewords. To find the level and
+/// the mask, a module that could not be read is used with the colour that it has in `matrix`.
 ///
-/// `Mended::changed` counts the misread codewords only. A module that could not be read counts as a wrong module,
-/// whatever colour it has in `matrix`. Everything else is as in `mend_symbol`.
+/// The field `Mended::changed` counts only the misread codewords. A module that could not be read counts as a wrong
+/// module, whatever colour it has in `matrix`. In all other respects, this function works like `mend_symbol`.
 ///
 /// # Errors
 ///
-/// As in `mend_symbol`. `Check` is returned if in some block more codewords are erased and misread than can be mended.
+/// Returns the same faults as `mend_symbol`. Returns `Check` if the erased and misread codewords of some block are more
+/// than can be corrected.
 pub fn mend_symbol_without(
     alloc: Global,
     matrix: &Matrix,

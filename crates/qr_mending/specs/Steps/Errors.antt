@@ -1,4 +1,5 @@
--- The errors of a damaged block. An error is the difference of a received codeword and the correct one.
+-- Defines how the errors of a damaged block are found. An error is the difference between a codeword as it was read and
+-- the correct codeword.
 use Rattle.std.specs.Prelude.{◌≡◌, ℕ, ◌+◌, ◌-◌, ◌<◌, ◌≤◌, ◌==◌, if◌then◌else◌, List, [], ◌∷◌, length, take}
 use Rattle.std.specs.List.{All}
 use Rattle.qr_field.specs.Galois.{product}
@@ -6,23 +7,27 @@ use Rattle.qr_field.specs.Polynomial.{IsByte, power}
 use Rattle.qr_field.specs.Steps.Polynomial.{value_at}
 use Rattle.qr_mending.specs.Steps.Sums.{eval, blend}
 
--- The coefficient of x^m of a polynomial whose coefficients are listed from the highest power on.
+-- `coefficient m e` is the coefficient of x^m in the polynomial whose coefficients are the list `e`. The coefficient of
+-- the highest power of x comes first in `e`.
 abbrev pub coefficient : ℕ → List ℕ → ℕ
 coefficient m [] = 0
 coefficient m (c ∷ e) = if m == length e then c else coefficient m e
 
--- All coefficients but the leading one, which is the last in the list.
+-- `low p` lists all coefficients of the polynomial `p` but the leading coefficient, which is the last item of `p`.
 abbrev pub low : List ℕ → List ℕ
 low p = take (length p - 1) p
 
--- Each error of a list, from the highest power on, times the value of the polynomial p at 2 to that power.
+-- `weighted p e` is the list `e` with each item multiplied by a value of the polynomial `p`. The items of `e` are the
+-- coefficients of a polynomial; that of the highest power of x comes first. The coefficient of x^m is multiplied by the
+-- value of `p` at 2^m.
 abbrev pub weighted : List ℕ → List ℕ → List ℕ
 weighted p [] = []
 weighted p (c ∷ e) = product c (eval (power (length e)) p) ∷ weighted p e
 
--- `IsLocated p e` holds if the polynomial p has the root 2^m for each power x^m whose coefficient in e is not 0, and
--- the values of e follow the recurrence of p: each follows from the values before it. The coefficients of p are listed
--- from the lowest power of x on, and the leading coefficient is 1.
+-- `IsLocated p e` holds if the polynomial `p` locates the errors `e`, which are the coefficients of the error
+-- polynomial. If the coefficient of x^m in `e` is not 0, the value of `p` at 2^m is 0. Each value of the error
+-- polynomial at a power of 2 is a sum of products of coefficients of `p` and the preceding values. The coefficients of
+-- `p` are listed from that of the lowest power of x on. The leading coefficient of `p` is 1.
 pub record IsLocated (p e : List ℕ) : Type 0 where
   pub bytes : All IsByte e
   pub most : length e ≤ 255

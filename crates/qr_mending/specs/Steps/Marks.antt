@@ -1,10 +1,11 @@
--- The marks of the codewords of a square.
+-- Defines the marks of the codewords of a symbol. A mark shows whether some module of its codeword was not read.
 use Rattle.std.specs.Prelude.{◌≡◌, ℕ, Option, None, Some, List, length}
 use Rattle.qr_matrix.specs.Grid.{Grid}
 use Rattle.qr_mending.specs.Unread.{AreMarks}
 
--- `HasMarks unknown v marks` holds if the marks are those of the square `unknown`, whose dark modules were not read.
--- Without that square there are no marks.
+-- `HasMarks unknown v marks` holds if `marks` lists the marks of the codewords of a symbol of version `v`. If `unknown`
+-- contains a square of modules, the dark modules of this square are those that were not read. The mark of a codeword is
+-- then 0 exactly if all its modules were read. If `unknown` contains no square, `marks` is empty.
 abbrev pub HasMarks : Option Grid → ℕ → List ℕ → Type 0
 HasMarks None v marks = length marks ≡ 0
 HasMarks (Some unknown) v marks = AreMarks v unknown marks

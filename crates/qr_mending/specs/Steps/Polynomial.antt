@@ -1,45 +1,51 @@
--- Polynomials whose leading coefficient is 1, and the list of them, called pool, that the elimination works on. A
--- polynomial solves the equation of a list of values, called window, if the sum `miss_of` of the products is 0.
+-- Defines polynomials whose leading coefficient is 1, and the steps of the elimination that finds the error locator
+-- polynomial. The elimination works on a list of polynomials, which is called the pool. A window is a list of values.
+-- In the equation of a window, each coefficient of a polynomial is multiplied by the value with the same index in the
+-- window. The polynomial solves the equation if the sum of these products is 0.
 use Rattle.std.specs.Prelude.{◌≡◌, ℕ, ◌+◌, ◌<◌, ◌≤◌, List, [], take, drop, length, slice_index, slice_index_or}
 use Rattle.std.specs.List.{All}
 use Rattle.qr_field.specs.Polynomial.{IsByte}
 use Rattle.qr_mending.specs.declared.polynomial.Polynomial.{Polynomial}
 use Rattle.qr_mending.specs.Steps.Sums.{dot_of}
 
--- All coefficients of the polynomial p, from the lowest power on.
+-- `all_of p` lists all coefficients of the polynomial `p`; that of the lowest power of x comes first.
 abbrev pub all_of : Polynomial → List ℕ
 all_of p = take (p.degree + 1) p.terms
 
--- `IsMonic p` holds if the leading coefficient of the polynomial p is 1.
+-- `IsMonic p` holds if the leading coefficient of the polynomial `p` is 1.
 abbrev pub IsMonic : Polynomial → Type 0
 IsMonic p = slice_index p.terms p.degree ≡ 1
 
--- The sum of the products of the coefficients of the polynomial p and the values in the window.
+-- `miss_of p window` is the sum of the products of each coefficient of the polynomial `p` and the value with the same
+-- index in the list `window`.
 abbrev pub miss_of : Polynomial → List ℕ → ℕ
 miss_of p window = dot_of (all_of p) window
 
--- The polynomial that `at` returns for an index past the end of a list.
+-- `blank` is the polynomial that `at` returns for an index past the end of a list.
 abbrev pub blank : Polynomial
 blank = record { degree = 0; terms = [] }
 
--- The polynomial with index k in the pool.
+-- `at pool k` is the polynomial with index `k` in the list `pool`, or `blank` if the list has no such index.
 abbrev pub at : List Polynomial → ℕ → Polynomial
 at pool k = slice_index_or pool k blank
 
--- `IsRelieved pivot window before after` holds if the polynomial `after` has the degree of `before`, is monic if `before`
--- is, solves the equation of the window, and also solves each equation that both `pivot` and `before` solve.
+-- `IsRelieved pivot window before after` holds if the polynomial `after` can replace the polynomial `before` in the
+-- pool. The two polynomials have the same degree, and `after` has the leading coefficient 1 if `before` has. The
+-- polynomial `after` solves the equation of `window` and each equation that both `pivot` and `before` solve.
 pub record IsRelieved (pivot : Polynomial) (window : List ℕ) (before after : Polynomial) : Type 0 where
   pub degree : after.degree ≡ before.degree
   pub monic : IsMonic before → IsMonic after
   pub none : miss_of after window ≡ 0
   pub others : (w : List ℕ) → All IsByte w → miss_of pivot w ≡ 0 → miss_of before w ≡ 0 → miss_of after w ≡ 0
 
--- `HasDegrees most pool` holds if the degree of each polynomial in the pool is at most `most`.
+-- `HasDegrees most pool` holds if the degree of each polynomial in the list `pool` is at most `most`.
 pub record HasDegrees (most : ℕ) (pool : List Polynomial) : Type 0 where
   pub each : (k : ℕ) → k < length pool → (at pool k).degree ≤ most
 
--- `IsPool t i syndromes pool` holds if the polynomials in the pool have rising degrees of at most t and solve the first
--- i of t equations. At first the pool has t + 1 polynomials, and each equation costs at most one polynomial.
+-- `IsPool t i syndromes pool` holds if `pool` is a list of polynomials that solve the first `i` of `t` equations. The
+-- degrees of the polynomials rise along the list and are at most `t`, and each leading coefficient is 1. A polynomial
+-- solves equation j if the sum of the products of its coefficients and the syndromes from index j on is 0. The list
+-- begins with `t` + 1 polynomials, and for each equation at most one polynomial is removed.
 pub record IsPool (t i : ℕ) (syndromes : List ℕ) (pool : List Polynomial) : Type 0 where
   pub count : t + 1 ≤ length pool + i
   pub degrees : HasDegrees t pool
