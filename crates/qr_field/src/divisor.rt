@@ -35,7 +35,7 @@ impl Model for Divisor {
 }
 
 // Returns 16 multiples of the coefficients `terms`. Entry i of the result contains these coefficients, each multiplied
-// by the number i shifted left by `shift` bits.
+// in the field by the number i shifted left by `shift` bits.
 fn multiples(terms: &[u8], shift: u8) -> [Register; 16]
     requires long { length terms.now ≤ 30 }
     requires small { shift ≤ 4 }

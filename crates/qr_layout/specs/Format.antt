@@ -49,7 +49,7 @@ sum_of_shifts divisor (k ∷ ks) = bit_xor (divisor * 2 ^ k) (sum_of_shifts divi
 
 -- `IsWordRemainder n divisor x r` holds if `divisor` has degree n and r is the remainder of x by `divisor`, as
 -- polynomials whose coefficients are bits. This means that r has at most n bits, and that the exclusive or of x and r
--- is a sum of shifted copies of `divisor` (ISO/IEC 18004:2015, Annexes C and D)
+-- is also the exclusive or of some shifted copies of `divisor` (ISO/IEC 18004:2015, Annexes C and D)
 pub record IsWordRemainder (n divisor x r : ℕ) : Type 0 where
   pub monic : (2 ^ n ≤ divisor) × (divisor < 2 ^ (n + 1))
   pub small : r < 2 ^ n

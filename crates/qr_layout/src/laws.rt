@@ -39,9 +39,9 @@ pub fn order_is_full(v: Version)
 {}
 
 /// The number of modules of the encoding region is the number of modules of the whole symbol, less the modules of four
-/// parts. These parts are the three corners (finder patterns, separators and format information), the timing patterns,
-/// the alignment patterns and the version information. The codeword bits and remainder bits of the version need exactly
-/// this number of modules.
+/// parts. These parts are the three corners (finder patterns, separators, format information and the dark module), the
+/// timing patterns, the alignment patterns and the version information. The codeword bits and remainder bits of the
+/// version need exactly this number of modules.
 pub fn region_is_counted(v: Version)
     ensures region { places_passing (side_of v) (is_in_region v) ≡ region_size v }
     ensures filled { module_count_of v ≡ region_size v }
@@ -86,13 +86,13 @@ pub fn nth_place(v: Version, number: usize) -> Option<Module>
 }
 
 /// For the versions 2 to 40, the rows of the centres of the alignment patterns are the rows that the spacing rule of
-/// Annex E yields.
+/// Annex E of the standard yields.
 #[tactic(auto, unfolding(crate::specs::Alignment::centres_of))]
 pub fn centres_are_spaced()
     ensures { map centres_of (range_with_len 2 39) ≡ map spaced_centres (range_with_len 2 39) }
 {}
 
-/// For all versions and levels, the number of data codewords is the number that Table 7 prints.
+/// For all versions and levels, the number of data codewords is the number that Table 7 of the standard prints.
 #[tactic(auto, unfolding(crate::specs::Blocks::data_codewords_of, crate::specs::Blocks::block_count_of, crate::specs::Blocks::correction_len_of, crate::specs::Version::total_codewords_of))]
 pub fn data_codewords_compute()
     ensures l { map (λ v. data_codewords_of v L) all_versions ≡ printed_data L }
@@ -102,8 +102,8 @@ pub fn data_codewords_compute()
 {}
 
 /// For all versions and levels, a block has two error correction codewords for each misread codeword that can be
-/// corrected, and in addition its misdecode protection codewords. Table 9 prints the numbers of these misread codewords
-/// and of these misdecode protection codewords.
+/// corrected, and in addition its misdecode protection codewords. Table 9 of the standard prints both numbers: of
+/// misread codewords that can be corrected, and of misdecode protection codewords.
 #[tactic(auto, unfolding(crate::specs::Blocks::correction_len_of))]
 pub fn correction_lens_compute()
     ensures l { map (λ v. correction_len_of v L) all_versions ≡ map (printed_correction L) all_versions }
@@ -144,19 +144,19 @@ pub fn data_is_bounded(v: Version, level: Level)
 
 /// The 15 bits of format information are five data bits and ten error correction bits, all combined with the bits
 /// 101010000010010 by exclusive or. The data bits indicate the level and the mask pattern. The error correction bits
-/// are the remainder that Annex C defines.
+/// are the remainder that Annex C of the standard defines.
 pub fn format_words_are_remainders(level: Level, mask: u8)
     ensures { mask < 8 → IsFormatWord (five_bits level mask) (format_word_of level mask) }
 {}
 
 /// The 18 bits of version information are six data bits and twelve error correction bits. The data bits are the number
-/// of the version. The error correction bits are the remainder that Annex D defines.
+/// of the version. The error correction bits are the remainder that Annex D of the standard defines.
 pub fn version_words_are_remainders(v: Version)
     ensures { IsVersionWord v (version_word_of v) }
 {}
 
-/// The definitions `format_word_of` and `version_word_of` yield the right bits in six examples. Annexes C and D work
-/// out two of these examples, and the tables of these annexes contain the other four.
+/// The definitions `format_word_of` and `version_word_of` yield the right bits in six examples. Annexes C and D of the
+/// standard work out two of these examples, and the tables of these annexes contain the other four.
 #[tactic(auto, unfolding(crate::specs::Format::format_word_of, crate::specs::Format::version_word_of, crate::specs::Format::remainder_of))]
 pub fn words_compute()
     ensures l { format_word_of L 0 ≡ 0x77C4 }
@@ -197,7 +197,7 @@ pub fn format_bits_have_places(v: Version)
 {}
 
 /// From version 7 on, each bit of the version information is at exactly two places. The first place is `version_place`,
-/// and the second place is the first one with its row and its column exchanged. Below version 7, no module contains a
+/// and the second place is `version_place` with its row and its column exchanged. Below version 7, no module contains a
 /// bit of version information.
 pub fn version_bits_have_places(v: Version)
     ensures first { (i : ℕ) → 7 ≤ v → i < 18

@@ -32,7 +32,7 @@ impl Cursor {
         requires strips_in { self.strips ≤ 88 }
         ensures { result ≡ place_of self }
     {
-        // The index that the column of the module would have without column 6, which contains a timing pattern.
+        // The index of the module's column if column 6, which contains a timing pattern, is not counted.
         let untimed = 2 * self.strips - 1 - if self.at_left { 1 } else { 0 };
         let col = if untimed < 6 { untimed } else { untimed + 1 };
         Module { row: self.row, col }
@@ -84,7 +84,7 @@ impl Cursor {
     fn at(m: Module) -> Cursor
         ensures { result ≡ cursor_at m }
     {
-        // The index that the column of the module would have without column 6, which contains a timing pattern.
+        // The index of the module's column if column 6, which contains a timing pattern, is not counted.
         let untimed = if m.col < 6 { m.col } else { m.col - 1 };
         let strips = untimed / 2 + 1;
         Cursor {

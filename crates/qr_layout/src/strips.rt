@@ -54,7 +54,7 @@ impl Iterator for Strips {
         if self.remaining == 0 {
             return None;
         }
-        // The index that the right column of the strip would have without column 6, which contains a timing pattern.
+        // The index of the strip's right column if column 6, which contains a timing pattern, is not counted.
         let untimed = 2 * self.remaining - 1;
         let right = if untimed < 6 { untimed } else { untimed + 1 };
         let upward = self.remaining % 2 == 0;

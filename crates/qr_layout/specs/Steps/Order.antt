@@ -33,7 +33,7 @@ left_of s a = a.strips * (2 * s) - (2 * rank_of s a + half_of a.at_left)
 
 -- `next_of s a` is the position that follows the position a in a symbol with s modules on a side. After the right
 -- module of a row comes the left module, and after the left module the next row of the strip. After the last row of a
--- strip comes the next strip, in the other direction
+-- strip comes the next strip, which the walk visits in the other direction
 unfoldable pub next_of : ℕ → Cursor → Cursor
 next_of s a =
     if a.at_left then
