@@ -1,17 +1,19 @@
--- Bytes as polynomials over bits: a number is the polynomial whose coefficient of x^i is its bit i, and a sum is the
--- exclusive or.
+-- Numbers as polynomials whose coefficients are bits: the coefficient of x^i is bit i of the number. The sum of two
+-- such polynomials is the exclusive or of the numbers.
 use Rattle.std.specs.Prelude.{◌≡◌, ℕ, ◌+◌, ◌*◌, ◌^◌, ◌<◌, ◌≤◌, bit_xor}
 use Prim.Native.Nat.{zero, suc}
 use Rattle.std.specs.Int.{bit_at}
 
--- `carryless w a b` is the product of a and the low w bits of b, as polynomials over bits: the sum of a times x^i over each
--- bit i of b that is 1 (ISO/IEC 18004:2015, 7.5.2)
+-- `carryless w a b` is the product of the number a and the low w bits of the number b, as polynomials whose
+-- coefficients are bits. The product is the exclusive or of the numbers a * 2^i for each i below w for which bit i of b
+-- is 1 (ISO/IEC 18004:2015, 7.5.2)
 unfoldable pub carryless : ℕ → ℕ → ℕ → ℕ
 carryless zero a b = 0
 carryless (suc w) a b = bit_xor (bit_at b w * (a * 2 ^ w)) (carryless w a b)
 
--- `IsRemainder n divisor x r` holds if r is the remainder of x by a divisor of degree n: r has n bits, and differs from x by
--- a multiple of the divisor (ISO/IEC 18004:2015, 7.5.2)
+-- `IsRemainder n divisor x r` holds if `divisor` is a polynomial of degree n, and r is the remainder of x by `divisor`.
+-- The numbers are read as polynomials whose coefficients are bits. The remainder r has at most n bits, and the sum of x
+-- and r is a multiple of `divisor` (ISO/IEC 18004:2015, 7.5.2)
 pub record IsRemainder (n divisor x r : ℕ) : Type 0 where
   pub degree_least : 2 ^ n ≤ divisor
   pub degree_most : divisor < 2 ^ (n + 1)
@@ -19,22 +21,24 @@ pub record IsRemainder (n divisor x r : ℕ) : Type 0 where
   pub quotient : ℕ
   pub whole : bit_xor x r ≡ carryless (n + 1) quotient divisor
 
--- The field's prime modulus polynomial x^8 + x^4 + x^3 + x^2 + 1 (ISO/IEC 18004:2015, 7.5.2)
+-- `prime_modulus` is the prime modulus polynomial x^8 + x^4 + x^3 + x^2 + 1 of the field of 256 elements (ISO/IEC
+-- 18004:2015, 7.5.2)
 abbrev pub prime_modulus : ℕ
 prime_modulus = 0x11D
 
--- `IsProduct a b p` holds if p is the product of the elements a and b: the byte that differs from their carryless product by
--- a multiple of the prime modulus polynomial (ISO/IEC 18004:2015, 7.5.2)
+-- `IsProduct a b p` holds if p is the product of the elements a and b in the field of 256 elements. This product is the
+-- byte that differs from the carryless product of a and b by a multiple of the prime modulus polynomial (ISO/IEC
+-- 18004:2015, 7.5.2)
 abbrev pub IsProduct : ℕ → ℕ → ℕ → Type 0
 IsProduct a b p = IsRemainder 8 prime_modulus (carryless 8 a b) p
 
--- `remainder_of n divisor k x` is the remainder of x, a number of n + k bits, by a divisor of degree n: long division in k
--- steps
+-- `remainder_of n divisor k x` is the remainder of the number x, which has n + k bits, by `divisor`, a polynomial of
+-- degree n. The remainder is computed by long division in k steps
 unfoldable pub remainder_of : ℕ → ℕ → ℕ → ℕ → ℕ
 remainder_of n divisor zero x = x
 remainder_of n divisor (suc k) x = remainder_of n divisor k (bit_xor x (bit_at x (n + k) * (divisor * 2 ^ k)))
 
--- The product of the elements a and b, as a value: the only byte p for which `IsProduct a b p` holds (ISO/IEC 18004:2015,
--- 7.5.2)
+-- `product a b` is the product of the elements a and b in the field of 256 elements: the only byte p for which
+-- `IsProduct a b p` holds (ISO/IEC 18004:2015, 7.5.2)
 unfoldable pub product : ℕ → ℕ → ℕ
 product a b = remainder_of 8 prime_modulus 7 (carryless 8 a b)

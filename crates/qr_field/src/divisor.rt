@@ -1,4 +1,5 @@
-//! Division by a generator polynomial with precomputed multiples (ISO/IEC 18004:2015, 7.5.2).
+//! Division of a block's data codewords by a generator polynomial (ISO/IEC 18004:2015, 7.5.2). Multiples of the
+//! generator polynomial are computed once, before the first division.
 
 ghost use Rattle.std.specs.Prelude.{◌≡◌, ◌≤◌, ℕ, List, length};
 ghost use Rattle.qr_field.specs.Steps.Register.{HasMultiples, divisor_of, packed, value_of};
@@ -9,13 +10,14 @@ use crate::register::Register;
 use arrayvec::ArrayVec;
 use std::marker::Model;
 
-/// The generator polynomial for n error correction codewords, made once for many blocks. Contracts describe it by the
-/// number n.
+/// A generator polynomial for n error correction codewords, together with its multiples, which are computed once and
+/// used for many blocks. In contracts, the value of a `Divisor` is the number n.
 #[derive(Drop)]
 pub struct Divisor {
     count: usize,
-    // The multiples of the coefficients after the leading 1: `low` by the low four bits of a factor, `high` by its high
-    // four.
+    // Both fields contain multiples of the coefficients that follow the leading 1 of the generator polynomial. The
+    // factors of the multiples in `low` are the numbers 0 to 15. The factors of the multiples in `high` are the same
+    // numbers shifted left by four bits.
     low: [Register; 16],
     high: [Register; 16],
 }
@@ -32,7 +34,8 @@ impl Model for Divisor {
         × HasMultiples (divisor_of d.count) 4 16 d.high };
 }
 
-// Returns the multiples of some coefficients by the numbers below 16, each number shifted up by `shift` bits.
+// Returns 16 multiples of the coefficients `terms`. Entry i of the result contains these coefficients, each multiplied
+// in the field by the number i shifted left by `shift` bits.
 fn multiples(terms: &[u8], shift: u8) -> [Register; 16]
     requires long { length terms.now ≤ 30 }
     requires small { shift ≤ 4 }
@@ -50,7 +53,7 @@ fn multiples(terms: &[u8], shift: u8) -> [Register; 16]
 }
 
 impl Divisor {
-    /// Returns the divisor for `n` error correction codewords, from 1 to 30.
+    /// Returns the divisor that computes `n` error correction codewords for a block, where `n` is from 1 to 30.
     pub fn new(n: usize) -> Divisor
         requires least { 1 ≤ n }
         requires most { n ≤ 30 }
@@ -64,7 +67,8 @@ impl Divisor {
         }
     }
 
-    /// Returns the number of error correction codewords, from 1 to 30.
+    /// Returns the number of error correction codewords that this divisor computes for a block. The number is from 1 to
+    /// 30.
     pub fn count(&self) -> usize
         ensures is { result ≡ self.now }
         ensures least { 1 ≤ result }
@@ -73,7 +77,8 @@ impl Divisor {
         self.count
     }
 
-    // Returns the multiple of the coefficients after the leading 1 by a factor.
+    // Returns the coefficients that follow the leading 1 of the generator polynomial, each multiplied by `factor` in
+    // the field.
     fn multiple(&self, factor: u8) -> Register
         ensures { value_of result ≡ packed (scaled factor (divisor_of self.now)) }
     {
@@ -81,8 +86,10 @@ impl Divisor {
         self.low[place & 0xF].plus(self.high[place >> 4])
     }
 
-    /// Returns the error correction codewords of the data codewords `message` of a block: the one list that makes the
-    /// polynomial of the block a multiple of the generator polynomial (ISO/IEC 18004:2015, 7.5.2).
+    /// Returns the error correction codewords of a block with the data codewords `message` (ISO/IEC 18004:2015, 7.5.2).
+    /// The coefficients of the block's polynomial are the data codewords, followed by the error correction codewords.
+    /// The returned list is the only list of its length that makes this polynomial a multiple of the generator
+    /// polynomial.
     pub fn correction(&self, message: &[u8]) -> ArrayVec<u8, 30>
         ensures definition { IsCorrection message.now self.now result.items }
         ensures only { (e : List ℕ) → IsCorrection message.now self.now e → e ≡ result.items }

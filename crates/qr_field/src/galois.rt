@@ -1,14 +1,15 @@
-//! Products and quotients in the field of 256 elements over which the error correction codewords are computed
-//! (ISO/IEC 18004:2015, 7.5.2). An element is a byte, read as a polynomial over bits; the sum of two elements is
-//! their exclusive or.
+//! Products and quotients in the field of 256 elements, in which the error correction codewords are computed (ISO/IEC
+//! 18004:2015, 7.5.2). Each element of the field is a byte. To compute a product, a byte is read as a polynomial whose
+//! coefficients are its bits. The sum of two elements is their exclusive or.
 
 ghost use Rattle.std.specs.Prelude.{◌≡◌, ◌≤◌, ℕ};
 ghost use Rattle.qr_field.specs.Galois.{IsProduct, product};
 
 use crate::logarithm::{logarithm, power_of};
 
-/// Returns the product of two elements of the field: the one byte that differs from the carryless product by a multiple
-/// of the field's modulus (ISO/IEC 18004:2015, 7.5.2).
+/// Returns the product of `a` and `b` in the field of 256 elements (ISO/IEC 18004:2015, 7.5.2). The carryless product
+/// of two bytes is their product as polynomials whose coefficients are bits. The product in the field is the only byte
+/// that differs from this carryless product by a multiple of the field's modulus polynomial.
 pub fn mul(a: u8, b: u8) -> u8
     ensures definition { IsProduct a b result }
     ensures only { (p : ℕ) → IsProduct a b p → p ≡ result }
@@ -22,8 +23,8 @@ pub fn mul(a: u8, b: u8) -> u8
     power_of(exponent as u8)
 }
 
-/// Returns the quotient of two elements of the field: the only element whose product with `b` is `a`. `b` must not be 0
-/// (ISO/IEC 18004:2015, 7.5.2).
+/// Returns the quotient of `a` divided by `b` in the field of 256 elements (ISO/IEC 18004:2015, 7.5.2). The quotient is
+/// the element whose product with `b` is `a`. The divisor `b` must not be 0.
 pub fn div(a: u8, b: u8) -> u8
     requires { 1 ≤ b }
     ensures { product result b ≡ a }

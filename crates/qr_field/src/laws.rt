@@ -1,5 +1,5 @@
-//! The laws of products, generator polynomials and error correction codewords (ISO/IEC 18004:2015, 7.5.2 and
-//! Annex A). Each function does nothing: its contract is the law.
+//! Laws of products, generator polynomials and error correction codewords (ISO/IEC 18004:2015, 7.5.2 and Annex A). The
+//! contract of each function states a law. The functions themselves do nothing.
 
 ghost use Rattle.std.specs.Prelude.{◌≡◌, ◌<◌, ◌≤◌, ℕ, ◌-◌, List, [], ◌∷◌, ◌++◌, All, map, length, slice_index, Some, None};
 ghost use Rattle.qr_field.specs.Galois.{IsProduct, product};
@@ -9,20 +9,21 @@ ghost use Rattle.qr_field.specs.Laws.{lengths_in_use, printed_exponents, eight_d
 
 use crate::logarithm::{LOGARITHMS, POWERS};
 
-/// Two elements have exactly one product, which is `product a b`.
+/// Two elements a and b of the field of 256 elements have exactly one product, which is `product a b`.
 pub fn product_is_one()
     ensures named { (a b : ℕ) → IsByte a → IsByte b → IsProduct a b (product a b) }
     ensures only { (a b p q : ℕ) → IsProduct a b p → IsProduct a b q → p ≡ q }
 {}
 
-/// For each n from 1 on, data codewords have exactly one list of n error correction codewords.
+/// For each n from 1 on, each list of data codewords has exactly one list of n error correction codewords.
 pub fn correction_is_one()
     ensures some { (d : List ℕ) (n : ℕ) → 1 ≤ n → All IsByte d → HasCorrection d n }
     ensures only { (d e f : List ℕ) (n : ℕ) → IsCorrection d n e → IsCorrection d n f → e ≡ f }
 {}
 
-/// Every entry of the tables by which products are computed is correct. Entry i of the powers is 2 to the power i, and
-/// entry a - 1 of the logarithms is the exponent below 255 for which 2 to this power is the element a.
+/// The two tables that are used to compute products contain the correct values. Entry i of `POWERS` is 2 to the power i
+/// in the field of 256 elements. Entry a - 1 of `LOGARITHMS` is an exponent e below 255 such that 2 to the power e is
+/// the element a.
 pub fn tables_are_powers()
     ensures power_count { length POWERS ≡ 255 }
     ensures powers { (i : ℕ) → i < 255 → slice_index POWERS i ≡ power i }
@@ -31,54 +32,60 @@ pub fn tables_are_powers()
     ensures logarithms { (a : ℕ) → 1 ≤ a → IsByte a → power (slice_index LOGARITHMS (a - 1)) ≡ a }
 {}
 
-/// The definition of a product computes a product that has to be reduced, and a product by 0.
+/// The definition `product` yields the right value in two examples. The first product has to be reduced by the modulus
+/// polynomial of the field, and the second product has the factor 0.
 pub fn products_compute()
     ensures reduced { product 0x80 2 ≡ 0x1D }
     ensures zero { product 0 0xFF ≡ 0 }
 {}
 
-/// The definition of a generator polynomial computes that of degree 7, and all generator polynomials that Annex A prints
-/// for the versions of QR Code, with their coefficients as powers of 2.
+/// The definition `generator_of` yields the right coefficients of the generator polynomial of degree 7. For the
+/// versions of QR Code, the definition also yields every generator polynomial that Annex A prints. Annex A writes each
+/// coefficient as a power of 2.
 pub fn generators_compute()
     ensures seven { generator_of 7 ≡ 1 ∷ 0x7F ∷ 0x7A ∷ 0x9A ∷ 0xA4 ∷ 0x0B ∷ 0x44 ∷ 0x75 ∷ [] }
     ensures printed { map generator_of lengths_in_use ≡ map (map power) printed_exponents }
 {}
 
-/// The definition of error correction codewords holds for those of `01234567` in version 1-M.
+/// The definition `IsCorrection` holds for the error correction codewords of one example: the input `01234567` in a
+/// symbol of version 1 at error correction level M.
 pub fn correction_computes()
     ensures { IsCorrection eight_digits 10 eight_digits_correction }
 {}
 
-/// Two blocks of at most 255 codewords, with equally many data and error correction codewords, differ in more codewords than
-/// each has error correction codewords, unless their data codewords are the same.
+/// Let two blocks have the same number of data codewords, n error correction codewords each, and at most 255 codewords
+/// each. If their data codewords differ, the two blocks differ in at least n + 1 codewords.
 pub fn blocks_lie_apart()
     ensures { BlocksLieApart }
 {}
 
-/// What was read of a block fits the data codewords of one block only, if the number of unread codewords (as under a blot)
-/// plus twice the number of misread codewords is at most the number of error correction codewords.
+/// Some codewords of a block may be unread (as under a blot), and other codewords may be misread. Let k be the number
+/// of unread codewords, and t the number of misread codewords. If k + 2t is at most the number of error correction
+/// codewords, only one list of data codewords fits what was read. The law holds for blocks of at most 255 codewords.
 pub fn erasures_are_unambiguous()
     ensures { ErasuresAreUnambiguous }
 {}
 
-/// If every codeword was read, the misread codewords are those in which the two lists differ. So the law of erasures
-/// covers a block in which at most half as many codewords are misread as it has error correction codewords.
+/// If every codeword of a block was read, the number of unread codewords is 0. The number of misread codewords is then
+/// the number of codewords in which the block and the list that was read differ. So the law `erasures_are_unambiguous`
+/// applies if at most half as many codewords are misread as the block has error correction codewords.
 pub fn damage_is_unambiguous()
     ensures read { (xs : List ℕ) → erasures (map (λ x. Some x) xs) ≡ 0 }
     ensures misread { (xs ys : List ℕ) → errors (map (λ x. Some x) xs) ys ≡ differences xs ys }
 {}
 
-/// The definitions of damage, computed for short blocks: two of three codewords are unread; two of four are misread, where a
-/// codeword that only one list has counts as misread; and two lists differ in two codewords, one of them past the end of the
-/// shorter list.
+/// The definitions `erasures`, `errors` and `differences` yield the right number in one example each. In the first
+/// example, two of three codewords are unread. In the second example, two of four codewords are misread, and one of the
+/// two counts as misread because the block has only three codewords. In the third example, two lists differ in one
+/// codeword that both lists have, and in one codeword that only the longer list has.
 pub fn damage_computes()
     ensures erasures { erasures (None ∷ Some 7 ∷ None ∷ []) ≡ 2 }
     ensures errors { errors (Some 7 ∷ None ∷ Some 9 ∷ Some 4 ∷ []) (7 ∷ 8 ∷ 8 ∷ []) ≡ 2 }
     ensures differences { differences (7 ∷ 8 ∷ []) (7 ∷ 9 ∷ 1 ∷ []) ≡ 2 }
 {}
 
-/// Blocks of 256 codewords may be more alike: these two blocks with 2 error correction codewords differ in only 2
-/// codewords.
+/// The law `blocks_lie_apart` does not hold for blocks of 256 codewords. The contract contains two such blocks with 2
+/// error correction codewords each, which differ in only 2 codewords.
 pub fn longer_blocks_lie_nearer()
     ensures one { IsCorrection (1 ∷ zeros 253) 2 (0 ∷ 1 ∷ []) }
     ensures other { IsCorrection (zeros 254) 2 (zeros 2) }

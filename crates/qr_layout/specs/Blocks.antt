@@ -1,4 +1,4 @@
--- How the codewords of a version and a level are divided into blocks.
+-- The division of the codewords of a symbol into blocks, for each version and each error correction level.
 use Rattle.std.specs.Prelude.{◌≡◌, ℕ, ◌≤◌, ◌-◌, ◌+◌, ◌*◌, ◌/◌, ◌%◌, min, List, [], ◌∷◌}
 use Rattle.std.specs.List.{slice_index_or}
 use Rattle.qr_layout.specs.declared.blocks.Blocks.{Blocks}
@@ -6,36 +6,39 @@ use Rattle.qr_layout.specs.declared.level.Level.{Level}
 use Rattle.qr_layout.specs.declared.level.Level.TheVariants.{L, M, Q, H}
 use Rattle.qr_layout.specs.Version.{total_codewords_of}
 
--- The number of error correction codewords of each block in the versions 1 to 40, in turn (ISO/IEC 18004:2015, 7.5.1, Table
--- 9)
+-- `correction_table l` lists the number of error correction codewords of each block at level l, for each of the
+-- versions 1 to 40 (ISO/IEC 18004:2015, 7.5.1, Table 9)
 abbrev pub correction_table : Level → List ℕ
 correction_table L = 7 ∷ 10 ∷ 15 ∷ 20 ∷ 26 ∷ 18 ∷ 20 ∷ 24 ∷ 30 ∷ 18 ∷ 20 ∷ 24 ∷ 26 ∷ 30 ∷ 22 ∷ 24 ∷ 28 ∷ 30 ∷ 28 ∷ 28 ∷ 28 ∷ 28 ∷ 30 ∷ 30 ∷ 26 ∷ 28 ∷ 30 ∷ 30 ∷ 30 ∷ 30 ∷ 30 ∷ 30 ∷ 30 ∷ 30 ∷ 30 ∷ 30 ∷ 30 ∷ 30 ∷ 30 ∷ 30 ∷ []
 correction_table M = 10 ∷ 16 ∷ 26 ∷ 18 ∷ 24 ∷ 16 ∷ 18 ∷ 22 ∷ 22 ∷ 26 ∷ 30 ∷ 22 ∷ 22 ∷ 24 ∷ 24 ∷ 28 ∷ 28 ∷ 26 ∷ 26 ∷ 26 ∷ 26 ∷ 28 ∷ 28 ∷ 28 ∷ 28 ∷ 28 ∷ 28 ∷ 28 ∷ 28 ∷ 28 ∷ 28 ∷ 28 ∷ 28 ∷ 28 ∷ 28 ∷ 28 ∷ 28 ∷ 28 ∷ 28 ∷ 28 ∷ []
 correction_table Q = 13 ∷ 22 ∷ 18 ∷ 26 ∷ 18 ∷ 24 ∷ 18 ∷ 22 ∷ 20 ∷ 24 ∷ 28 ∷ 26 ∷ 24 ∷ 20 ∷ 30 ∷ 24 ∷ 28 ∷ 28 ∷ 26 ∷ 30 ∷ 28 ∷ 30 ∷ 30 ∷ 30 ∷ 30 ∷ 28 ∷ 30 ∷ 30 ∷ 30 ∷ 30 ∷ 30 ∷ 30 ∷ 30 ∷ 30 ∷ 30 ∷ 30 ∷ 30 ∷ 30 ∷ 30 ∷ 30 ∷ []
 correction_table H = 17 ∷ 28 ∷ 22 ∷ 16 ∷ 22 ∷ 28 ∷ 26 ∷ 26 ∷ 24 ∷ 28 ∷ 24 ∷ 28 ∷ 22 ∷ 24 ∷ 24 ∷ 30 ∷ 28 ∷ 28 ∷ 26 ∷ 28 ∷ 30 ∷ 24 ∷ 30 ∷ 30 ∷ 30 ∷ 30 ∷ 30 ∷ 30 ∷ 30 ∷ 30 ∷ 30 ∷ 30 ∷ 30 ∷ 30 ∷ 30 ∷ 30 ∷ 30 ∷ 30 ∷ 30 ∷ 30 ∷ []
 
--- The number of blocks in the versions 1 to 40, in turn (ISO/IEC 18004:2015, 7.5.1, Table 9)
+-- `block_table l` lists the number of blocks of a symbol at level l, for each of the versions 1 to 40 (ISO/IEC
+-- 18004:2015, 7.5.1, Table 9)
 abbrev pub block_table : Level → List ℕ
 block_table L = 1 ∷ 1 ∷ 1 ∷ 1 ∷ 1 ∷ 2 ∷ 2 ∷ 2 ∷ 2 ∷ 4 ∷ 4 ∷ 4 ∷ 4 ∷ 4 ∷ 6 ∷ 6 ∷ 6 ∷ 6 ∷ 7 ∷ 8 ∷ 8 ∷ 9 ∷ 9 ∷ 10 ∷ 12 ∷ 12 ∷ 12 ∷ 13 ∷ 14 ∷ 15 ∷ 16 ∷ 17 ∷ 18 ∷ 19 ∷ 19 ∷ 20 ∷ 21 ∷ 22 ∷ 24 ∷ 25 ∷ []
 block_table M = 1 ∷ 1 ∷ 1 ∷ 2 ∷ 2 ∷ 4 ∷ 4 ∷ 4 ∷ 5 ∷ 5 ∷ 5 ∷ 8 ∷ 9 ∷ 9 ∷ 10 ∷ 10 ∷ 11 ∷ 13 ∷ 14 ∷ 16 ∷ 17 ∷ 17 ∷ 18 ∷ 20 ∷ 21 ∷ 23 ∷ 25 ∷ 26 ∷ 28 ∷ 29 ∷ 31 ∷ 33 ∷ 35 ∷ 37 ∷ 38 ∷ 40 ∷ 43 ∷ 45 ∷ 47 ∷ 49 ∷ []
 block_table Q = 1 ∷ 1 ∷ 2 ∷ 2 ∷ 4 ∷ 4 ∷ 6 ∷ 6 ∷ 8 ∷ 8 ∷ 8 ∷ 10 ∷ 12 ∷ 16 ∷ 12 ∷ 17 ∷ 16 ∷ 18 ∷ 21 ∷ 20 ∷ 23 ∷ 23 ∷ 25 ∷ 27 ∷ 29 ∷ 34 ∷ 34 ∷ 35 ∷ 38 ∷ 40 ∷ 43 ∷ 45 ∷ 48 ∷ 51 ∷ 53 ∷ 56 ∷ 59 ∷ 62 ∷ 65 ∷ 68 ∷ []
 block_table H = 1 ∷ 1 ∷ 2 ∷ 4 ∷ 4 ∷ 4 ∷ 5 ∷ 6 ∷ 8 ∷ 8 ∷ 11 ∷ 11 ∷ 16 ∷ 16 ∷ 18 ∷ 16 ∷ 19 ∷ 21 ∷ 25 ∷ 25 ∷ 25 ∷ 34 ∷ 30 ∷ 32 ∷ 35 ∷ 37 ∷ 40 ∷ 42 ∷ 45 ∷ 48 ∷ 51 ∷ 54 ∷ 57 ∷ 60 ∷ 63 ∷ 66 ∷ 70 ∷ 74 ∷ 77 ∷ 81 ∷ []
 
--- The number of error correction codewords of each block of a symbol (ISO/IEC 18004:2015, 7.5.1, Table 9)
+-- `correction_len_of v l` is the number of error correction codewords of each block of a symbol of version v at level l
+-- (ISO/IEC 18004:2015, 7.5.1, Table 9)
 unfoldable pub correction_len_of : ℕ → Level → ℕ
 correction_len_of v l = slice_index_or (correction_table l) (v - 1) 0
 
--- The number of blocks of a symbol (ISO/IEC 18004:2015, 7.5.1, Table 9)
+-- `block_count_of v l` is the number of blocks of a symbol of version v at level l (ISO/IEC 18004:2015, 7.5.1, Table 9)
 unfoldable pub block_count_of : ℕ → Level → ℕ
 block_count_of v l = slice_index_or (block_table l) (v - 1) 0
 
--- The number of data codewords of a symbol: all codewords but those for error correction (ISO/IEC 18004:2015, 7.4.10, Table
--- 7)
+-- `data_codewords_of v l` is the number of data codewords of a symbol of version v at level l. The data codewords are
+-- all codewords except for the error correction codewords (ISO/IEC 18004:2015, 7.4.10, Table 7)
 unfoldable pub data_codewords_of : ℕ → Level → ℕ
 data_codewords_of v l = total_codewords_of v - block_count_of v l * correction_len_of v l
 
--- The sizes of the short and long blocks: the data codewords are divided evenly among the blocks; if they do not divide
--- evenly, the last blocks have one more (ISO/IEC 18004:2015, 7.5.1, Table 9)
+-- `blocks_of v l` contains the sizes of the blocks of a symbol of version v at level l. The data codewords are divided
+-- evenly among the blocks. If this is not possible, the long blocks at the end have one data codeword more (ISO/IEC
+-- 18004:2015, 7.5.1, Table 9)
 abbrev pub blocks_of : ℕ → Level → Blocks
 blocks_of v l = record {
   short = block_count_of v l - data_codewords_of v l % block_count_of v l;
@@ -44,21 +47,23 @@ blocks_of v l = record {
   ec_len = correction_len_of v l;
 }
 
--- The number of codewords of the longest block, for data and for error correction (ISO/IEC 18004:2015, 7.5.1, Table 9)
+-- `longest_of b` is the number of codewords of the longest block, for data and for error correction together, if b
+-- contains the sizes of the blocks (ISO/IEC 18004:2015, 7.5.1, Table 9)
 abbrev pub longest_of : Blocks → ℕ
 longest_of b = b.short_len + min b.long 1 + b.ec_len
 
--- A percentage for each level: in every version, half of a block's error correction codewords are at least this share
--- of the block. If at most this share of a block is misread, the block is still known for certain [own]
+-- `damage_of l` is a percentage for the error correction level l. In every version, half the number of error correction
+-- codewords of a block, rounded down, is at least this percentage of the number of its codewords. If at most this
+-- percentage of the codewords are misread, the codewords that were read fit one block only [own]
 abbrev pub damage_of : Level → ℕ
 damage_of L = 9
 damage_of M = 17
 damage_of Q = 23
 damage_of H = 30
 
--- `AreWhole v l b` holds if the blocks b together have the data codewords of the symbol and, with their error correction
--- codewords, all of its codewords. There is a short block, and each block has data codewords and 1 to 30 error correction
--- codewords (ISO/IEC 18004:2015, 7.5.1)
+-- `AreWhole v l b` holds if the blocks with the sizes b together have all data codewords and all error correction
+-- codewords of a symbol of version v at level l. At least one block is short, and each block has at least one data
+-- codeword and from 1 to 30 error correction codewords (ISO/IEC 18004:2015, 7.5.1)
 pub record AreWhole (v : ℕ) (l : Level) (b : Blocks) : Type 0 where
   pub some : 1 ≤ b.short
   pub some_len : 1 ≤ b.short_len

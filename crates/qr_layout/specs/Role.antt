@@ -1,5 +1,5 @@
--- The role of each module: a fixed colour, a bit of the format or version information, or a module of the encoding
--- region.
+-- The role of each module of a symbol: a fixed colour, a bit of the format information or of the version information,
+-- or a module of the encoding region.
 use Rattle.std.specs.Prelude.{ℕ, ◌+◌, ◌-◌, ◌/◌, ◌%◌, min, Bool, true, false, not, ◌&&◌, ◌||◌, nat_lt, ◌==◌, if◌then◌else◌, Option, None, Some}
 use Rattle.std.specs.List.{find, list_any, range_with_len}
 use Rattle.std.specs.Option.{option_map_or}
@@ -10,18 +10,20 @@ use Rattle.qr_layout.specs.Version.{side_of}
 use Rattle.qr_layout.specs.Alignment.{centres_of, alignment_places}
 use Rattle.qr_layout.specs.Region.{is_alignment, ring_of}
 
--- The number of the ring on which the place (r, c) lies round the centre of the nearest finder pattern: rings 0, 1 and 3 are
--- dark, ring 2 is light, and ring 4 is the separator (ISO/IEC 18004:2015, 6.3.3)
+-- `finder_ring s r c` is the number of the ring, around the centre of the nearest finder pattern, that contains the
+-- place (r, c). The symbol has s modules on a side. Rings 0, 1 and 3 are dark, ring 2 is light, and ring 4 is the
+-- separator (ISO/IEC 18004:2015, 6.3.3)
 abbrev pub finder_ring : ℕ → ℕ → ℕ → ℕ
 finder_ring s r c = min (ring_of 3 3 r c) (min (ring_of 3 (s - 4) r c) (ring_of (s - 4) 3 r c))
 
--- `is_alignment_light v r c` holds if (r, c) is on the light ring of an alignment pattern, between its centre and
--- its outer ring (ISO/IEC 18004:2015, 6.3.6)
+-- `is_alignment_light v r c` holds if the place (r, c) of a symbol of version v is on the light ring of an alignment
+-- pattern. This ring is between the centre and the outer ring of the pattern (ISO/IEC 18004:2015, 6.3.6)
 unfoldable pub is_alignment_light : ℕ → ℕ → ℕ → Bool
 is_alignment_light v r c = list_any (λ m. ring_of m.row m.col r c == 1) (alignment_places (side_of v) (centres_of v))
 
--- The colour of a module of a finder, separator, timing or alignment pattern, true being dark; other modules have no such
--- colour (ISO/IEC 18004:2015, 6.3.3 to 6.3.6)
+-- `pattern_colour v r c` is the colour of the module at (r, c) if the module is part of a finder pattern, separator,
+-- timing pattern or alignment pattern of version v; `true` is dark. For any other module the value is `None` (ISO/IEC
+-- 18004:2015, 6.3.3 to 6.3.6)
 unfoldable pub pattern_colour : ℕ → ℕ → ℕ → Option Bool
 pattern_colour v r c =
     if nat_lt (finder_ring (side_of v) r c) 4 then Some (not (finder_ring (side_of v) r c == 2)) else
@@ -30,50 +32,55 @@ pattern_colour v r c =
     (if c == 6 then Some (r % 2 == 0) else
     (if is_alignment v r c then Some (not (is_alignment_light v r c)) else None))))
 
--- The place of bit i of the format information beside the top left finder pattern (ISO/IEC 18004:2015, 7.9.1)
+-- `first_place i` is the place of bit i of the format information in the first copy, beside the top left finder pattern
+-- (ISO/IEC 18004:2015, 7.9.1)
 abbrev pub first_place : ℕ → Module
 first_place i = record {
   row = if nat_lt i 6 then i else (if i == 6 then 7 else 8);
   col = if nat_lt i 8 then 8 else (if i == 8 then 7 else 14 - i);
 }
 
--- The place of bit i of the format information beside the other two finder patterns (ISO/IEC 18004:2015, 7.9.1)
+-- `second_place s i` is the place of bit i of the format information in the second copy, beside the other two finder
+-- patterns. The symbol has s modules on a side (ISO/IEC 18004:2015, 7.9.1)
 abbrev pub second_place : ℕ → ℕ → Module
 second_place s i = record {
   row = if nat_lt i 8 then 8 else s - 15 + i;
   col = if nat_lt i 8 then s - 1 - i else 8;
 }
 
--- The place of bit i of the version information beside the top right finder pattern (ISO/IEC 18004:2015, 7.10)
+-- `version_place s i` is the place of bit i of the version information in the copy beside the top right finder pattern.
+-- The symbol has s modules on a side (ISO/IEC 18004:2015, 7.10)
 abbrev pub version_place : ℕ → ℕ → Module
 version_place s i = record { row = i / 3; col = s - 11 + i % 3 }
 
--- A place with its row and column exchanged [own]
+-- `transposed m` is the place m with its row and its column exchanged [own]
 abbrev pub transposed : Module → Module
 transposed m = record { row = m.col; col = m.row }
 
--- `is_at m r c` holds if the module m is at (r, c) [own]
+-- `is_at m r c` holds if the place m is in row r and column c [own]
 abbrev pub is_at : Module → ℕ → ℕ → Bool
 is_at m r c = m.row == r && m.col == c
 
--- The bit of the format information at (r, c), if a bit is there (ISO/IEC 18004:2015, 7.9.1)
+-- `format_bit_at s r c` is the index of the bit of the format information that the module at (r, c) contains, or `None`
+-- if the module contains no such bit. The symbol has s modules on a side (ISO/IEC 18004:2015, 7.9.1)
 unfoldable pub format_bit_at : ℕ → ℕ → ℕ → Option ℕ
 format_bit_at s r c = find (λ i. is_at (first_place i) r c || is_at (second_place s i) r c) (range_with_len 0 15)
 
--- The bit of the version information at (r, c), if a bit is there; symbols have it from version 7 on (ISO/IEC 18004:2015,
--- 7.10)
+-- `version_bit_at v r c` is the index of the bit of the version information that the module at (r, c) of version v
+-- contains, or `None` if the module contains no such bit. Below version 7 the value is always `None` (ISO/IEC
+-- 18004:2015, 7.10)
 unfoldable pub version_bit_at : ℕ → ℕ → ℕ → Option ℕ
 version_bit_at v r c =
     if nat_lt v 7 then None else
     find (λ i. is_at (version_place (side_of v) i) r c || is_at (transposed (version_place (side_of v) i)) r c) (range_with_len 0 18)
 
--- `is_dark_module s r c` holds if (r, c) is the dark module, which is beside the bottom left finder pattern and dark in
--- every symbol (ISO/IEC 18004:2015, 7.9.1)
+-- `is_dark_module s r c` holds if (r, c) is the place of the dark module in a symbol with s modules on a side. The dark
+-- module is beside the bottom left finder pattern, and it is dark in every symbol (ISO/IEC 18004:2015, 7.9.1)
 abbrev pub is_dark_module : ℕ → ℕ → ℕ → Bool
 is_dark_module s r c = r == s - 8 && c == 8
 
--- What the module at (r, c) of version v contains: a fixed colour, or a bit of the format or version information; all other
--- modules are the encoding region (ISO/IEC 18004:2015, 6.3 and 7.7.2)
+-- `role_of v r c` is what the module at (r, c) of version v contains: a fixed colour, a bit of the format information,
+-- or a bit of the version information. All other modules are in the encoding region (ISO/IEC 18004:2015, 6.3 and 7.7.2)
 unfoldable pub role_of : ℕ → ℕ → ℕ → Role
 role_of v r c =
     option_map_or Fixed (pattern_colour v r c)

@@ -1,4 +1,4 @@
-//! The alignment patterns: the rows and columns of their centres (ISO/IEC 18004:2015, 6.3.6 and Annex E).
+//! The places of the alignment patterns in a symbol (ISO/IEC 18004:2015, 6.3.6 and Annex E).
 
 ghost use Rattle.std.specs.Prelude.{◌≡◌, ◌≤◌, ◌-◌, ◌+◌, ◌&&◌, ◌++◌, ◌∷◌, [], if◌then◌else◌, not, length, nat_le, nat_lt};
 ghost use Rattle.std.specs.List.{list_any, flat_map};
@@ -11,7 +11,8 @@ use crate::region::Module;
 use crate::version::Version;
 use arrayvec::ArrayVec;
 
-// The rows of the centres, which are their columns too, in the versions 1 to 40, filled up with zeros (Annex E, Table E.1).
+// The rows in which alignment patterns have their centres, for each of the versions 1 to 40 (ISO/IEC 18004:2015, Annex
+// E, Table E.1). The same numbers are the columns of the centres. Each list is filled up with zeros at its end.
 static CENTRES: [[u8; 7]; 40] = [
     [0, 0, 0, 0, 0, 0, 0],
     [6, 18, 0, 0, 0, 0, 0],
@@ -55,7 +56,8 @@ static CENTRES: [[u8; 7]; 40] = [
     [6, 30, 58, 86, 114, 142, 170],
 ];
 
-// Returns the rows of the centres of a version, which are their columns too.
+// Returns the rows in which the alignment patterns of version `v` have their centres. The same numbers are the columns
+// of the centres.
 pub(crate) fn centre_list(v: Version) -> &'static [u8]
     ensures { result.now ≡ centres_of v }
 {
@@ -69,8 +71,9 @@ pub(crate) fn centre_list(v: Version) -> &'static [u8]
 }
 
 impl Version {
-    /// Returns the rows of the alignment patterns' centres in rising order; they are the columns too. Version 1 has no
-    /// centre.
+    /// Returns the rows in which the alignment patterns of this version have their centres, in rising order. The same
+    /// numbers are the columns of the centres. For version 1 the list is empty, since symbols of version 1 have no
+    /// alignment pattern.
     pub fn centres(self) -> ArrayVec<u8, 7>
         ensures { result.items ≡ centres_of self }
     {
@@ -82,7 +85,7 @@ impl Version {
     }
 }
 
-// Returns whether the row or column `at` is at most two away from `centre`.
+// Returns whether the row or column `at` is at most two rows or columns away from `centre`.
 fn is_near(centre: u8, at: u8) -> bool
     ensures { result ≡ (nat_le (centre - 2) at && nat_lt at (centre + 3)) }
 {
@@ -93,7 +96,9 @@ fn is_near(centre: u8, at: u8) -> bool
     }
 }
 
-// Returns whether row `a` and column `b` of the centres meet in a corner that has a finder pattern.
+// Returns whether row `a` and column `b` meet in a corner of the symbol that has a finder pattern. Alignment patterns
+// have centres in row `a` and in column `b`, but not in such a corner. `side` is the number of modules on a side of the
+// symbol.
 pub(crate) fn is_corner_pair(side: u8, a: u8, b: u8) -> bool
     requires { 21 ≤ side }
     ensures { result ≡ is_corner_pair side a b }
@@ -102,7 +107,8 @@ pub(crate) fn is_corner_pair(side: u8, a: u8, b: u8) -> bool
     a == 6 && b == 6 || a == 6 && b == last || a == last && b == 6
 }
 
-// Returns whether a place in column `col` near row `a` is in an alignment pattern whose centre is in row `a`.
+// Returns whether column `col` crosses an alignment pattern whose centre is in row `a`. `centres` contains the columns
+// of all centres, and `side` is the number of modules on a side of the symbol.
 fn is_beside(centres: &[u8], side: u8, a: u8, col: u8) -> bool
     requires { 21 ≤ side }
     ensures { result ≡ list_any (λ b. nat_le (b - 2) col && nat_lt col (b + 3)
@@ -113,7 +119,8 @@ fn is_beside(centres: &[u8], side: u8, a: u8, col: u8) -> bool
         .any(|b| is_near(*b, col) && !is_corner_pair(side, a, *b))
 }
 
-// Returns whether a place is in an alignment pattern. `centres` are the rows and the columns of the centres.
+// Returns whether the module in row `row` and column `col` is in an alignment pattern. `centres` contains the rows of
+// all centres, which are also their columns, and `side` is the number of modules on a side of the symbol.
 fn is_on_centre(centres: &[u8], side: u8, row: u8, col: u8) -> bool
     requires { 21 ≤ side }
     ensures { result ≡ list_any (λ a. nat_le (a - 2) row && nat_lt row (a + 3)
@@ -125,7 +132,7 @@ fn is_on_centre(centres: &[u8], side: u8, row: u8, col: u8) -> bool
         .any(|a| is_near(*a, row) && is_beside(centres, side, *a, col))
 }
 
-// Returns whether a place is in an alignment pattern.
+// Returns whether the module in row `row` and column `col` is in an alignment pattern of version `v`.
 #[tactic(auto, using(crate::proofs::lemmas::alignment::AlignmentLemmas::alignment_parts))]
 pub(crate) fn is_in_alignment(v: Version, row: u8, col: u8) -> bool
     ensures { result ≡ is_alignment v row col }
@@ -135,7 +142,8 @@ pub(crate) fn is_in_alignment(v: Version, row: u8, col: u8) -> bool
     is_on_centre(centres, side, row, col)
 }
 
-// Appends the centres in a row, from left to right.
+// Appends to `places` the centres of the alignment patterns in row `row`, from left to right. `centres` contains the
+// columns of all centres, and `side` is the number of modules on a side of the symbol.
 fn push_centres(places: &mut ArrayVec<Module, 49>, centres: &[u8], side: u8, row: u8)
     requires side_in { 21 ≤ side }
     requires room { array_vec_len places.old + length centres.now ≤ 49 }
@@ -150,7 +158,8 @@ fn push_centres(places: &mut ArrayVec<Module, 49>, centres: &[u8], side: u8, row
     }
 }
 
-/// Returns the centres of the alignment patterns, row by row from the top, in each row from the left.
+/// Returns the centres of the alignment patterns of version `v`, row by row from the top, and from left to right in
+/// each row.
 pub fn alignment_centres(v: Version) -> ArrayVec<Module, 49>
     ensures { result.items ≡ alignment_places (side_of v) (centres_of v) }
 {

@@ -1,4 +1,4 @@
-//! How the codewords of a symbol are divided into blocks for error correction (ISO/IEC 18004:2015, 7.5.1, Table 9).
+//! The division of the codewords of a symbol into blocks for error correction (ISO/IEC 18004:2015, 7.5.1, Table 9).
 
 ghost use Rattle.std.specs.Prelude.{◌≡◌};
 ghost use Rattle.qr_layout.specs.Blocks.{correction_len_of, block_count_of, data_codewords_of, blocks_of};
@@ -6,7 +6,8 @@ ghost use Rattle.qr_layout.specs.Blocks.{correction_len_of, block_count_of, data
 use crate::level::Level;
 use crate::version::Version;
 
-// The number of error correction codewords of each block, for the levels L, M, Q and H in the versions 1 to 40.
+// The number of error correction codewords of each block. The four lists are for the levels L, M, Q and H, and each
+// list has a number for each of the versions 1 to 40.
 static CORRECTION_LENS: [[u8; 40]; 4] = [
     [
         7, 10, 15, 20, 26, 18, 20, 24, 30, 18, 20, 24, 26, 30, 22, 24, 28, 30, 28, 28, 28, 28, 30,
@@ -26,7 +27,8 @@ static CORRECTION_LENS: [[u8; 40]; 4] = [
     ],
 ];
 
-// The number of blocks, for the levels L, M, Q and H in the versions 1 to 40.
+// The number of blocks of a symbol. The four lists are for the levels L, M, Q and H, and each list has a number for
+// each of the versions 1 to 40.
 static BLOCK_COUNTS: [[u8; 40]; 4] = [
     [
         1, 1, 1, 1, 1, 2, 2, 2, 2, 4, 4, 4, 4, 4, 6, 6, 6, 6, 7, 8, 8, 9, 9, 10, 12, 12, 12, 13,
@@ -46,8 +48,8 @@ static BLOCK_COUNTS: [[u8; 40]; 4] = [
     ],
 ];
 
-/// The sizes of the blocks of a symbol: first come `short` blocks of `short_len` data codewords each, then `long` blocks
-/// with one data codeword more each. Each block has `ec_len` error correction codewords.
+/// The sizes of the blocks of a symbol. The first `short` blocks have `short_len` data codewords each. The `long`
+/// blocks after them have one data codeword more each. Every block has `ec_len` error correction codewords.
 #[derive(Clone, Copy, Debug, PartialEq, Eq)]
 pub struct Blocks {
     pub short: u8,
@@ -81,7 +83,8 @@ impl Version {
         counts[usize::from(self.number() - 1)]
     }
 
-    /// Returns the number of data codewords of a symbol at a level, from 9 to 2,956 (Table 7).
+    /// Returns the number of data codewords of a symbol of this version at the error correction level `level`, from 9
+    /// to 2,956 (ISO/IEC 18004:2015, 7.4.10, Table 7).
     pub fn data_codewords(self, level: Level) -> u16
         ensures { result ≡ data_codewords_of self level }
     {
@@ -89,7 +92,7 @@ impl Version {
             - u16::from(self.block_count(level)) * u16::from(self.correction_len(level))
     }
 
-    /// Returns the sizes of the blocks of a symbol at a level.
+    /// Returns the sizes of the blocks of a symbol of this version at the error correction level `level`.
     pub fn blocks(self, level: Level) -> Blocks
         ensures { result ≡ blocks_of self level }
     {

@@ -1,4 +1,5 @@
-//! Equality and clones of the public types: values are equal exactly if they are the same, and a clone is the same value.
+//! Equality and clones of the public types of this crate. The operator `==` returns true exactly if its two operands
+//! are the same value. A clone of a value is the same value.
 
 ghost use Rattle.std.specs.Prelude.{◌≡◌, ◌↔◌, IsTrue, IfOk};
 
@@ -10,84 +11,84 @@ use crate::strips::Strip;
 use crate::version::Version;
 use std::alloc::AllocError;
 
-/// Two versions compare as equal exactly if they are the same.
+/// Returns whether `a` and `b` are the same version.
 pub fn versions_are_equal(a: Version, b: Version) -> bool
     ensures { IsTrue result ↔ (a ≡ b) }
 {
     a == b
 }
 
-/// Two levels compare as equal exactly if they are the same.
+/// Returns whether `a` and `b` are the same level.
 pub fn levels_are_equal(a: Level, b: Level) -> bool
     ensures { IsTrue result ↔ (a ≡ b) }
 {
     a == b
 }
 
-/// Two modules compare as equal exactly if they are the same.
+/// Returns whether `a` and `b` are the same module: their rows and their columns are equal.
 pub fn modules_are_equal(a: Module, b: Module) -> bool
     ensures { IsTrue result ↔ (a ≡ b) }
 {
     a == b
 }
 
-/// Two roles compare as equal exactly if they are the same.
+/// Returns whether `a` and `b` are the same role.
 pub fn roles_are_equal(a: Role, b: Role) -> bool
     ensures { IsTrue result ↔ (a ≡ b) }
 {
     a == b
 }
 
-/// Two divisions into blocks compare as equal exactly if they are the same.
+/// Returns whether the block sizes `a` and `b` are equal in all their fields.
 pub fn blocks_are_equal(a: Blocks, b: Blocks) -> bool
     ensures { IsTrue result ↔ (a ≡ b) }
 {
     a == b
 }
 
-/// Two strips compare as equal exactly if they are the same.
+/// Returns whether `a` and `b` are the same strip.
 pub fn strips_are_equal(a: Strip, b: Strip) -> bool
     ensures { IsTrue result ↔ (a ≡ b) }
 {
     a == b
 }
 
-/// A clone of a version is the same version.
+/// Returns a clone of the version `a`; the clone and `a` are the same version.
 pub fn version_clones(a: Version) -> Result<Version, AllocError>
     ensures { IfOk result (λ b. b ≡ a) }
 {
     a.clone()
 }
 
-/// A clone of a level is the same level.
+/// Returns a clone of the level `a`; the clone and `a` are the same level.
 pub fn level_clones(a: Level) -> Result<Level, AllocError>
     ensures { IfOk result (λ b. b ≡ a) }
 {
     a.clone()
 }
 
-/// A clone of a module is the same module.
+/// Returns a clone of the module `a`; the clone and `a` are the same module.
 pub fn module_clones(a: Module) -> Result<Module, AllocError>
     ensures { IfOk result (λ b. b ≡ a) }
 {
     a.clone()
 }
 
-/// A clone of a role is the same role.
+/// Returns a clone of the role `a`; the clone and `a` are the same role.
 pub fn role_clones(a: Role) -> Result<Role, AllocError>
     ensures { IfOk result (λ b. b ≡ a) }
 {
     a.clone()
 }
 
-/// A clone of a division into blocks is the same division into blocks.
+/// Returns a clone of the block sizes `a`; the clone and `a` are equal in all their fields.
 pub fn blocks_clones(a: Blocks) -> Result<Blocks, AllocError>
     ensures { IfOk result (λ b. b ≡ a) }
 {
     a.clone()
 }
 
-/// A clone of a strip is the same strip.
+/// Returns a clone of the strip `a`; the clone and `a` are the same strip.
 pub fn strip_clones(a: Strip) -> Result<Strip, AllocError>
     ensures { IfOk result (λ b. b ≡ a) }
 {

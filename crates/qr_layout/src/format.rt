@@ -1,4 +1,4 @@
-//! The format information and the version information of a symbol (ISO/IEC 18004:2015, 7.9 and 7.10).
+//! The bits of the format information and of the version information of a symbol (ISO/IEC 18004:2015, 7.9 and 7.10).
 
 ghost use Rattle.std.specs.Prelude.{◌≡◌, ◌≤◌, ◌<◌, SomeIff};
 ghost use Rattle.qr_layout.specs.Format.{format_word_of, version_word_of};
@@ -6,15 +6,16 @@ ghost use Rattle.qr_layout.specs.Format.{format_word_of, version_word_of};
 use crate::level::Level;
 use crate::version::Version;
 
-// The words of the format information, to which the mask 101010000010010 is already applied. The index is the two bits
-// of the level followed by the three bits of the mask (Annex C, Table C.1).
+// The 15 bits of format information for each level and mask pattern (ISO/IEC 18004:2015, Annex C, Table C.1). The index
+// of an entry consists of the two bits of the level, followed by the three bits of the mask pattern. Each entry is
+// already combined with the bits 101010000010010 by exclusive or.
 static FORMAT_WORDS: [u16; 32] = [
     0x5412, 0x5125, 0x5E7C, 0x5B4B, 0x45F9, 0x40CE, 0x4F97, 0x4AA0, 0x77C4, 0x72F3, 0x7DAA, 0x789D,
     0x662F, 0x6318, 0x6C41, 0x6976, 0x1689, 0x13BE, 0x1CE7, 0x19D0, 0x0762, 0x0255, 0x0D0C, 0x083B,
     0x355F, 0x3068, 0x3F31, 0x3A06, 0x24B4, 0x2183, 0x2EDA, 0x2BED,
 ];
 
-// The words of the version information for the versions 7 to 40 (Annex D, Table D.1).
+// The 18 bits of version information for each of the versions 7 to 40 (ISO/IEC 18004:2015, Annex D, Table D.1).
 static VERSION_WORDS: [u32; 34] = [
     0x07C94, 0x085BC, 0x09A99, 0x0A4D3, 0x0BBF6, 0x0C762, 0x0D847, 0x0E60D, 0x0F928, 0x10B78,
     0x1145D, 0x12A17, 0x13532, 0x149A6, 0x15683, 0x168C9, 0x177EC, 0x18EC4, 0x191E1, 0x1AFAB,
@@ -22,7 +23,8 @@ static VERSION_WORDS: [u32; 34] = [
     0x2542E, 0x26A64, 0x27541, 0x28C69,
 ];
 
-/// Returns the 15 bits of format information of a level and a mask from 0 to 7.
+/// Returns the 15 bits of format information for the error correction level `level` and the mask pattern `mask`, a
+/// number from 0 to 7.
 pub fn format_word(level: Level, mask: u8) -> u16
     requires { mask < 8 }
     ensures { result ≡ format_word_of level mask }
@@ -37,7 +39,8 @@ pub fn format_word(level: Level, mask: u8) -> u16
 }
 
 impl Version {
-    /// Returns the 18 bits of version information, or `None` below version 7, where symbols have no version information.
+    /// Returns the 18 bits of version information of this version. Returns `None` below version 7, where symbols have
+    /// no version information.
     pub fn version_word(self) -> Option<u32>
         ensures { SomeIff result (7 ≤ self) (version_word_of self) }
     {

@@ -1,5 +1,5 @@
-//! Laws that hold for every version, level and mask. The contracts are the laws; the functions do nothing, except for
-//! `nth_place`, which walks, `first_version` and `default_module`.
+//! Laws about the layout of symbols, for every version, level and mask pattern. The contract of each function states a
+//! law. The functions themselves do nothing, except for `nth_place`, `first_version` and `default_module`.
 
 ghost use Rattle.std.specs.Prelude.{◌≡◌, ◌<◌, ◌≤◌, ◌-◌, ◌*◌, ◌/◌, ◌⊎◌, ◌↔◌, ◌||◌, not, true, ℕ, List, ◌∷◌, ◌++◌, length, map, slice_get};
 ghost use Rattle.std.specs.List.{list_any, range_with_len};
@@ -26,45 +26,49 @@ use crate::order::walk;
 use crate::region::Module;
 use crate::version::Version;
 
-/// A version has only one order of the modules of the encoding region.
+/// For each version, only one list of modules is the order in which the encoding region is filled (`IsOrder`).
 pub fn order_is_one(v: Version)
     ensures { (ms ns : List Module) → IsOrder v ms → IsOrder v ns → ms ≡ ns }
 {}
 
-/// The order has one module for each codeword bit and remainder bit, at most 29,648.
+/// The order in which the encoding region is filled contains one module for each codeword bit and each remainder bit.
+/// The number of these modules is at most 29,648.
 pub fn order_is_full(v: Version)
     ensures count { (ms : List Module) → IsOrder v ms → length ms ≡ module_count_of v }
     ensures most { module_count_of v ≤ 29648 }
 {}
 
-/// The encoding region is the square without these: the three corners (finder patterns, separators and format information),
-/// the timing patterns, the alignment patterns and the version information. It has exactly as many modules as the codewords
-/// and remainder bits need.
+/// The number of modules of the encoding region is the number of modules of the whole symbol, less the modules of four
+/// parts. These parts are the three corners (finder patterns, separators, format information and the dark module), the
+/// timing patterns, the alignment patterns and the version information. The codeword bits and remainder bits of the
+/// version need exactly this number of modules.
 pub fn region_is_counted(v: Version)
     ensures region { places_passing (side_of v) (is_in_region v) ≡ region_size v }
     ensures filled { module_count_of v ≡ region_size v }
 {}
 
-/// The encoding region is the square without the rectangles of `fixed_rectangles` and without the alignment patterns.
+/// A module of the symbol is in the encoding region exactly if it is outside the rectangles of `fixed_rectangles` and
+/// outside the alignment patterns.
 #[tactic(auto, using(crate::proofs::lemmas::alignment::AlignmentLemmas::region_outside))]
 pub fn region_is_outside(v: Version)
     ensures { (r c : ℕ) → r < side_of v → c < side_of v → is_in_region v r c
         ≡ not (list_any (is_in_rectangle r c) (fixed_rectangles v) || is_alignment v r c) }
 {}
 
-/// The encoding region is the same when rows and columns are exchanged.
+/// The encoding region remains the same if rows and columns are exchanged.
 pub fn region_is_symmetric(v: Version)
     ensures { (r c : ℕ) → is_in_region v r c ≡ is_in_region v c r }
 {}
 
-/// The number of a place in the encoding region is the number of places before it in the order.
+/// For each module of the encoding region, `number_of` is the number of modules that are filled before this module.
 pub fn number_counts(v: Version)
     ensures { (front back : List Module) (m : Module) → IsOrder v (front ++ m ∷ back)
         → number_of v m ≡ length front }
 {}
 
-/// Each module of the encoding region has a number from 0 on, less than the number of these modules, and each such
-/// number belongs to exactly one module.
+/// The definition `number_of` assigns numbers to the modules of the encoding region, from 0 on and without gaps. Each
+/// module has a number that is less than the number of modules of the encoding region. Each such number belongs to
+/// exactly one module.
 pub fn numbers_are_places(v: Version)
     ensures below { (m : Module) → InRegion v m → number_of v m < module_count_of v }
     ensures one_place { (m n : Module) → InRegion v m → InRegion v n
@@ -73,20 +77,22 @@ pub fn numbers_are_places(v: Version)
         → (m : Module) × InRegion v m × (number_of v m ≡ n) }
 {}
 
-/// Returns the module with this number in the order, counted from 0 and found by a walk, or `None` past the last module.
+/// Returns the module with the index `number`, counted from 0, in the order in which the encoding region of version `v`
+/// is filled. Returns `None` if no module has this index.
 pub fn nth_place(v: Version, number: usize) -> Option<Module>
     ensures { (ms : List Module) → IsOrder v ms → result ≡ slice_get ms number }
 {
     walk(v).nth(number)
 }
 
-/// From version 2 on, the rows of the alignment patterns' centres follow from the rule of their spacing.
+/// For the versions 2 to 40, the rows of the centres of the alignment patterns are the rows that the spacing rule of
+/// Annex E of the standard yields.
 #[tactic(auto, unfolding(crate::specs::Alignment::centres_of))]
 pub fn centres_are_spaced()
     ensures { map centres_of (range_with_len 2 39) ≡ map spaced_centres (range_with_len 2 39) }
 {}
 
-/// The numbers of data codewords in all versions and levels are those that Table 7 prints.
+/// For all versions and levels, the number of data codewords is the number that Table 7 of the standard prints.
 #[tactic(auto, unfolding(crate::specs::Blocks::data_codewords_of, crate::specs::Blocks::block_count_of, crate::specs::Blocks::correction_len_of, crate::specs::Version::total_codewords_of))]
 pub fn data_codewords_compute()
     ensures l { map (λ v. data_codewords_of v L) all_versions ≡ printed_data L }
@@ -95,8 +101,9 @@ pub fn data_codewords_compute()
     ensures h { map (λ v. data_codewords_of v H) all_versions ≡ printed_data H }
 {}
 
-/// In all versions and levels, the number of error correction codewords of a block follows from the number of misread
-/// codewords of a block that can be mended, as Table 9 prints it.
+/// For all versions and levels, a block has two error correction codewords for each misread codeword that can be
+/// corrected, and in addition its misdecode protection codewords. Table 9 of the standard prints both numbers: of
+/// misread codewords that can be corrected, and of misdecode protection codewords.
 #[tactic(auto, unfolding(crate::specs::Blocks::correction_len_of))]
 pub fn correction_lens_compute()
     ensures l { map (λ v. correction_len_of v L) all_versions ≡ map (printed_correction L) all_versions }
@@ -105,46 +112,51 @@ pub fn correction_lens_compute()
     ensures h { map (λ v. correction_len_of v H) all_versions ≡ map (printed_correction H) all_versions }
 {}
 
-/// The blocks together have all codewords of the symbol.
+/// The blocks of a symbol together have all its data codewords and all its error correction codewords. Each block has
+/// at least one data codeword and from 1 to 30 error correction codewords.
 pub fn blocks_are_whole(v: Version, level: Level)
     ensures { AreWhole v level (blocks_of v level) }
 {}
 
-/// A block has at most 153 codewords, for data and for error correction together. Some blocks of version 27 at level L have
-/// 153 codewords.
+/// A block has at most 153 codewords, for data and for error correction together. The longest blocks of version 27 at
+/// level L have 153 codewords.
 #[tactic(auto, unfolding(crate::specs::Blocks::data_codewords_of, crate::specs::Blocks::block_count_of, crate::specs::Blocks::correction_len_of, crate::specs::Version::total_codewords_of))]
 pub fn blocks_are_short(v: Version, level: Level)
     ensures most { longest_of (blocks_of v level) ≤ 153 }
     ensures reached { longest_of (blocks_of 27 L) ≡ 153 }
 {}
 
-/// A block is still known for certain if the number of its misread codewords is at most half the number of its error
-/// correction codewords. That half is at least 9 % of the block at L, 17 % at M, 23 % at Q and 30 % at H.
+/// By the laws of `qr_field`, a damaged block is unambiguous if at most half as many codewords are misread as the block
+/// has error correction codewords. Half the number of error correction codewords, rounded down, is at least 9 % of the
+/// number of codewords of the block at level L, 17 % at M, 23 % at Q and 30 % at H.
 pub fn blocks_stand_damage(v: Version, level: Level)
     ensures { damage_of level * longest_of (blocks_of v level)
         ≤ 100 * ((blocks_of v level).ec_len / 2) }
 {}
 
-/// The number of data codewords is at most 232 up to version 9, at most 1,370 up to version 26, and at most 2,956 in
-/// all versions. The versions of each of these ranges share the widths of the character count indicators.
+/// A symbol has at most 232 data codewords up to version 9, at most 1,370 up to version 26, and at most 2,956 in all
+/// versions. After version 9 and after version 26, some character count indicators become longer.
 pub fn data_is_bounded(v: Version, level: Level)
     ensures small { v ≤ 9 → data_codewords_of v level ≤ 232 }
     ensures middle { v ≤ 26 → data_codewords_of v level ≤ 1370 }
     ensures most { data_codewords_of v level ≤ 2956 }
 {}
 
-/// The word of the format information is five bits followed by their remainder.
+/// The 15 bits of format information are five data bits and ten error correction bits, all combined with the bits
+/// 101010000010010 by exclusive or. The data bits indicate the level and the mask pattern. The error correction bits
+/// are the remainder that Annex C of the standard defines.
 pub fn format_words_are_remainders(level: Level, mask: u8)
     ensures { mask < 8 → IsFormatWord (five_bits level mask) (format_word_of level mask) }
 {}
 
-/// The word of the version information is six bits followed by their remainder.
+/// The 18 bits of version information are six data bits and twelve error correction bits. The data bits are the number
+/// of the version. The error correction bits are the remainder that Annex D of the standard defines.
 pub fn version_words_are_remainders(v: Version)
     ensures { IsVersionWord v (version_word_of v) }
 {}
 
-/// The definitions of the two words compute the examples that Annexes C and D work out, and four more rows of the tables
-/// of these annexes.
+/// The definitions `format_word_of` and `version_word_of` yield the right bits in six examples. Annexes C and D of the
+/// standard work out two of these examples, and the tables of these annexes contain the other four.
 #[tactic(auto, unfolding(crate::specs::Format::format_word_of, crate::specs::Format::version_word_of, crate::specs::Format::remainder_of))]
 pub fn words_compute()
     ensures l { format_word_of L 0 ≡ 0x77C4 }
@@ -155,7 +167,7 @@ pub fn words_compute()
     ensures version_40 { version_word_of 40 ≡ 0x28C69 }
 {}
 
-/// Row 8, column 8 and row 6 of version 1 contain what the standard's figures show there.
+/// In version 1, the modules of row 8, column 8 and row 6 contain what the figures of the standard show there.
 #[tactic(auto, unfolding(crate::specs::Role::role_of, crate::specs::Role::pattern_colour, crate::specs::Role::is_alignment_light, crate::specs::Role::format_bit_at, crate::specs::Role::version_bit_at, crate::specs::Alignment::centres_of))]
 pub fn roles_compute()
     ensures across { map (role_of 1 8) (range_with_len 0 21) ≡ row_8 }
@@ -163,8 +175,8 @@ pub fn roles_compute()
     ensures timing { map (role_of 1 6) (range_with_len 0 21) ≡ row_6 }
 {}
 
-/// A finder pattern of version 1, an alignment pattern of version 2 and the version information of version 7 are what
-/// the standard's figures show (6.3.3 to 6.3.6 and 7.10).
+/// Three parts of symbols contain what the figures of the standard show (6.3.3 to 6.3.6 and 7.10). These parts are a
+/// finder pattern of version 1, an alignment pattern of version 2 and the version information of version 7.
 #[tactic(auto, unfolding(crate::specs::Role::role_of, crate::specs::Role::pattern_colour, crate::specs::Role::is_alignment_light, crate::specs::Role::format_bit_at, crate::specs::Role::version_bit_at, crate::specs::Alignment::centres_of))]
 pub fn patterns_compute()
     ensures finder { map (λ r. map (role_of 1 r) (range_with_len 0 8)) (range_with_len 0 8) ≡ finder_figure }
@@ -173,7 +185,7 @@ pub fn patterns_compute()
     ensures version_below { map (λ c. map (λ r. role_of 7 r c) (range_with_len 34 3)) (range_with_len 0 6) ≡ version_figure }
 {}
 
-/// Each bit of the format information is at its two places and nowhere else.
+/// Each bit of the format information is at exactly two places, `first_place` and `second_place`.
 pub fn format_bits_have_places(v: Version)
     ensures first { (i : ℕ) → i < 15
         → role_of v (first_place i).row (first_place i).col ≡ FormatBit i }
@@ -184,8 +196,9 @@ pub fn format_bits_have_places(v: Version)
         → (i < 15) × ((m ≡ first_place i) ⊎ (m ≡ second_place (side_of v) i)) }
 {}
 
-/// From version 7 on, each bit of the version information is at its two places and nowhere else. Below version 7 no place
-/// contains such a bit.
+/// From version 7 on, each bit of the version information is at exactly two places. The first place is `version_place`,
+/// and the second place is `version_place` with its row and its column exchanged. Below version 7, no module contains a
+/// bit of version information.
 pub fn version_bits_have_places(v: Version)
     ensures first { (i : ℕ) → 7 ≤ v → i < 18
         → role_of v (version_place (side_of v) i).row (version_place (side_of v) i).col
@@ -198,26 +211,26 @@ pub fn version_bits_have_places(v: Version)
         × ((m ≡ version_place (side_of v) i) ⊎ (m ≡ transposed (version_place (side_of v) i))) }
 {}
 
-/// The dark module, beside the bottom left finder pattern, is dark.
+/// The dark module, in column 8 beside the bottom left finder pattern, is dark in every symbol.
 pub fn dark_module_is_dark(v: Version)
     ensures { role_of v (side_of v - 8) 8 ≡ Fixed true }
 {}
 
-/// A module of the square is in the encoding region exactly if it has no fixed colour and contains no bit of the format or
-/// version information.
+/// A module of the symbol is in the encoding region exactly if it has no fixed colour and contains no bit of the format
+/// or version information.
 pub fn region_is_the_rest(v: Version)
     ensures { (r c : ℕ) → r < side_of v → c < side_of v
         → (role_of v r c ≡ Region) ↔ (is_in_region v r c ≡ true) }
 {}
 
-/// The first version is 1.
+/// Returns the first version, which is version 1.
 pub fn first_version() -> Version
     ensures { result ≡ 1 }
 {
     Version::FIRST
 }
 
-/// The default module is the one in the top left corner.
+/// Returns the default module, which is the module in row 0 and column 0.
 pub fn default_module() -> Module
     ensures { result ≡ record { row = 0; col = 0 } }
 {

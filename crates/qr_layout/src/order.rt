@@ -1,5 +1,7 @@
-//! The walk over the encoding region: strips of two columns from right to left, upward and downward in turn, and in each row
-//! the right module first. No strip contains column 6 (ISO/IEC 18004:2015, 7.7.3).
+//! The walk visits the modules of the encoding region in the order in which the bits of the codewords fill them
+//! (ISO/IEC 18004:2015, 7.7.3). The walk goes through strips of two columns, from the rightmost strip to the leftmost
+//! strip. The walk goes upward in the first strip, downward in the second strip, and so on in turn. In each row of a
+//! strip, the right module comes first. No strip contains column 6, which contains a timing pattern.
 
 ghost use Rattle.std.specs.Prelude.{◌≡◌, ◌<◌, ◌≤◌, ◌↔◌, IfSome, IsSome, List, length};
 ghost use Rattle.std.specs.Iterator.{YieldsFirst, item_count};
@@ -13,8 +15,9 @@ use crate::region::{Module, is_in_region};
 use crate::version::Version;
 use std::marker::Model;
 
-// A position of the walk. `strips` is the strip: 1 is the leftmost strip, and 0 is past the end of the walk. `at_left` says
-// that the position is the left module of the row, and `upward` is the direction.
+// A position of the walk over the modules of a symbol. `strips` is the number of the strip, counted from the left and
+// from 1; the number 0 means the end of the walk. `row` is a row of the symbol, and `at_left` is true if the position
+// is the left module of the strip in this row. `upward` is true if the walk goes upward in the strip.
 #[derive(Clone, Copy)]
 struct Cursor {
     strips: u8,
@@ -29,7 +32,7 @@ impl Cursor {
         requires strips_in { self.strips ≤ 88 }
         ensures { result ≡ place_of self }
     {
-        // The number of the column when the timing column is skipped.
+        // The index of the module's column if column 6, which contains a timing pattern, is not counted.
         let untimed = 2 * self.strips - 1 - if self.at_left { 1 } else { 0 };
         let col = if untimed < 6 { untimed } else { untimed + 1 };
         Module { row: self.row, col }
@@ -81,7 +84,7 @@ impl Cursor {
     fn at(m: Module) -> Cursor
         ensures { result ≡ cursor_at m }
     {
-        // The number of the column when the timing column is skipped.
+        // The index of the module's column if column 6, which contains a timing pattern, is not counted.
         let untimed = if m.col < 6 { m.col } else { m.col - 1 };
         let strips = untimed / 2 + 1;
         Cursor {
@@ -93,11 +96,12 @@ impl Cursor {
     }
 }
 
-/// A walk over the encoding region. Contracts describe it by the list of the modules that are still to come.
+/// An iterator over the modules of the encoding region, in the order in which the bits of the codewords fill them. In
+/// contracts, the value of the iterator is the list of the modules that are still to come.
 ///
 /// # Notes
 ///
-/// It stores a position and a direction.
+/// The iterator stores a version and a position, but no list of modules.
 #[derive(Drop)]
 pub struct Steps {
     version: Version,
@@ -137,8 +141,8 @@ impl Iterator for Steps {
     }
 }
 
-/// Returns exactly the modules of the encoding region, each once, in the order in which the bits of the codewords and
-/// the remainder bits fill them.
+/// Returns exactly the modules of the encoding region of version `v`, each once, as an iterator. The modules are in the
+/// order in which they are filled, first with the bits of the codewords and then with the remainder bits.
 pub fn walk(v: Version) -> Steps
     ensures order { IsOrder v result }
     ensures count { length result ≡ module_count_of v }
@@ -154,8 +158,8 @@ pub fn walk(v: Version) -> Steps
     }
 }
 
-/// Returns exactly the modules that come after `m` in the walk, or `None` if `m` is not in the encoding region. `m` may
-/// be outside the symbol.
+/// Returns exactly the modules that `walk` yields after the module `m`, or `None` if `m` is not in the encoding region
+/// of version `v`. The module `m` may be outside the symbol.
 pub fn walk_after(v: Version, m: Module) -> Option<Steps>
     ensures given { IsSome result ↔ InRegion v m }
     ensures rest { IfSome result (IsOrderAfter v m) }
@@ -171,8 +175,8 @@ pub fn walk_after(v: Version, m: Module) -> Option<Steps>
     })
 }
 
-/// Returns the number of modules of the encoding region, from 208 to 29,648: 8 times the number of codewords, plus the
-/// number of remainder bits.
+/// Returns the number of modules of the encoding region of version `v`, from 208 to 29,648. This number is 8 times the
+/// number of codewords, plus the number of remainder bits.
 pub fn region_len(v: Version) -> u32
     ensures count { result ≡ module_count_of v }
     ensures length { (ms : List Module) → IsOrder v ms → length ms ≡ result }

@@ -1,5 +1,6 @@
-//! The finder, separator and timing patterns, the format information and the version information, as rectangles. Together
-//! with the alignment patterns they are all modules outside the encoding region (ISO/IEC 18004:2015, 6.3).
+//! Rectangles that cover the finder patterns, separators and timing patterns, the format information and the version
+//! information of a symbol. All modules outside the encoding region are in these rectangles or in the alignment
+//! patterns (ISO/IEC 18004:2015, 6.3).
 
 ghost use Rattle.std.specs.Prelude.{◌≡◌};
 ghost use Rattle.qr_layout.specs.Rectangles.{fixed_rectangles};
@@ -8,7 +9,8 @@ use crate::version::Version;
 use arrayvec::ArrayVec;
 use std::ops::Range;
 
-/// A rectangle of modules: the rows from `top` to before `bottom`, and the columns from `left` to before `right`.
+/// A rectangle of modules. Its first row is `top`, and `bottom` is the row after its last row. Its first column is
+/// `left`, and `right` is the column after its last column.
 #[derive(Clone, Copy, Default)]
 pub struct Rectangle {
     pub top: u8,
@@ -18,7 +20,7 @@ pub struct Rectangle {
 }
 
 impl Rectangle {
-    /// Returns the rectangle of these rows and columns.
+    /// Returns the rectangle with the rows `rows` and the columns `columns`.
     pub fn new(rows: Range<u8>, columns: Range<u8>) -> Rectangle
         ensures { result ≡ record { top = rows.start; bottom = rows.end; left = columns.start; right = columns.end } }
     {
@@ -31,9 +33,11 @@ impl Rectangle {
     }
 }
 
-/// Returns the rectangles of a version: the three corners, each with a finder pattern, its separator and the format
-/// information; row 6 and column 6, which have the timing patterns; and from version 7 on the two blocks of version
-/// information (ISO/IEC 18004:2015, 6.3.3 to 6.3.5, 7.9 and 7.10). Some of the rectangles overlap.
+/// Returns the rectangles that cover all modules of version `v` outside the encoding region, except for the alignment
+/// patterns (ISO/IEC 18004:2015, 6.3.3 to 6.3.5, 7.9 and 7.10). Three rectangles are corners, each with a finder
+/// pattern, its separator and format information. Two rectangles are row 6 and column 6, which contain the timing
+/// patterns. From version 7 on, there are two more rectangles, which contain the version information. Some of the
+/// rectangles overlap.
 pub fn fixed_rectangles(v: Version) -> ArrayVec<Rectangle, 7>
     ensures { result.items ≡ fixed_rectangles v }
 {

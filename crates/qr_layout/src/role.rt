@@ -1,5 +1,5 @@
-//! What each module of a symbol contains: a colour that is fixed, a bit of the format or version information, or a bit of
-//! the codewords (ISO/IEC 18004:2015, 6.3 and 7.7.2).
+//! The role of each module of a symbol: a fixed colour, a bit of the format information or of the version information,
+//! or a bit of the codewords (ISO/IEC 18004:2015, 6.3 and 7.7.2).
 
 ghost use Rattle.std.specs.Prelude.{◌≡◌, ◌≢◌, ◌<◌, ◌≤◌, ◌==◌, ◌&&◌, not};
 ghost use Rattle.std.specs.List.{list_any};
@@ -12,16 +12,16 @@ use crate::alignment::{centre_list, is_corner_pair, is_in_alignment};
 use crate::region::{Module, is_in_version_block};
 use crate::version::Version;
 
-/// What a module contains.
+/// The role of a module: what the module contains.
 #[derive(Clone, Copy, Debug, PartialEq, Eq)]
 pub enum Role {
-    /// A colour that is the same in each symbol of the version: true is dark.
+    /// A colour that is the same in each symbol of the version; `true` is dark.
     Fixed(bool),
-    /// A bit of the format information, from bit 0, the lowest, to bit 14, the highest.
+    /// A bit of the format information, where bit 0 is the lowest bit and bit 14 is the highest.
     FormatBit(u8),
-    /// A bit of the version information, from bit 0, the lowest, to bit 17, the highest.
+    /// A bit of the version information, where bit 0 is the lowest bit and bit 17 is the highest.
     VersionBit(u8),
-    /// A module of the encoding region: a bit of a codeword, or a remainder bit.
+    /// A bit of a codeword or a remainder bit, in a module of the encoding region.
     Region,
 }
 
@@ -45,7 +45,9 @@ fn is_first_ring(a: u8, b: u8, row: u8, col: u8) -> bool
     ring(a, b, row, col) == 1
 }
 
-// Returns whether a place is on the light ring of an alignment pattern whose centre is in row `a`.
+// Returns whether the module in row `row` and column `col` is on the light ring of an alignment pattern whose centre is
+// in row `a`. `centres` contains the columns of all centres, and `side` is the number of modules on a side of the
+// symbol.
 fn is_light_beside(centres: &[u8], side: u8, a: u8, row: u8, col: u8) -> bool
     requires { 21 ≤ side }
     ensures { result ≡ list_any (λ b. not (is_corner_pair side a b) && ring_of a b row col == 1)
@@ -54,7 +56,9 @@ fn is_light_beside(centres: &[u8], side: u8, a: u8, row: u8, col: u8) -> bool
     centres.iter().any(|b| !is_corner_pair(side, a, *b) && is_first_ring(a, *b, row, col))
 }
 
-// Returns whether a place is on the light ring of an alignment pattern. `centres` are the rows and columns of the centres.
+// Returns whether the module in row `row` and column `col` is on the light ring of an alignment pattern. `centres`
+// contains the rows of all centres, which are also their columns, and `side` is the number of modules on a side of the
+// symbol.
 fn is_light_among(centres: &[u8], side: u8, row: u8, col: u8) -> bool
     requires { 21 ≤ side }
     ensures { result ≡ list_any (λ a. list_any (λ b. not (is_corner_pair side a b)
@@ -73,7 +77,8 @@ fn is_alignment_light(v: Version, row: u8, col: u8) -> bool
     is_light_among(centres, side, row, col)
 }
 
-// Returns the colour of a module of a finder, separator, timing or alignment pattern, or `None` for any other module.
+// Returns the colour of the module in row `row` and column `col` if this module belongs to a finder pattern, separator,
+// timing pattern or alignment pattern; `true` is dark. Returns `None` for any other module.
 #[tactic(auto, unfolding(crate::specs::Role::pattern_colour))]
 fn pattern_colour(v: Version, row: u8, col: u8) -> Option<bool>
     ensures { result ≡ pattern_colour v row col }
@@ -97,8 +102,8 @@ fn pattern_colour(v: Version, row: u8, col: u8) -> Option<bool>
     None
 }
 
-/// Returns the place of a bit of the format information, from 0 to 14, beside the top left finder pattern
-/// (ISO/IEC 18004:2015, 7.9.1).
+/// Returns the place of the bit `bit` of the format information in the first copy, beside the top left finder pattern
+/// (ISO/IEC 18004:2015, 7.9.1). The number `bit` is from 0 to 14.
 pub fn format_place(bit: u8) -> Module
     requires { bit < 15 }
     ensures place { result ≡ first_place bit }
@@ -122,8 +127,8 @@ pub fn format_place(bit: u8) -> Module
     Module { row, col }
 }
 
-/// Returns the place of a bit of the format information, from 0 to 14, beside the other two finder patterns
-/// (ISO/IEC 18004:2015, 7.9.1).
+/// Returns the place of the bit `bit` of the format information in the second copy, beside the other two finder
+/// patterns (ISO/IEC 18004:2015, 7.9.1). The number `bit` is from 0 to 14.
 pub fn second_format_place(v: Version, bit: u8) -> Module
     requires { bit < 15 }
     ensures place { result ≡ second_place (side_of v) bit }
@@ -136,7 +141,8 @@ pub fn second_format_place(v: Version, bit: u8) -> Module
     Module { row, col }
 }
 
-// Returns which bit of the format information is in this row of column 8, if a bit is there.
+// Returns the index of the bit of the format information that the module in row `row` of column 8 contains. Returns
+// `None` if this module contains no such bit. `side` is the number of modules on a side of the symbol.
 fn format_bit_down(side: u8, row: u8) -> Option<u8>
     requires least { 21 ≤ side }
     requires most { side ≤ 177 }
@@ -156,7 +162,8 @@ fn format_bit_down(side: u8, row: u8) -> Option<u8>
     }
 }
 
-// Returns which bit of the format information is in this column of row 8, if a bit is there.
+// Returns the index of the bit of the format information that the module in column `col` of row 8 contains. Returns
+// `None` if this module contains no such bit. `side` is the number of modules on a side of the symbol.
 fn format_bit_across(side: u8, col: u8) -> Option<u8>
     requires least { 21 ≤ side }
     requires col_in { col < side }
@@ -210,7 +217,8 @@ fn version_bit(v: Version, row: u8, col: u8) -> Option<u8>
     None
 }
 
-/// Returns what the module in this row and this column contains; both have to be below the side.
+/// Returns what the module in row `row` and column `col` of a symbol of version `v` contains. `row` and `col` must be
+/// less than the number of modules on a side of the symbol.
 #[tactic(auto, unfolding(crate::specs::Role::role_of))]
 pub fn cell(v: Version, row: u8, col: u8) -> Role
     requires row_in { row < side_of v }

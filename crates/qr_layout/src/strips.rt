@@ -1,5 +1,5 @@
-//! The strips of two columns in which a symbol is filled, from right to left. The walk over the encoding region skips those
-//! places of a strip that contain patterns or information (ISO/IEC 18004:2015, 7.7.3).
+//! The strips of a symbol (ISO/IEC 18004:2015, 7.7.3). A strip is two neighbouring columns that are filled together.
+//! Only those modules of a strip that are in the encoding region contain bits of codewords.
 
 ghost use Rattle.std.specs.Prelude.{◌<◌, ◌≤◌, List};
 ghost use Rattle.std.specs.Iterator.{YieldsFirst, item_count};
@@ -12,20 +12,22 @@ ghost use Rattle.qr_layout.specs.declared.strips.Strip.{Strip};
 use crate::version::Version;
 use std::marker::Model;
 
-/// A strip: two columns that are filled row by row, in each row the right module first.
+/// A strip: two neighbouring columns that are filled together, row by row. In each row the module in the right column
+/// comes first.
 #[derive(Clone, Copy, Debug, PartialEq, Eq)]
 pub struct Strip {
-    /// The right column of the strip.
+    /// The index of the right column of the strip.
     pub right: u8,
-    /// Whether the strip is filled from the last row to the first.
+    /// Whether the strip is filled upward, from the last row of the symbol to the first row.
     pub upward: bool,
 }
 
-/// The strips of a symbol. Contracts describe them by the list of the strips that are still to come.
+/// An iterator over the strips of a symbol, from right to left. In contracts, the value of the iterator is the list of
+/// the strips that are still to come.
 #[derive(Drop)]
 pub struct Strips {
-    // The number of strips that are still to come. This is also the index of the next strip, counted from the left and from
-    // 1.
+    // The number of strips that are still to come. If the strips are numbered from left to right, beginning with 1,
+    // this is also the number of the next strip.
     remaining: u8,
 }
 
@@ -52,7 +54,7 @@ impl Iterator for Strips {
         if self.remaining == 0 {
             return None;
         }
-        // The number of the right column when the timing column is skipped.
+        // The index of the strip's right column if column 6, which contains a timing pattern, is not counted.
         let untimed = 2 * self.remaining - 1;
         let right = if untimed < 6 { untimed } else { untimed + 1 };
         let upward = self.remaining % 2 == 0;
@@ -61,8 +63,8 @@ impl Iterator for Strips {
     }
 }
 
-/// Returns all strips, from right to left. Those of their places that are in the encoding region come in the order in which
-/// the bits of the codewords fill them.
+/// Returns all strips of a symbol of version `v`, from right to left. The bits of the codewords fill the symbol strip
+/// by strip in this order. In each strip, these bits fill only the modules that are in the encoding region.
 pub fn all_strips(v: Version) -> Strips
     ensures order { IsOrder v (in_region_of v (places_of (side_of v) result)) }
     ensures inside { All (λ x. (1 ≤ x.right) × (x.right < side_of v)) result }

@@ -1,5 +1,5 @@
-//! The forty versions: the sides of their symbols, and the numbers of codewords and remainder bits (ISO/IEC 18004:2015,
-//! 6.3.2 and 7.1, Table 1).
+//! The forty versions of QR Code. A version determines the number of modules on a side of a symbol, and the numbers of
+//! its codewords and remainder bits (ISO/IEC 18004:2015, 6.3.2 and 7.1, Table 1).
 
 ghost use Rattle.std.specs.Prelude.{◌≡◌, ◌≤◌, SomeIff, ℕ, MatchOption};
 ghost use Rattle.qr_layout.specs.Version.{side_of};
@@ -7,20 +7,20 @@ ghost use Rattle.qr_layout.specs.Version.{total_codewords_of, remainder_bits_of}
 
 use std::marker::Model;
 
-// The number of codewords of a symbol in the versions 1 to 40.
+// The number of codewords of a symbol, for each of the versions 1 to 40.
 static TOTAL_CODEWORDS: [u16; 40] = [
     26, 44, 70, 100, 134, 172, 196, 242, 292, 346, 404, 466, 532, 581, 655, 733, 815, 901, 991,
     1085, 1156, 1258, 1364, 1474, 1588, 1706, 1828, 1921, 2051, 2185, 2323, 2465, 2611, 2761, 2876,
     3034, 3196, 3362, 3532, 3706,
 ];
 
-// The number of remainder bits of a symbol in the versions 1 to 40.
+// The number of remainder bits of a symbol, for each of the versions 1 to 40.
 static REMAINDER_BITS: [u8; 40] = [
     0, 7, 7, 7, 7, 7, 0, 0, 0, 0, 0, 0, 0, 3, 3, 3, 3, 3, 3, 3, 4, 4, 4, 4, 4, 4, 4, 3, 3, 3, 3, 3,
     3, 3, 0, 0, 0, 0, 0, 0,
 ];
 
-/// A version from 1 to 40, which fixes the size of a symbol.
+/// A version of QR Code, from 1 to 40. The version determines the size of a symbol.
 #[derive(Clone, Copy, Debug, PartialEq, Eq)]
 pub struct Version {
     number: u8,
@@ -39,10 +39,10 @@ impl Model for Version {
 }
 
 impl Version {
-    /// The smallest version.
+    /// The smallest version, which is version 1.
     pub const FIRST: Version = Version { number: 1 };
 
-    /// Returns the version with this number, or `None` if the number is not from 1 to 40.
+    /// Returns the version with the number `n`, or `None` if `n` is not from 1 to 40.
     pub fn new(n: u8) -> Option<Version>
         ensures { SomeIff result ((1 ≤ n) × (n ≤ 40)) n }
     {
@@ -53,8 +53,8 @@ impl Version {
         }
     }
 
-    /// Returns the version whose symbols have this side, or `None` if no version has it. The sides are 21, 25, and so on to
-    /// 177.
+    /// Returns the version whose symbols have `side` modules on a side, or `None` if there is no such version. The
+    /// versions have 21, 25, 29 and so on up to 177 modules on a side.
     pub fn of_side(side: u8) -> Option<Version>
         ensures { MatchOption result
             ((v : ℕ) → 1 ≤ v → v ≤ 40 → side ≡ side_of v → ⊥)
@@ -75,7 +75,7 @@ impl Version {
         self.number
     }
 
-    /// Returns the number of modules on a side of the symbol, from 21 to 177.
+    /// Returns the number of modules on a side of a symbol of this version, from 21 to 177.
     pub fn side(self) -> u8
         ensures value { result ≡ side_of self }
         ensures least { 21 ≤ result }
@@ -84,7 +84,8 @@ impl Version {
         17 + 4 * self.number
     }
 
-    /// Returns the number of codewords of a symbol, for data and for error correction, from 26 to 3,706.
+    /// Returns the number of codewords of a symbol of this version, from 26 to 3,706. This number includes the data
+    /// codewords and the error correction codewords.
     #[tactic(auto, unfolding(crate::specs::Version::total_codewords_of))]
     pub fn total_codewords(self) -> u16
         ensures { result ≡ total_codewords_of self }
@@ -92,7 +93,8 @@ impl Version {
         TOTAL_CODEWORDS[usize::from(self.number - 1)]
     }
 
-    /// Returns the number of modules that are left over when the codewords are placed: 0, 3, 4 or 7.
+    /// Returns the number of remainder bits of a symbol of this version: 0, 3, 4 or 7. Remainder bits are modules that
+    /// are left over when the codewords are placed.
     #[tactic(auto, unfolding(crate::specs::Version::remainder_bits_of))]
     pub fn remainder_bits(self) -> u8
         ensures { result ≡ remainder_bits_of self }

@@ -1,38 +1,42 @@
--- Coefficients packed into one number, a byte each, the first in the lowest bits.
+-- A list of coefficients can be packed into one number. Each coefficient is in eight bits of the number, and the first
+-- coefficient is in the lowest eight bits.
 use Rattle.std.specs.Prelude.{◌≡◌, ℕ, ◌+◌, ◌*◌, ◌/◌, ◌%◌, ◌^◌, ◌<◌, List, [], ◌∷◌, drop, length, slice_index_or}
 use Prim.Native.Nat.{zero, suc}
 use Rattle.qr_field.specs.declared.register.Register.{Register}
 use Rattle.qr_field.specs.Polynomial.{scaled, generator_of, IsCorrection}
 
--- Bytes as one number, the first byte in the lowest bits
+-- `packed bs` is the number that consists of the bytes bs; the first byte is in the lowest eight bits
 abbrev pub packed : List ℕ → ℕ
 packed [] = 0
 packed (b ∷ bs) = packed bs * 2 ^ 8 + b
 
--- The first n bytes of a number, from the lowest bits on
+-- `unpacked n v` is the list of the n lowest bytes of the number v, with the lowest byte first
 abbrev pub unpacked : ℕ → ℕ → List ℕ
 unpacked zero v = []
 unpacked (suc n) v = v % 2 ^ 8 ∷ unpacked n (v / 2 ^ 8)
 
--- The number that a register contains
+-- `value_of r` is the number of 256 bits that the register r contains
 abbrev pub value_of : Register → ℕ
 value_of r = r.high * 2 ^ 128 + r.low
 
--- A register in which all coefficients are 0
+-- `zero_register` is the register in which all coefficients are 0
 abbrev pub zero_register : Register
 zero_register = record { low = 0; high = 0 }
 
--- The coefficients of the generator polynomial after its leading 1
+-- `divisor_of n` is the list of the coefficients that follow the leading 1 of the generator polynomial for n error
+-- correction codewords
 abbrev pub divisor_of : ℕ → List ℕ
 divisor_of n = drop 1 (generator_of n)
 
--- `HasMultiples g shift bound rows` holds if there are 16 rows, and row f, for each f below `bound`, contains the
--- coefficients g, each multiplied in the field by the element f * 2^shift
+-- `HasMultiples g shift bound rows` holds if `rows` is a list of 16 registers, and each register with an index f below
+-- `bound` contains a multiple of the coefficients g. In this multiple, each coefficient is multiplied in the field by
+-- the element f * 2^shift
 pub record HasMultiples (g : List ℕ) (shift bound : ℕ) (rows : List Register) : Type 0 where
   pub many : length rows ≡ 16
   pub each : (f : ℕ) → f < bound → value_of (slice_index_or rows f zero_register) ≡ packed (scaled (f * 2 ^ shift) g)
 
--- `IsHeld d n v` holds if the number v contains the n error correction codewords of d
+-- `IsHeld d n v` holds if the number v consists of the n error correction codewords of the data codewords d; the first
+-- codeword is in the lowest eight bits
 pub record IsHeld (d : List ℕ) (n v : ℕ) : Type 0 where
   pub items : List ℕ
   pub correction : IsCorrection d n items
