@@ -8,7 +8,7 @@ ghost use Rattle.qr_devices.specs.Device.{no_reads, no_writes};
 use crate::device::{ReadCounts, Sink, Source, Trouble, WriteCounts};
 use std::io::{self, ErrorKind, Read, Write};
 
-// Returns `Trouble::Interrupted` if the I/O error is an interruption, and `Trouble::Failed` otherwise.
+// Returns `Interrupted` if the I/O error is an interruption, and `Failed` for every other error.
 fn trouble_of(error: io::Error) -> Trouble
     ensures { result ≡ Trouble.Interrupted ↔ error_kind error ≡ ErrorKind.Interrupted }
 {
