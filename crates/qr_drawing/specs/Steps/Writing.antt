@@ -30,8 +30,9 @@ pub record Writes (old new : Writer) (tried tries : ℕ) (text held : List ℕ) 
   pub offered : new.counts.offered ≤ max old.counts.offered 1200
   pub flushes : new.counts.flushes ≡ old.counts.flushes
 
--- `Stops old new tried text` holds if the writer failed when `text` was written, after the writer had accepted a prefix
--- of `text`. The writer was `old` before, and is `new` afterwards. The number of interrupted writes was `tried` before
+-- `Stops old new tried text` holds if a fault of the writer ended the writing of `text`, after the writer had accepted
+-- a prefix of `text`. The writer was `old` before, and is `new` afterwards. The number of interrupted writes was
+-- `tried` before
 pub record Stops (old new : Writer) (tried : ℕ) (text : List ℕ) : Type 0 where
   pub prefix : AppendsBeginning old.taken new.taken text
   pub most : old.counts.taken < 2 ^ 64 → new.counts.taken ≤ counted (old.counts.taken + length text)
