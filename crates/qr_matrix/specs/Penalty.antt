@@ -64,9 +64,9 @@ is_window s line c = nat_le (c + 11) s && (reads line c tail_window || reads lin
 unfoldable pub window_count : ℕ → (ℕ → Bool) → ℕ
 window_count s line = count_below s (is_window s line)
 
--- `is_square_of_two s dark r c` is true if the modules in rows `r` and `r + 1` and columns `c` and `c + 1` are a square
--- of two by two modules of one colour. The symbol has `s` rows and columns, and `dark row col` is the colour of a
--- module (ISO/IEC 18004:2015, 7.8.3.1, Table 11, block of modules in same colour)
+-- `is_square_of_two s dark r c` is true if the four modules in rows `r` and `r + 1` and columns `c` and `c + 1` are in
+-- the symbol and have one colour. The symbol has `s` rows and columns, and `dark row col` is the colour of a module
+-- (ISO/IEC 18004:2015, 7.8.3.1, Table 11, block of modules in same colour)
 unfoldable pub is_square_of_two : ℕ → (ℕ → ℕ → Bool) → ℕ → ℕ → Bool
 is_square_of_two s dark r c =
     nat_lt (r + 1) s && nat_lt (c + 1) s
@@ -94,8 +94,8 @@ unfoldable pub over_lines : ℕ → (ℕ → ℕ → Bool) → ((ℕ → Bool) �
 over_lines s dark f = sum_below s (λ r. f (dark r)) + sum_below s (λ c. f (λ r. dark r c))
 
 -- `penalty_of s dark` is the penalty of a symbol of `s` rows and columns, where `dark r c` is the colour of a module.
--- The penalty is the sum of four costs: of the runs of one colour, of the squares of two by two modules of one colour
--- (3 points each), of the ratios 1:1:3:1:1 before or after four light modules (40 points each), and of the share of
--- dark modules (ISO/IEC 18004:2015, 7.8.3.1, Table 11)
+-- The penalty is the sum of four costs. The runs of one colour have the cost `run_cost`, and the share of dark modules
+-- has the cost `dark_cost`. Each square of two by two modules of one colour costs 3 points. Each ratio 1:1:3:1:1 before
+-- or after four light modules costs 40 points (ISO/IEC 18004:2015, 7.8.3.1, Table 11)
 unfoldable pub penalty_of : ℕ → (ℕ → ℕ → Bool) → ℕ
 penalty_of s dark = over_lines s dark (run_cost s) + 3 * square_count s dark + 40 * over_lines s dark (window_count s) + dark_cost s (dark_count s dark)

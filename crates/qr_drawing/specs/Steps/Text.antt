@@ -45,8 +45,8 @@ abbrev pub pair_text : ℕ → List ℕ
 pair_text pair = texts_below 2 (λ k. half_blocks (has_bit pair k) (has_bit pair (2 + k)))
 
 -- `AreDark margin g row col bits` holds if the bits 0 to 7 of `bits` are the colours of eight modules in row `row` of
--- the raster, where a set bit is a dark module. Bit 0 is the module in column `col` of the square of modules `g`,
--- without the margin. Bits of columns outside the square may have any value
+-- the raster. A set bit is a dark module. Bit 0 is the module in column `col` of the square of modules `g`, without the
+-- margin. Bits of columns outside the square may have any value
 abbrev pub AreDark : ℕ → Grid → ℕ → ℕ → ℕ → Type 0
 AreDark margin g row col bits = (k : ℕ) → k < 8 → col + k < g.side → has_bit bits k ≡ is_dark_at margin g row (margin + (col + k))
 
