@@ -1,4 +1,4 @@
--- What each call of a device adds to its counts, and which counts show the cause of a fault.
+-- Defines what each call of a device adds to the counts of the device, and which counts show the cause of a fault.
 use Rattle.std.specs.Prelude.{◌≡◌, ◌+◌, ◌-◌, ◌^◌, ◌≤◌, ◌++◌, ◌==◌, ◌||◌, ◌&&◌, ℕ, Bool, false, nat_lt, nat_le, min, max, List, Option, Result, Ok, Err, is_ok, if◌then◌else◌}
 use Rattle.std.specs.Io.KnownBytes.{Appends}
 use Rattle.qr_devices.specs.declared.device.TheConstants.{INTERRUPTIONS_MAX}
@@ -7,31 +7,33 @@ use Rattle.qr_devices.specs.declared.device.Trouble.TheVariants.{Interrupted, Fa
 use Rattle.qr_devices.specs.declared.device.ReadCounts.{ReadCounts}
 use Rattle.qr_devices.specs.declared.device.WriteCounts.{WriteCounts}
 
--- `counted n` is `n` as a count shows it: a count stops at the greatest value of `u64` [own]
+-- `counted n` is the number `n` as a count shows it: `n` itself, or the greatest value of `u64` if `n` is greater [own]
 abbrev pub counted : ℕ → ℕ
 counted n = min n (2 ^ 64 - 1)
 
--- `no_reads` is the counts of a device before its first read [own]
+-- `no_reads` is the counts of a device before its first read: each count is 0 [own]
 abbrev pub no_reads : ReadCounts
 no_reads = record { calls = 0; failed = 0; interrupted = 0; given = 0; ends = 0; past_end = 0 }
 
--- `read_returned room returned c` is the counts `c` with the result of a read into `room` bytes: the number of bytes
--- returned, and one more end if it is 0 although there was room; or one more interruption; or one more failure [own]
+-- `read_returned room returned c` is the counts `c` after the result `returned` of a read into a buffer of `room` bytes
+-- was added. If the read returned `n` bytes, `given` grows by `n`, and `ends` grows by 1 if `n` is 0 although the
+-- buffer is not empty. If the read was interrupted, `interrupted` grows by 1; if it failed, `failed` grows by 1 [own]
 abbrev pub read_returned : ℕ → Result ℕ Trouble → ReadCounts → ReadCounts
 read_returned room (Ok n) c =
     record c { given = counted (c.given + n); ends = if n == 0 && nat_lt 0 room then counted (c.ends + 1) else c.ends }
 read_returned room (Err Interrupted) c = record c { interrupted = counted (c.interrupted + 1) }
 read_returned room (Err Failed) c = record c { failed = counted (c.failed + 1) }
 
--- `read_counted room returned c` is the counts after a read into `room` bytes: its result is added, and one more call;
--- the call also counts as past the end if the end was met before [own]
+-- `read_counted room returned c` is the counts `c` after a read into a buffer of `room` bytes was added, where
+-- `returned` is what the read returned. The count `calls` grows by 1, and the result of the read is added. If an
+-- earlier read has reached the end of the input, `past_end` grows by 1 too [own]
 abbrev pub read_counted : ℕ → Result ℕ Trouble → ReadCounts → ReadCounts
 read_counted room returned c = read_returned room returned (record c {
   calls = counted (c.calls + 1);
   past_end = if nat_lt 0 c.ends then counted (c.past_end + 1) else c.past_end;
 })
 
--- `no_writes` is the counts of a device before its first write [own]
+-- `no_writes` is the counts of a device before its first write or flush: each count is 0 [own]
 abbrev pub no_writes : WriteCounts
 no_writes = record {
   calls = 0;
@@ -44,22 +46,24 @@ no_writes = record {
   settled = false;
 }
 
--- `write_returned len returned c` is the counts `c` with the result of a write of `len` bytes: the number of bytes
--- taken, and one more in `zeros` if it is 0 although `len` is not; or one more interruption; or one more failure [own]
+-- `write_returned len returned c` is the counts `c` after the result `returned` of a write of `len` bytes was added. If
+-- the device accepted `n` bytes, `taken` grows by `n`, and `zeros` grows by 1 if `n` is 0 although `len` is not. If the
+-- write was interrupted, `interrupted` grows by 1; if it failed, `failed` grows by 1 [own]
 abbrev pub write_returned : ℕ → Result ℕ Trouble → WriteCounts → WriteCounts
 write_returned len (Ok n) c =
     record c { taken = counted (c.taken + n); zeros = if n == 0 && nat_lt 0 len then counted (c.zeros + 1) else c.zeros }
 write_returned len (Err Interrupted) c = record c { interrupted = counted (c.interrupted + 1) }
 write_returned len (Err Failed) c = record c { failed = counted (c.failed + 1) }
 
--- `write_counted len returned c` is the counts after a write of `len` bytes: its result is added, and one more call
--- [own]
+-- `write_counted len returned c` is the counts `c` after a write of `len` bytes was added, where `returned` is what the
+-- write returned. The count `calls` grows by 1, and the result of the write is added. `offered` becomes `len` if it was
+-- less, and `settled` becomes false [own]
 abbrev pub write_counted : ℕ → Result ℕ Trouble → WriteCounts → WriteCounts
 write_counted len returned c =
     write_returned len returned (record c { calls = counted (c.calls + 1); offered = max c.offered len; settled = false })
 
--- `flush_counted returned c` is the counts after a flush. An interrupted flush counts as failed, and not as interrupted
--- [own]
+-- `flush_counted returned c` is the counts `c` after a flush was added, where `returned` is what the flush returned. An
+-- interrupted flush counts as failed, and not as interrupted [own]
 abbrev pub flush_counted : {T : Type 0} → Result T Trouble → WriteCounts → WriteCounts
 flush_counted returned c = record c {
   calls = counted (c.calls + 1);
@@ -68,38 +72,41 @@ flush_counted returned c = record c {
   settled = is_ok returned;
 }
 
--- `IsBeginning prefix whole` holds if the text `prefix` is a prefix of the text `whole` [own]
+-- `IsBeginning prefix whole` holds if the list of bytes `prefix` is a prefix of the list of bytes `whole` [own]
 abbrev pub IsBeginning : List ℕ → List ℕ → Type 0
 IsBeginning prefix whole = (rest : List ℕ) × (prefix ++ rest ≡ whole)
 
--- `AppendsBeginning old new whole` holds if a device whose bytes are known took a prefix of `whole`. If its bytes are
--- unknown, it always holds [own]
+-- `AppendsBeginning old new whole` holds if the bytes of a device changed from `old` to `new` because a prefix of
+-- `whole` was added to them. If the bytes of the device are unknown, `AppendsBeginning` always holds [own]
 abbrev pub AppendsBeginning : Option (List ℕ) → Option (List ℕ) → List ℕ → Type 0
 AppendsBeginning old new whole = (prefix : List ℕ) × IsBeginning prefix whole × Appends old new prefix
 
--- `is_read_fault c` is true if the counts show a read that failed, or the 1,000th interruption (EINTR) [own]
+-- `is_read_fault c` is true if the counts `c` show that a read failed, or that reads were interrupted (EINTR) 1,000
+-- times or more [own]
 abbrev pub is_read_fault : ReadCounts → Bool
 is_read_fault c = nat_lt 0 c.failed || nat_le 1000 c.interrupted
 
--- `is_write_fault c` is true if the counts show a write or a flush that failed, a write of at least one byte that took
--- no byte, or the 1,000th interruption of a write (EINTR) [own]
+-- `is_write_fault c` is true if the counts `c` show one of three causes. Either a write or a flush failed, or the
+-- device accepted no byte of a write that offered at least one byte, or writes were interrupted (EINTR) 1,000 times or
+-- more [own]
 abbrev pub is_write_fault : WriteCounts → Bool
 is_write_fault c = nat_lt 0 c.failed || (nat_lt 0 c.zeros || nat_le 1000 c.interrupted)
 
--- `IsWrittenWithin c` holds if at most one call of a writer failed or was a write of at least one byte that took no byte,
--- and at most 1,000 writes were interrupted [own]
+-- `IsWrittenWithin c` holds if the counts `c` show at most one call with a fault, and at most 1,000 interrupted writes.
+-- A call with a fault is a write or a flush that failed, or a write that offered at least one byte, but of which the
+-- device accepted no byte [own]
 pub record IsWrittenWithin (c : WriteCounts) : Type 0 where
   pub faults : c.failed + c.zeros ≤ 1
   pub interrupted : c.interrupted ≤ INTERRUPTIONS_MAX + 1
 
--- `Reader` is a device that is read, as contracts see it: the bytes that are still to be read, if they are known, and
--- the counts [own]
+-- `Reader` is a device from which bytes are read, as contracts see it: the bytes that are still to be read, if they are
+-- known, and the counts of its reads [own]
 pub record Reader : Type 0 where
   pub remaining : Option (List ℕ)
   pub counts : ReadCounts
 
--- `Writer` is a device that is written to, as contracts see it: the bytes that it took, if they are known, and the
--- counts [own]
+-- `Writer` is a device to which bytes are written, as contracts see it: the bytes that it accepted, if they are known,
+-- and the counts of its writes and flushes [own]
 pub record Writer : Type 0 where
   pub taken : Option (List ℕ)
   pub counts : WriteCounts

@@ -1,27 +1,28 @@
--- The bytes of a device in memory, and how it misbehaves.
+-- Defines which bytes a device for tests contains, and how this device misbehaves.
 use Rattle.std.specs.Prelude.{ℕ, ◌-◌, min, max, nat_lt, nat_le, List, length, drop, Result, Ok, Err, if◌then◌else◌}
 use Rattle.qr_devices.specs.declared.device.Trouble.{Trouble}
 use Rattle.qr_devices.specs.declared.device.Trouble.TheVariants.{Interrupted, Failed}
 use Rattle.qr_devices.specs.declared.trial.Faults.{Faults}
 use Rattle.qr_devices.specs.declared.trial.Trial.{Trial}
 
--- `bytes_left t` is the bytes that are still to be read from the device [own]
+-- `bytes_left t` is the bytes that are still to be read from the device `t` [own]
 abbrev pub bytes_left : Trial → List ℕ
 bytes_left t = drop t.position t.bytes.items
 
--- `bytes_held t` is the bytes that the device contains [own]
+-- `bytes_held t` is all bytes that the device `t` contains [own]
 abbrev pub bytes_held : Trial → List ℕ
 bytes_held t = t.bytes.items
 
--- `moved m call there` is what the call numbered `call` returns if `there` bytes could be moved. The first
--- `interruptions` calls are interrupted. After these, the call numbered `fails_from` and all later calls fail. Every
--- other call moves as many bytes as `at_most` allows, and at least one byte if there is one [own]
+-- `moved m call there` is what the call with the number `call` returns if `there` bytes could be moved, where `m` is
+-- the faults of the device. Calls with a number below `interruptions` are interrupted. Of the other calls, those with
+-- the number `fails_from` or a greater number fail. Every other call moves as many bytes as `at_most` allows, and at
+-- least one byte if `there` is not 0 [own]
 abbrev pub moved : Faults → ℕ → ℕ → Result ℕ Trouble
 moved m call there =
     if nat_lt call m.interruptions then Err Interrupted else
     (if nat_le m.fails_from call then Err Failed else Ok (min there (max m.at_most 1)))
 
--- `free_of t` is the number of bytes for which the device still has room, or 0 from the call numbered `stops_from` on
--- [own]
+-- `free_of t` is the number of bytes for which the device `t` still has room. From the call with the number
+-- `stops_from` on, `free_of t` is 0 [own]
 abbrev pub free_of : Trial → ℕ
 free_of t = if nat_lt t.writes.calls t.faults.stops_from then t.room - length t.bytes.items else 0

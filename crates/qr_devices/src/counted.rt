@@ -1,4 +1,4 @@
-//! A reader or a writer of the standard library as a device whose calls are counted.
+//! Turns a reader or a writer of the standard library into a device that counts its calls.
 
 ghost use Rattle.std.specs.Prelude.{◌≡◌, ◌↔◌};
 ghost use Rattle.std.specs.IoError.{error_kind};
@@ -8,7 +8,7 @@ ghost use Rattle.qr_devices.specs.Device.{no_reads, no_writes};
 use crate::device::{ReadCounts, Sink, Source, Trouble, WriteCounts};
 use std::io::{self, ErrorKind, Read, Write};
 
-// Returns whether an I/O error is an interruption or a failure.
+// Returns `Interrupted` if the I/O error is an interruption, and `Failed` for every other error.
 fn trouble_of(error: io::Error) -> Trouble
     ensures { result ≡ Trouble.Interrupted ↔ error_kind error ≡ ErrorKind.Interrupted }
 {
@@ -19,8 +19,9 @@ fn trouble_of(error: io::Error) -> Trouble
     }
 }
 
-/// Counts the calls of a reader or a writer of the standard library. Contracts know its bytes if they know those of
-/// `inner`: they do for bytes in memory, and do not for a file, a pipe or a terminal.
+/// A device that passes its calls on to `inner`, a reader or a writer of the standard library, and counts these calls.
+/// Contracts state the bytes of the device if the bytes of `inner` are known. Bytes in memory are known; the bytes of a
+/// file, a pipe or a terminal are not.
 #[derive(Drop)]
 pub struct Counted<T> {
     inner: T,
@@ -29,7 +30,7 @@ pub struct Counted<T> {
 }
 
 impl<T> Counted<T> {
-    /// Returns a device over `inner`, with all counts at 0.
+    /// Returns a device that reads from `inner` or writes to `inner`. All counts of the device are 0.
     pub fn new(inner: T) -> Self
         ensures inner { result.inner ≡ inner }
         ensures reads { result.reads ≡ no_reads }
@@ -42,7 +43,7 @@ impl<T> Counted<T> {
         }
     }
 
-    /// Returns the reader or the writer.
+    /// Returns `inner`, the reader or writer that the device was made from.
     pub fn into_inner(self) -> T
         ensures { result ≡ self.inner }
     {

@@ -1,4 +1,5 @@
-//! Equality and clones of the public types: values are equal exactly if they are the same, and a clone is the same value.
+//! Compares and clones values of the public types. Two values compare as equal exactly if they are the same, and a
+//! clone is the same value as its original.
 
 ghost use Rattle.std.specs.Prelude.{◌≡◌, ◌↔◌, IsTrue, IfOk};
 
@@ -6,7 +7,7 @@ use crate::device::{ReadCounts, Trouble, WriteCounts};
 use crate::trial::Faults;
 use std::alloc::AllocError;
 
-/// Two troubles of a device compare as equal exactly if they are the same.
+/// Two values of `Trouble` compare as equal exactly if they are the same.
 pub fn troubles_are_equal(a: Trouble, b: Trouble) -> bool
     ensures { IsTrue result ↔ (a ≡ b) }
 {
@@ -27,35 +28,35 @@ pub fn write_counts_are_equal(a: WriteCounts, b: WriteCounts) -> bool
     a == b
 }
 
-/// Two manners of a device compare as equal exactly if they are the same.
+/// Two values of `Faults` compare as equal exactly if they are the same.
 pub fn device_faults_are_equal(a: Faults, b: Faults) -> bool
     ensures { IsTrue result ↔ (a ≡ b) }
 {
     a == b
 }
 
-/// A clone of a trouble is the same trouble.
+/// A clone of a value of `Trouble` is the same value.
 pub fn trouble_clones(a: Trouble) -> Result<Trouble, AllocError>
     ensures { IfOk result (λ b. b ≡ a) }
 {
     a.clone()
 }
 
-/// A clone of a `ReadCounts` is the same value.
+/// A clone of a value of `ReadCounts` is the same value.
 pub fn read_counts_clones(a: ReadCounts) -> Result<ReadCounts, AllocError>
     ensures { IfOk result (λ b. b ≡ a) }
 {
     a.clone()
 }
 
-/// A clone of a `WriteCounts` is the same value.
+/// A clone of a value of `WriteCounts` is the same value.
 pub fn write_counts_clones(a: WriteCounts) -> Result<WriteCounts, AllocError>
     ensures { IfOk result (λ b. b ≡ a) }
 {
     a.clone()
 }
 
-/// A clone of these faults is the same value.
+/// A clone of a value of `Faults` is the same value.
 pub fn device_faults_clone(a: Faults) -> Result<Faults, AllocError>
     ensures { IfOk result (λ b. b ≡ a) }
 {

@@ -1,7 +1,8 @@
-//! Two traits for what the command reads from and writes to, and the counts of how their calls went.
+//! Defines the traits `Source` and `Sink` for devices: what the command reads from and what it writes to. Each device
+//! has counts, for example of its calls, of the calls that failed, and of the bytes.
 //!
-//! Contracts state the bytes of a device if they are known. Its counts are always known, so a contract can say exactly
-//! when a device is the cause of a fault.
+//! Contracts state which bytes a device reads or writes, if these bytes are known. The counts of a device are always
+//! known, so a contract can state exactly when a device caused a fault.
 
 ghost use Rattle.std.specs.Prelude.{◌≡◌, ◌≤◌, IfOk, length};
 ghost use Rattle.std.specs.Io.KnownBytes.{Keeps, ReadConsumes, WriteAppends};
@@ -9,10 +10,10 @@ ghost use Rattle.qr_devices.specs.Device.{flush_counted, read_counted, write_cou
 ghost use Rattle.qr_devices.specs.declared.device.ReadCounts.{ReadCounts};
 ghost use Rattle.qr_devices.specs.declared.device.WriteCounts.{WriteCounts};
 
-/// How many interrupted calls (EINTR) of one device are tried again.
+/// The greatest number of interrupted calls (EINTR) of one device that are tried again.
 pub const INTERRUPTIONS_MAX: u16 = 999;
 
-/// Why a read, a write or a flush of a device failed.
+/// The two ways in which a read, a write or a flush of a device can fail.
 #[derive(Clone, Copy, Debug, PartialEq, Eq)]
 pub enum Trouble {
     /// The call was interrupted (EINTR), and may be tried again.
@@ -21,20 +22,22 @@ pub enum Trouble {
     Failed,
 }
 
-/// How the reads of a device went. Each count stops at `u64::MAX`.
+/// Counts that show how the reads of a device went. Each count stops at `u64::MAX`.
 #[derive(Clone, Copy, Debug, PartialEq, Eq)]
 pub struct ReadCounts {
-    /// The number of all reads.
+    /// The number of all reads, also of those that failed or were interrupted.
     pub calls: u64,
-    /// The number of reads that failed.
+    /// The number of reads that failed. Interrupted reads are not counted here.
     pub failed: u64,
-    /// The number of reads that were interrupted.
+    /// The number of reads that were interrupted (EINTR).
     pub interrupted: u64,
-    /// The number of bytes that reads returned.
+    /// The number of bytes that all reads returned together.
     pub given: u64,
-    /// The number of reads that returned 0 bytes although their buffer was not empty: the end of the input was reached.
+    /// The number of reads that returned 0 bytes although their buffer was not empty. Such a read has reached the end
+    /// of the input.
     pub ends: u64,
-    /// The number of reads, also into an empty buffer, after the end of the input.
+    /// The number of reads that were made after an earlier read had reached the end of the input. Reads into an empty
+    /// buffer are counted too.
     pub past_end: u64,
 }
 
@@ -49,7 +52,7 @@ impl ReadCounts {
         past_end: 0,
     };
 
-    /// Counts a read into a buffer of `room` bytes that returned `answer`.
+    /// Adds a read into a buffer of `room` bytes to the counts. `answer` is what the read returned.
     pub fn add(&mut self, room: usize, answer: Result<usize, Trouble>)
         ensures { self.new ≡ read_counted room answer self.old }
     {
@@ -70,29 +73,29 @@ impl ReadCounts {
     }
 }
 
-/// How the writes and flushes of a device went. Each count stops at `u64::MAX`.
+/// Counts that show how the writes and flushes of a device went. Each count stops at `u64::MAX`.
 #[derive(Clone, Copy, Debug, PartialEq, Eq)]
 pub struct WriteCounts {
-    /// The number of all writes and flushes.
+    /// The number of all writes and flushes, also of those that failed or were interrupted.
     pub calls: u64,
-    /// The number of writes that failed, and of flushes that failed or were interrupted.
+    /// The number of writes that failed, plus the number of flushes that failed or were interrupted.
     pub failed: u64,
-    /// The number of writes that were interrupted.
+    /// The number of writes that were interrupted (EINTR).
     pub interrupted: u64,
-    /// The number of writes of at least one byte of which no byte was taken.
+    /// The number of writes that offered at least one byte, but of which the device accepted no byte.
     pub zeros: u64,
-    /// The number of bytes that were taken.
+    /// The number of bytes that the device accepted in all writes together.
     pub taken: u64,
-    /// The greatest number of bytes that a write offered.
+    /// The greatest number of bytes that one write offered.
     pub offered: usize,
     /// The number of all flushes.
     pub flushes: u64,
-    /// Whether the last call was a flush that succeeded.
+    /// Whether the last call was a flush, and this flush succeeded.
     pub settled: bool,
 }
 
 impl WriteCounts {
-    /// The counts of a device before its first write.
+    /// The counts of a device before its first write or flush.
     pub const NONE: WriteCounts = WriteCounts {
         calls: 0,
         failed: 0,
@@ -104,7 +107,7 @@ impl WriteCounts {
         settled: false,
     };
 
-    /// Counts a write of `len` bytes that returned `answer`.
+    /// Adds a write of `len` bytes to the counts. `answer` is what the write returned.
     pub fn add(&mut self, len: usize, answer: Result<usize, Trouble>)
         ensures { self.new ≡ write_counted len answer self.old }
     {
@@ -123,7 +126,7 @@ impl WriteCounts {
         }
     }
 
-    /// Counts a flush that returned `answer`. An interrupted flush counts as failed.
+    /// Adds a flush to the counts. `answer` is what the flush returned. An interrupted flush counts as failed.
     pub fn add_flush(&mut self, answer: Result<(), Trouble>)
         ensures { self.new ≡ flush_counted answer self.old }
     {
@@ -136,37 +139,41 @@ impl WriteCounts {
     }
 }
 
-/// A device that bytes are read from. A read returns at most as many bytes as the buffer has room for. If the bytes of
-/// the device are known, a read removes the bytes that it returned. The counts of the device show how each read went.
+/// A device from which bytes are read. A read returns at most as many bytes as the buffer has room for. If the bytes of
+/// the device are known, a read removes the bytes that it returns. The counts of the device show how each read went.
 pub trait Source {
     ghost use Rattle.qr_devices.specs.Device.{Reader};
 
-    // The bytes that are still to be read, if they are known, and the counts of the reads so far.
+    // The device as contracts see it: the bytes that are still to be read, if they are known, and the counts of the
+    // reads so far.
     ghost device: { Self → Reader };
 
-    /// Reads some bytes into the first bytes of `buf`, and returns how many. Returns 0 only at the end of the input, or
-    /// if `buf` is empty.
+    /// Reads some bytes into the beginning of `buf`, and returns the number of bytes that were read. Returns 0 only at
+    /// the end of the input, or if `buf` is empty.
     fn read(&mut self, buf: &mut [u8]) -> Result<usize, Trouble>
         ensures bound { IfOk result (λ n. n ≤ length buf.new) }
         ensures bytes { ReadConsumes (device self.old).remaining (device self.new).remaining result buf.new }
         ensures counted { (device self.new).counts ≡ read_counted (length buf.new) result (device self.old).counts };
 }
 
-/// A device that bytes are written to. A write takes at most as many bytes as it is offered. If the bytes of the device
-/// are known, a write adds the bytes that it took. The counts of the device show how each write and each flush went.
+/// A device to which bytes are written. In each write, the device accepts at most as many bytes as the write offers. If
+/// the bytes of the device are known, a write adds the bytes that the device accepts. The counts of the device show how
+/// each write and each flush went.
 pub trait Sink {
     ghost use Rattle.qr_devices.specs.Device.{Writer};
 
-    // The bytes taken so far, if they are known, and the counts of the writes and flushes so far.
+    // The device as contracts see it: the bytes that it accepted so far, if they are known, and the counts of the
+    // writes and flushes so far.
     ghost device: { Self → Writer };
 
-    /// Takes some of the first bytes of `buf`, and returns how many.
+    /// Offers the bytes of `buf` to the device, which accepts some of the first bytes. Returns the number of bytes that
+    /// the device accepted.
     fn write(&mut self, buf: &[u8]) -> Result<usize, Trouble>
         ensures bound { IfOk result (λ n. n ≤ length buf.now) }
         ensures bytes { WriteAppends (device self.old).taken (device self.new).taken result buf.now }
         ensures counted { (device self.new).counts ≡ write_counted (length buf.now) result (device self.old).counts };
 
-    /// Passes on the bytes that were taken.
+    /// Makes the device pass on the bytes that it accepted so far.
     fn flush(&mut self) -> Result<(), Trouble>
         ensures bytes { Keeps (device self.old).taken (device self.new).taken }
         ensures counted { (device self.new).counts ≡ flush_counted result (device self.old).counts };

@@ -1,4 +1,5 @@
-//! Laws of readers and writers, which are called devices here: their values clone and compare as they should.
+//! States laws of devices, which are readers and writers: how many interrupted calls are tried again, and how values of
+//! the public types are compared and cloned.
 
 ghost use Rattle.std.specs.Prelude.{◌≡◌, ◌-◌, ◌^◌, false};
 ghost use Rattle.qr_devices.specs.declared.device.TheConstants.{INTERRUPTIONS_MAX};
@@ -9,8 +10,9 @@ pub use crate::derives::{
 };
 use crate::trial::Faults;
 
-/// A device without faults is never interrupted, never fails, and moves as many bytes as there are and as the caller
-/// has room for.
+/// Returns the `Faults` of a device that is never interrupted and never fails. A read from such a device returns as
+/// many bytes as remain and as the buffer has room for. In a write, such a device accepts as many bytes as are offered
+/// and as the device has room for.
 pub fn no_faults() -> Faults
     ensures at_most { result.at_most ≡ 2 ^ 64 - 1 }
     ensures interruptions { result.interruptions ≡ 0 }
@@ -21,7 +23,7 @@ pub fn no_faults() -> Faults
     Faults::NONE
 }
 
-/// Interruptions of one device are tried again 999 times.
+/// At most 999 interrupted calls of one device are tried again.
 pub fn interruptions_are_limited()
     ensures { INTERRUPTIONS_MAX ≡ 999 }
 {}

@@ -1,5 +1,5 @@
-//! Devices: readers and writers that count how their calls went, and devices over bytes in memory that misbehave on
-//! request, for tests.
+//! Defines devices, which are readers and writers that count how their calls went. A device for tests reads or writes
+//! bytes in memory, and is interrupted or fails when the test asks for it.
 #![tactic(auto)]
 
 mod counted;

@@ -1,4 +1,4 @@
-//! A device over bytes in memory, for tests: it can be slow, interrupted, failing or full.
+//! Defines a device over bytes in memory, for tests. A test can make the device slow, interrupted, failing or full.
 
 ghost use Rattle.std.specs.Prelude.{◌≡◌, ◌+◌, ◌≤◌, ◌<◌, ◌++◌, [], take, length, Some, IfOk};
 ghost use Rattle.std.specs.Vec.{vec_len, vec_capacity};
@@ -6,23 +6,24 @@ ghost use Rattle.std.specs.Vec.{vec_len, vec_capacity};
 use crate::device::{ReadCounts, Sink, Source, Trouble, WriteCounts};
 use std::alloc::{AllocError, Global};
 
-/// How a device misbehaves. Calls are numbered from 0; reads are numbered apart from writes and flushes.
+/// The ways in which a device for tests misbehaves. The reads of a device are numbered from 0; its writes and flushes
+/// are numbered together, also from 0.
 #[derive(Clone, Copy, Debug, PartialEq, Eq)]
 pub struct Faults {
-    /// The greatest number of bytes that one call moves; 0 counts as 1.
+    /// The greatest number of bytes that one read or write moves, where 0 means the same as 1.
     pub at_most: usize,
-    /// The number of calls that are interrupted, before the first call that is not.
+    /// Each read or write with a number below `interruptions` is interrupted.
     pub interruptions: u64,
-    /// The number of the first read or write that fails. All later reads and writes fail too.
+    /// Each read or write with the number `fails_from` or a greater number fails, unless it is interrupted.
     pub fails_from: u64,
-    /// The number of the first write that returns 0. All later writes return 0 too.
+    /// Each write with the number `stops_from` or a greater number returns 0, unless it is interrupted or fails.
     pub stops_from: u64,
     /// Whether each flush fails.
     pub flush_fails: bool,
 }
 
 impl Faults {
-    /// A device without faults.
+    /// The value for a device that is never interrupted and never fails.
     pub const NONE: Faults = Faults {
         at_most: usize::MAX,
         interruptions: 0,
@@ -32,9 +33,9 @@ impl Faults {
     };
 }
 
-/// Bytes in memory that can be read, or room for bytes that are written. A call moves as many bytes as the `Manner`,
-/// the length of the buffer and the bytes or the room left allow. It fails or is interrupted exactly if the `Manner`
-/// states so. A write to a full device returns 0.
+/// A device for tests: bytes in memory that are read, or room in memory for bytes that are written. A call moves as
+/// many bytes as its `Faults`, the length of the buffer, and the remaining bytes or room allow. A call fails or is
+/// interrupted exactly if the `Faults` of the device state so. A write to a full device returns 0.
 #[derive(Drop)]
 pub struct Trial {
     bytes: Vec<u8>,
@@ -51,7 +52,7 @@ impl Trial {
     ghost use Rattle.qr_devices.specs.Device.{no_reads, no_writes};
     ghost use Rattle.qr_devices.specs.Trial.{bytes_held, bytes_left, moved};
 
-    /// Returns a device from which `bytes` can be read.
+    /// Returns a device from which `bytes` can be read, and which misbehaves as `faults` states.
     pub fn reader(alloc: Global, bytes: &[u8], faults: Faults) -> Result<Trial, AllocError>
         ensures left { IfOk result (λ t. bytes_left t ≡ bytes.now) }
         ensures unread { IfOk result (λ t. t.reads ≡ no_reads) }
@@ -67,11 +68,11 @@ impl Trial {
         })
     }
 
-    /// Returns a device that takes up to `room` bytes.
+    /// Returns a device that accepts up to `room` bytes, and which misbehaves as `faults` states.
     ///
     /// # Notes
     ///
-    /// The memory for these bytes is allocated here.
+    /// This call allocates the memory for all `room` bytes.
     pub fn writer(alloc: Global, room: usize, faults: Faults) -> Result<Trial, AllocError>
         ensures held { IfOk result (λ t. bytes_held t ≡ []) }
         ensures unwritten { IfOk result (λ t. t.writes ≡ no_writes) }
@@ -88,28 +89,28 @@ impl Trial {
         })
     }
 
-    /// Returns the bytes that the device contains: all bytes of a reader, or those that a writer took so far.
+    /// Returns the bytes that the device contains: all bytes of a reader, or the bytes that a writer accepted so far.
     pub fn bytes(&self) -> &[u8]
         ensures { result.now ≡ bytes_held self.now }
     {
         self.bytes.as_slice()
     }
 
-    /// Returns the counts of the reads so far.
+    /// Returns the counts of the reads of this device so far.
     pub fn reads(&self) -> ReadCounts
         ensures { result ≡ self.now.reads }
     {
         self.reads
     }
 
-    /// Returns the counts of the writes and flushes so far.
+    /// Returns the counts of the writes and flushes of this device so far.
     pub fn writes(&self) -> WriteCounts
         ensures { result ≡ self.now.writes }
     {
         self.writes
     }
 
-    // Copies the next `n` bytes to the first `n` bytes of `buf`.
+    // Copies the next `n` bytes of the device to the first `n` bytes of `buf`.
     fn give(&mut self, buf: &mut [u8], n: usize)
         requires there { self.old.position + n ≤ vec_len self.old.bytes }
         requires fits { n ≤ length buf.old }
@@ -124,7 +125,8 @@ impl Trial {
         self.position = end;
     }
 
-    // Returns how many of `there` bytes the call numbered `call` moves, or how it fails.
+    // Returns the result of the call with the number `call`, if `there` bytes could be moved: the number of bytes that
+    // are moved, or the error.
     fn moved(&self, call: u64, there: usize) -> Result<usize, Trouble>
         ensures value { result ≡ moved self.now.faults call there }
         ensures bound { IfOk result (λ n. n ≤ there) }

@@ -1,4 +1,4 @@
--- The drawing of symbols, for each type of drawing.
+-- Defines the drawing of symbols, for each type of drawing.
 use Rattle.std.specs.Prelude.{◌≡◌, ℕ, List}
 use Rattle.std.specs.List.{All, flat_map}
 use Rattle.qr_matrix.specs.Grid.{Grid}
@@ -8,12 +8,13 @@ use Rattle.qr_drawing.specs.Svg.{square_at, svg_document}
 use Rattle.qr_drawing.specs.Text.{text_drawing}
 use Rattle.qr_drawing.specs.declared.text.TextStyle.TheVariants.{Plain, Inverse, HalfBlocks}
 
--- `HaveOneSide squares` holds if all squares have the same side as the first [own]
+-- `HaveOneSide squares` holds if all squares of modules in the list have the same side as the first square [own]
 abbrev pub HaveOneSide : List Grid → Type 0
 HaveOneSide squares = All (λ g. g.side ≡ (square_at squares 0).side) squares
 
--- `drawn type margin squares` is the drawing of the symbols with these squares: their texts one after the other, or one
--- SVG document [own]
+-- `drawn type margin squares` is the drawing of symbols, where `squares` lists their squares of modules. If the type of
+-- drawing is a text, the texts of the symbols come one after the other; otherwise there is one SVG document of all
+-- symbols [own]
 abbrev pub drawn : Drawing → ℕ → List Grid → List ℕ
 drawn Ascii margin squares = flat_map (text_drawing Plain margin) squares
 drawn AsciiInverse margin squares = flat_map (text_drawing Inverse margin) squares

@@ -1,10 +1,11 @@
--- The characters of the drawings, worked by hand.
+-- Lists characters of drawings, which were worked out by hand.
 use Rattle.std.specs.Prelude.{◌≡◌, [], ◌∷◌, codes, true, false}
 use Rattle.qr_drawing.specs.Text.{ascii_module, half_blocks, line_count}
 use Rattle.qr_drawing.specs.declared.text.TextStyle.TheVariants.{HalfBlocks}
 
--- A dark module is `##`, and a light module is two spaces. Two modules, one above the other, are the space, U+2584,
--- U+2580 or U+2588 in UTF-8. In half blocks 29 rows make 15 lines [own].
+-- `CharactersOfModules` holds if modules are drawn as follows. A dark module is `##`, and a light module is two spaces.
+-- Two modules, one above the other, are the space, U+2584, U+2580 or U+2588 in UTF-8. In the style `HalfBlocks` 29 rows
+-- of modules make 15 lines of text [own].
 pub record CharactersOfModules : Type 0 where
   pub dark : ascii_module true ≡ codes "##"
   pub light : ascii_module false ≡ codes "  "

@@ -1,5 +1,5 @@
--- Definitions that describe how the program computes. Only the contracts of private functions use them, so a reader who
--- judges the promises need not read them.
+-- Contains definitions that describe how the program computes. Only the contracts of private functions use these
+-- definitions. A reader who judges the promises of the public functions need not read them.
 pub mod Pen
 pub mod Writing
 pub mod Text

@@ -1,4 +1,5 @@
-//! Equality and clones of the public types: values are equal exactly if they are the same, and a clone is the same value.
+//! Compares and clones values of the public types. Two values compare as equal exactly if they are the same, and a
+//! clone is the same value as its original.
 
 ghost use Rattle.std.specs.Prelude.{◌≡◌, ◌↔◌, IsTrue, IfOk};
 
@@ -6,28 +7,28 @@ use crate::drawing::Drawing;
 use crate::pen::DrawFault;
 use std::alloc::AllocError;
 
-/// Two types of drawing compare as equal exactly if they are the same.
+/// Two values of `Drawing` compare as equal exactly if they are the same.
 pub fn drawings_are_equal(a: Drawing, b: Drawing) -> bool
     ensures { IsTrue result ↔ (a ≡ b) }
 {
     a == b
 }
 
-/// Two faults of drawing compare as equal exactly if they are the same.
+/// Two values of `DrawFault` compare as equal exactly if they are the same.
 pub fn draw_faults_are_equal(a: DrawFault, b: DrawFault) -> bool
     ensures { IsTrue result ↔ (a ≡ b) }
 {
     a == b
 }
 
-/// A clone of a type of drawing is the same type.
+/// A clone of a value of `Drawing` is the same value.
 pub fn drawing_clones(a: Drawing) -> Result<Drawing, AllocError>
     ensures { IfOk result (λ b. b ≡ a) }
 {
     a.clone()
 }
 
-/// A clone of a fault of drawing is the same fault.
+/// A clone of a value of `DrawFault` is the same value.
 pub fn draw_fault_clones(a: DrawFault) -> Result<DrawFault, AllocError>
     ensures { IfOk result (λ b. b ≡ a) }
 {

@@ -1,5 +1,5 @@
-//! Draws symbols, in one of several types of drawing. The raster of a symbol is its square with a light margin on all
-//! sides (ISO/IEC 18004:2015, 6.3.8).
+//! Draws symbols as text or as an SVG document. A drawing shows the raster of a symbol: its square of modules with a
+//! light margin on all sides (ISO/IEC 18004:2015, 6.3.8).
 
 ghost use Rattle.std.specs.Prelude.{◌≡◌, ◌≤◌, ◌<◌, ◌+◌, max, is_err, length, map, OnOk, OnErr};
 ghost use Rattle.std.specs.Io.KnownBytes.{Appends};
@@ -14,27 +14,27 @@ use crate::text::{TextStyle, put_texts};
 use qr_devices::Sink;
 use qr_symbol::{Matrix, Symbol};
 
-/// A type of drawing.
+/// The types of drawing: three types of text, and SVG documents.
 #[derive(Clone, Copy, Debug, PartialEq, Eq)]
 pub enum Drawing {
-    /// Two `#` for a dark module, two spaces for a light one.
+    /// A text with two `#` for a dark module, and two spaces for a light module.
     Ascii,
-    /// Two spaces for a dark module, two `#` for a light one.
+    /// A text with two spaces for a dark module, and two `#` for a light module.
     AsciiInverse,
-    /// One character of half blocks for two modules, one above the other.
+    /// A text in UTF-8 with one character for two modules, one above the other: a space or a block character.
     Utf8,
     /// A Scalable Vector Graphics document.
     Svg,
 }
 
-/// A type that has a square of modules, and so can be drawn.
+/// A type whose values have a square of modules, which can be drawn.
 pub trait HasSquare {
     ghost use Rattle.qr_matrix.specs.Grid.{Grid};
 
-    // The modules as a grid of colours.
+    // The colours of the modules, as contracts describe them.
     ghost grid: { Self → Grid };
 
-    /// Returns the square.
+    /// Returns the square of modules.
     fn square(&self) -> &Matrix
         ensures { result.now ≡ grid self.now };
 }
@@ -55,7 +55,8 @@ impl HasSquare for Symbol {
     }
 }
 
-// Returns how many modules the raster of `matrix` is wide and high.
+// Returns the width of the raster of `matrix`, which is the square of modules with its margin. The width is counted in
+// modules, and is also the height.
 pub(crate) fn raster_width(matrix: &Matrix, margin: u8) -> u16
     ensures value { result ≡ raster_width margin matrix.now }
     ensures most { result < 1000 }
@@ -63,7 +64,8 @@ pub(crate) fn raster_width(matrix: &Matrix, margin: u8) -> u16
     2 * u16::from(margin) + u16::from(matrix.side())
 }
 
-// Returns whether the place in row `y` and column `x` of the raster is dark.
+// Returns whether the module in row `y` and column `x` of the raster of `matrix` is dark. The raster is the square of
+// modules with its light margin.
 #[tactic(auto, unfolding(crate::specs::Raster::is_dark_at))]
 pub(crate) fn is_dark_at(matrix: &Matrix, margin: u8, y: u16, x: u16) -> bool
     ensures { result ≡ is_dark_at margin matrix.now y x }
@@ -79,7 +81,7 @@ pub(crate) fn is_dark_at(matrix: &Matrix, margin: u8, y: u16, x: u16) -> bool
     matrix.dark((y - first) as u8, (x - first) as u8)
 }
 
-// Writes the drawing of symbols through `pen`. Its last bytes may remain in the pen.
+// Writes the drawing of `symbols` to `out` through the buffer `pen`. The last bytes of the drawing may remain in `pen`.
 fn put_drawing<S: HasSquare, W: Sink>(
     pen: &mut Pen,
     out: &mut W,
@@ -101,14 +103,16 @@ fn put_drawing<S: HasSquare, W: Sink>(
     }
 }
 
-/// Draws 1 to 16 symbols or other squares, which must all have the same side. A drawing as text has the symbols one
-/// after the other; an SVG document has them one below the other. Each symbol has a light margin of `margin` modules on
-/// all sides (ISO/IEC 18004:2015, 6.3.8).
+/// Draws 1 to 16 symbols, or other squares of modules, which must all have the same side. A drawing as text has the
+/// symbols one after the other; an SVG document has the symbols one below the other. Each symbol has a light margin of
+/// `margin` modules on all sides (ISO/IEC 18004:2015, 6.3.8).
 ///
-/// The drawing of each type depends only on the finished rasters: line by line, and for SVG run by run.
+/// The drawing depends only on the type of drawing and on the squares with their margins. The definitions describe a
+/// text line by line, and an SVG document run by run. A run is dark modules side by side in a row.
 ///
-/// Allocates no memory, and offers the writer at most 1,200 bytes at a time. Writes that are interrupted are tried
-/// again, 999 times in all. Drawing fails only if the writer fails; the writer then took a prefix of the drawing.
+/// Allocates no memory, and offers the writer `out` at most 1,200 bytes at a time. Writes that are interrupted are
+/// tried again, up to 999 of them in all. The call fails only if the writer fails; in this case the writer has accepted
+/// a prefix of the drawing.
 pub fn draw<S: HasSquare, W: Sink>(
     symbols: &[S],
     kind: Drawing,

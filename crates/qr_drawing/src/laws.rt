@@ -1,4 +1,5 @@
-//! Laws of drawings.
+//! States laws of drawings: which characters modules have, how many bytes one write offers, and how values of the
+//! public types are compared and cloned.
 
 ghost use Rattle.std.specs.Prelude.{◌≡◌};
 ghost use Rattle.qr_drawing.specs.declared.pen.TheConstants.{WRITE_MAX};
@@ -8,13 +9,13 @@ pub use crate::derives::{
     draw_fault_clones, draw_faults_are_equal, drawing_clones, drawings_are_equal,
 };
 
-/// One module and two modules have the characters that are listed. In half blocks, an odd number of rows has a last
-/// line of its own.
+/// The characters for one module, and for two modules one above the other, are those that `CharactersOfModules` lists.
+/// In a text with two rows of modules in each line, an odd last row has a line of its own.
 pub fn characters_of_modules()
     ensures { CharactersOfModules }
 {}
 
-/// One write offers 1,200 bytes at most.
+/// One write offers at most 1,200 bytes to the writer.
 pub fn pieces_are_limited()
     ensures { WRITE_MAX ≡ 1200 }
 {}

@@ -1,4 +1,5 @@
-//! Draws symbols: as ASCII, as UTF-8 half blocks, or as a Scalable Vector Graphics document.
+//! Draws symbols as ASCII text, as UTF-8 text with two modules in each character, or as a Scalable Vector Graphics
+//! document.
 #![tactic(auto)]
 
 mod derives;

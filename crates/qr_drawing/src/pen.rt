@@ -10,18 +10,19 @@ use arrayvec::ArrayVec;
 use qr_devices::{INTERRUPTIONS_MAX, Sink, Trouble};
 use thiserror::Error;
 
-/// The greatest number of bytes that one write offers.
+/// The greatest number of bytes that one write offers to the writer.
 pub const WRITE_MAX: usize = 1200;
 
-/// Why a drawing stopped.
+/// The cause for which a drawing was not written to its end.
 #[derive(Clone, Copy, Debug, PartialEq, Eq, Error)]
 pub enum DrawFault {
-    /// The writer failed, took no byte of a piece, or was interrupted for the 1,000th time.
+    /// The writer failed, accepted no byte of a write, or was interrupted for the 1,000th time.
     #[error("write error")]
     Write = 1,
 }
 
-/// The piece of a text that is not written yet, and how many writes were interrupted so far.
+/// A buffer through which a drawing is written. `piece` contains the bytes that are not written yet, and `interrupted`
+/// is the number of writes that were interrupted so far.
 #[derive(Drop)]
 pub(crate) struct Pen {
     pub(crate) piece: ArrayVec<u8, 1200>,
@@ -29,8 +30,9 @@ pub(crate) struct Pen {
     ghost few: { interrupted < 1000 },
 }
 
-// Offers the bytes to the writer, at most 1,200 at a time, until it took all of them. `interrupted` is the number of
-// writes that were interrupted before; returns that number after the last write.
+// Offers `bytes` to the writer `out`, at most 1,200 bytes at a time, until the writer has accepted all of them.
+// `interrupted` is the number of writes that were interrupted before this call. Returns the number of writes that were
+// interrupted before and during this call.
 fn send<W: Sink>(out: &mut W, bytes: &[u8], interrupted: u16) -> Result<u16, DrawFault>
     requires { interrupted < 1000 }
     ensures writes { MatchResult result
@@ -63,7 +65,7 @@ fn send<W: Sink>(out: &mut W, bytes: &[u8], interrupted: u16) -> Result<u16, Dra
     Ok(tries)
 }
 
-/// Adds `bytes` to `text`, which must have room for them.
+/// Appends `bytes` to `text`, which must have room for these bytes.
 #[inline(always)]
 pub(crate) fn push_all(text: &mut ArrayVec<u8, 1200>, bytes: &[u8])
     requires room { array_vec_len text.old + length bytes.now ≤ 1200 }
@@ -87,7 +89,7 @@ impl Pen {
         }
     }
 
-    /// Writes the bytes that the pen holds, and empties the pen.
+    /// Writes the bytes that wait in the pen to the writer `out`, and empties the pen.
     #[inline(never)]
     pub(crate) fn empty<W: Sink>(&mut self, out: &mut W) -> Result<(), DrawFault>
         ensures writes { Reserves (W.device out.old) (W.device out.new)
@@ -99,7 +101,8 @@ impl Pen {
         Ok(())
     }
 
-    /// Makes room for `room` bytes in the pen: if fewer bytes are free, writes what the pen holds.
+    /// Makes room for `room` more bytes in the pen. If there is too little room, writes the bytes that wait in the pen
+    /// to the writer `out`, and empties the pen.
     #[inline(always)]
     pub(crate) fn reserve<W: Sink>(&mut self, out: &mut W, room: usize) -> Result<(), DrawFault>
         requires { room ≤ 1200 }
@@ -114,8 +117,9 @@ impl Pen {
     }
 }
 
-/// Writes `text`, at most 1,200 bytes at a time. The writer takes the whole text, or a prefix of it if the writer
-/// fails. A write that is interrupted is tried again, at most 999 times in one call. Does not flush the writer.
+/// Writes `text` to the writer `out`, at most 1,200 bytes at a time. The writer accepts the whole text, or a prefix of
+/// the text if the writer fails. Writes that are interrupted are tried again, up to 999 of them in one call. The writer
+/// is not flushed.
 pub fn write_text<W: Sink>(text: &[u8], out: &mut W) -> Result<(), DrawFault>
     ensures ok { OnOk result (Appends (W.device out.old).taken (W.device out.new).taken text.now) }
     ensures err { OnErr result (AppendsBeginning (W.device out.old).taken (W.device out.new).taken text.now) }

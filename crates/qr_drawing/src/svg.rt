@@ -1,4 +1,5 @@
-//! Draws symbols as a Scalable Vector Graphics document: one path with a box around each run of dark modules in a row.
+//! Draws symbols as a Scalable Vector Graphics document. The document has one path, which consists of boxes: one box
+//! around each run of dark modules in a row.
 
 ghost use Rattle.std.specs.Prelude.{◌≡◌, ◌≤◌, ◌<◌, ◌+◌, ◌*◌, ◌++◌, ◌∷◌, [], decimal, length, map};
 ghost use Rattle.arrayvec.specs.ArrayVec.{array_vec_len};
@@ -14,17 +15,17 @@ use itoa::Buffer;
 use qr_devices::Sink;
 use qr_symbol::Matrix;
 
-// The greatest number of bytes of the path around one run.
+// The greatest number of bytes of a box. A box is the part of the path that surrounds one run of dark modules.
 const BOX_MAX: usize = 32;
 
-// The greatest number of bytes before the paths.
+// The greatest number of bytes of the document before the first box.
 const HEAD_MAX: usize = 300;
 
-// The number of bytes after the paths.
+// The number of bytes of the document after the last box.
 const TAIL: usize = 11;
 
-// Adds a digit. The numbers in a path are appended one digit at a time: with `itoa`, drawing the largest symbol would
-// take 36 % more instructions.
+// Appends `digit`, which is from 0 to 9, to `text`. The numbers of the path are appended digit by digit: with the crate
+// `itoa`, drawing the largest symbol would take 36 % more instructions.
 fn push_digit(text: &mut ArrayVec<u8, 1200>, digit: u16)
     requires digit { digit < 10 }
     requires room { array_vec_len text.old < 1200 }
@@ -34,7 +35,7 @@ fn push_digit(text: &mut ArrayVec<u8, 1200>, digit: u16)
     text.push(b'0' + digit as u8);
 }
 
-// Adds `number`, which has one or two decimal digits.
+// Appends `number`, which has one or two decimal digits, to `text`.
 #[tactic(auto, using(crate::proofs::lemmas::svg::DigitLemmas::one_digit, crate::proofs::lemmas::svg::DigitLemmas::more_digits))]
 fn push_two(text: &mut ArrayVec<u8, 1200>, number: u16)
     requires number { number < 100 }
@@ -50,7 +51,7 @@ fn push_two(text: &mut ArrayVec<u8, 1200>, number: u16)
     }
 }
 
-// Adds `number`, which has one to three decimal digits.
+// Appends `number`, which has one to three decimal digits, to `text`.
 #[tactic(auto, using(crate::proofs::lemmas::svg::DigitLemmas::more_digits))]
 fn push_three(text: &mut ArrayVec<u8, 1200>, number: u16)
     requires number { number < 1000 }
@@ -66,7 +67,7 @@ fn push_three(text: &mut ArrayVec<u8, 1200>, number: u16)
     }
 }
 
-// Adds `number` in decimal digits.
+// Appends `number` in decimal digits to `text`.
 #[tactic(auto, using(crate::proofs::lemmas::svg::DigitLemmas::more_digits))]
 fn push_number(text: &mut ArrayVec<u8, 1200>, number: u16)
     requires room { array_vec_len text.old + 5 ≤ 1200 }
@@ -82,7 +83,8 @@ fn push_number(text: &mut ArrayVec<u8, 1200>, number: u16)
     }
 }
 
-// Adds the path around a run of `modules` modules that begins in column `x` of row `y`.
+// Appends the box around a run of `modules` dark modules to `text`. The run begins in row `y` and column `x` of the
+// document.
 #[tactic(auto, unfolding(crate::specs::Svg::box_path, crate::specs::Svg::numbered))]
 fn push_box(text: &mut ArrayVec<u8, 1200>, x: u16, y: u16, modules: u16)
     requires room { array_vec_len text.old + 32 ≤ 1200 }
@@ -99,7 +101,7 @@ fn push_box(text: &mut ArrayVec<u8, 1200>, x: u16, y: u16, modules: u16)
     text.push(b'z');
 }
 
-// Adds `bytes`, and then `number` in decimal digits.
+// Appends `bytes` and then `number` in decimal digits to `text`.
 #[tactic(auto, unfolding(crate::specs::Svg::numbered))]
 fn push_numbered(text: &mut ArrayVec<u8, 1200>, bytes: &[u8], number: u16)
     requires room { array_vec_len text.old + length bytes.now + 5 ≤ 1200 }
@@ -111,7 +113,7 @@ fn push_numbered(text: &mut ArrayVec<u8, 1200>, bytes: &[u8], number: u16)
     push_all(text, digits.format(number).as_bytes());
 }
 
-// Adds the line that opens a document of `width` by `height` modules.
+// Appends the line that opens an SVG document of `width` by `height` modules to `text`.
 fn push_opening(text: &mut ArrayVec<u8, 1200>, width: u16, height: u16)
     requires room { array_vec_len text.old + 120 ≤ 1200 }
     ensures items { text.new.items ≡ text.old.items ++ opening width height }
@@ -123,7 +125,7 @@ fn push_opening(text: &mut ArrayVec<u8, 1200>, width: u16, height: u16)
     push_all(text, b"\" shape-rendering=\"crispEdges\">\n");
 }
 
-// Adds the line that makes all `width` by `height` modules white.
+// Appends the line that makes the whole document of `width` by `height` modules white to `text`.
 #[tactic(auto, unfolding(crate::specs::Svg::background))]
 fn push_background(text: &mut ArrayVec<u8, 1200>, width: u16, height: u16)
     requires room { array_vec_len text.old + 80 ≤ 1200 }
@@ -135,7 +137,8 @@ fn push_background(text: &mut ArrayVec<u8, 1200>, width: u16, height: u16)
     push_all(text, b"\" fill=\"#ffffff\"/>\n");
 }
 
-// Adds all that is before the paths in a document of `width` by `height` modules.
+// Appends all lines before the path of an SVG document, and the beginning of the path, to `text`. The document has
+// `width` by `height` modules.
 fn push_head(text: &mut ArrayVec<u8, 1200>, width: u16, height: u16)
     requires room { array_vec_len text.old + 300 ≤ 1200 }
     ensures { text.new.items ≡ text.old.items ++ head width height }
@@ -146,8 +149,8 @@ fn push_head(text: &mut ArrayVec<u8, 1200>, width: u16, height: u16)
     push_all(text, b"<path fill=\"#000000\" d=\"");
 }
 
-// Writes the paths of row `row` of a symbol through `pen`. `top` is the height of the rasters above the symbol's
-// raster.
+// Writes the boxes around the runs of dark modules in row `row` of `matrix` through the buffer `pen`. `top` is the
+// number of rows of the document above this symbol and its margin.
 fn put_row<W: Sink>(
     pen: &mut Pen,
     out: &mut W,
@@ -175,7 +178,8 @@ fn put_row<W: Sink>(
     Ok(())
 }
 
-// Writes the paths of a symbol through `pen`. `top` is the height of the rasters above the symbol's raster.
+// Writes the boxes around all runs of dark modules of `matrix` through the buffer `pen`. `top` is the number of rows of
+// the document above this symbol and its margin.
 fn put_symbol<W: Sink>(
     pen: &mut Pen,
     out: &mut W,
@@ -193,7 +197,8 @@ fn put_symbol<W: Sink>(
     Ok(())
 }
 
-// Writes the paths of symbols, one below the other, through `pen`.
+// Writes the boxes around the runs of dark modules of all symbols through the buffer `pen`. The symbols are drawn one
+// below the other.
 fn put_stack<S: HasSquare, W: Sink>(
     pen: &mut Pen,
     out: &mut W,
@@ -214,7 +219,8 @@ fn put_stack<S: HasSquare, W: Sink>(
     Ok(())
 }
 
-/// Writes the document of symbols of one side, one below the other, through `pen`.
+/// Writes the SVG document of `symbols` through the buffer `pen`. The symbols have the same side, and are drawn one
+/// below the other.
 pub(crate) fn put_document<S: HasSquare, W: Sink>(
     pen: &mut Pen,
     out: &mut W,

@@ -1,5 +1,5 @@
-//! Draws symbols as lines of text. A cell of a line is two characters for a module, or one character for two modules,
-//! one above the other.
+//! Draws symbols as lines of text. A line consists of cells: a cell is two characters for one module, or one character
+//! for two modules, one above the other.
 
 ghost use Rattle.std.specs.Prelude.{◌≡◌, ℕ, ◌≤◌, ◌<◌, ◌+◌, ◌-◌, ◌*◌, ◌/◌, ◌%◌, ◌++◌, ◌∷◌, [], false, map, IfSome};
 ghost use Rattle.std.specs.List.{flat_map};
@@ -16,18 +16,19 @@ use arrayvec::ArrayVec;
 use qr_devices::Sink;
 use qr_symbol::Matrix;
 
-/// How a text shows modules.
+/// The ways in which a text shows modules.
 #[derive(Clone, Copy)]
 pub(crate) enum TextStyle {
-    /// Two `#` for a dark module, two spaces for a light one.
+    /// Each cell shows one module: two `#` for a dark module, and two spaces for a light module.
     Plain,
-    /// Two spaces for a dark module, two `#` for a light one.
+    /// Each cell shows one module: two spaces for a dark module, and two `#` for a light module.
     Inverse,
-    /// One character of half blocks for two modules, one above the other.
+    /// Each cell shows two modules, one above the other, as one character: a space or a block character.
     HalfBlocks,
 }
 
-// Returns the greatest number of bytes of a cell.
+// Returns the greatest number of bytes of a cell. A cell is the text for one module, or for two modules, one above the
+// other.
 fn cell_room(style: TextStyle) -> usize
     ensures value { result ≡ cell_room style }
     ensures most { result ≤ 3 }
@@ -38,7 +39,8 @@ fn cell_room(style: TextStyle) -> usize
     }
 }
 
-// Returns the row of the raster that line `y` shows, or the upper one of the two rows that it shows.
+// Returns the first row of modules that line `y` of the text shows. In the style `HalfBlocks` a line shows two rows,
+// and in the other styles one row.
 fn top_row(style: TextStyle, y: u16) -> u16
     requires { y < 1000 }
     ensures value { result ≡ top_row style y }
@@ -50,7 +52,7 @@ fn top_row(style: TextStyle, y: u16) -> u16
     }
 }
 
-// Returns how many lines show `rows` rows of a raster.
+// Returns the number of lines of text that are needed to show `rows` rows of modules.
 fn line_count(style: TextStyle, rows: u16) -> u16
     requires { rows < 1000 }
     ensures value { result ≡ line_count style rows }
@@ -62,7 +64,7 @@ fn line_count(style: TextStyle, rows: u16) -> u16
     }
 }
 
-// Adds a module as two characters.
+// Appends one module as two characters to `text`.
 fn push_module(text: &mut ArrayVec<u8, 1200>, dark: bool)
     requires room { array_vec_len text.old + 2 ≤ 1200 }
     ensures { text.new.items ≡ text.old.items ++ ascii_module dark }
@@ -71,7 +73,8 @@ fn push_module(text: &mut ArrayVec<u8, 1200>, dark: bool)
     push_all(text, &[character; 2]);
 }
 
-// Adds two modules as one character of half blocks, of which the filled parts are light modules.
+// Appends two modules, one above the other, as one character to `text`. The filled parts of the character are light
+// modules.
 fn push_half_block(text: &mut ArrayVec<u8, 1200>, upper: bool, lower: bool)
     requires room { array_vec_len text.old + 3 ≤ 1200 }
     ensures items { text.new.items ≡ text.old.items ++ half_blocks upper lower }
@@ -91,7 +94,8 @@ fn push_half_block(text: &mut ArrayVec<u8, 1200>, upper: bool, lower: bool)
     text.push(last);
 }
 
-// Adds a cell: the module `upper`, or in half blocks `upper` and the module `lower` below it.
+// Appends a cell to `text`. In the style `HalfBlocks` the cell shows the module `upper` and the module `lower` below
+// it; in the other styles the cell shows only the module `upper`.
 fn push_cell(text: &mut ArrayVec<u8, 1200>, style: TextStyle, upper: bool, lower: bool)
     requires room { array_vec_len text.old + cell_room style ≤ 1200 }
     ensures { text.new.items ≡ text.old.items ++ cell_text style upper lower }
@@ -103,7 +107,8 @@ fn push_cell(text: &mut ArrayVec<u8, 1200>, style: TextStyle, upper: bool, lower
     }
 }
 
-// Returns the row of the square that row `row` of the raster shows, or `None` if `row` is in the margin.
+// Returns the row of `matrix` that row `row` of the raster shows, or `None` if `row` is in the margin. The raster is
+// the square of modules with its margin.
 #[tactic(auto, using(crate::proofs::lemmas::svg::PathLemmas::is_dark_at_above, crate::proofs::lemmas::svg::PathLemmas::is_dark_at_below))]
 fn square_row(matrix: &Matrix, margin: u8, row: u16) -> Option<u8>
     ensures { ShowsRow margin matrix.now row result }
@@ -118,8 +123,9 @@ fn square_row(matrix: &Matrix, margin: u8, row: u16) -> Option<u8>
     Some((row - first) as u8)
 }
 
-// Returns the colours of eight modules of a row of the square, from column `col` on, which is a multiple of eight. Bit 0
-// is the module in column `col`; a bit is set if its module is dark. All eight are light if `row` is `None`.
+// Returns the colours of eight modules of row `row` of `matrix`, from column `col` on, as the bits of a number. The
+// lowest bit is column `col`, which is a multiple of eight, and a set bit is a dark module. If `row` is `None`, all
+// eight modules are light.
 #[inline(always)]
 #[tactic(auto, using(crate::proofs::lemmas::text::CellLemmas::dark_none))]
 fn dark_bits(matrix: &Matrix, row: Option<u8>, col: u8) -> u8
@@ -134,7 +140,8 @@ fn dark_bits(matrix: &Matrix, row: Option<u8>, col: u8) -> u8
     }
 }
 
-// The texts of four modules, as two characters each. Bit 0 of the index is the first module, and a set bit is a dark module.
+// The texts of four modules, with two characters for each module. The bits of the index are the modules: bit 0 is the
+// first module, and a set bit is a dark module.
 static ASCII_QUADS: [[u8; 8]; 16] = [
     *b"        ",
     *b"##      ",
@@ -154,7 +161,8 @@ static ASCII_QUADS: [[u8; 8]; 16] = [
     *b"########",
 ];
 
-// Returns four modules as two characters each. Bit 0 of `bits` is the first module, and a set bit is a dark module.
+// Returns the text of four modules, with two characters for each module. Bit 0 of `bits` is the first module, and a set
+// bit is a dark module.
 fn ascii_quad(bits: u8) -> &'static [u8; 8]
     requires { bits < 16 }
     ensures { result.now ≡ bits_text 4 Plain bits 0 }
@@ -162,8 +170,8 @@ fn ascii_quad(bits: u8) -> &'static [u8; 8]
     &ASCII_QUADS[usize::from(bits)]
 }
 
-// Adds two modules and the two modules below them as two characters of half blocks. Bits 0 and 1 of `pair` are the upper
-// modules, and bits 2 and 3 are the lower modules.
+// Appends two modules, and the two modules below them, as two block characters to `text`. Bits 0 and 1 of `pair` are
+// the upper modules, and bits 2 and 3 are the lower modules. A set bit is a dark module.
 #[inline(always)]
 #[tactic(auto, unfolding(qr_matrix::specs::BitRow::has_bit, crate::specs::Raster::texts_below))]
 fn push_half_block_pair(text: &mut ArrayVec<u8, 1200>, pair: u8)
@@ -192,8 +200,8 @@ fn push_half_block_pair(text: &mut ArrayVec<u8, 1200>, pair: u8)
     }
 }
 
-// Adds four modules and the four modules below them as four characters of half blocks. Bit 0 of `upper` and of `lower`
-// is the first module.
+// Appends four modules, and the four modules below them, as four block characters to `text`. Bit 0 of `upper` is the
+// first upper module, and bit 0 of `lower` is the module below it. A set bit is a dark module.
 #[inline(always)]
 #[tactic(auto, using(crate::proofs::lemmas::text::CellLemmas::half_block_pairs))]
 fn push_half_block_quad(text: &mut ArrayVec<u8, 1200>, upper: u8, lower: u8)
@@ -205,7 +213,8 @@ fn push_half_block_quad(text: &mut ArrayVec<u8, 1200>, upper: u8, lower: u8)
     push_half_block_pair(text, upper / 4 % 4 + lower / 4 % 4 * 4);
 }
 
-// Adds four cells. Bit 0 of `upper` and of `lower` is the first cell.
+// Appends four cells to `text`. Each cell shows one bit of `upper`, and in the style `HalfBlocks` also the same bit of
+// `lower`. The first cell shows bit 0, and a set bit is a dark module.
 #[inline(always)]
 #[tactic(auto, using(crate::proofs::lemmas::text::CellLemmas::quad_plain, crate::proofs::lemmas::text::CellLemmas::quad_inverse))]
 fn push_quad(text: &mut ArrayVec<u8, 1200>, style: TextStyle, upper: u8, lower: u8)
@@ -220,7 +229,8 @@ fn push_quad(text: &mut ArrayVec<u8, 1200>, style: TextStyle, upper: u8, lower: 
     }
 }
 
-// Returns eight modules as two characters each. Bit 0 of `bits` is the first module, and a set bit is a dark module.
+// Returns the text of eight modules, with two characters for each module. Bit 0 of `bits` is the first module, and a
+// set bit is a dark module.
 fn ascii_eight(bits: u8) -> [u8; 16]
     ensures { result ≡ bits_text 8 Plain bits 0 }
 {
@@ -230,7 +240,8 @@ fn ascii_eight(bits: u8) -> [u8; 16]
     text
 }
 
-// Adds eight cells. Bit 0 of `upper` and of `lower` is the first cell.
+// Appends eight cells to `text`. Each cell shows one bit of `upper`, and in the style `HalfBlocks` also the same bit of
+// `lower`. The first cell shows bit 0, and a set bit is a dark module.
 #[inline(always)]
 #[tactic(auto, using(crate::proofs::lemmas::text::CellLemmas::eight_quads, crate::proofs::lemmas::text::CellLemmas::eight_plain, crate::proofs::lemmas::text::CellLemmas::eight_inverse))]
 fn push_eight(text: &mut ArrayVec<u8, 1200>, style: TextStyle, upper: u8, lower: u8)
@@ -247,7 +258,7 @@ fn push_eight(text: &mut ArrayVec<u8, 1200>, style: TextStyle, upper: u8, lower:
     }
 }
 
-// Adds `count` light cells.
+// Appends `count` cells of light modules to `text`.
 #[inline(always)]
 fn push_light(text: &mut ArrayVec<u8, 1200>, style: TextStyle, count: u16)
     requires room { array_vec_len text.old + count * cell_room style ≤ 1200 }
@@ -258,7 +269,8 @@ fn push_light(text: &mut ArrayVec<u8, 1200>, style: TextStyle, count: u16)
     }
 }
 
-// Adds `count` cells of row `row` of the raster, from column `first` on.
+// Appends `count` cells of row `row` of the raster to `text`, from column `first` on. The raster is the square of
+// modules with its margin. In the style `HalfBlocks` each cell also shows the module in the row below.
 #[inline(always)]
 fn push_cells(
     text: &mut ArrayVec<u8, 1200>,
@@ -282,9 +294,9 @@ fn push_cells(
     }
 }
 
-// Adds the characters for the square's columns without the margin: those of row `row` of the raster, and with half
-// blocks also those of the row below. Adds eight columns at a time, and then four if at least four remain. The last
-// columns, fewer than four, are not added.
+// Appends the cells of row `row` of the raster to `text`, without the margin. The raster is the square of modules with
+// its margin. In the style `HalfBlocks` each cell also shows the module in the row below. Eight cells are appended at a
+// time, and then four cells if at least four columns remain. The last columns, fewer than four, are left out.
 #[inline(always)]
 fn push_columns(
     text: &mut ArrayVec<u8, 1200>,
@@ -315,8 +327,9 @@ fn push_columns(
     }
 }
 
-// Writes line `y` through `pen`: the margin, the columns of the square by eights and by fours, and then the remaining
-// columns and the margin.
+// Writes line `y` of the text through the buffer `pen`, in three parts. The first part is the left margin. The second
+// part is the columns of the symbol, eight or four at a time. The third part is the remaining columns, fewer than four,
+// then the right margin and the newline.
 #[inline(always)]
 fn put_line<W: Sink>(
     pen: &mut Pen,
@@ -353,7 +366,7 @@ fn put_line<W: Sink>(
     Ok(())
 }
 
-// Writes the lines of a symbol through `pen`.
+// Writes the lines of text of the symbol `matrix` through the buffer `pen`.
 #[inline(never)]
 fn put_lines<W: Sink>(
     pen: &mut Pen,
@@ -372,8 +385,8 @@ fn put_lines<W: Sink>(
     }
 }
 
-// Does what `put_lines` does. It is compiled once for each style, with all that it calls, so that no loop branches on the
-// style.
+// Writes the lines of text of the symbol `matrix`, as `put_lines` does. The compiler makes a copy of this function for
+// each style, with all functions that it calls. So no loop has to branch on the style.
 #[inline(always)]
 fn put_lines_of<W: Sink>(
     pen: &mut Pen,
@@ -391,7 +404,7 @@ fn put_lines_of<W: Sink>(
     Ok(())
 }
 
-/// Writes the lines of symbols, one symbol after the other, through `pen`.
+/// Writes the lines of text of all symbols through the buffer `pen`, one symbol after the other.
 pub(crate) fn put_texts<S: HasSquare, W: Sink>(
     pen: &mut Pen,
     out: &mut W,

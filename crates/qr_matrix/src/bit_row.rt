@@ -1,4 +1,5 @@
-//! Bit rows of 192 bits, as three words; each row of a square is a bit row. Each contract describes its result bit by bit.
+//! Stores rows of 192 bits in three words of 64 bits. Each row of modules of a symbol is stored as such a bit row. The
+//! contract of each function describes the result bit by bit.
 
 ghost use Rattle.std.specs.Prelude.{◌≡◌, ℕ, List, ◌+◌, ◌-◌, ◌*◌, ◌/◌, ◌%◌, ◌^◌, ◌<◌, ◌≤◌, ◌&&◌, ◌||◌, not, true, false, nat_le, nat_lt, ◌==◌, if◌then◌else◌};
 ghost use Rattle.qr_matrix.specs.Penalty.{is_same};
@@ -8,7 +9,8 @@ ghost use Rattle.qr_matrix.specs.Steps.{TakesFirst, size_of};
 use std::marker::Model;
 use std::ops::{BitAnd, BitOr, BitXor};
 
-/// A bit row: bits 0 to 191, where bit 0 is the lowest bit of the first word. A bit that is 1 is called set.
+/// A row of 192 bits. Bit 0 is the lowest bit of the first word, and bit 191 is the highest bit of the last word. A bit
+/// that is 1 is called set.
 #[derive(Clone, Copy)]
 pub struct BitRow([u64; 3]);
 
@@ -25,7 +27,7 @@ impl Model for BitRow {
     ghost inverse = { λ words. record { 0 = words } };
 }
 
-// The bits that are set in both bit rows.
+// `a & b` is the bit row of the bits that are set in both `a` and `b`.
 impl BitAnd for BitRow {
     type Output = BitRow;
 
@@ -37,7 +39,7 @@ impl BitAnd for BitRow {
     }
 }
 
-// The bits that are set in one of the bit rows, or in both.
+// `a | b` is the bit row of the bits that are set in `a`, in `b`, or in both.
 impl BitOr for BitRow {
     type Output = BitRow;
 
@@ -49,7 +51,7 @@ impl BitOr for BitRow {
     }
 }
 
-// The bits that are set in exactly one of the bit rows.
+// `a ^ b` is the bit row of the bits that are set in exactly one of `a` and `b`.
 impl BitXor for BitRow {
     type Output = BitRow;
 
@@ -65,7 +67,7 @@ impl BitRow {
     /// The bit row in which no bit is set.
     pub(crate) const EMPTY: BitRow = BitRow([0; 3]);
 
-    /// Returns the bit row in which the bits below `n` are set.
+    /// Returns the bit row in which exactly the bits with an index below `n` are set.
     pub(crate) fn below(n: u8) -> BitRow
         requires { n ≤ 192 }
         ensures { (c : ℕ) → has result c ≡ nat_lt c n }
@@ -80,8 +82,8 @@ impl BitRow {
         BitRow([u64::MAX, u64::MAX, low_bits(n - 128)])
     }
 
-    /// Returns the same bit row as `below`. The first `words - 1` words are full, and the words after the first `words` are
-    /// empty. If `words` is a constant, the compiler knows the full and the empty words.
+    /// Returns the same bit row as `below(n)`, where `n` is from `64 * (words - 1)` to `64 * words`. If `words` is a
+    /// constant where this function is called, two of the three words of the result are constants too.
     #[inline(always)]
     pub(crate) fn below_in(n: u8, words: u8) -> BitRow
         requires least { 64 * (words - 1) ≤ n }
@@ -98,7 +100,8 @@ impl BitRow {
         }
     }
 
-    /// Returns the bit row that repeats the six lowest bits of a pattern.
+    /// Returns the bit row that repeats the six lowest bits of `pattern`: bit `c` of the result is bit `c % 6` of
+    /// `pattern`.
     pub(crate) fn repeated(pattern: u8) -> BitRow
         requires { pattern < 64 }
         ensures { (c : ℕ) → c < 192 → has result c ≡ has_bit pattern (c % 6) }
@@ -111,14 +114,14 @@ impl BitRow {
         ])
     }
 
-    /// Returns the bits that are set in this bit row and not in the other.
+    /// Returns the bit row of the bits that are set in this bit row and not set in `other`.
     pub(crate) fn and_not(self, other: BitRow) -> BitRow
         ensures { (c : ℕ) → has result c ≡ (has self c && not (has other c)) }
     {
         self ^ (self & other)
     }
 
-    /// Returns the bit row in which bit `c` is the bit `c + steps` of this bit row.
+    /// Returns this bit row moved by `steps` bits: bit `c` of the result is bit `c + steps` of this bit row.
     pub(crate) fn shifted_left(self, steps: u32) -> BitRow
         requires some { 0 < steps }
         requires few { steps < 64 }
@@ -133,7 +136,8 @@ impl BitRow {
         ])
     }
 
-    /// Returns the bit row in which bit `c` is the bit `c - 1` of this bit row, and bit 0 is not set.
+    /// Returns this bit row moved by one bit: bit `c` of the result is bit `c - 1` of this bit row, and bit 0 is not
+    /// set.
     pub(crate) fn shifted_right(self) -> BitRow
         ensures { (c : ℕ) → c < 192 → has result c ≡ (nat_lt 0 c && has self (c - 1)) }
     {
@@ -141,7 +145,7 @@ impl BitRow {
         BitRow([a[0] << 1, a[1] << 1 | a[0] >> 63, a[2] << 1 | a[1] >> 63])
     }
 
-    /// Returns the number of bits that are set.
+    /// Returns the number of bits that are set in this bit row.
     pub(crate) fn count(self) -> u32
         ensures value { result ≡ size_of self }
         ensures bound { result ≤ 192 }
@@ -150,7 +154,7 @@ impl BitRow {
         a[0].count_ones() + a[1].count_ones() + a[2].count_ones()
     }
 
-    /// Returns the same number as `count`, faster if no bit is set.
+    /// Returns the number of bits that are set, as `count` does, but faster if no bit is set.
     pub(crate) fn count_few(self) -> u32
         ensures value { result ≡ size_of self }
         ensures bound { result ≤ 192 }
@@ -162,7 +166,7 @@ impl BitRow {
         self.count()
     }
 
-    /// Returns the index of the first bit that is set, or 192 if no bit is set.
+    /// Returns the index of the first bit that is set in this bit row, or 192 if no bit is set.
     pub(crate) fn first(self) -> u8
         ensures most { result ≤ 192 }
         ensures before { (c : ℕ) → c < result → has self c ≡ false }
@@ -181,7 +185,7 @@ impl BitRow {
         192
     }
 
-    /// Clears the first bit that is set, and returns its index, or `None` if no bit is set.
+    /// Clears the first bit that is set, and returns the index of this bit. If no bit is set, returns `None`.
     #[inline(always)]
     pub(crate) fn take_first(&mut self) -> Option<u8>
         ensures { TakesFirst self.old result self.new }
@@ -194,7 +198,7 @@ impl BitRow {
         Some(place)
     }
 
-    /// Returns whether a bit is set.
+    /// Returns whether the bit with the index `place` is set.
     pub fn at(&self, place: u8) -> bool
         requires { place < 192 }
         ensures { result ≡ has self.now place }
@@ -202,8 +206,8 @@ impl BitRow {
         self.0[usize::from(place / 64)] >> (place % 64) & 1 == 1
     }
 
-    /// Returns the four bits from bit `place` on as a number, in which bit `place` is the lowest. `place` is a multiple of
-    /// four.
+    /// Returns the four bits from bit `place` on as a number. Bit `place` is the lowest bit of the number, and `place`
+    /// is a multiple of four.
     pub fn four(&self, place: u8) -> u8
         requires place_in { place < 192 }
         requires whole { place % 4 ≡ 0 }
@@ -213,8 +217,8 @@ impl BitRow {
         ((self.0[usize::from(place / 64)] >> (place % 64)) % 16) as u8
     }
 
-    /// Returns the eight bits from bit `place` on as a number, in which bit `place` is the lowest. `place` is a multiple of
-    /// eight.
+    /// Returns the eight bits from bit `place` on as a number. Bit `place` is the lowest bit of the number, and `place`
+    /// is a multiple of eight.
     pub(crate) fn eight(&self, place: u8) -> u8
         requires place_in { place < 192 }
         requires whole { place % 8 ≡ 0 }
@@ -223,7 +227,7 @@ impl BitRow {
         ((self.0[usize::from(place / 64)] >> (place % 64)) % 256) as u8
     }
 
-    /// Returns the 64 bits of one of the words.
+    /// Returns the word with the index `number`: the 64 bits from bit `64 * number` on.
     pub(crate) fn word(&self, number: usize) -> u64
         requires { number < 3 }
         ensures { (c : ℕ) → c < 64 → has_bit result c ≡ has self.now (64 * number + c) }
@@ -231,7 +235,7 @@ impl BitRow {
         self.0[number]
     }
 
-    /// Sets or clears one bit.
+    /// Sets the bit with the index `place` if `dark` is true, and clears this bit otherwise.
     pub fn put(&mut self, place: u8, dark: bool)
         requires { place < 192 }
         ensures { (i : ℕ) → has self.new i ≡ (if i == place then dark else has self.old i) }
@@ -244,7 +248,7 @@ impl BitRow {
         }
     }
 
-    /// Replaces the 64 bits of one of the words.
+    /// Replaces the word with the index `number`, which is the 64 bits from bit `64 * number` on, by `word`.
     pub(crate) fn put_word(&mut self, number: usize, word: u64)
         requires { number < 3 }
         ensures { (i : ℕ) → has self.new i ≡ (if i / 64 == number then has_bit word (i % 64) else has self.old i) }
@@ -252,8 +256,8 @@ impl BitRow {
         self.0[number] = word;
     }
 
-    /// Replaces the four bits from bit `place` on by `bits`, whose lowest bit becomes bit `place`. `place` is a multiple of
-    /// four.
+    /// Replaces the four bits from bit `place` on by the four bits of `bits`. The lowest bit of `bits` becomes bit
+    /// `place`, and `place` is a multiple of four.
     pub fn put_four(&mut self, place: u8, bits: u8)
         requires place_in { place < 192 }
         requires whole { place % 4 ≡ 0 }
@@ -276,7 +280,7 @@ fn low_bits(n: u32) -> u64
     if n == 64 { u64::MAX } else { (1 << n) - 1 }
 }
 
-// The word in which the bits 0, 6, 12 and so on up to 60 are set.
+// A word in which every sixth bit is set: the bits 0, 6, 12 and so on up to 60.
 const SIXTHS: u64 = 0x1041_0410_4104_1041;
 
 #[cfg(test)]

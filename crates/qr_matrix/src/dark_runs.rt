@@ -6,17 +6,19 @@ ghost use Rattle.qr_matrix.specs.BitRow.{has};
 use crate::bit_row::BitRow;
 use crate::matrix::Matrix;
 
-/// A run of dark modules of a row: the columns from `start` to before `end`.
+/// A run of dark modules in a row: the columns from `start` up to, but not including, `end`.
 #[derive(Clone, Copy)]
 pub struct Run {
     pub start: u8,
     pub end: u8,
 }
 
-/// An iterator over the runs of dark modules of a row from a column on, from left to right.
+/// An iterator over the runs of dark modules of a row, from left to right. Only the runs in the columns from `col` on
+/// are still to come.
 #[derive(Drop)]
 pub struct DarkRuns {
-    // The columns from `col` on in which the colour changes, where all columns before `col` count as light.
+    // The columns from `col` on in which the colour differs from the colour of the column before. For this, all columns
+    // before `col` count as light.
     changes: BitRow,
     col: u8,
     ghost later: { (c : ℕ) → c < col → has changes c ≡ false },
@@ -26,7 +28,8 @@ impl Matrix {
     ghost use Rattle.std.specs.Prelude.{◌≡◌, ◌<◌};
     ghost use Rattle.qr_matrix.specs.DarkRuns.{AreRunsFrom};
 
-    /// Returns all runs of dark modules of a row, from left to right, each run as long as it can be.
+    /// Returns an iterator over all runs of dark modules in row `row`, from left to right. Each run is as long as
+    /// possible.
     pub fn dark_runs(&self, row: u8) -> DarkRuns
         requires { row < self.now.side }
         ensures start { result.col ≡ 0 }

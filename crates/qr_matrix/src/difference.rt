@@ -1,12 +1,12 @@
-//! Counts the modules in which two squares differ.
+//! Counts the modules that have different colours in two squares of modules.
 
 ghost use Rattle.std.specs.Prelude.{◌≡◌};
 ghost use Rattle.qr_matrix.specs.Difference.{difference_count};
 
 use crate::matrix::Matrix;
 
-/// Counts the places at which two squares of one side have different colours. The number is 0 exactly if they have the
-/// same colour everywhere.
+/// Returns the number of modules that have different colours in `a` and in `b`, which are squares of the same side. The
+/// number is 0 exactly if all modules have the same colour in both squares.
 pub fn differences(a: &Matrix, b: &Matrix) -> u32
     requires { a.now.side ≡ b.now.side }
     ensures { result ≡ difference_count a.now b.now }

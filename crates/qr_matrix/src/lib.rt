@@ -1,5 +1,5 @@
-//! The square of modules that makes a symbol, stored as bit rows of three words. This crate also counts the penalty of a
-//! square and the differences of two squares.
+//! Stores the modules of a symbol as a square, in which each row is a bit row: three words of 64 bits. This crate also
+//! computes the penalty of a square, and counts the modules in which two squares differ.
 #![tactic(auto)]
 
 mod bit_row;

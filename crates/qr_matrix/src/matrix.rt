@@ -1,4 +1,4 @@
-//! The square of modules that makes a symbol, without its quiet zone (ISO/IEC 18004:2015, 6.3.2).
+//! Stores the modules of a symbol as a square, without the quiet zone (ISO/IEC 18004:2015, 6.3.2).
 
 ghost use Rattle.std.specs.Prelude.{◌≡◌, ℕ, ◌+◌, ◌-◌, ◌*◌, ◌/◌, ◌%◌, ◌<◌, ◌≤◌, ◌&&◌, ◌==◌, not, nat_le, nat_lt, if◌then◌else◌, false, length, IfOk};
 ghost use Rattle.qr_matrix.specs.Grid.{square, colour, painted, with_row, with_rectangle, light, transposed};
@@ -10,12 +10,13 @@ use crate::transposition::set_transposed_band;
 use std::alloc::{AllocError, Global};
 use std::marker::Model;
 
-/// A square of modules, each dark or light. Rows and columns count from 0 at the top left. Contracts describe it by its
-/// side and the colour of each place.
+/// A square of modules, each of which is dark or light. Rows and columns are numbered from 0, beginning at the top
+/// left. Contracts describe a `Matrix` by the number of modules on a side and by the colour of each module.
 #[derive(Drop)]
 pub struct Matrix {
     side: u8,
-    // Each row as a bit row: column 0 is the lowest bit, and no bit from the side on is set.
+    // Each row of modules as a bit row, in which a set bit is a dark module. The lowest bit is column 0. No bit of a
+    // column outside the square is set.
     rows: Vec<BitRow>,
 }
 
@@ -33,7 +34,7 @@ impl Model for Matrix {
 }
 
 impl Matrix {
-    /// Returns a square of light modules, with 1 to 177 modules on a side.
+    /// Returns a square of light modules, with `side` modules on a side. `side` is from 1 to 177.
     pub fn new(alloc: Global, side: u8) -> Result<Matrix, AllocError>
         requires least { 1 ≤ side }
         requires most { side ≤ 177 }
@@ -43,7 +44,7 @@ impl Matrix {
         Ok(Matrix { side, rows })
     }
 
-    /// Returns the number of modules on a side.
+    /// Returns the number of modules on a side of the square.
     pub fn side(&self) -> u8
         ensures value { result ≡ self.now.side }
         ensures least { 1 ≤ result }
@@ -52,7 +53,7 @@ impl Matrix {
         self.side
     }
 
-    /// Returns whether a module is dark.
+    /// Returns whether the module in row `row` and column `col` is dark.
     pub fn dark(&self, row: u8, col: u8) -> bool
         requires row_in { row < self.now.side }
         requires col_in { col < self.now.side }
@@ -61,8 +62,9 @@ impl Matrix {
         self.rows[usize::from(row)].at(col)
     }
 
-    /// Returns four modules of a row, from column `col` on, as a number. Column `col` is the lowest bit; `col` is a
-    /// multiple of four. This is the same as reading the modules one by one.
+    /// Returns the four modules of row `row` from column `col` on, as the bits of a number. The lowest bit is column
+    /// `col`, which is a multiple of four, and a set bit is a dark module. The result is the same as if the modules
+    /// were read one by one.
     pub fn four(&self, row: u8, col: u8) -> u8
         requires row_in { row < self.now.side }
         requires col_in { col + 4 ≤ self.now.side }
@@ -73,8 +75,9 @@ impl Matrix {
         self.rows[usize::from(row)].four(col)
     }
 
-    /// Returns eight modules of a row, from column `col` on, as a number. Column `col` is the lowest bit; `col` is a multiple
-    /// of eight. The bits of columns from the side on are 0.
+    /// Returns the eight modules of row `row` from column `col` on, as the bits of a number. The lowest bit is column
+    /// `col`, which is a multiple of eight, and a set bit is a dark module. The bits of columns outside the square are
+    /// 0.
     pub fn eight(&self, row: u8, col: u8) -> u8
         requires row_in { row < self.now.side }
         requires col_in { col < self.now.side }
@@ -84,8 +87,8 @@ impl Matrix {
         self.rows[usize::from(row)].eight(col)
     }
 
-    /// Returns the end of the run of equal modules from `col` on: the least column after `col` whose
-    /// colour in this row differs from that at `col`, or the side if there is no such column.
+    /// Returns the end of a run of modules of one colour: the first column after `col` that has another colour than
+    /// column `col` in row `row`. If there is no such column, the result is the number of columns.
     pub fn run_end(&self, row: u8, col: u8) -> u8
         requires row_in { row < self.now.side }
         requires col_in { col < self.now.side }
@@ -96,7 +99,8 @@ impl Matrix {
         later.first().min(side)
     }
 
-    // Returns the columns of a row whose colour differs from that of the column before; before column 0 all is light.
+    // Returns a bit row (192 bits) in which bit `c` is set if the module in column `c` of row `row` has another colour
+    // than the module before it. Before column 0, the colour counts as light.
     pub(crate) fn changes(&self, row: u8) -> BitRow
         requires { row < self.now.side }
         ensures changes { (c : ℕ) → c < 192 → has result c ≡ is_change (colour self.now row) c }
@@ -107,7 +111,8 @@ impl Matrix {
         bits ^ bits.shifted_right()
     }
 
-    /// Returns a row as a bit row. No bit from the side on is set.
+    /// Returns row `row` as a bit row: a row of 192 bits, in which a set bit is a dark module. No bit of a column
+    /// outside the square is set.
     pub fn bit_row(&self, row: usize) -> BitRow
         requires { row < self.now.side }
         ensures colours { (c : ℕ) → has result c ≡ colour self.now row c }
@@ -117,7 +122,8 @@ impl Matrix {
         self.rows[row]
     }
 
-    // Returns the modules of one word of a row; the module in column `64 * number` is the lowest bit.
+    // Returns up to 64 modules of row `row`, from column `64 * number` on, as the bits of a word. The lowest bit is
+    // column `64 * number`. The bits of columns outside the square are 0.
     pub(crate) fn word(&self, row: usize, number: usize) -> u64
         requires row_in { row < self.now.side }
         requires word_in { number < 3 }
@@ -126,7 +132,7 @@ impl Matrix {
         self.rows[row].word(number)
     }
 
-    // Returns the number of words that a row fills, the last one in part.
+    // Returns the number of words that the modules of a row fill, where the last word may be filled only in part.
     pub(crate) fn words(&self) -> u8
         ensures least { 64 * (result - 1) < self.now.side }
         ensures most { self.now.side ≤ 64 * result }
@@ -135,8 +141,8 @@ impl Matrix {
         (self.side - 1) / 64 + 1
     }
 
-    // Returns a row as a bit row. `words` is the number of words that a row fills. If it is a constant, the compiler leaves
-    // out what would be done with the other words.
+    // Returns row `row` as a bit row. `words` is the number of words that the modules of a row fill. If `words` is a
+    // constant where this function is called, the compiler leaves out all operations on the words that are not filled.
     #[inline(always)]
     pub(crate) fn bit_row_in(&self, row: usize, words: u8) -> BitRow
         requires row_in { row < self.now.side }
@@ -150,7 +156,8 @@ impl Matrix {
         self.bit_row(row) & BitRow::below(64 * words)
     }
 
-    /// Sets the colour of one module, and of no other module.
+    /// Sets the colour of the module in row `row` and column `col`, and of no other module. The module becomes dark if
+    /// `dark` is true, and light otherwise.
     pub fn set(&mut self, row: u8, col: u8, dark: bool)
         requires row_in { row < self.old.side }
         requires col_in { col < self.old.side }
@@ -159,7 +166,8 @@ impl Matrix {
         self.rows[usize::from(row)].put(col, dark);
     }
 
-    /// Sets the colours of a row to the bits of a bit row.
+    /// Sets the colours of row `row` to the bits of `bits`: the module in column `c` becomes dark if bit `c` is set,
+    /// and light otherwise.
     pub fn set_bit_row(&mut self, row: u8, bits: BitRow)
         requires row_in { row < self.old.side }
         requires past { (c : ℕ) → self.old.side ≤ c → has bits c ≡ false }
@@ -168,7 +176,8 @@ impl Matrix {
         self.rows[usize::from(row)] = bits;
     }
 
-    // Sets the colours of the modules of one word of a row to the bits of a word.
+    // Sets the colours of up to 64 modules of row `row`, from column `64 * number` on, to the bits of `word`. The
+    // lowest bit of `word` is the colour of column `64 * number`.
     pub(crate) fn set_word(&mut self, row: usize, number: usize, word: u64)
         requires row_in { row < self.old.side }
         requires word_in { number < 3 }
@@ -179,9 +188,10 @@ impl Matrix {
         self.rows[row].put_word(number, word);
     }
 
-    /// Sets a row to the colours of `plain`, inverted where `within` is dark and the pattern's bit for the column is 1.
-    /// The pattern is six bits, column 0 the lowest, and is repeated every six columns. This is the same as setting the
-    /// modules of the row one by one.
+    /// Sets the modules of row `row` to the colours that they have in `plain`, but inverts some of these colours. A
+    /// module is inverted if it is dark in `within` and the bit of `pattern` for its column is 1. `pattern` has six
+    /// bits, which are repeated every six columns; the lowest bit is for column 0. The result is the same as if the
+    /// modules were set one by one.
     pub fn set_row_masked(&mut self, row: u8, plain: &Matrix, within: &Matrix, pattern: u8)
         requires row_in { row < self.old.side }
         requires plain_side { plain.now.side ≡ self.old.side }
@@ -196,7 +206,8 @@ impl Matrix {
         self.set_bit_row(row, plain.bit_row(index) ^ inverted);
     }
 
-    // Sets the modules of a row from `left` to before `right` to one colour.
+    // Sets the colours of row `row` from column `left` up to, but not including, column `right`. The modules become
+    // dark if `dark` is true, and light otherwise.
     fn fill_row(&mut self, row: u8, left: u8, right: u8, dark: bool)
         requires row_in { row < self.old.side }
         requires in_order { left ≤ right }
@@ -213,8 +224,9 @@ impl Matrix {
         }
     }
 
-    /// Sets the modules of the rows from `top` to before `bottom` and the columns from `left` to before `right` to one
-    /// colour. This is the same as setting the modules one by one.
+    /// Sets the modules of a rectangle to one colour: dark if `dark` is true, and light otherwise. The rectangle has
+    /// the rows from `top` up to, but not including, `bottom`, and the columns from `left` up to, but not including,
+    /// `right`. The result is the same as if the modules were set one by one.
     pub fn fill(&mut self, top: u8, bottom: u8, left: u8, right: u8, dark: bool)
         requires rows_in_order { top ≤ bottom }
         requires bottom_in { bottom ≤ self.old.side }
@@ -222,14 +234,16 @@ impl Matrix {
         requires right_in { right ≤ self.old.side }
         ensures { self.new ≡ with_rectangle self.old top bottom left right dark }
     {
-        // For the proof: brings in the invariant, for the case of no rows.
+        // This line helps the prover only: it repeats that a `Matrix` has at most 177 modules on a side. The prover
+        // needs this bound if the rectangle has no rows.
         prove!(self.side <= 177);
         for row in top..bottom {
             self.fill_row(row, left, right, dark);
         }
     }
 
-    /// Sets each module to the colour that `other` has at the place with row and column exchanged.
+    /// Sets this square to the transposed square `other`: the module in row `r` and column `c` gets the colour that
+    /// `other` has in row `c` and column `r`.
     pub fn set_transposed(&mut self, other: &Matrix)
         requires { other.now.side ≡ self.old.side }
         ensures { self.new ≡ transposed other.now }

@@ -1,4 +1,4 @@
-//! The penalty of a symbol, by which its mask is chosen (ISO/IEC 18004:2015, 7.8.3).
+//! Computes the penalty of a symbol, by which its mask pattern is chosen (ISO/IEC 18004:2015, 7.8.3).
 
 ghost use Rattle.std.specs.Prelude.{◌≡◌, ◌+◌, ◌-◌, ◌*◌, ◌/◌, ◌<◌, ◌≤◌};
 ghost use Rattle.qr_matrix.specs.Grid.{colour};
@@ -8,15 +8,16 @@ use crate::matrix::Matrix;
 use crate::runs::runs_and_squares;
 use crate::windows::window_count;
 
-// The points of Table 11: for a square of two by two modules of one colour, for a window like a finder pattern, and for each
-// twentieth by which the dark modules are more or fewer than half of all modules.
+// The points of Table 11 for each square of two by two modules of one colour.
 const SQUARE_POINTS: u32 = 3;
 
+// The points of Table 11 for each ratio 1:1:3:1:1 of a finder pattern before or after four light modules.
 const WINDOW_POINTS: u32 = 40;
 
+// The points of Table 11 for each whole twentieth by which the share of dark modules differs from a half.
 const BALANCE_POINTS: u32 = 10;
 
-// Returns the number of dark modules. `words` is the number of words that a row fills.
+// Returns the number of dark modules of `matrix`. `words` is the number of words that the modules of a row fill.
 #[inline(always)]
 fn dark_count(matrix: &Matrix, words: u8) -> u32
     requires least { 64 * (words - 1) < matrix.now.side }
@@ -32,7 +33,8 @@ fn dark_count(matrix: &Matrix, words: u8) -> u32
     total
 }
 
-// Returns 10 points for each whole twentieth by which the dark modules are more or fewer than half of all modules.
+// Returns the cost of the share of dark modules, where `dark` of `modules` modules are dark. The cost is 10 points for
+// each whole twentieth by which this share differs from a half.
 fn balance_cost(modules: u32, dark: u32) -> u32
     requires some { 0 < modules }
     requires most { modules ≤ 31329 }
@@ -45,7 +47,7 @@ fn balance_cost(modules: u32, dark: u32) -> u32
     BALANCE_POINTS * (excess / modules)
 }
 
-// Returns the penalty of a square whose rows fill `words` words each.
+// Returns the penalty of the square of modules `m`. `words` is the number of words that the modules of a row fill.
 #[inline(always)]
 fn penalty_in(m: &Matrix, words: u8) -> u32
     requires least { 64 * (words - 1) < m.now.side }
@@ -60,8 +62,9 @@ fn penalty_in(m: &Matrix, words: u8) -> u32
         + balance_cost(modules, dark_count(m, words))
 }
 
-/// Returns the penalty of a square of modules: the sum of the points of Table 11 for its runs, its squares of two by
-/// two modules, its windows of eleven modules and its share of dark modules (ISO/IEC 18004:2015, 7.8.3.1).
+/// Returns the penalty of a square of modules, which is a sum of points (ISO/IEC 18004:2015, 7.8.3.1, Table 11). Points
+/// are given for runs of one colour, for squares of two by two modules of one colour, and for the share of dark
+/// modules. Points are also given for each ratio 1:1:3:1:1 of a finder pattern before or after four light modules.
 pub fn penalty(m: &Matrix) -> u32
     ensures { result ≡ penalty_of m.now.side (colour m.now) }
 {

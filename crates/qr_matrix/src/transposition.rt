@@ -1,9 +1,9 @@
-//! Transposes a square, so that each module moves to the place with row and column exchanged. This is done by tiles of 64 by
-//! 64 modules, each of them one word in 64 rows.
+//! Transposes a square of modules: the module in row `r` and column `c` moves to row `c` and column `r`. The square is
+//! transposed in tiles of 64 by 64 modules. A tile is stored as one word in each of 64 rows.
 //!
-//! The bits of a tile are exchanged in six stages. The first stage divides the tile into two by two parts of 32 by 32 bits,
-//! and exchanges the upper right part with the lower left part. The next stage does so in each of these parts, with parts of
-//! 16 by 16 bits, and so on down to single bits.
+//! A tile is transposed in six stages. The first stage divides the tile into two by two parts of 32 by 32 bits, and
+//! exchanges the upper right part with the lower left part. The second stage does the same with each of these four
+//! parts, which it divides into parts of 16 by 16 bits. The parts of the last stage are single bits.
 
 ghost use Rattle.std.specs.Prelude.{◌≡◌, ℕ, ◌+◌, ◌-◌, ◌*◌, ◌/◌, ◌%◌, ◌<◌, ◌≤◌, ◌&&◌, ◌==◌, ◌⊎◌, nat_lt, if◌then◌else◌, false, slice_index};
 ghost use Rattle.qr_matrix.specs.Grid.{square, colour, IsSquare};
@@ -12,8 +12,10 @@ ghost use Rattle.qr_matrix.specs.Steps.{bit_in, exchanged};
 
 use crate::matrix::Matrix;
 
-// Exchanges the right parts of `upper` with the left parts of `lower`, and returns both words. A part is `steps` columns
-// wide, and `mask` contains the columns of the left parts. Both words change in the bits in which the parts differ.
+// Exchanges the right parts of the word `upper` with the left parts of the word `lower`, and returns both words. Each
+// word is divided into left and right parts in turn, which are `steps` columns wide; the part at column 0 is a left
+// part. `mask` contains the columns of the left parts. To exchange two parts, the bits in which they differ are
+// inverted in both words.
 #[inline(always)]
 fn exchange_words(upper: u64, lower: u64, steps: usize, mask: u64) -> (u64, u64)
     requires some { 1 ≤ steps }
@@ -28,7 +30,9 @@ fn exchange_words(upper: u64, lower: u64, steps: usize, mask: u64) -> (u64, u64)
     (upper ^ difference << steps, lower ^ difference)
 }
 
-// Exchanges the parts in the `2 * steps` rows from `first` on.
+// Exchanges parts of the tile in the `2 * steps` rows from row `first` on. Each part has `steps` rows and columns. In
+// each group of two by two parts, the upper right part and the lower left part are exchanged. `mask` contains the
+// columns of the left parts.
 #[inline(always)]
 fn exchange_rows(tile: &mut [u64; 64], first: usize, steps: usize, mask: u64)
     requires some { 1 ≤ steps }
@@ -48,7 +52,9 @@ fn exchange_rows(tile: &mut [u64; 64], first: usize, steps: usize, mask: u64)
     }
 }
 
-// Exchanges the parts in all rows: one of the six stages.
+// Does one of the six stages of a transposition: exchanges parts of the tile that have `steps` rows and columns. In
+// each group of two by two parts, the upper right part and the lower left part are exchanged. `mask` contains the
+// columns of the left parts.
 #[inline(always)]
 fn exchange(tile: &mut [u64; 64], steps: usize, mask: u64)
     requires some { 1 ≤ steps }
@@ -62,7 +68,7 @@ fn exchange(tile: &mut [u64; 64], steps: usize, mask: u64)
     }
 }
 
-// Transposes a tile.
+// Transposes a tile of 64 by 64 bits: the bit in row `r` and column `c` moves to row `c` and column `r`.
 fn transpose(tile: &mut [u64; 64])
     ensures { (r c : ℕ) → r < 64 → c < 64 → bit_in tile.new r c ≡ bit_in tile.old c r }
 {
@@ -74,8 +80,8 @@ fn transpose(tile: &mut [u64; 64])
     exchange(tile, 1, 0x5555_5555_5555_5555);
 }
 
-// Returns a tile of a square: the modules of one word of each row, in the 64 rows of a band. Rows below the square are
-// light.
+// Returns a tile of `matrix` with 64 rows and columns. The tile begins at row `64 * band` and column `64 * word` of the
+// square. Modules outside the square are light in the tile.
 fn tile_of(matrix: &Matrix, band: usize, word: usize) -> [u64; 64]
     requires band_in { 64 * band ≤ matrix.now.side }
     requires word_in { word < 3 }
@@ -91,7 +97,8 @@ fn tile_of(matrix: &Matrix, band: usize, word: usize) -> [u64; 64]
     tile
 }
 
-// Sets the modules of a tile to the colours of its bits.
+// Sets the modules of one tile of `matrix` to the colours of `tile`. The tile has 64 rows and columns, and begins at
+// row `64 * band` and column `64 * word` of the square. Modules of the tile outside the square are left out.
 fn set_tile(matrix: &mut Matrix, band: usize, word: usize, tile: &[u64; 64])
     requires whole { IsSquare matrix.old.side matrix.old }
     requires band_in { 64 * band ≤ matrix.old.side }
@@ -108,7 +115,8 @@ fn set_tile(matrix: &mut Matrix, band: usize, word: usize, tile: &[u64; 64])
     }
 }
 
-// Sets the modules of a tile to the colours that `other` has at the places with row and column exchanged.
+// Sets the modules of one tile of `matrix` to the colours that `other` has with rows and columns exchanged. The tile
+// has 64 rows and columns, and begins at row `64 * band` and column `64 * word` of the square.
 fn set_transposed_tile(matrix: &mut Matrix, other: &Matrix, band: usize, word: usize)
     requires whole { IsSquare matrix.old.side matrix.old }
     requires sides { other.now.side ≡ matrix.old.side }
@@ -124,7 +132,8 @@ fn set_transposed_tile(matrix: &mut Matrix, other: &Matrix, band: usize, word: u
     set_tile(matrix, band, word, &tile);
 }
 
-/// Sets the modules in the 64 rows of a band to the colours that `other` has at the places with row and column exchanged.
+/// Sets up to 64 rows of `matrix`, from row `64 * band` on, to the colours that `other` has with rows and columns
+/// exchanged.
 pub(crate) fn set_transposed_band(matrix: &mut Matrix, other: &Matrix, band: usize)
     requires whole { IsSquare matrix.old.side matrix.old }
     requires sides { other.now.side ≡ matrix.old.side }

@@ -1,20 +1,24 @@
--- What the operations of a pen do to the pen and the writer.
+-- Defines what the operations of a pen do to the pen and the writer. A pen is a buffer of bytes that are not written
+-- yet.
 use Rattle.std.specs.Prelude.{ℕ, ◌++◌, List, Result, MatchResult}
 use Rattle.qr_devices.specs.Device.{Writer}
 use Rattle.qr_drawing.specs.Steps.Writing.{Stops, Writes}
 use Rattle.qr_drawing.specs.declared.pen.DrawFault.{DrawFault}
 use Rattle.qr_drawing.specs.declared.pen.Pen.{Pen}
 
--- `Puts old new before after text r` says what happens if the text is added to the bytes of the pen: a prefix of all
--- these bytes may be written, and the pen then contains the rest. After an error, a prefix of these bytes was written.
--- The writer `old` became `new`, and the pen `before` became `after`
+-- `Puts old new before after text r` holds if a call returned `r` after it added `text` to the bytes in the pen. The
+-- call may have written a prefix of all these bytes, and the rest is then in the pen. If `r` is an error, a fault of
+-- the writer ended the call, after the writer had accepted a prefix of these bytes. The call changed the writer from
+-- `old` to `new`, and the pen from `before` to `after`
 abbrev pub Puts : Writer → Writer → Pen → Pen → List ℕ → {T : Type 0} → Result T DrawFault → Type 0
 Puts old new before after text r = MatchResult r
     (λ _. Writes old new before.interrupted after.interrupted (before.piece.items ++ text) after.piece.items)
     (λ _. Stops old new before.interrupted (before.piece.items ++ text))
 
--- `Reserves old new before after r` says what happens if room is made in the pen: a prefix of its bytes may be written,
--- and the pen then contains the rest. After an error, a prefix of these bytes was written
+-- `Reserves old new before after r` holds if a call returned `r` after it made room in the pen. The call may have
+-- written a prefix of the bytes in the pen, and the rest is then in the pen. If `r` is an error, a fault of the writer
+-- ended the call, after the writer had accepted a prefix of these bytes. The call changed the writer from `old` to
+-- `new`, and the pen from `before` to `after`
 abbrev pub Reserves : Writer → Writer → Pen → Pen → {T : Type 0} → Result T DrawFault → Type 0
 Reserves old new before after r = MatchResult r
     (λ _. Writes old new before.interrupted after.interrupted before.piece.items after.piece.items)

@@ -1,4 +1,5 @@
--- The cells of a text by the bits of their modules, and the room that they take.
+-- Defines the cells of a text from the bits of their modules, and the greatest number of bytes of a cell. A cell is the
+-- text for one module, or for two modules, one above the other.
 use Rattle.std.specs.Prelude.{◌≡◌, ℕ, ◌+◌, ◌*◌, ◌<◌, Bool, false, not, List, Option, Some, None}
 use Rattle.qr_matrix.specs.Grid.{Grid}
 use Rattle.qr_matrix.specs.BitRow.{has_bit}
@@ -7,45 +8,50 @@ use Rattle.qr_drawing.specs.Text.{ascii_module, half_blocks}
 use Rattle.qr_drawing.specs.declared.text.TextStyle.{TextStyle}
 use Rattle.qr_drawing.specs.declared.text.TextStyle.TheVariants.{Plain, Inverse, HalfBlocks}
 
--- `cell_room style` is the greatest number of bytes of a cell
+-- `cell_room style` is the greatest number of bytes of a cell in the style `style`
 abbrev pub cell_room : TextStyle → ℕ
 cell_room Plain = 2
 cell_room Inverse = 2
 cell_room HalfBlocks = 3
 
--- `top_row style y` is the row of the raster that line `y` shows, or the upper one of the two rows that it shows
+-- `top_row style y` is the first row of modules that line `y` of the text shows. In the style `HalfBlocks` a line shows
+-- two rows, and in the other styles one row
 abbrev pub top_row : TextStyle → ℕ → ℕ
 top_row Plain y = y
 top_row Inverse y = y
 top_row HalfBlocks y = 2 * y
 
--- `cell_text style upper lower` is the text of a cell, from the colours of its module and of the module below it
+-- `cell_text style upper lower` is the text of a cell. In the style `HalfBlocks` the cell shows the module `upper` and
+-- the module `lower` below it; in the other styles the cell shows only the module `upper`
 abbrev pub cell_text : TextStyle → Bool → Bool → List ℕ
 cell_text Plain upper lower = ascii_module upper
 cell_text Inverse upper lower = ascii_module (not upper)
 cell_text HalfBlocks upper lower = half_blocks upper lower
 
--- `cell_at style margin g row x` is the text of the cell in column `x` whose module, or whose upper module, is in row
--- `row`
+-- `cell_at style margin g row x` is the text of the cell for the module in row `row` and column `x` of the raster,
+-- which is the square of modules `g` with its margin. In the style `HalfBlocks` the cell also shows the module in the
+-- row below
 abbrev pub cell_at : TextStyle → ℕ → Grid → ℕ → ℕ → List ℕ
 cell_at style margin g row x = cell_text style (is_dark_at margin g row x) (is_dark_at margin g (row + 1) x)
 
--- `bits_text n style upper lower` is the texts of n cells; bit 0 of `upper` and of `lower` is the first cell
+-- `bits_text n style upper lower` is the texts of `n` cells. Each cell shows one bit of `upper`, and in the style
+-- `HalfBlocks` also the same bit of `lower`. The first cell shows bit 0, and a set bit is a dark module
 abbrev pub bits_text : ℕ → TextStyle → ℕ → ℕ → List ℕ
 bits_text n style upper lower = texts_below n (λ k. cell_text style (has_bit upper k) (has_bit lower k))
 
--- `pair_text pair` is the texts of two cells of half blocks; bits 0 and 1 of `pair` are the upper modules, and bits 2
--- and 3 are the lower modules
+-- `pair_text pair` is the text of two modules and the two modules below them, as two characters. Bits 0 and 1 of `pair`
+-- are the upper modules, and bits 2 and 3 are the lower modules
 abbrev pub pair_text : ℕ → List ℕ
 pair_text pair = texts_below 2 (λ k. half_blocks (has_bit pair k) (has_bit pair (2 + k)))
 
--- `AreDark margin g row col bits` holds if each of the eight lowest bits whose module is in the square is set exactly if
--- this module is dark: bit 0 is the module in column `col` of the square, in row `row` of the raster
+-- `AreDark margin g row col bits` holds if the bits 0 to 7 of `bits` are the colours of eight modules in row `row` of
+-- the raster. A set bit is a dark module. Bit 0 is the module in column `col` of the square of modules `g`, without the
+-- margin. Bits of columns outside the square may have any value
 abbrev pub AreDark : ℕ → Grid → ℕ → ℕ → ℕ → Type 0
 AreDark margin g row col bits = (k : ℕ) → k < 8 → col + k < g.side → has_bit bits k ≡ is_dark_at margin g row (margin + (col + k))
 
--- `ShowsRow margin g row r` holds if row `row` of the raster shows row `r` of the square. If `r` is `None`, it holds if
--- the whole row of the raster is light
+-- `ShowsRow margin g row r` holds if row `row` of the raster shows row `r` of the square of modules `g`. If `r` is
+-- `None`, the whole row of the raster is light
 abbrev pub ShowsRow : ℕ → Grid → ℕ → Option ℕ → Type 0
 ShowsRow margin g row (Some r) = (margin + r ≡ row) × (r < g.side)
 ShowsRow margin g row None = (x : ℕ) → is_dark_at margin g row x ≡ false

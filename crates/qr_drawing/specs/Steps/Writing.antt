@@ -1,33 +1,38 @@
--- What writing a part of a text does to the writer and to the bytes that are held back. Only private clauses cite this
--- file.
+-- Defines what happens to the writer and to the bytes in the pen when a part of a text is written. The pen is a buffer
+-- of bytes that are not written yet. Only contracts of private functions use these definitions.
 use Rattle.std.specs.Prelude.{◌≡◌, ◌≤◌, ◌<◌, ◌+◌, ◌^◌, ◌++◌, ℕ, max, length, List, true}
 use Rattle.std.specs.Io.KnownBytes.{Appends}
 use Rattle.qr_devices.specs.Device.{AppendsBeginning, IsWrittenWithin, Writer, counted, is_write_fault}
 use Rattle.qr_devices.specs.declared.device.WriteCounts.{WriteCounts}
 
--- `IsWell c interrupted` holds if the counts show no cause of a fault, and exactly `interrupted` interruptions
+-- `IsWell c interrupted` holds if the counts `c` of a writer show no cause of a fault, and exactly `interrupted`
+-- interrupted writes
 pub record IsWell (c : WriteCounts) (interrupted : ℕ) : Type 0 where
   pub failed : c.failed ≡ 0
   pub zeros : c.zeros ≡ 0
   pub tried : c.interrupted ≡ interrupted
   pub few : interrupted < 1000
 
--- `Sends old new text held` holds if the writer took a prefix of the text, and the rest of it is held
+-- `Sends old new text held` holds if the writer accepted a prefix of `text`, and `held` is the rest of `text`. The
+-- writer was `old` before, and is `new` afterwards
 pub record Sends (old new : Writer) (text held : List ℕ) : Type 0 where
   pub sent : List ℕ
   pub grows : Appends old.taken new.taken sent
   pub whole : sent ++ held ≡ text
   pub many : old.counts.taken < 2 ^ 64 → new.counts.taken ≡ counted (old.counts.taken + length sent)
 
--- `Writes old new tried tries text held` holds if the text was written, except for the bytes that are held. The number
--- of interruptions was `tried` before, and is `tries` now
+-- `Writes old new tried tries text held` holds if `text` was written, except for its last bytes `held`, which wait in
+-- the pen. The writer was `old` before, and is `new` afterwards. The number of interrupted writes was `tried` before,
+-- and is `tries` afterwards
 pub record Writes (old new : Writer) (tried tries : ℕ) (text held : List ℕ) : Type 0 where
   pub sends : Sends old new text held
   pub well : IsWell old.counts tried → IsWell new.counts tries
   pub offered : new.counts.offered ≤ max old.counts.offered 1200
   pub flushes : new.counts.flushes ≡ old.counts.flushes
 
--- `Stops old new tried text` holds if a prefix of the text was written, and the writer is at fault
+-- `Stops old new tried text` holds if a fault of the writer ended the writing of `text`, after the writer had accepted
+-- a prefix of `text`. The writer was `old` before, and is `new` afterwards. The number of interrupted writes was
+-- `tried` before
 pub record Stops (old new : Writer) (tried : ℕ) (text : List ℕ) : Type 0 where
   pub prefix : AppendsBeginning old.taken new.taken text
   pub most : old.counts.taken < 2 ^ 64 → new.counts.taken ≤ counted (old.counts.taken + length text)
