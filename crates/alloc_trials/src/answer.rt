@@ -5,7 +5,7 @@
 pub enum Answer {
     /// The call returned the value that it returns if no memory is refused.
     Ordinary,
-    /// The call failed because memory was refused. The text is printed; it contains the error, and whether the
+    /// The call failed because memory was refused. The text, which is printed, contains the error and says that the
     /// arguments are unchanged.
     Memory(&'static str),
     /// The call returned another value, or failed with another error.

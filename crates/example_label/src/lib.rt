@@ -1,6 +1,6 @@
-//! An example of a crate that uses `qr_symbol`. The crate makes a label, which is the symbol of a text, drawn with
-//! characters, and below the symbol the text itself. The contract of `label` states what the label contains, down to
-//! the last character.
+//! An example of a crate that uses `qr_symbol`. The crate makes labels. A label consists of the symbol of a text, drawn
+//! with characters, and below the symbol the text itself. The contract of `label` states what the label contains, down
+//! to the last character.
 #![tactic(auto)]
 
 ghost use Rattle.std.specs.Prelude.{◌≡◌, ◌≢◌, ◌<◌, ◌≤◌, ◌↔◌, ◌⊎◌, ◌++◌, [], length, Err, IfErr, IfOk, IsOk};
@@ -12,9 +12,9 @@ ghost use Rattle.example_label.specs.Label.{IsLabel, character_of, line_of_row};
 use qr_symbol::{EncodeFault, INPUT_MAX, Level, Matrix, Rule, Version, encode};
 use std::alloc::{AllocError, Global};
 
-/// Returns a label, which is the symbol of `words`, and below the symbol a line with `words`. The symbol has a line of
-/// text for each row of modules, with `#` for a dark module and a space for a light one. The symbol has the level
-/// `level`, and the least version from `smallest` on that `words` fits. The label has no quiet zone, so the paper
+/// Returns a label, which consists of the symbol of `words` and, below the symbol, a line with `words`. The symbol has
+/// a line of text for each row of modules, with `#` for a dark module and a space for a light one. The symbol has the
+/// level `level`, and the least version from `smallest` on that `words` fits. The label has no quiet zone, so the paper
 /// around the label has to be light.
 ///
 /// # Errors

@@ -54,8 +54,8 @@ fn interrupted_too_often(rt: HostRuntime) -> Result<(), Fail> {
     Ok(())
 }
 
-// A reader that returns one byte in a call fails in three runs: at the first call, at the second call, and at the third
-// call, which would find the end of the input.
+// A reader that returns one byte in a call fails in three runs. The failing call is the first call, the second call, or
+// the third call, which would find the end of the input.
 #[test]
 fn readers_fail_in_turn(rt: HostRuntime) -> Result<(), Fail> {
     for call in 0..3u64 {

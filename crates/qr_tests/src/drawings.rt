@@ -203,9 +203,9 @@ fn by_words(rt: HostRuntime) -> Result<(), Fail> {
     Ok(())
 }
 
-// A writer that accepts at most 100 bytes in a call fails from a certain call on: from call 0 on in the first run, from
-// call 1 on in the next, and so on. The writer always received a prefix of the drawing. In the last run the drawing
-// needs fewer calls, and so succeeds.
+// A writer that accepts at most 100 bytes in a call fails from a certain call on. This is call 0 in the first run, call
+// 1 in the next run, and so on. The writer always received a prefix of the drawing. In the last run the drawing needs
+// fewer calls, and so succeeds.
 #[test]
 fn writers_fail_in_turn(rt: HostRuntime) -> Result<(), Fail> {
     let symbols = [symbol(rt.alloc())?];

@@ -24,15 +24,15 @@ use Rattle.qr_symbol.specs.declared.fault.EncodeFault.TheVariants as encode
 abbrev pub input_for : SettingsView → List ℕ → List ℕ
 input_for s given = option_map_or (λ text. take INPUT_MAX text) s.string given
 
--- `held s input` is the input as the symbols contain it under the settings `s`. Without -i it is `input` itself. Under
--- -i small letters become capitals, except in two cases: with -8 all bytes stay the same, and with -k kanji pairs stay
--- the same [own]
+-- `held s input` is the input as the symbols contain it under the settings `s`. Without -i the value is `input` itself.
+-- Under -i small letters become capitals, except in two cases: with -8 all bytes stay the same, and with -k kanji pairs
+-- stay the same [own]
 abbrev pub held : SettingsView → List ℕ → List ℕ
 held s input = if s.fold then folded (rule_for s) input else input
 
 -- `IsDrawing s input drawing` holds if `drawing` is the drawing of the symbols that the settings `s` ask for. If these
--- symbols are read and joined, the result is `input`. The input is not empty. It is shorter than `INPUT_MAX` bytes, so
--- no byte of it was cut off [own]
+-- symbols are read and joined, the result is `input`. The input is not empty. The input has fewer than `INPUT_MAX`
+-- bytes, so no byte was cut off [own]
 pub record IsDrawing (s : SettingsView) (input drawing : List ℕ) : Type 0 where
   pub squares : List Grid
   pub symbols : AreSymbols s input squares
@@ -79,17 +79,17 @@ IsFault words given fault.Memory = Unit {0}
 IsFault words given fault.Write = (drawing : List ℕ) × HasDrawing words given drawing
 IsFault words given refusal = IsRefusal words given refusal
 
--- `DrawnWhole old new drawing` holds if a writer received the whole `drawing`, and was flushed once, after the last
--- byte. The writer is `old` before and `new` after this [own]
+-- `DrawnWhole old new drawing` holds if a writer changed from `old` to `new` because it received the whole `drawing`
+-- and was then flushed once. The flush succeeded, and was the last call [own]
 pub record DrawnWhole (old new : Writer) (drawing : List ℕ) : Type 0 where
   pub grows : Appends old.taken new.taken drawing
   pub many : old.counts ≡ no_writes → new.counts.taken ≡ counted (length drawing)
   pub flushed : new.counts.flushes ≡ counted (old.counts.flushes + 1)
   pub settled : new.counts.settled ≡ true
 
--- `DrawnInPart old new drawing` holds if a writer, which is `old` before and `new` after, was treated in one of two
--- ways. Either it received a prefix of `drawing` and was not flushed, or it received the whole `drawing` and its one
--- flush failed. In both cases the number of bytes that it received is at most the length of `drawing` [own]
+-- `DrawnInPart old new drawing` holds if a writer changed from `old` to `new` in one of two ways. Either the writer
+-- received a prefix of `drawing` and was not flushed, or it received the whole `drawing` and its one flush failed. In
+-- both cases the number of bytes that it received is at most the length of `drawing` [own]
 abbrev pub DrawnInPart : Writer → Writer → List ℕ → Type 0
 DrawnInPart old new drawing = (old.counts ≡ no_writes → new.counts.taken ≤ counted (length drawing))
     × ((AppendsBeginning old.taken new.taken drawing × (new.counts.flushes ≡ old.counts.flushes))
@@ -127,8 +127,8 @@ InputConsumedFor (Ok s) old new given outcome = MatchOption s.string (InputConsu
 
 -- `ErrorHolds old new line` holds if standard error changed from `old` to `new` as the `line` of a fault requires.
 -- Standard error received a prefix of the line, and was not flushed. The prefix is the whole line, unless the counts
--- show that a write failed, accepted no byte, or was interrupted too often. The number of bytes received is at most the
--- length of the line [own]
+-- show that a write failed, that a write accepted no byte, or that the 1,000th interruption occurred. The number of
+-- bytes received is at most the length of the line [own]
 abbrev pub ErrorHolds : Writer → Writer → List ℕ → Type 0
 ErrorHolds old new line = AppendsBeginning old.taken new.taken line
     × (old.counts ≡ no_writes → new.counts.taken ≤ counted (length line))

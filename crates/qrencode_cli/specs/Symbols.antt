@@ -7,8 +7,8 @@ use Rattle.qr_symbol.specs.VersionChoice.{HasNoVersion}
 use Rattle.qr_symbol.specs.Series.{HasNoSeries, IsSeries, squares_of}
 use Rattle.qrencode_cli.specs.Settings.{SettingsView, rule_for}
 
--- `smallest_of s` is the smallest version that may be chosen, or for a series the version of its symbols. It is the
--- version that -v asks for, or 1 if -v asks for none [own]
+-- `smallest_of s` is the smallest version that may be chosen, or for a series the version of its symbols. The value is
+-- the version of -v, or 1 if -v is missing or 0 [own]
 abbrev pub smallest_of : SettingsView → ℕ
 smallest_of s = unwrap_or s.smallest 1
 

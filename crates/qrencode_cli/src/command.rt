@@ -147,9 +147,9 @@ fn run_to_result<R: Source, W: Sink>(
 /// prefix of this line. After a write fault, `out` received a prefix of the drawing, or the whole drawing if only the
 /// flush failed. After any other fault, nothing was written to `out`, and `out` was not flushed.
 ///
-/// A read fault is reported exactly in two cases: a read failed, or the 1,000th interruption of a read occurred. A
-/// write fault is reported exactly in four cases: a write of the drawing failed, such a write accepted no byte, the
-/// 1,000th interruption of such a write occurred, or the flush failed.
+/// A read fault is reported exactly if one of two events occurred: a failed read, or the 1,000th interrupted read. A
+/// write fault is reported exactly if one of four events occurred: a failed write of the drawing, a write that accepted
+/// no byte, the 1,000th interrupted write, or a failed flush.
 ///
 /// The input is every byte of `input` up to its end, but at most 113,425 bytes are read. No more than 114,424 calls
 /// read from `input`. After the end of `input` no further read is made, not even a read into an empty buffer.

@@ -19,7 +19,7 @@ use std::alloc::{AllocError, Global};
 use std::marker::Model;
 use thiserror::Error;
 
-// The default margin, in modules. This is the width of the quiet zone (ISO/IEC 18004:2015, 6.3.8).
+// The default margin, in modules, which is the width of the quiet zone (ISO/IEC 18004:2015, 6.3.8).
 const QUIET_ZONE: u8 = 4;
 
 /// The settings of one run of the command, which follow from its command line.
@@ -81,8 +81,8 @@ impl Settings {
     }
 }
 
-/// The reason why a command line is refused. If several of the first four reasons apply, the first of them in this
-/// order is returned. `Memory` is returned if memory is refused before another reason is found.
+/// The reason why a command line is refused. If several of the first four reasons apply, the one that is listed first
+/// here is returned. `Memory` is returned if memory is refused before another reason is found.
 #[derive(Debug, Drop, Error)]
 pub enum UsageFault {
     /// `clap` refuses the arguments. The text is the message of `clap`, or the help text if the arguments ask for help.
@@ -192,7 +192,7 @@ fn drawing_in(matches: &ArgMatches<'_>) -> Option<Drawing>
     text_in(matches, "type").and_then(drawing_named)
 }
 
-// Returns whether the option `id`, which has no value of its own, is given. Reads the option as a text, because the
+// Returns whether the option `id`, an option without a value, is given. Reads the option as a text, because the
 // contracts of `clap` describe every value as a text.
 fn flag_in(matches: &ArgMatches<'_>, id: &str) -> bool
     ensures { result ≡ flag_at (first_of id.now (rows_of (found_of matches.now))) }

@@ -38,13 +38,13 @@ pub record HoldsText (text before after : List ℕ) (len : ℕ) : Type 0 where
   pub told : len ≡ length text
 
 -- `HasFewModules modules side count drawing margin` holds if the four numbers are in range, but the buffer `modules`
--- has too few bytes. It has fewer bytes than `count` squares with `side` modules on a side have modules [own].
+-- has too few bytes. The buffer has fewer bytes than `count` squares with `side` modules on a side have modules [own].
 pub record HasFewModules (modules : List ℕ) (side count drawing margin : ℕ) : Type 0 where
   pub settings : AreDrawingSettings side count drawing margin
   pub few : length modules < count * (side * side)
 
--- `HasNoTextRoom modules side count drawing margin text` holds if the four numbers are in range and the buffer
--- `modules` has enough bytes for all squares, but the buffer `text` is shorter than the drawing [own].
+-- `HasNoTextRoom modules side count drawing margin text` holds if the buffer `text` is shorter than the drawing. The
+-- four numbers are in range, and the buffer `modules` has a byte for each module of the `count` squares [own].
 pub record HasNoTextRoom (modules : List ℕ) (side count drawing margin : ℕ) (text : List ℕ) : Type 0 where
   pub settings : AreDrawingSettings side count drawing margin
   pub whole : count * (side * side) ≤ length modules

@@ -3,8 +3,8 @@ use Rattle.std.specs.Prelude.{◌≡◌, ℕ, ◌+◌, ◌*◌, ◌<◌, List, s
 use Rattle.qr_matrix.specs.Grid.{Grid, colour}
 use Rattle.qrproved.specs.Modules.{byte_of, square_of_bytes}
 
--- `BytesAreTheirSquare` holds if writing and reading the modules of a square returns its colours. The modules are
--- written as bytes, row by row, and a square is read from these bytes [own].
+-- `BytesAreTheirSquare` holds if no colour changes when the modules of a square are written as bytes, row by row, and
+-- then read as a square again [own].
 abbrev pub BytesAreTheirSquare : Type 0
 BytesAreTheirSquare = (side : ℕ) (g : Grid) (bytes : List ℕ)
     → ((row col : ℕ) → row < side → col < side → slice_index_or bytes (row * side + col) 0 ≡ byte_of (colour g row col))

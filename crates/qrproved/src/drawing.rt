@@ -12,7 +12,7 @@ use qr_drawing::{Drawing, draw};
 use qr_symbol::Matrix;
 use std::alloc::{AllocError, Global};
 
-// The numbers of a call that draws, after they were checked.
+// The numbers that a caller passes to `qrproved_draw`, after they were checked.
 #[derive(Clone, Copy)]
 struct DrawingSettings {
     // The number of modules on a side of each square.

@@ -26,9 +26,9 @@ pub struct QrprovedSymbol {
 }
 
 /// Encodes `input` as one symbol, and writes its modules to the buffer `modules`. The symbol has the least version that
-/// the input fits, from `version` on. The byte of a module is at index `row * side + column`. The numbers 0 to 3 of
-/// `level` are the levels L, M, Q and H. The number 0 of `rule` allows every mode except kanji mode, 1 allows byte mode
-/// only, and 2 allows every mode.
+/// the input fits, from `version` on. The byte of a module is at index `row * side + column` of the buffer. The numbers
+/// 0 to 3 of `level` stand for L, M, Q and H in this order. The number 0 of `rule` allows every mode except kanji mode,
+/// 1 allows byte mode only, and 2 allows every mode.
 ///
 /// The causes of a refusal are checked in this order: a number out of range, an empty input, an input that is too long,
 /// a buffer that is too short. Numbers out of range, an empty input and an input of more than 7,089 bytes are refused

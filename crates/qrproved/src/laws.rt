@@ -1,4 +1,4 @@
-//! Laws about the calls for C. Each function exists only for its contract, which states a law.
+//! Laws about the calls of the library. Each function exists only for its contract, which states a law.
 
 ghost use Rattle.std.specs.Prelude.{◌≡◌, [], ◌∷◌, map, true, false, IfOk};
 ghost use Rattle.qr_layout.specs.declared.level.Level.{Level};
@@ -36,8 +36,8 @@ pub fn statuses()
     ensures segments { SEGMENTS ≡ 10 }
 {}
 
-/// The numbers 0 to 3 stand for the levels L, M, Q and H. The numbers 0 to 2 stand for the rules `Auto`, `BytesOnly`
-/// and `WithKanji`. The byte of a dark module is 1, and the byte of a light module is 0.
+/// The numbers 0 to 3 stand for the levels L, M, Q and H in this order. The numbers 0 to 2 stand for the rules `Auto`,
+/// `BytesOnly` and `WithKanji` in this order. The byte of a dark module is 1, and the byte of a light module is 0.
 pub fn numbers()
     ensures levels { map level_of (0 ∷ 1 ∷ 2 ∷ 3 ∷ []) ≡ Level.L ∷ Level.M ∷ Level.Q ∷ Level.H ∷ [] }
     ensures rules { map rule_of (0 ∷ 1 ∷ 2 ∷ []) ≡ Rule.Auto ∷ Rule.BytesOnly ∷ Rule.WithKanji ∷ [] }

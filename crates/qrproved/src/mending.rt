@@ -98,8 +98,8 @@ fn unknown_of(alloc: Global, modules: &[u8], side: u8) -> Result<Matrix, AllocEr
     Ok(unknown)
 }
 
-// Corrects the errors of the square in `modules`, which has `side` modules on a side, and reads it. Some modules may be
-// not known.
+// Corrects the errors of the square in `modules`, which has `side` modules on a side, and reads it. A module with the
+// byte 2 is not known.
 fn mend_modules(alloc: Global, modules: &[u8], side: u8) -> Result<Mended, ReadFault>
     requires least { 1 ≤ side }
     requires most { side ≤ 177 }
@@ -165,22 +165,24 @@ fn mended_of(len: usize, mended: &Mended) -> QrprovedMended
 
 /// Reads the symbol whose modules are in the buffer `modules`, in the order in which `qrproved_encode` writes them, and
 /// corrects its errors. The byte 0 is a light module, the byte 1 a dark module, and the byte 2 a module that is not
-/// known. A codeword with a module that is not known counts half as much as a misread codeword. Writes the bytes that
-/// the symbol contains to the buffer `bytes`. Writes its structured append header and its damage to the struct
-/// `mended`.
+/// known. Towards the limit of what can be corrected, a codeword with a module that is not known counts half as much as
+/// a misread codeword. Writes the bytes that the symbol contains to the buffer `bytes`. Writes the symbol's structured
+/// append header and its damage to the struct `mended`.
 ///
-/// The causes of a refusal are checked in this order: a side that no version has, too few modules in `modules`, a byte
-/// of more than 2, damaged format information, damaged codewords, data codewords that cannot be parsed, a buffer
-/// `bytes` that is too short. The first three causes are found before any allocation.
+/// The causes of a refusal are checked in the order in which this paragraph lists them. The first three causes are
+/// found before any allocation: a side that no version has, too few modules in `modules`, and a byte of more than 2.
+/// The other causes are damaged format information, damaged codewords, data codewords that cannot be parsed, and a
+/// buffer `bytes` that is too short.
 ///
 /// On status 0 the modules in the buffer are a damaged form of a symbol. The call wrote the bytes and the header that
 /// this symbol contains, and its version, level and mask.
 ///
 /// The struct also contains four numbers. `wrong_modules` is the number of modules of the whole square that are not
-/// known or differ from the symbol, so it is 0 exactly if the square is the symbol. `wrong_format_modules` is the
-/// number of modules, of the 30 modules of format information, that are wrong or not known. `changed_most` is the
-/// number of codewords that were corrected in the block with the most of them, not counting codewords with a module
-/// that is not known. `changed_allowed` is the greatest number of wrong codewords of a block that can be corrected.
+/// known or differ from the symbol. `wrong_modules` is 0 exactly if the square is the symbol. `wrong_format_modules` is
+/// the number of modules, of the 30 modules of format information, that are wrong or not known. `changed_most` is the
+/// number of codewords that were corrected in the block with the most of them. Codewords with a module that is not
+/// known are not counted in `changed_most`. `changed_allowed` is the greatest number of wrong codewords of a block that
+/// can be corrected.
 #[unsafe(no_mangle)]
 pub extern "C" fn qrproved_mend(
     alloc: Global,

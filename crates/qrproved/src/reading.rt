@@ -69,9 +69,9 @@ pub(crate) fn content_of(len: usize, version: Version, header: Option<Header>) -
 /// byte except 0 is a dark module. Writes the bytes that the symbol contains to the buffer `bytes`, and its version and
 /// structured append header to the struct `content`. No errors are corrected.
 ///
-/// The causes of a refusal are checked in this order: a side that no version has, too few modules in `modules`, wrong
-/// format information, wrong codewords, data codewords that cannot be parsed, a buffer `bytes` that is too short. The
-/// first two causes are found before any allocation.
+/// The causes of a refusal are checked in the order in which this paragraph lists them. The first two causes are found
+/// before any allocation: a side that no version has, and too few modules in `modules`. The other causes are wrong
+/// format information, wrong codewords, data codewords that cannot be parsed, and a buffer `bytes` that is too short.
 ///
 /// On status 0 the first copy of the format information and the codewords in `modules` are those of a symbol. The call
 /// wrote the bytes and the header that this symbol contains. The contract states nothing about the other modules.

@@ -24,9 +24,9 @@ pub struct QrprovedSeries {
 }
 
 /// Encodes `input` as a series of symbols, which all have the version `version`, and writes their modules to the buffer
-/// `modules`. The byte of a module is at index `number * side * side + row * side + column`. Here `number` is the
-/// number of the module's symbol, counted from 0. If the input fits one symbol, its series is that symbol without a
-/// structured append header. The numbers of levels and rules are those of `qrproved_encode`.
+/// `modules`. The byte of a module is at index `number * side * side + row * side + column` of the buffer. Here
+/// `number` is the number of the module's symbol, counted from 0. If the input fits one symbol, its series is that
+/// symbol without a structured append header. The numbers of levels and rules are those of `qrproved_encode`.
 ///
 /// The causes of a refusal are checked in this order: a number out of range, an empty input, an input that needs more
 /// than 16 symbols, a buffer that is too short. Numbers out of range, an empty input and an input of more than 113,425

@@ -20,7 +20,8 @@ pub(crate) const TOO_MANY: u8 = 3;
 /// An allocation was refused.
 pub(crate) const MEMORY: u8 = 4;
 
-/// The version, the level, the rule or a number of a drawing is out of range, or the byte of a module has no meaning.
+/// The version, the level, the rule or a number of a drawing is out of range, or `qrproved_mend` read a byte of more
+/// than 2.
 pub(crate) const SETTINGS: u8 = 5;
 
 /// A buffer of the caller is too short.
@@ -29,8 +30,8 @@ pub(crate) const ROOM: u8 = 6;
 /// No version has symbols with this number of modules on a side.
 pub(crate) const SIDE: u8 = 7;
 
-/// The format information is not that of any level and mask. When a damaged symbol is read, it differs from that of
-/// each level and mask in too many modules.
+/// The format information is not that of any level and mask. When a damaged symbol is read, each copy of the format
+/// information differs from that of every level and mask in more than three modules.
 pub(crate) const FORMAT: u8 = 8;
 
 /// The error correction codewords of a block do not match its data codewords. When a damaged symbol is read, some block
