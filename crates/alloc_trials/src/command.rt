@@ -1,5 +1,5 @@
-//! Trials of the functions of `qrencode_cli` that allocate memory. The runs of the command use a reader and writers in
-//! memory.
+//! Trials (test calls) of the functions of `qrencode_cli` that allocate memory. The runs of the command use a reader
+//! and writers in memory.
 
 use crate::answer::Answer;
 use qrencode_cli::{Faults, Trial, UsageFault, options, run};

@@ -1,6 +1,7 @@
 //! A test program for the public functions that allocate memory. Its argument is the name of a trial, which is one call
 //! of such a function. The program runs this trial, and prints a line with the result. Without an argument, the program
-//! runs all trials. The script `tests/refused_growths` runs each trial with one growth of memory refused.
+//! runs all trials. The script `tests/refused_growths` runs each trial many times, and in each run refuses another one
+//! of its requests for memory.
 //!
 //! The arguments of the call are made before the call. After the call, the program checks that these arguments are
 //! unchanged.

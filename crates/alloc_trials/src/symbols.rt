@@ -1,5 +1,5 @@
-//! Trials of the functions on symbols that allocate memory. The trials use the symbol of `HELLO WORLD` in version 1-M,
-//! and the series of `ABCDEFGH` in byte mode in version 1-H.
+//! Trials (test calls) of the functions on symbols that allocate memory. The trials use the symbol of `HELLO WORLD` in
+//! version 1-M, and the series of `ABCDEFGH` in byte mode in version 1-H.
 
 use crate::answer::Answer;
 use crate::bits::{DATA, HELLO_WORLD};

@@ -31,8 +31,8 @@ abbrev pub held : SettingsView → List ℕ → List ℕ
 held s input = if s.fold then folded (rule_for s) input else input
 
 -- `IsDrawing s input drawing` holds if `drawing` is the drawing of the symbols that the settings `s` ask for. If these
--- symbols are read and joined, the result is `input`. The input is not empty. The input has fewer than `INPUT_MAX`
--- bytes, so no byte was cut off [own]
+-- symbols are read and joined, the result is `input`. The input has at least one byte. The input has fewer than
+-- `INPUT_MAX` bytes, so no byte was cut off [own]
 pub record IsDrawing (s : SettingsView) (input drawing : List ℕ) : Type 0 where
   pub squares : List Grid
   pub symbols : AreSymbols s input squares

@@ -58,17 +58,18 @@ drawing_named t =
     (if str_eq_ignore_ascii_case t (codes "utf8") then Some drawing.Utf8 else
     (if str_eq_ignore_ascii_case t (codes "svg") then Some drawing.Svg else None)))
 
--- `number_or otherwise o` is the number that the text `o`, the value of an option, stands for. If the option is not
--- given, the number is `otherwise`. If the text is not a number of one byte, the number is 0 [own]
+-- `number_or otherwise o` is the number of an option that has the text `o` as its value. If the option is not given,
+-- the number is `otherwise`. If the text is not a number of one byte, the number is 0 [own]
 abbrev pub number_or : ℕ → Option Text → ℕ
 number_or otherwise o = option_map_or byte_or_zero o otherwise
 
--- `version_at o` is the version that the text `o`, the value of an option, stands for. If the number is not from 1 to
--- 40, or if the option is not given, the value is `None` [own]
+-- `version_at o` is the version of an option that has the text `o` as its value. If the number is not from 1 to 40, or
+-- if the option is not given, the value is `None` [own]
 abbrev pub version_at : Option Text → Option ℕ
 version_at o = let n = number_or 0 o in if nat_le 1 n && nat_le n 40 then Some n else None
 
--- `flag_at o` is true if an option without a value is given, in which case `clap` states the text `true` as `o` [own]
+-- `flag_at o` is true if an option without a value is given. For such an option, `clap` states the text `true` as `o`
+-- [own]
 abbrev pub flag_at : Option Text → Bool
 flag_at o = option_map_or (λ t. bytes_eq t (codes "true")) o false
 

@@ -161,9 +161,8 @@ fn run_to_result<R: Source, W: Sink>(
 ///
 /// No single write of the drawing offers more than 1,200 bytes to `out`.
 ///
-/// An input is refused as too long only if even its shortest encoding fits no version from the smallest allowed version
-/// on. With `-S`, an input is refused for too many symbols only if it does not fit one symbol and is cut into more than
-/// 16 parts.
+/// An input is refused as too long only if its shortest encoding is too long for every allowed version. With `-S`, an
+/// input is refused for too many symbols only if it does not fit one symbol and is cut into more than 16 parts.
 ///
 /// The promises about bytes hold for readers and writers whose bytes a contract can know, such as buffers in memory.
 /// The promises about counts hold for devices whose counts are 0 before the run. For the standard streams, only the

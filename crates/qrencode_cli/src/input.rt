@@ -24,12 +24,12 @@ pub(crate) fn read_input<R: Source>(alloc: Global, input: &mut R) -> Result<Vec<
     ensures fault { (R.device input.old).counts ≡ no_reads
         → IsErrOf result Fault.Read ↔ IsTrue (is_read_fault (R.device input.new).counts) }
     ensures only { IfErr result (λ f. (f ≡ Fault.Read) ⊎ (f ≡ Fault.Memory)) }
-    // The result contains as many bytes as the reads returned, according to the device's counts. This holds even if the
-    // bytes of the device are unknown to the contract.
+    // The result contains as many bytes as the reads returned, according to the device's counts. The counts are known
+    // even if the bytes of the device are not.
     ensures given { (R.device input.old).counts ≡ no_reads
         → IfOk result (λ bytes. (R.device input.new).counts.given ≡ length bytes.items) }
-    // The device's counts show that it was read to its end, or that `INPUT_MAX` bytes were read. This holds even if the
-    // bytes of the device are unknown to the contract.
+    // The device's counts show that it was read to its end, or that `INPUT_MAX` bytes were read. The counts are known
+    // even if the bytes of the device are not.
     ensures ended { (R.device input.old).counts ≡ no_reads
         → IfOk result (λ bytes. ((R.device input.new).counts.ends ≡ 1) ⊎ (length bytes.items ≡ INPUT_MAX)) }
     // The device's counts stay within the limits of `IsReadWithin`. One of these limits is that no read comes after the

@@ -7,7 +7,7 @@ ghost use Rattle.qr_drawing.specs.declared.pen.TheConstants.{WRITE_MAX};
 ghost use Rattle.qrencode_cli.specs.Laws.{AnswersAreOne, FoldingFollowsTheRule, LinesOfFaults, NumbersOfUsageFaults, RefusalsAreOne, RefusalsExcludeDrawings, CommandLines, RulesOfModes, StatusesAreTwo};
 
 /// `CommandLines` lists 45 command lines, each with its settings or with a reason to refuse it. Each command line on
-/// the list has these settings, or is refused for this reason.
+/// the list has the settings beside it, or is refused for the reason beside it.
 pub fn command_lines()
     ensures { CommandLines }
 {}
@@ -21,7 +21,7 @@ pub fn limits()
     ensures interruptions { INTERRUPTIONS_MAX ≡ 999 }
 {}
 
-/// A command line and an input have at most one drawing. If they have a drawing, no refusal is correct for them, so
+/// A command line and an input have at most one drawing. If they have a drawing, no refusal is correct for them. Then
 /// only a device or lack of memory can make the run fail. For every command line and every input, at most one refusal
 /// is correct.
 pub fn answers_are_one()

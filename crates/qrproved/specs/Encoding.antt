@@ -10,8 +10,8 @@ use Rattle.qrproved.specs.Settings.{AreSettings, level_of, rule_of}
 use Rattle.qrproved.specs.Modules.{HoldsSquares}
 
 -- `IsWritten x version level rule before after s` holds if a buffer changed from `before` to `after` because the symbol
--- of the input `x` was written to its first bytes. The struct `s` contains the symbol's version, side and mask. If the
--- symbol is read, the result is the input [own].
+-- of the input `x` was written to its first bytes. The numbers `version`, `level` and `rule` of the call are in range.
+-- The struct `s` contains the symbol's version, side and mask. If the symbol is read, the result is the input [own].
 pub record IsWritten (x : List ℕ) (version level rule : ℕ) (before after : List ℕ) (s : QrprovedSymbol) : Type 0 where
   pub settings : AreSettings version level rule
   pub square : Grid

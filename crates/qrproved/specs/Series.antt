@@ -11,9 +11,9 @@ use Rattle.qrproved.specs.Settings.{AreSettings, level_of, rule_of}
 use Rattle.qrproved.specs.Modules.{HoldsSquares}
 
 -- `IsWrittenSeries x version level rule before after t` holds if a buffer changed from `before` to `after` because the
--- series of the input `x` was written to its first bytes. The struct `t` contains the number of symbols and the side of
--- each symbol. If the symbols are read and joined, the result is the input. Without kanji mode no shorter series exists
--- [own].
+-- series of the input `x` was written to its first bytes. The numbers `version`, `level` and `rule` of the call are in
+-- range. The struct `t` contains the number of symbols and the side of each symbol. If the symbols are read and joined,
+-- the result is the input. Without kanji mode no shorter series exists [own].
 pub record IsWrittenSeries (x : List ℕ) (version level rule : ℕ) (before after : List ℕ) (t : QrprovedSeries) : Type 0 where
   pub settings : AreSettings version level rule
   pub symbols : List Symbol

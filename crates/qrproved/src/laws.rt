@@ -37,7 +37,8 @@ pub fn statuses()
 {}
 
 /// The numbers 0 to 3 stand for the levels L, M, Q and H in this order. The numbers 0 to 2 stand for the rules `Auto`,
-/// `BytesOnly` and `WithKanji` in this order. The byte of a dark module is 1, and the byte of a light module is 0.
+/// `BytesOnly` and `WithKanji` in this order, which say which encoding modes may be used. The byte of a dark module is
+/// 1, and the byte of a light module is 0.
 pub fn numbers()
     ensures levels { map level_of (0 ∷ 1 ∷ 2 ∷ 3 ∷ []) ≡ Level.L ∷ Level.M ∷ Level.Q ∷ Level.H ∷ [] }
     ensures rules { map rule_of (0 ∷ 1 ∷ 2 ∷ []) ≡ Rule.Auto ∷ Rule.BytesOnly ∷ Rule.WithKanji ∷ [] }

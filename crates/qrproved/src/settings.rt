@@ -1,5 +1,5 @@
-//! Checks the numbers that stand for a version, a level and a rule in a call. C may pass any number, and numbers out of
-//! range are refused.
+//! Checks the numbers that stand for a version, a level and a rule in a call. The rule says which encoding modes may be
+//! used. C may pass any number, and numbers out of range are refused.
 
 ghost use Rattle.std.specs.Prelude.{◌≡◌, ◌<◌, ◌≤◌, SomeIff};
 ghost use Rattle.qrproved.specs.Settings.{AreSettings, level_of, rule_of};
