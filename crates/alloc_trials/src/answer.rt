@@ -1,21 +1,22 @@
-//! The result of a trial.
+//! The result of a trial, which is one call of a function that allocates memory.
 
-/// What a call returned.
+/// The result of a call, compared with the expected result.
 #[derive(Clone, Copy)]
 pub enum Answer {
-    /// The value that it returns with ample memory.
+    /// The call returned the value that it returns if no memory is refused.
     Ordinary,
-    /// The call failed because memory was refused. The text is what is printed: the error, and whether the arguments
-    /// are unchanged.
+    /// The call failed because memory was refused. The text, which is printed, contains the error and says that the
+    /// arguments are unchanged.
     Memory(&'static str),
-    /// Any other value or error.
+    /// The call returned another value, or failed with another error.
     Other,
     /// The call changed its arguments.
     Changed,
 }
 
 impl Answer {
-    /// Returns `Ordinary` if the value is the expected one, which was worked out before, and otherwise `Other`.
+    /// Returns `Ordinary` if `is_worked` is true, which means that the call returned the expected value. Otherwise
+    /// returns `Other`.
     pub fn of(is_worked: bool) -> Answer {
         if is_worked {
             Answer::Ordinary
@@ -24,7 +25,8 @@ impl Answer {
         }
     }
 
-    /// Returns this answer if the arguments of the call are unchanged, and otherwise `Changed`.
+    /// Returns this answer if `is_same` is true, which means that the arguments of the call are unchanged. Otherwise
+    /// returns `Changed`.
     pub fn given(self, is_same: bool) -> Answer {
         if is_same { self } else { Answer::Changed }
     }

@@ -1,4 +1,5 @@
-//! The calls of `qr_bits`, most of them with `HELLO WORLD` in version 1-M: its one segment and its data codewords.
+//! Trials (test calls) of the functions of `qr_bits` that allocate memory. Most trials use the input `HELLO WORLD`, its
+//! one segment, and its data codewords in version 1-M.
 
 use crate::answer::Answer;
 use qr_bits::{
@@ -20,7 +21,7 @@ pub static DATA: [u8; 16] = [
     0x20, 0x5B, 0x0B, 0x78, 0xD1, 0x72, 0xDC, 0x4D, 0x43, 0x40, 0xEC, 0x11, 0xEC, 0x11, 0xEC, 0x11,
 ];
 
-// A kanji pair and a small letter.
+// An input of three bytes: a kanji pair (two bytes that are one character of kanji mode), and a small letter.
 static PAIR_AND_LETTER: [u8; 3] = [0x93, 0x61, 0x61];
 
 const BITS_OUT: Answer = Answer::Memory("BitFault::Memory, arguments unchanged");

@@ -1,13 +1,14 @@
-//! Trials of the functions of `qrencode_cli` that allocate memory, with a reader and writers in memory.
+//! Trials (test calls) of the functions of `qrencode_cli` that allocate memory. The runs of the command use a reader
+//! and writers in memory.
 
 use crate::answer::Answer;
 use qrencode_cli::{Faults, Trial, UsageFault, options, run};
 use std::alloc::{AllocError, Global};
 
-// The line that is written if memory is refused.
+// The line that the command writes to standard error if memory is refused.
 static OUT_OF_MEMORY: &str = "qrencode: out of memory\n";
 
-// Returns a command line: the program's name, and then `words`.
+// Returns the command line that consists of the program's name and then `words`.
 fn line(alloc: Global, words: &[&str]) -> Result<Vec<String>, AllocError> {
     let mut list = Vec::new(alloc);
     list.push(String::from_str(alloc, "qrencode")?)?;
@@ -36,8 +37,8 @@ pub fn settings(alloc: Global) -> Result<Answer, AllocError> {
     Ok(answer.given(are(&list, &words)))
 }
 
-// Runs the command, and compares the run with what is expected with ample memory: the status `status`, standard output
-// that begins with `prefix`, and `part` in the text on standard error.
+// Runs the command, and compares the run with the run that is expected if no memory is refused. The expected run ends
+// with the status `status`. Its standard output begins with `prefix`, and its standard error contains `part`.
 fn ran(
     alloc: Global,
     words: &[&str],

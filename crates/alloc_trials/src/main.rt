@@ -1,9 +1,10 @@
-//! A test program for the public functions that allocate memory. Its argument names a function. The program calls this
-//! function once, and prints a line that says what it returned. `tests/refused_growths` runs each trial with one growth
-//! of memory refused.
+//! A test program for the public functions that allocate memory. Its argument is the name of a trial, which is one call
+//! of such a function. The program runs this trial, and prints a line with the result. Without an argument, the program
+//! runs all trials. The script `tests/refused_growths` runs each trial many times, and in each run refuses another one
+//! of its requests for memory.
 //!
-//! The arguments of a call are made before it. After the call they are compared with the values that they were made
-//! from.
+//! The arguments of the call are made before the call. After the call, the program checks that these arguments are
+//! unchanged.
 #![tactic(auto)]
 
 mod answer;
@@ -16,7 +17,7 @@ use std::alloc::{AllocError, Global};
 use std::env;
 use std::process::ExitCode;
 
-// The names of the trials, in the order of the crates.
+// The names of the trials, in the order of the crates from the lowest to the highest.
 static NAMES: [&str; 22] = [
     "Matrix::new",
     "segments",
@@ -42,7 +43,8 @@ static NAMES: [&str; 22] = [
     "run_kanji",
 ];
 
-// Makes the call of this name. Returns an error if memory is refused while the call's arguments are made.
+// Runs the trial `name`, and returns its result. Returns an error if memory is refused while the arguments of the
+// trial's call are made.
 fn trial(alloc: Global, name: &str) -> Result<Answer, AllocError> {
     match name {
         "Matrix::new" => Ok(symbols::matrix(alloc)),
@@ -71,7 +73,7 @@ fn trial(alloc: Global, name: &str) -> Result<Answer, AllocError> {
     }
 }
 
-// Prints what the call of this name returned, and returns whether it could be printed.
+// Runs the trial `name`, and prints its result. Returns whether the result could be printed.
 fn tell(rt: &HostRuntime, name: &str) -> bool {
     let text = match trial(rt.alloc(), name) {
         Ok(answer) => answer.text(),

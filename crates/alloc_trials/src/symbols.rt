@@ -1,5 +1,5 @@
-//! The calls on symbols: on the symbol of `HELLO WORLD` in version 1-M, and on the series of `ABCDEFGH` in byte mode in
-//! 1-H.
+//! Trials (test calls) of the functions on symbols that allocate memory. The trials use the symbol of `HELLO WORLD` in
+//! version 1-M, and the series of `ABCDEFGH` in byte mode in version 1-H.
 
 use crate::answer::Answer;
 use crate::bits::{DATA, HELLO_WORLD};
@@ -26,7 +26,7 @@ const READ_OUT: Answer = Answer::Memory("ReadFault::Memory, arguments unchanged"
 
 const ALLOC_OUT: Answer = Answer::Memory("AllocError, arguments unchanged");
 
-// Returns whether two squares have the same modules.
+// Returns whether the squares of modules `a` and `b` have the same modules.
 fn are_equal(a: &Matrix, b: &Matrix) -> bool {
     let side = a.side();
     if b.side() != side {
@@ -42,7 +42,7 @@ fn are_equal(a: &Matrix, b: &Matrix) -> bool {
     true
 }
 
-// Returns whether two series have the same number of symbols, and symbols at the same position have the same modules.
+// Returns whether the series `a` and `b` have the same number of symbols and, symbol by symbol, the same modules.
 fn are_equal_series(a: &[Symbol], b: &[Symbol]) -> bool {
     a.len() == b.len()
         && a.iter()
@@ -184,7 +184,8 @@ pub fn mended_series(alloc: Global) -> Result<Answer, AllocError> {
     Ok(answer.given(are_equal(&squares[0], &same.matrix)))
 }
 
-// Returns the series of `ABCDEFGH` in byte mode in version 1-H: two symbols, of five letters and of three letters.
+// Returns the series of `ABCDEFGH` in byte mode in version 1-H, or an error if memory is refused. The series has two
+// symbols, with five letters and with three letters.
 fn series(alloc: Global) -> Result<Vec<Symbol>, AllocError> {
     encode_series(alloc, &LETTERS, Version::FIRST, Level::H, Rule::BytesOnly).map_err(
         |_| AllocError,

@@ -1,5 +1,6 @@
-//! An example of a crate that uses `qr_symbol`: a label, which is a text and above it the symbol of the text, drawn
-//! with characters. The contract of `label` says what it returns, down to the last character.
+//! An example of a crate that uses `qr_symbol`. The crate makes labels. A label consists of the symbol of a text, drawn
+//! with characters, and below the symbol the text itself. The contract of `label` states what the label contains, down
+//! to the last character.
 #![tactic(auto)]
 
 ghost use Rattle.std.specs.Prelude.{◌≡◌, ◌≢◌, ◌<◌, ◌≤◌, ◌↔◌, ◌⊎◌, ◌++◌, [], length, Err, IfErr, IfOk, IsOk};
@@ -11,13 +12,15 @@ ghost use Rattle.example_label.specs.Label.{IsLabel, character_of, line_of_row};
 use qr_symbol::{EncodeFault, INPUT_MAX, Level, Matrix, Rule, Version, encode};
 use std::alloc::{AllocError, Global};
 
-/// Returns a label: the symbol of `words`, a line of text for each row with `#` for a dark module, and below it a line
-/// with the words. The symbol has this level, and the least version from `smallest` on that the words fit. There is no
-/// quiet zone, so the paper around the label has to be light.
+/// Returns a label, which consists of the symbol of `words` and, below the symbol, a line with `words`. The symbol has
+/// a line of text for each row of modules, with `#` for a dark module and a space for a light one. The symbol has the
+/// level `level`, and the least version from `smallest` on that `words` fits. The label has no quiet zone, so the paper
+/// around the label has to be light.
 ///
 /// # Errors
 ///
-/// `Empty` if there are no words, `TooLong` if they fit no version from `smallest` on, and `Memory`.
+/// Returns `Empty` if `words` is empty, and `TooLong` if `words` fits no version from `smallest` on. Returns `Memory`
+/// if memory is refused.
 pub fn label(
     alloc: Global,
     words: &[u8],
@@ -43,7 +46,7 @@ pub fn label(
     Ok(text)
 }
 
-// Adds the line of the row `row`.
+// Adds the line of text for the row `row` of `matrix` to `text`.
 fn push_line(text: &mut Vec<u8>, matrix: &Matrix, row: u8) -> Result<(), AllocError>
     requires { row < matrix.now.side }
     ensures { IsOk result → text.new.items ≡ text.old.items ++ line_of_row matrix.now row }
@@ -55,7 +58,7 @@ fn push_line(text: &mut Vec<u8>, matrix: &Matrix, row: u8) -> Result<(), AllocEr
     Ok(())
 }
 
-// Returns the character of a module.
+// Returns the character for a module: `#` if the module is dark, and a space if it is light.
 fn character_of(dark: bool) -> u8
     ensures { result ≡ character_of dark }
 {

@@ -1,10 +1,11 @@
-//! Readers and writers of the standard library as devices: their errors, their flushes and their counts.
+//! Tests of `Counted`, which makes a device from a reader or a writer of the standard library. The device passes on
+//! each call, each flush and each error.
 
 use qrencode_cli::{Counted, Sink, Source, Trouble};
 use std::io::{self, ErrorKind, Read, Write};
 
-// A stream whose first call is interrupted, whose second call fails, and whose later calls succeed. It counts calls and
-// flushes in variables of the test.
+// A stream for these tests. Its first call is interrupted, its second call fails, and its later calls succeed. The
+// stream counts its calls and its flushes in variables of the test.
 #[derive(Drop)]
 struct Rough<'a> {
     calls: &'a mut u8,
@@ -12,7 +13,7 @@ struct Rough<'a> {
 }
 
 impl Rough<'_> {
-    // Counts a call, and returns its error if the call is to fail.
+    // Counts a call, and returns the error of the call, or `None` if the call succeeds.
     fn error(&mut self) -> Option<io::Error> {
         *self.calls = self.calls.saturating_add(1);
         match *self.calls {

@@ -1,11 +1,12 @@
-//! Readers and writers that are slow, interrupted, failing or full.
+//! Tests of the command with readers and writers that are slow, interrupted, failing or full.
 
 use crate::letter_a::drawing;
 use crate::runs::{DRAW, Devices, run_with};
 use qrencode_cli::Faults;
 use std::test::Fail;
 
-// Devices that move one byte in a call, after 999 interruptions, which are all tried again.
+// The first 999 calls of each device are interrupted, and later calls read or write one byte each. The command tries
+// all interrupted calls again, and succeeds.
 #[test]
 fn slow_devices_succeed(rt: HostRuntime) -> Result<(), Fail> {
     let slow = Faults {
@@ -27,7 +28,7 @@ fn slow_devices_succeed(rt: HostRuntime) -> Result<(), Fail> {
     Ok(())
 }
 
-// The 1,000th interruption is a fault of the reader or of the writer.
+// The 1,000th interruption of the reader is a read fault, and the 1,000th interruption of the writer is a write fault.
 #[test]
 fn interrupted_too_often(rt: HostRuntime) -> Result<(), Fail> {
     let tired = Faults {
@@ -53,8 +54,8 @@ fn interrupted_too_often(rt: HostRuntime) -> Result<(), Fail> {
     Ok(())
 }
 
-// A reader that returns one byte in a call fails at the first call, at the second, and at the call that would find the
-// end.
+// A reader that returns one byte in a call fails in three runs. The failing call is the first call, the second call, or
+// the third call, which would find the end of the input.
 #[test]
 fn readers_fail_in_turn(rt: HostRuntime) -> Result<(), Fail> {
     for call in 0..3u64 {
@@ -78,8 +79,9 @@ fn readers_fail_in_turn(rt: HostRuntime) -> Result<(), Fail> {
     Ok(())
 }
 
-// A writer that takes at most 100 bytes in a call fails, or returns 0, at call 0, at call 1, and so on, until a drawing
-// needs no more calls.
+// A writer that accepts at most 100 bytes in a call fails, or accepts no byte, from a certain call on. This is call 0
+// in the first runs, call 1 in the next runs, and so on. In the last runs the drawing needs fewer calls, and so
+// succeeds.
 #[test]
 fn writers_fail_in_turn(rt: HostRuntime) -> Result<(), Fail> {
     let want = drawing(rt.alloc())?;

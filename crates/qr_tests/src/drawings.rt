@@ -1,4 +1,5 @@
-//! The four types of drawings: some of their lines and runs, the arguments that ask for them, and writers that fail.
+//! Tests of the four types of drawing. The tests check some lines of the drawings, some runs of modules of one colour,
+//! the arguments that ask for a type of drawing, and writers that fail.
 
 ghost use Rattle.std.specs.Prelude.{◌≡◌, IfOk};
 
@@ -9,7 +10,7 @@ use qrencode_cli::{Drawing, Faults, Trial, draw};
 use std::alloc::Global;
 use std::test::Fail;
 
-// The codewords of `01234567` in version 1-M.
+// The codewords of the symbol of `01234567` in version 1-M.
 static CODEWORDS: [u8; 26] = [
     0x10, 0x20, 0x0C, 0x56, 0x61, 0x80, 0xEC, 0x11, 0xEC, 0x11, 0xEC, 0x11, 0xEC, 0x11, 0xEC, 0x11,
     0xA5, 0x24, 0xD4, 0xC1, 0xED, 0x36, 0xC7, 0x87, 0x2C, 0x55,
@@ -26,7 +27,8 @@ fn symbol(alloc: Global) -> Result<Symbol, Fail>
     Ok(build_masked(alloc, version, Level::M, &CODEWORDS, 0)?)
 }
 
-// Returns the drawing of that symbol.
+// Returns a writer that received the drawing of the symbol of `01234567`. The drawing has the type `kind` and the
+// margin `margin`.
 fn one(alloc: Global, kind: Drawing, margin: u8) -> Result<Trial, Fail> {
     let symbols = [symbol(alloc)?];
     let mut out = Trial::writer(alloc, 8000, Faults::NONE)?;
@@ -34,12 +36,12 @@ fn one(alloc: Global, kind: Drawing, margin: u8) -> Result<Trial, Fail> {
     Ok(out)
 }
 
-// Returns line `index` of a text, counted from 0.
+// Returns the line of `text` with the index `index`, counted from 0.
 fn line(text: &[u8], index: usize) -> &[u8] {
     text.split(|byte| *byte == b'\n').nth(index).unwrap_or(&[])
 }
 
-// Returns the number of lines of a text.
+// Returns the number of lines of `text`.
 fn line_count(text: &[u8]) -> usize {
     text.iter().filter(|byte| **byte == b'\n').count()
 }
@@ -149,8 +151,8 @@ fn svg_of_two_symbols(rt: HostRuntime) -> Result<(), Fail> {
     Ok(())
 }
 
-// The ends of three runs of the first row: of a finder pattern, of the light run beside it, and of the last finder
-// pattern.
+// The first row begins with the dark run of a finder pattern and a light run, and ends with the dark run of another
+// finder pattern. For each of these runs of modules of one colour, the test checks the column after its end.
 #[test]
 fn runs_of_the_first_row(rt: HostRuntime) -> Result<(), Fail> {
     let symbol = symbol(rt.alloc())?;
@@ -201,8 +203,9 @@ fn by_words(rt: HostRuntime) -> Result<(), Fail> {
     Ok(())
 }
 
-// A writer that takes at most 100 bytes in a call fails at call 0, at call 1, and so on, until a drawing needs no more
-// calls. It always took a prefix of the drawing.
+// A writer that accepts at most 100 bytes in a call fails from a certain call on. This is call 0 in the first run, call
+// 1 in the next run, and so on. The writer always received a prefix of the drawing. In the last run the drawing needs
+// fewer calls, and so succeeds.
 #[test]
 fn writers_fail_in_turn(rt: HostRuntime) -> Result<(), Fail> {
     let symbols = [symbol(rt.alloc())?];

@@ -1,4 +1,4 @@
-//! The line and the status of each fault of the arguments and the input.
+//! Tests of the faults of the arguments and of the input: the line and the status of each fault.
 
 use crate::runs::{DRAW, Devices, run_with};
 use qrencode_cli::Faults;
@@ -58,7 +58,7 @@ fn of_words_and_input(rt: HostRuntime) -> Result<(), Fail> {
     Ok(())
 }
 
-// `clap` refuses the arguments, and its text is written; no input is read.
+// If `clap` refuses the arguments, the text of `clap` is written to standard error, and no input is read.
 #[test]
 fn faults_of_arguments(rt: HostRuntime) -> Result<(), Fail> {
     let rows = [
@@ -122,7 +122,7 @@ fn faults_of_arguments(rt: HostRuntime) -> Result<(), Fail> {
     Ok(())
 }
 
-// The longest input of digits that fits a symbol, at each level, and one digit more.
+// At each level, the longest input of digits that fits a symbol is drawn, and an input of one digit more is refused.
 #[test]
 fn of_length(rt: HostRuntime) -> Result<(), Fail> {
     let digits = vec![in rt.alloc(); b'7'; 7090]?;
@@ -146,8 +146,8 @@ fn of_length(rt: HostRuntime) -> Result<(), Fail> {
     Ok(())
 }
 
-// The longest inputs of capital letters and of small letters that fit a symbol at the lowest level, and one letter
-// more.
+// At the lowest level, the longest inputs of capital letters and of small letters that fit a symbol are drawn. Inputs
+// of one letter more are refused.
 #[test]
 fn of_length_in_other_modes(rt: HostRuntime) -> Result<(), Fail> {
     for (byte, most) in [(b'A', 4296usize), (b'a', 2953)] {
@@ -187,7 +187,7 @@ fn of_a_long_input(rt: HostRuntime) -> Result<(), Fail> {
     Ok(())
 }
 
-// If standard error has no room for the whole line, it receives a prefix of the line.
+// If standard error has no room for the whole line of a fault, it receives a prefix of this line.
 #[test]
 fn fault_line_on_a_full_device(rt: HostRuntime) -> Result<(), Fail> {
     let devices = Devices {
@@ -210,7 +210,7 @@ fn fault_line_on_a_full_device(rt: HostRuntime) -> Result<(), Fail> {
     Ok(())
 }
 
-// The line of a fault is written after 999 interruptions, and is not written after 1,000.
+// The line of a fault is written after 999 interruptions of standard error, and is not written after 1,000.
 #[test]
 fn fault_line_on_an_interrupted_device(rt: HostRuntime) -> Result<(), Fail> {
     for (interruptions, line) in [(999, "qrencode: input is empty\n"), (1000, "")] {

@@ -1,4 +1,4 @@
-//! Folding to capitals and kanji mode, by the options `-i` and `-k`.
+//! Tests of two options: `-i` folds small letters to capitals, and `-k` allows kanji mode.
 
 use crate::runs::{Devices, run_with};
 use qr_bits::{Mode, Rule, Segment};
@@ -6,7 +6,8 @@ use qr_layout::{Level, Version};
 use qr_symbol::{encode, read_symbol};
 use std::test::Fail;
 
-// Returns whether two command lines both succeed and draw an input alike.
+// Returns whether the arguments `words` and the arguments `others` both lead to success and to the same drawing of
+// `input`.
 fn draw_alike(
     rt: &HostRuntime,
     words: &[&str],
@@ -44,7 +45,8 @@ fn kanji_by_an_option(rt: HostRuntime) -> Result<(), Fail> {
         "pairs are not folded"
     );
     assert!(rt; draw_alike(&rt, &in_bytes, &draw, pairs)?, "in byte mode");
-    // The second byte of the pair is the code of the letter a. A letter a follows the pair.
+    // Each input is a kanji pair (two bytes that are one character of kanji mode) and a letter. The second byte of the
+    // pair is the code of the letter `a`.
     let (small, large) = (b"\x93\x61a", b"\x93\x61A");
     for words in [&kanji[..], &folded[..]] {
         let a = run_with(rt.alloc(), &folded, small, Devices::WITHOUT_FAULTS)?;

@@ -1,10 +1,10 @@
-//! The drawing of `A` in version 1-L with mask 0, as drawn by another encoder.
+//! The drawing of the letter `A` in version 1-L with mask 0, as another encoder draws it.
 
 use crate::runs::{DRAW, Devices, run_with};
 use std::alloc::{AllocError, Global};
 use std::test::Fail;
 
-// The modules, row by row from the top; 1 is dark.
+// The modules of the symbol, row by row from the top. A bit 1 is a dark module.
 static ROWS: [u32; 21] = [
     0b111111100101101111111,
     0b100000100111001000001,
@@ -29,7 +29,8 @@ static ROWS: [u32; 21] = [
     0b111111101110101010111,
 ];
 
-// Adds a line of the drawing: four modules of margin, 21 modules, and the margin again.
+// Adds a line of the drawing to `text`: four modules of margin, the 21 modules of a row, and four modules of margin
+// again.
 fn push_line(text: &mut Vec<u8>, modules: u32) -> Result<(), AllocError> {
     text.extend_from_slice(b"        ")?;
     for col in 0..21u32 {
@@ -43,7 +44,7 @@ fn push_line(text: &mut Vec<u8>, modules: u32) -> Result<(), AllocError> {
     text.extend_from_slice(b"        \n")
 }
 
-/// Returns the whole drawing: 29 lines of 58 characters.
+/// Returns the whole drawing, which has 29 lines of 58 characters.
 pub fn drawing(alloc: Global) -> Result<Vec<u8>, AllocError> {
     let mut text = Vec::new(alloc);
     for _ in 0..4u8 {
@@ -80,7 +81,8 @@ fn is_drawn(rt: HostRuntime) -> Result<(), Fail> {
     Ok(())
 }
 
-// The fifth line from below is the last row of the symbol, and ends like this.
+// The last row of the symbol is the fifth line from the bottom of the drawing. This line ends with three single dark
+// modules, three dark modules side by side, and the margin.
 #[test]
 fn ends_in_three_lone_modules(rt: HostRuntime) -> Result<(), Fail> {
     let r = run_with(rt.alloc(), &DRAW, b"A", Devices::WITHOUT_FAULTS)?;

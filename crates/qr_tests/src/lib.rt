@@ -1,4 +1,4 @@
-//! Tests that need several crates; most of them run the whole command over devices in memory.
+//! Tests that need several crates. Most of these tests run the whole command with devices in memory.
 #![tactic(auto)]
 
 #[cfg(test)]

@@ -1,4 +1,4 @@
-//! Worked values of public functions of the lower crates.
+//! Tests of public functions of the lower crates, with values that were worked out beforehand.
 
 ghost use Rattle.std.specs.Prelude.{◌≡◌, ◌<◌, ◌≤◌};
 ghost use Rattle.std.specs.List.{All, sum_by};
@@ -11,8 +11,8 @@ use qr_symbol::{EncodeFault, ReadFault};
 use qrencode_cli::{DrawFault, Drawing, UsageFault, options};
 use std::test::Fail;
 
-// Column 6 is in no strip: after column 7 the walk continues in column 5, in the row in which the strip before it
-// ended.
+// Column 6 belongs to no strip, that is, to no pair of columns that are filled together. After the last module of
+// column 7, the walk over the encoding region continues in column 5, in the same row.
 #[test]
 fn walk_over_column_6(rt: HostRuntime) -> Result<(), Fail> {
     let version = Version::FIRST;
@@ -36,8 +36,8 @@ fn bits(version: u8, segs: &[Segment]) -> Result<u64, Fail>
     Ok(bit_len(segs, Version::new(version).ok_or("version")?))
 }
 
-// Eight digits and a letter take 60 bits as two segments of version 1, and 64 bits in version 10. In version 27, where
-// character counts are wider, one segment of 67 bits is shorter than two.
+// In two segments, eight digits and a letter need 60 bits in version 1, and 64 bits in version 10. In version 27,
+// character count indicators are longer. There one segment, which needs 67 bits, is shorter than two segments.
 #[test]
 fn bits_of_digits_and_a_letter(rt: HostRuntime) -> Result<(), Fail> {
     let apart = [segment(Mode::Numeric, 8), segment(Mode::Alphanumeric, 1)];
@@ -66,7 +66,7 @@ fn settings_of_words(rt: HostRuntime) -> Result<(), Fail> {
     Ok(())
 }
 
-// The numbers of faults, in the order in which the causes are checked.
+// Each fault of each crate has the number that is listed here.
 #[test]
 fn numbers_of_faults(rt: HostRuntime) {
     assert_eq!(rt; (BitFault::Memory as u8, BitFault::TooLong as u8), (1, 2));

@@ -1,12 +1,12 @@
-//! Runs of the command over devices in memory.
+//! Runs the command with devices in memory.
 
 use qrencode_cli::{Faults, Trial, run};
 use std::alloc::{AllocError, Global};
 
-/// The arguments that draw one symbol of version 1, without the program's name.
+/// The arguments, without the program's name, that draw a short input as one symbol of version 1.
 pub const DRAW: [&str; 5] = ["-8", "-v", "1", "-t", "ASCII"];
 
-/// The exit status of a run, and its devices after it.
+/// The exit status of a run of the command, and the devices after the run.
 #[derive(Drop)]
 pub struct Run {
     pub status: u8,
@@ -15,8 +15,8 @@ pub struct Run {
     pub err: Trial,
 }
 
-/// The faults of standard input, standard output and standard error in a test of the command, and how many bytes each
-/// of the two writers takes.
+/// The faults of the three devices in a test of the command: standard input, standard output and standard error.
+/// `out_room` and `err_room` are the numbers of bytes that the two writers can accept.
 #[derive(Clone, Copy)]
 pub struct Devices {
     pub input: Faults,
@@ -27,7 +27,7 @@ pub struct Devices {
 }
 
 impl Devices {
-    /// Devices without faults, with room enough.
+    /// Devices without faults. Each of the two writers can accept 4,000 bytes.
     pub const WITHOUT_FAULTS: Devices = Devices {
         input: Faults::NONE,
         out: Faults::NONE,
@@ -37,7 +37,7 @@ impl Devices {
     };
 }
 
-/// Returns a command line: the program's name, and then `words`.
+/// Returns the command line that consists of the program's name and then `words`.
 pub fn line_of(alloc: Global, words: &[&str]) -> Result<Vec<String>, AllocError> {
     let mut list = Vec::new(alloc);
     list.push(String::from_str(alloc, "qrencode")?)?;
@@ -47,7 +47,8 @@ pub fn line_of(alloc: Global, words: &[&str]) -> Result<Vec<String>, AllocError>
     Ok(list)
 }
 
-/// Runs the command with the arguments `words`, after the program's name, on `input`.
+/// Runs the command with the arguments `words` and with `input` as standard input. The faults of the devices, and how
+/// many bytes the writers can accept, are those of `devices`.
 pub fn run_with(
     alloc: Global,
     words: &[&str],

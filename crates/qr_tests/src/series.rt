@@ -1,5 +1,5 @@
-//! Series of symbols: how many symbols the command draws, and that the symbols of the largest series are joined to its
-//! input.
+//! Tests of series of symbols. The tests check how many symbols the command draws, and that the symbols of the largest
+//! series are read and joined to its input.
 
 use crate::runs::{Devices, run_with};
 use qr_bits::{INPUT_MAX, Rule};
@@ -7,8 +7,8 @@ use qr_layout::{Level, Version};
 use qr_symbol::{EncodeFault, encode_series, read_series};
 use std::test::Fail;
 
-// In version 1-H, 7 bytes take one symbol, 8 bytes take 2, and 80 bytes take 16. Each symbol is 29 lines of 58
-// characters.
+// In version 1-H, 7 bytes need one symbol, 8 bytes need two symbols, and 80 bytes need 16 symbols. The drawing of each
+// symbol has 29 lines of 58 characters. An input of 81 bytes is refused.
 #[test]
 fn of_version_1_h(rt: HostRuntime) -> Result<(), Fail> {
     let words = ["-S", "-8", "-v", "1", "-l", "H", "-t", "ASCII"];
@@ -33,7 +33,8 @@ fn of_version_1_h(rt: HostRuntime) -> Result<(), Fail> {
     Ok(())
 }
 
-// The largest series: 16 symbols of version 40-L with 2,951 bytes each; and one byte more, which no series holds.
+// The largest series in byte mode has 16 symbols of version 40-L with 2,951 bytes each. An input of one byte more is
+// refused.
 #[test]
 fn of_version_40_l(rt: HostRuntime) -> Result<(), Fail> {
     let letters = vec![in rt.alloc(); b'a'; 47_217]?;

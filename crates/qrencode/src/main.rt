@@ -1,4 +1,4 @@
-//! The program `qrencode`: it passes its arguments and its standard streams to `qrencode_cli::run`.
+//! The program `qrencode` passes its arguments and its standard streams to `qrencode_cli::run`.
 #![tactic(auto)]
 
 ghost use Rattle.std.specs.Prelude.{map};
@@ -11,7 +11,7 @@ use std::alloc::Global;
 use std::env;
 use std::process::ExitCode;
 
-// Runs the command, and returns its status as that of the process.
+// Runs the command, and returns the command's exit status as the exit status of the process.
 fn command<R: Source, W: Sink, E: Sink>(
     alloc: Global,
     words: &[String],
@@ -27,8 +27,8 @@ fn command<R: Source, W: Sink, E: Sink>(
     ExitCode::from(run(alloc, words, input, out, err))
 }
 
-// If the arguments cannot be listed, for lack of memory or because they are not text, the program ends with status 1
-// and writes nothing.
+// Runs the command with the arguments and the standard streams of the process. If memory is refused while the arguments
+// are listed, or if an argument is not text, writes nothing and returns status 1.
 fn main(rt: HostRuntime) -> ExitCode {
     let words: Vec<String> = match env::args(&rt) {
         Ok(args) => match args.collect(rt.alloc()) {

@@ -1,4 +1,4 @@
--- What the command draws for its arguments and its input, and what a run of it does to its devices.
+-- What the command draws for a command line and an input, and what a run of the command does to its devices.
 use Rattle.std.specs.Prelude.{◌≡◌, ◌↔◌, ◌≤◌, ◌<◌, ◌+◌, ◌⊎◌, ℕ, List, [], length, take, max, MatchOption, None, IfErr, IsErrOf, IsTrue, MatchResult, Result, Ok, Err, is_ok, true, false, if◌then◌else◌}
 use Rattle.std.specs.Option.{option_map_or}
 use Rattle.std.specs.Io.KnownBytes.{Appends, Consumes}
@@ -19,18 +19,20 @@ use Rattle.qrencode_cli.specs.declared.fault.Fault.TheVariants as fault
 use Rattle.qrencode_cli.specs.declared.settings.UsageFault.TheVariants as usage
 use Rattle.qr_symbol.specs.declared.fault.EncodeFault.TheVariants as encode
 
--- `input_for s given` is the input that is encoded: the string among the arguments, cut after `INPUT_MAX` bytes, or the
--- bytes `given` by the reader if there is no string [own]
+-- `input_for s given` is the input that is encoded under the settings `s`. If the arguments contain a string, the input
+-- is this string, cut after `INPUT_MAX` bytes. Otherwise the input is `given`, the bytes that the reader returned [own]
 abbrev pub input_for : SettingsView → List ℕ → List ℕ
 input_for s given = option_map_or (λ text. take INPUT_MAX text) s.string given
 
--- `held s input` is the input as the symbols contain it. Under -i small letters become capitals, except in byte mode
--- only and except in kanji pairs under -k. Without -i it is `input` itself [own]
+-- `held s input` is the input as the symbols contain it under the settings `s`. Without -i the value is `input` itself.
+-- Under -i small letters become capitals, except in two cases: with -8 all bytes stay the same, and with -k kanji pairs
+-- stay the same [own]
 abbrev pub held : SettingsView → List ℕ → List ℕ
 held s input = if s.fold then folded (rule_for s) input else input
 
--- `IsDrawing s input drawing` holds if `drawing` is the drawing of the symbols that the settings `s` ask for. The
--- symbols are read and joined to `input`. The input is shorter than `INPUT_MAX`, so no byte of it was cut off [own]
+-- `IsDrawing s input drawing` holds if `drawing` is the drawing of the symbols that the settings `s` ask for. If these
+-- symbols are read and joined, the result is `input`. The input has at least one byte. The input has fewer than
+-- `INPUT_MAX` bytes, so no byte was cut off [own]
 pub record IsDrawing (s : SettingsView) (input drawing : List ℕ) : Type 0 where
   pub squares : List Grid
   pub symbols : AreSymbols s input squares
@@ -39,24 +41,27 @@ pub record IsDrawing (s : SettingsView) (input drawing : List ℕ) : Type 0 wher
   pub short : length input < INPUT_MAX
   pub is_drawn : drawing ≡ drawn s.kind s.margin squares
 
--- `HasSettingsWith words P` holds if the command line `words` has settings, and `P` holds of them [own]
+-- `HasSettingsWith words P` holds if the command line `words` is not refused, and its settings have the property `P`
+-- [own]
 pub record HasSettingsWith (words : List Text) (P : SettingsView → Type 0) : Type 0 where
   pub settings : SettingsView
   pub taken : settings_for words ≡ Ok settings
   pub holds : P settings
 
--- `HasDrawing words given drawing` holds if `drawing` is what the command line `words` asks for, where `given` are the
--- bytes of the reader [own]
+-- `HasDrawing words given drawing` holds if `drawing` is the drawing that the command line `words` asks for. The list
+-- `given` contains the bytes that the reader returned [own]
 abbrev pub HasDrawing : List Text → List ℕ → List ℕ → Type 0
 HasDrawing words given drawing = HasSettingsWith words (λ s. IsDrawing s (held s (input_for s given)) drawing)
 
--- `HasRefusal words given why` holds if the command line `words` has settings, but `why` holds of these settings and of
--- the input, so that the input cannot be drawn [own]
+-- `HasRefusal words given why` holds if the command line `words` has settings, but its input cannot be drawn for the
+-- reason `why`. This reason is a relation between the settings and the input. The list `given` contains the bytes that
+-- the reader returned [own]
 abbrev pub HasRefusal : List Text → List ℕ → (SettingsView → List ℕ → Type 0) → Type 0
 HasRefusal words given why = HasSettingsWith words (λ s. why s (held s (input_for s given)))
 
--- `IsRefusal words given f` holds if the fault `f` is a correct reason to refuse the command line `words` or its input,
--- where `given` are the bytes of the reader. A fault of a device and lack of memory are no refusals [own]
+-- `IsRefusal words given f` holds if the fault `f` is a correct reason to refuse the command line `words` or its input.
+-- The list `given` contains the bytes that the reader returned. Faults of devices and lack of memory are not refusals
+-- [own]
 abbrev pub IsRefusal : List Text → List ℕ → Fault → Type 0
 IsRefusal words given (fault.Usage usage.Memory) = ⊥
 IsRefusal words given (fault.Usage f) = IsUsageFault (settings_for words) f
@@ -65,60 +70,65 @@ IsRefusal words given (fault.Encode encode.TooLong) = HasRefusal words given IsT
 IsRefusal words given (fault.Encode encode.TooMany) = HasRefusal words given IsTooMany
 IsRefusal words given _ = ⊥
 
--- `IsFault words given f` holds if the fault `f` can occur for the command line `words` and the bytes `given`: a
--- refusal if it is correct, a read fault if the arguments have no string, a write fault if there is a drawing, and lack
--- of memory always [own]
+-- `IsFault words given f` holds if the fault `f` can occur for the command line `words` and for `given`, the bytes that
+-- the reader returned. A refusal can occur if it is correct. A read fault can occur if the arguments contain no string,
+-- and a write fault if there is a drawing. Lack of memory can always occur [own]
 abbrev pub IsFault : List Text → List ℕ → Fault → Type 0
 IsFault words given fault.Read = HasSettingsWith words (λ s. s.string ≡ None)
 IsFault words given fault.Memory = Unit {0}
 IsFault words given fault.Write = (drawing : List ℕ) × HasDrawing words given drawing
 IsFault words given refusal = IsRefusal words given refusal
 
--- `DrawnWhole old new drawing` holds if the writer took the whole drawing, and was flushed once, after its last byte
--- [own]
+-- `DrawnWhole old new drawing` holds if a writer changed from `old` to `new` because it received the whole `drawing`
+-- and was then flushed once. The flush succeeded, and was the last call [own]
 pub record DrawnWhole (old new : Writer) (drawing : List ℕ) : Type 0 where
   pub grows : Appends old.taken new.taken drawing
   pub many : old.counts ≡ no_writes → new.counts.taken ≡ counted (length drawing)
   pub flushed : new.counts.flushes ≡ counted (old.counts.flushes + 1)
   pub settled : new.counts.settled ≡ true
 
--- `DrawnInPart old new drawing` holds if the writer took a prefix of the drawing and was not flushed, or took the whole
--- drawing and its one flush failed. In both cases it took no more bytes than the drawing has [own]
+-- `DrawnInPart old new drawing` holds if a writer changed from `old` to `new` in one of two ways. Either the writer
+-- received a prefix of `drawing` and was not flushed, or it received the whole `drawing` and its one flush failed. In
+-- both cases the number of bytes that it received is at most the length of `drawing` [own]
 abbrev pub DrawnInPart : Writer → Writer → List ℕ → Type 0
 DrawnInPart old new drawing = (old.counts ≡ no_writes → new.counts.taken ≤ counted (length drawing))
     × ((AppendsBeginning old.taken new.taken drawing × (new.counts.flushes ≡ old.counts.flushes))
     ⊎ (Appends old.taken new.taken drawing × (new.counts.flushes ≡ counted (old.counts.flushes + 1)) × (new.counts.settled ≡ false)))
 
--- `OutputHolds words given old new outcome` says what standard output received: the drawing after success, a prefix of
--- it or the whole after a write fault, and no call after any other fault [own]
+-- `OutputHolds words given old new outcome` holds if standard output changed from `old` to `new` as the `outcome` of
+-- the run requires. After success, standard output received the whole drawing. After a write fault, standard output
+-- received a prefix of the drawing, or the whole drawing. After any other fault, standard output is unchanged [own]
 abbrev pub OutputHolds : List Text → List ℕ → Writer → Writer → {T : Type 0} → Result T Fault → Type 0
 OutputHolds words given old new (Ok t) = (drawing : List ℕ) × HasDrawing words given drawing × DrawnWhole old new drawing
 OutputHolds words given old new (Err fault.Write) = (drawing : List ℕ) × HasDrawing words given drawing × DrawnInPart old new drawing
 OutputHolds words given old new _ = new ≡ old
 
--- `AllRead old new given` holds if `given` is all that the reader returned, and it was read to its end or to
--- `INPUT_MAX` bytes [own]
+-- `AllRead old new given` holds if `given` is the list of all bytes that the reader returned while it changed from
+-- `old` to `new`. The reader was read to its end, or until it returned `INPUT_MAX` bytes [own]
 abbrev pub AllRead : Reader → Reader → List ℕ → Type 0
 AllRead old new given = Consumes old.remaining new.remaining given
     × (old.counts ≡ no_reads → new.counts.given ≡ length given)
     × (old.counts ≡ no_reads → (new.counts.ends ≡ 1) ⊎ (length given ≡ INPUT_MAX))
 
--- `InputConsumed old new given outcome` says what a run did to a reader that it had to read: it read the whole input,
--- unless the outcome is a read fault or lack of memory [own]
+-- `InputConsumed old new given outcome` holds if a run that had to read its input read all of it. The reader changed
+-- from `old` to `new`, and the input is `given`. If the `outcome` is a read fault or lack of memory, nothing is
+-- required [own]
 abbrev pub InputConsumed : Reader → Reader → List ℕ → {T : Type 0} → Result T Fault → Type 0
 InputConsumed old new given (Err fault.Read) = Unit {0}
 InputConsumed old new given (Err fault.Memory) = Unit {0}
 InputConsumed old new given _ = AllRead old new given
 
--- `InputConsumedFor settings old new given outcome` says what a run did to the reader: it made no call if the command
--- line is refused or contains the input as a string, and otherwise `InputConsumed` holds [own]
+-- `InputConsumedFor settings old new given outcome` holds if the reader changed from `old` to `new` as the `settings`
+-- require. The reader is unchanged if the command line is refused, or if the command line contains the input as a
+-- string. Otherwise `InputConsumed` holds [own]
 abbrev pub InputConsumedFor : Result SettingsView Reason → Reader → Reader → List ℕ → {T : Type 0} → Result T Fault → Type 0
 InputConsumedFor (Err r) old new given outcome = new ≡ old
 InputConsumedFor (Ok s) old new given outcome = MatchOption s.string (InputConsumed old new given outcome) (λ _. new ≡ old)
 
--- `ErrorHolds old new line` says what standard error received: the whole line; or only a prefix of it, if its counts
--- show that a write failed, took nothing, or was interrupted too often. It received no more bytes than the line has,
--- and was not flushed [own]
+-- `ErrorHolds old new line` holds if standard error changed from `old` to `new` as the `line` of a fault requires.
+-- Standard error received a prefix of the line, and was not flushed. The prefix is the whole line, unless the counts
+-- show that a write failed, that a write accepted no byte, or that the 1,000th interruption occurred. The number of
+-- bytes received is at most the length of the line [own]
 abbrev pub ErrorHolds : Writer → Writer → List ℕ → Type 0
 ErrorHolds old new line = AppendsBeginning old.taken new.taken line
     × (old.counts ≡ no_writes → new.counts.taken ≤ counted (length line))
@@ -126,11 +136,12 @@ ErrorHolds old new line = AppendsBeginning old.taken new.taken line
     × (old.counts ≡ no_writes → is_write_fault new.counts ≡ false → new.counts.taken ≡ counted (length line))
     × (new.counts.flushes ≡ old.counts.flushes)
 
--- `Runs` says what a run of the command returns and does to its devices, for its outcome: success or a fault. The
--- outcome is one of three: what the arguments and the input determine; lack of memory; or a fault of a device. If the
--- counts of calls and bytes of the devices were 0 before the run, the counts after it show a fault of a device.
--- Standard error receives nothing after success, and otherwise the line of the fault. The status is 0 after success,
--- and otherwise 1 [own]
+-- `Runs words in0 in1 out0 out1 err0 err1 outcome status` holds if a run for the command line `words` can have this
+-- `outcome` and this exit `status`. The outcome is success or a fault. The reader and the two writers are `in0`, `out0`
+-- and `err0` before the run, and `in1`, `out1` and `err1` after it. The arguments and the input determine the outcome,
+-- except for lack of memory and faults of devices. If the counts of a device were 0 before the run, the counts after it
+-- show whether the device had a fault. After success, standard error receives nothing, and the status is 0. After a
+-- fault, standard error receives the fault's line, and the status is 1 [own]
 pub record Runs (words : List Text) (in0 in1 : Reader) (out0 out1 err0 err1 : Writer) (outcome : Result (Unit {0}) Fault) (status : ℕ) : Type 0 where
   pub given : List ℕ
   pub is_input : IsInputOf in0.remaining given
@@ -146,8 +157,9 @@ pub record Runs (words : List Text) (in0 in1 : Reader) (out0 out1 err0 err1 : Wr
   pub err_within : err0.counts ≡ no_writes → IsWrittenWithin err1.counts
   pub offered : out1.counts.offered ≤ max out0.counts.offered WRITE_MAX
 
--- `RunsTo` holds if there is an outcome for which a run of the command returns this status and does this to its devices
--- [own]
+-- `RunsTo words in0 in1 out0 out1 err0 err1 status` holds if `Runs` holds for some outcome, that is, for success or for
+-- some fault. The other parameters are those of `Runs`: the command line, the devices before and after the run, and the
+-- exit status [own]
 abbrev pub RunsTo : List Text → Reader → Reader → Writer → Writer → Writer → Writer → ℕ → Type 0
 RunsTo words in0 in1 out0 out1 err0 err1 status =
     (outcome : Result (Unit {0}) Fault) × Runs words in0 in1 out0 out1 err0 err1 outcome status

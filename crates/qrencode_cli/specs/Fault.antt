@@ -6,7 +6,8 @@ use Rattle.qrencode_cli.specs.declared.fault.Fault.{Fault}
 use Rattle.qrencode_cli.specs.declared.fault.Fault.TheVariants as fault
 use Rattle.qrencode_cli.specs.declared.settings.UsageFault.TheVariants as usage
 
--- `fault_line f` is the line for the fault `f`. For arguments that `clap` refuses, it is the text of `clap` [own]
+-- `fault_line f` is the line that reports the fault `f` on standard error. For arguments that `clap` refuses, the line
+-- is the text of `clap` [own]
 abbrev pub fault_line : Fault → List ℕ
 fault_line (fault.Usage (usage.Words text)) = string_bytes text
 fault_line (fault.Usage usage.Level) = codes "qrencode: unknown level\n"

@@ -1,16 +1,17 @@
--- The input that is read from a device, and how far a device is read.
+-- The input that is read from a device, and the limits of this reading.
 use Rattle.std.specs.Prelude.{◌≡◌, ◌+◌, ◌≤◌, ℕ, List, take, Option, IfSome}
 use Rattle.qr_bits.specs.declared.modes.TheConstants.{INPUT_MAX}
 use Rattle.qr_devices.specs.declared.device.ReadCounts.{ReadCounts}
 use Rattle.qr_devices.specs.declared.device.TheConstants.{INTERRUPTIONS_MAX}
 
--- `IsInputOf bytes input` holds if `input` is the bytes of the device up to its end, or the first `INPUT_MAX` of them.
--- If the device's bytes are unknown, it holds of every input [own]
+-- `IsInputOf bytes input` holds if `input` consists of all `bytes` of the device up to its end, or of the first
+-- `INPUT_MAX` of them. If the device's bytes are unknown, the statement holds for every `input` [own]
 abbrev pub IsInputOf : Option (List ℕ) → List ℕ → Type 0
 IsInputOf bytes input = IfSome bytes (λ all. input ≡ take INPUT_MAX all)
 
--- `IsReadWithin c` says how far a reader is read: in at most 114,424 reads, at most 113,425 bytes, and not after its
--- end. At most one read failed, and at most 1,000 reads were interrupted [own]
+-- `IsReadWithin c` holds if the counts `c` of a reader stay within their limits. There were at most 114,424 reads, they
+-- returned at most 113,425 bytes, and no read came after the end. At most one read failed, and at most 1,000 reads were
+-- interrupted [own]
 pub record IsReadWithin (c : ReadCounts) : Type 0 where
   pub calls : c.calls ≤ INPUT_MAX + INTERRUPTIONS_MAX
   pub given : c.given ≤ INPUT_MAX

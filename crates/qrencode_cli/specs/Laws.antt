@@ -1,4 +1,4 @@
--- The settings of some command lines, and laws of drawings, refusals, modes, folding, statuses and faults.
+-- The settings of some command lines, and laws about drawings, refusals, modes, folding, statuses and faults.
 use Rattle.std.specs.Prelude.{◌≡◌, ℕ, List, [], ◌∷◌, codes, Some, None, Result, Ok, Err, MatchResult, String, true, false}
 use Rattle.std.specs.Global.{Global}
 use Rattle.clap.specs.Walk.{Text}
@@ -15,7 +15,7 @@ use Rattle.qrencode_cli.specs.declared.fault.Fault.TheVariants as fault
 use Rattle.qr_symbol.specs.declared.fault.EncodeFault.TheVariants as encode
 use Rattle.qrencode_cli.specs.declared.settings.UsageFault.TheVariants as usage
 
--- `by_default` is the settings of the command line `-t ASCII`: every other setting has its default [own]
+-- `by_default` is the settings of the command line `-t ASCII`, in which every other setting has its default [own]
 abbrev pub by_default : SettingsView
 by_default = record {
   level = L;
@@ -29,16 +29,18 @@ by_default = record {
   string = None;
 }
 
--- `IsTaken words settings` holds if the arguments `words`, written after the program's name, have these settings [own]
+-- `IsTaken words settings` holds if a command line has these `settings`. The command line consists of the program's
+-- name and the arguments `words` [own]
 abbrev pub IsTaken : List Text → SettingsView → Type 0
 IsTaken words settings = settings_for (codes "qrencode" ∷ words) ≡ Ok settings
 
--- `IsRefused words why` holds if the arguments `words`, written after the program's name, are refused for this reason
--- [own]
+-- `IsRefused words why` holds if a command line is refused for the reason `why`. The command line consists of the
+-- program's name and the arguments `words` [own]
 abbrev pub IsRefused : List Text → Reason → Type 0
 IsRefused words why = settings_for (codes "qrencode" ∷ words) ≡ Err why
 
--- Some command lines have these settings, or are refused for these reasons [own]
+-- `CommandLines` holds if each command line in the list below has the settings that the list states for it, or is
+-- refused for the reason that the list states [own]
 pub record CommandLines : Type 0 where
   pub plain : IsTaken (codes "-t" ∷ codes "ASCII" ∷ []) by_default
   pub in_bytes : IsTaken (codes "-8" ∷ codes "-v" ∷ codes "1" ∷ codes "-t" ∷ codes "ascii" ∷ [])
@@ -96,43 +98,46 @@ pub record CommandLines : Type 0 where
   pub type_without_a_value : IsRefused (codes "-t" ∷ []) refused_by_clap
   pub two_strings_after_dashes : IsRefused (codes "-t" ∷ codes "ASCII" ∷ codes "--" ∷ codes "A" ∷ codes "B" ∷ []) refused_by_clap
 
--- A command line and an input have at most one drawing [own].
+-- `AnswersAreOne` holds if a command line and an input have at most one drawing [own].
 abbrev pub AnswersAreOne : Type 0
 AnswersAreOne = (words : List Text) (given d e : List ℕ) → HasDrawing words given d → HasDrawing words given e → d ≡ e
 
--- A command line and an input that have a drawing are not refused [own].
+-- `RefusalsExcludeDrawings` holds if no refusal is correct for a command line and an input that have a drawing [own].
 abbrev pub RefusalsExcludeDrawings : Type 0
 RefusalsExcludeDrawings = (words : List Text) (given d : List ℕ) (f : Fault) → HasDrawing words given d → IsRefusal words given f → ⊥
 
--- `AreAlike r q` holds if the two faults are equal. The texts of `clap` are not compared [own]
+-- `AreAlike r q` holds if the faults `r` and `q` are equal. Two faults with a text of `clap` are alike whatever their
+-- texts are [own]
 abbrev pub AreAlike : Fault → Fault → Type 0
 AreAlike (fault.Usage (usage.Words text)) (fault.Usage (usage.Words other)) = Unit {0}
 AreAlike r q = r ≡ q
 
--- For a command line and an input at most one refusal is correct [own].
+-- `RefusalsAreOne` holds if at most one refusal is correct for a command line and an input [own].
 abbrev pub RefusalsAreOne : Type 0
 RefusalsAreOne = (words : List Text) (given : List ℕ) (r q : Fault) → IsRefusal words given r → IsRefusal words given q → AreAlike r q
 
--- -8 allows byte mode only, also beside -k. Without -8, -k allows kanji mode too [own]
+-- `RulesOfModes` holds if the options -8 and -k decide which modes are allowed. With -8 only byte mode is allowed, even
+-- if -k is given too. Without -8, the option -k allows kanji mode in addition to the other modes [own]
 pub record RulesOfModes : Type 0 where
   pub bytes : (s : SettingsView) → s.bytes_only ≡ true → rule_for s ≡ BytesOnly
   pub kanji : (s : SettingsView) → s.bytes_only ≡ false → s.kanji ≡ true → rule_for s ≡ WithKanji
   pub neither : (s : SettingsView) → s.bytes_only ≡ false → s.kanji ≡ false → rule_for s ≡ Auto
 
--- Under -i the input is folded for the allowed modes, and without -i it is unchanged. Under -k the second byte of a
--- kanji pair is unchanged, even if it is the code of a small letter [own].
+-- `FoldingFollowsTheRule` holds if the input is folded for the allowed modes under -i, and is unchanged without -i.
+-- Under -i and -k, the second byte of a kanji pair is unchanged, even if it is the code of a small letter [own].
 pub record FoldingFollowsTheRule : Type 0 where
   pub folds : (s : SettingsView) (input : List ℕ) → s.fold ≡ true → held s input ≡ folded (rule_for s) input
   pub keeps : (s : SettingsView) (input : List ℕ) → s.fold ≡ false → held s input ≡ input
   pub pairs : held (record by_default { kanji = true; fold = true }) (0x93 ∷ 0x61 ∷ 0x61 ∷ []) ≡ 0x93 ∷ 0x61 ∷ 0x41 ∷ []
   pub letters : held (record by_default { fold = true }) (0x93 ∷ 0x61 ∷ 0x61 ∷ []) ≡ 0x93 ∷ 0x41 ∷ 0x41 ∷ []
 
--- A run returns 0 after success, and 1 after any fault [own].
+-- `StatusesAreTwo` holds if a run returns the status 0 after success, and the status 1 after any fault [own].
 abbrev pub StatusesAreTwo : Type 0
 StatusesAreTwo = (words : List Text) (in0 in1 : Reader) (out0 out1 err0 err1 : Writer) (outcome : Result (Unit {0}) Fault) (status : ℕ)
     → Runs words in0 in1 out0 out1 err0 err1 outcome status → MatchResult outcome (λ _. status ≡ 0) (λ _. status ≡ 1)
 
--- The line of each fault, except for arguments that `clap` refuses [own].
+-- `LinesOfFaults` holds if each fault is reported by the line in the list below. The fault of arguments that `clap`
+-- refuses is not in the list [own].
 pub record LinesOfFaults : Type 0 where
   pub level : fault_line (fault.Usage usage.Level) ≡ codes "qrencode: unknown level\n"
   pub type : fault_line (fault.Usage usage.Kind) ≡ codes "qrencode: unknown type\n"
@@ -144,7 +149,7 @@ pub record LinesOfFaults : Type 0 where
   pub memory : fault_line fault.Memory ≡ codes "qrencode: out of memory\n"
   pub write : fault_line fault.Write ≡ codes "qrencode: write error\n"
 
--- The number of each fault of the command line [own].
+-- `NumbersOfUsageFaults` holds if each fault of the command line has the number in the list below [own].
 pub record NumbersOfUsageFaults : Type 0 where
   pub words : (text : String Global) → usage_fault_number (usage.Words text) ≡ 1
   pub level : usage_fault_number usage.Level ≡ 2

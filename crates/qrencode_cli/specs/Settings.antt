@@ -14,15 +14,16 @@ use Rattle.qr_drawing.specs.declared.drawing.Drawing.TheVariants as drawing
 use Rattle.qrencode_cli.specs.declared.settings.UsageFault.{UsageFault}
 use Rattle.qrencode_cli.specs.declared.settings.UsageFault.TheVariants as usage
 
--- Why a command line is refused: `clap` refuses it, the level is unknown, the type of drawing is unknown, or a
--- series is asked for without a version [own]
+-- The reason why a command line is refused. Either `clap` refuses it, or the level is unknown, or the type of drawing
+-- is unknown, or a series is asked for without a version [own]
 pub data Reason : Type 0 where
   refused_by_clap : Reason
   unknown_level : Reason
   unknown_type : Reason
   needs_version : Reason
 
--- The settings, as contracts see them: versions and the margin are numbers, and the string is a list of bytes [own]
+-- The settings of a run, in the form that contracts use. The smallest version and the margin are numbers, and the
+-- string is a list of bytes [own]
 pub record SettingsView : Type 0 where
   pub level : Level
   pub smallest : Option ℕ
@@ -34,12 +35,13 @@ pub record SettingsView : Type 0 where
   pub structured : Bool
   pub string : Option Text
 
--- `rule_for s` is the modes that the settings allow: byte mode only under -8, all modes under -k without -8, and
--- otherwise all modes but kanji mode [own]
+-- `rule_for s` is the rule that says which modes the settings `s` allow. Under -8 only byte mode is allowed. Without
+-- -8, the option -k allows all modes. Without -8 and -k, all modes but kanji mode are allowed [own]
 abbrev pub rule_for : SettingsView → Rule
 rule_for s = if s.bytes_only then BytesOnly else (if s.kanji then WithKanji else Auto)
 
--- `level_named t` is the level that the text `t` names, in a small or a capital letter [own]
+-- `level_named t` is the error correction level that has the letter `t`, where small and capital letters are alike. If
+-- no level has this letter, the value is `None` [own]
 abbrev pub level_named : Text → Option Level
 level_named t =
     if str_eq_ignore_ascii_case t (codes "l") then Some level.L else
@@ -47,7 +49,8 @@ level_named t =
     (if str_eq_ignore_ascii_case t (codes "q") then Some level.Q else
     (if str_eq_ignore_ascii_case t (codes "h") then Some level.H else None)))
 
--- `drawing_named t` is the type of drawing that the text `t` names, in small or capital ASCII letters [own]
+-- `drawing_named t` is the type of drawing that has the name `t`, where small and capital ASCII letters are alike. If
+-- no type has this name, the value is `None` [own]
 abbrev pub drawing_named : Text → Option Drawing
 drawing_named t =
     if str_eq_ignore_ascii_case t (codes "ascii") then Some drawing.Ascii else
@@ -55,22 +58,23 @@ drawing_named t =
     (if str_eq_ignore_ascii_case t (codes "utf8") then Some drawing.Utf8 else
     (if str_eq_ignore_ascii_case t (codes "svg") then Some drawing.Svg else None)))
 
--- `number_or otherwise o` is the number of an option whose text is `o`, or `otherwise` if the option is not given. A
--- text that is not a byte counts as 0 [own]
+-- `number_or otherwise o` is the number of an option that has the text `o` as its value. If the option is not given,
+-- the number is `otherwise`. If the text is not a number of one byte, the number is 0 [own]
 abbrev pub number_or : ℕ → Option Text → ℕ
 number_or otherwise o = option_map_or byte_or_zero o otherwise
 
--- `version_at o` is the version of an option whose text is `o`, if its number is from 1 to 40. For 0, and if the option
--- is not given, there is no version [own]
+-- `version_at o` is the version of an option that has the text `o` as its value. If the number is not from 1 to 40, or
+-- if the option is not given, the value is `None` [own]
 abbrev pub version_at : Option Text → Option ℕ
 version_at o = let n = number_or 0 o in if nat_le 1 n && nat_le n 40 then Some n else None
 
--- `flag_at o` is true if a flag is given: then `clap` states the text `true` for it [own]
+-- `flag_at o` is true if an option without a value is given. For such an option, `clap` states the text `true` as `o`
+-- [own]
 abbrev pub flag_at : Option Text → Bool
 flag_at o = option_map_or (λ t. bytes_eq t (codes "true")) o false
 
--- `settings_with rows level kind` is the settings of the matches `rows`, once level and type of drawing are known. The
--- default margin is the quiet zone of 4 modules (ISO/IEC 18004:2015, 6.3.8)
+-- `settings_with rows level kind` is the settings that follow from `rows`, the matches of `clap`, and from the level
+-- and the type of drawing. The default margin is 4 modules, the width of the quiet zone (ISO/IEC 18004:2015, 6.3.8)
 abbrev pub settings_with : List Row → Level → Drawing → SettingsView
 settings_with rows level kind = record {
   level = level;
@@ -84,25 +88,28 @@ settings_with rows level kind = record {
   string = first_of (codes "string") rows;
 }
 
--- `checked_series s` is the settings `s`, or a refusal if they ask for a series without a version [own]
+-- `checked_series s` is the settings `s`. If `s` asks for a series without a version, the value is a refusal instead
+-- [own]
 abbrev pub checked_series : SettingsView → Result SettingsView Reason
 checked_series s = if s.structured && is_none s.smallest then Err needs_version else Ok s
 
--- `settings_of rows` is the settings of the matches `rows`, or why there are none. The level is checked first; it is L
--- if -l is not given. Then the type of drawing is checked, and last that a series has a version [own]
+-- `settings_of rows` is the settings that follow from `rows`, the matches of `clap`, or the reason to refuse them.
+-- First the level is checked, which is L if -l is not given. Then the type of drawing is checked. The last check is
+-- that a series has a version [own]
 abbrev pub settings_of : List Row → Result SettingsView Reason
 settings_of rows =
     option_map_or (λ l. option_map_or (λ kind. checked_series (settings_with rows l kind))
     (option_and_then drawing_named (first_of (codes "type") rows)) (Err unknown_type))
     (option_map_or level_named (first_of (codes "level") rows) (Some level.L)) (Err unknown_level)
 
--- `settings_for words` is the settings of the command line `words`: those of the matches that `clap` states for it. If
--- `clap` states a fault, the command line is refused [own]
+-- `settings_for words` is the settings of the command line `words`, which follow from the matches that `clap` states
+-- for it. If `clap` states a fault, the command line is refused [own]
 abbrev pub settings_for : List Text → Result SettingsView Reason
 settings_for words = if length (faults_for words) == 0 then settings_of (rows_for words) else Err refused_by_clap
 
--- `IsUsageFault o f` holds if `f` is the fault of a command line whose settings, or reason to be refused, are `o`. Lack
--- of memory can always occur instead [own]
+-- `IsUsageFault o f` holds if the fault `f` can be reported for a command line with the result `o`. If `o` is a reason
+-- to refuse the command line, `f` is the fault for this reason, or lack of memory. If `o` is settings, `f` is lack of
+-- memory [own]
 abbrev pub IsUsageFault : Result SettingsView Reason → UsageFault → Type 0
 IsUsageFault o (usage.Words text) = o ≡ Err refused_by_clap
 IsUsageFault o usage.Level = o ≡ Err unknown_level
@@ -110,8 +117,8 @@ IsUsageFault o usage.Kind = o ≡ Err unknown_type
 IsUsageFault o usage.NeedsVersion = o ≡ Err needs_version
 IsUsageFault o usage.Memory = Unit {0}
 
--- `usage_fault_number f` is the number of the fault `f`: 1 to 4 in the order in which the causes are checked, and 5 for
--- lack of memory [own]
+-- `usage_fault_number f` is the number of the fault `f`. The causes have the numbers 1 to 4 in the order in which they
+-- are checked, and lack of memory has the number 5 [own]
 abbrev pub usage_fault_number : UsageFault → ℕ
 usage_fault_number (usage.Words text) = 1
 usage_fault_number usage.Level = 2

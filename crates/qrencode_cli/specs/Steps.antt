@@ -1,4 +1,4 @@
--- Definitions that describe how the program computes. Only the contracts of private functions use them, so a reader who
--- judges the promises need not read them.
+-- Definitions that describe how the program computes. Only the contracts of private functions use these definitions, so
+-- a reader who judges the promises need not read them.
 pub mod Command
 pub mod Fault

@@ -7,39 +7,43 @@ use Rattle.qr_symbol.specs.VersionChoice.{HasNoVersion}
 use Rattle.qr_symbol.specs.Series.{HasNoSeries, IsSeries, squares_of}
 use Rattle.qrencode_cli.specs.Settings.{SettingsView, rule_for}
 
--- `smallest_of s` is the smallest version that may be chosen, or the version of a series: the version of -v, or 1 if -v
--- names no version [own]
+-- `smallest_of s` is the smallest version that may be chosen, or for a series the version of its symbols. The value is
+-- the version of -v, or 1 if -v is missing or 0 [own]
 abbrev pub smallest_of : SettingsView → ℕ
 smallest_of s = unwrap_or s.smallest 1
 
--- `IsSquareOf s input square` holds if `square` is the square of the one symbol of the input [own]
+-- `IsSquareOf s input square` holds if `square` is the square of modules of the one symbol of `input` under the
+-- settings `s` [own]
 pub record IsSquareOf (s : SettingsView) (input : List ℕ) (square : Grid) : Type 0 where
   pub version : ℕ
   pub mask : ℕ
   pub symbol : IsSymbol (smallest_of s) s.level (rule_for s) input version mask square
 
--- `AreSquaresOf s input squares` holds if `squares` are the squares of the symbols of the input's series [own]
+-- `AreSquaresOf s input squares` holds if `squares` are the squares of modules of the symbols of the series of `input`
+-- under the settings `s` [own]
 pub record AreSquaresOf (s : SettingsView) (input : List ℕ) (squares : List Grid) : Type 0 where
   pub symbols : List Symbol
   pub series : IsSeries (smallest_of s) s.level (rule_for s) input symbols
   pub theirs : squares ≡ squares_of symbols
 
--- `AreSquares structured s input squares` holds if `squares` are the squares of the input's series, for `structured`
--- true, or the square of the input's one symbol, for `structured` false [own]
+-- `AreSquares structured s input squares` holds if `squares` are the squares of modules of the symbols of `input` under
+-- the settings `s`. If `structured` is true, the symbols are the series of `input`. If `structured` is false, there is
+-- one symbol [own]
 abbrev pub AreSquares : (structured : Bool) → SettingsView → List ℕ → List Grid → Type 0
 AreSquares true s input squares = AreSquaresOf s input squares
 AreSquares false s input squares = (square : Grid) × IsSquareOf s input square × (squares ≡ square ∷ [])
 
--- `AreSymbols s input squares` holds if `squares` are the squares of the symbols that the settings ask for [own]
+-- `AreSymbols s input squares` holds if `squares` are the squares of modules of the symbols that the settings `s` ask
+-- for [own]
 abbrev pub AreSymbols : SettingsView → List ℕ → List Grid → Type 0
 AreSymbols s input squares = AreSquares s.structured s input squares
 
--- `IsTooLong s input` holds if one symbol is asked for, and the input fits no version from the smallest allowed version
--- on, at the level of the settings [own]
+-- `IsTooLong s input` holds if the settings `s` ask for one symbol, but `input` fits no version from the smallest
+-- allowed version on at their level [own]
 abbrev pub IsTooLong : SettingsView → List ℕ → Type 0
 IsTooLong s input = (s.structured ≡ false) × HasNoVersion (smallest_of s) s.level (rule_for s) input
 
--- `IsTooMany s input` holds if a series is asked for, and the input has no series of the version and the level of the
--- settings [own]
+-- `IsTooMany s input` holds if the settings `s` ask for a series, but `input` has no series of their version and level
+-- [own]
 abbrev pub IsTooMany : SettingsView → List ℕ → Type 0
 IsTooMany s input = (s.structured ≡ true) × HasNoSeries (smallest_of s) s.level (rule_for s) input

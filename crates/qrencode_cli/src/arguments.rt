@@ -1,4 +1,4 @@
-//! Declares the command's arguments for `clap`, and has `clap` parse a command line.
+//! Declares the command's arguments for the crate `clap`, and parses a command line with `clap`.
 
 ghost use Rattle.std.specs.Prelude.{◌≡◌, [], IfErr, IfOk, map, false, codes};
 ghost use Rattle.std.specs.String.{string_bytes};
@@ -14,8 +14,9 @@ use clap::error::ErrorKind;
 use clap::{Arg, ArgAction, ArgMatches, Command};
 use std::alloc::{AllocError, Global};
 
-// An option of the command line: `id` is its name in the code, `short` its letter on the command line, `value` the name of
-// its value in the help text, and `help` its line of the help text.
+// The texts of an option of the command line. `id` is the option's name in the code, and `short` is its letter on the
+// command line. In the help text, `value` is the name of the option's value, and `help` is the line that describes the
+// option.
 #[derive(Clone, Copy)]
 struct OptionText<'a> {
     id: &'a str,
@@ -24,7 +25,7 @@ struct OptionText<'a> {
     help: &'a str,
 }
 
-// Makes an option that takes a text.
+// Returns an option for `clap` that has a text as its value.
 fn text_option<'a>(alloc: Global, option: OptionText<'a>) -> Arg<'a>
     ensures rule { rule_of result ≡ text_rule option.entry.id.now option.entry.short }
     ensures local { result.global ≡ false }
@@ -35,7 +36,7 @@ fn text_option<'a>(alloc: Global, option: OptionText<'a>) -> Arg<'a>
         .help(option.help)
 }
 
-// Makes an option that takes a number from 0 to `most`.
+// Returns an option for `clap` that has a number from 0 to `most` as its value.
 fn number_option<'a>(alloc: Global, option: OptionText<'a>, most: i64) -> Arg<'a>
     ensures rule { rule_of result ≡ number_rule option.entry.id.now option.entry.short most }
     ensures local { result.global ≡ false }
@@ -43,7 +44,7 @@ fn number_option<'a>(alloc: Global, option: OptionText<'a>, most: i64) -> Arg<'a
     text_option(alloc, option).value_parser(ValueParser::Signed(0, most))
 }
 
-// Makes an option that takes a text and must be given.
+// Returns an option for `clap` that has a text as its value. The command line must contain this option.
 fn required_option<'a>(alloc: Global, option: OptionText<'a>) -> Arg<'a>
     ensures rule { rule_of result ≡ required_rule option.entry.id.now option.entry.short }
     ensures local { result.global ≡ false }
@@ -51,7 +52,7 @@ fn required_option<'a>(alloc: Global, option: OptionText<'a>) -> Arg<'a>
     text_option(alloc, option).required(true)
 }
 
-// Makes an option that takes no value.
+// Returns an option for `clap` that has no value.
 fn flag_option<'a>(alloc: Global, option: OptionText<'a>) -> Arg<'a>
     ensures rule { rule_of result ≡ flag_rule option.entry.id.now option.entry.short }
     ensures local { result.global ≡ false }
@@ -62,7 +63,8 @@ fn flag_option<'a>(alloc: Global, option: OptionText<'a>) -> Arg<'a>
         .action(ArgAction::SetTrue)
 }
 
-// Makes a positional argument, which belongs to no option.
+// Returns a positional argument for `clap`, that is, an argument that is not part of an option. `id` is its name in the
+// code. In the help text, `value` is its name, and `help` is the line that describes it.
 fn positional<'a>(alloc: Global, id: &'a str, value: &'a str, help: &'a str) -> Arg<'a>
     ensures rule { rule_of result ≡ positional_rule id.entry.now }
     ensures local { result.global ≡ false }
@@ -70,7 +72,7 @@ fn positional<'a>(alloc: Global, id: &'a str, value: &'a str, help: &'a str) -> 
     Arg::new(alloc, id).value_name(value).help(help)
 }
 
-// Makes the command without its arguments.
+// Returns the command `qrencode` for `clap`, before its arguments are added.
 fn empty_command<'a>(alloc: Global) -> Command<'a>
     ensures { app_of result ≡ new_app (codes "qrencode") }
 {
@@ -133,7 +135,7 @@ const STRUCTURED: OptionText<'static> = OptionText {
     help: "Draw a series of up to 16 symbols where one does not hold the input; needs -v",
 };
 
-// Makes the command with its arguments.
+// Returns the command `qrencode` for `clap`, with all its arguments.
 fn command_line<'a>(alloc: Global) -> Result<Command<'a>, AllocError>
     ensures { IfOk result (λ c. app_of c ≡ command) }
 {
@@ -153,9 +155,10 @@ fn command_line<'a>(alloc: Global) -> Result<Command<'a>, AllocError>
     ))
 }
 
-/// Has `clap` parse the command line `words`, of which the first text is the program's name, and returns the matches.
-/// If `clap` refuses the command line, returns its message, or the help text if help is asked for, as
-/// `UsageFault::Words`. Returns `UsageFault::Memory` if memory is refused.
+/// Parses the command line `words` with `clap`, and returns the matches: the arguments that `clap` found, with their
+/// values. The first text of `words` is the program's name. If `clap` refuses the command line, returns
+/// `UsageFault::Words` with the message of `clap`. A command line that asks for help is refused too, and the message is
+/// then the help text. Returns `UsageFault::Memory` if memory is refused.
 pub(crate) fn matches<'a>(alloc: Global, words: &'a [String]) -> Result<ArgMatches<'a>, UsageFault>
     ensures taken { IfOk result (λ m. faults_for (map string_bytes words.entry.now) ≡ []) }
     ensures rows { IfOk result (λ m. rows_of (found_of m) ≡ rows_for (map string_bytes words.entry.now)) }

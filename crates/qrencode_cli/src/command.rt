@@ -1,4 +1,5 @@
-//! Runs the command: parses the arguments, reads the input, encodes it, draws the symbols, and reports a fault.
+//! Runs the command: parses the arguments, reads the input, encodes it, and draws the symbols. After a fault, writes
+//! the fault's line to standard error.
 
 ghost use Rattle.std.specs.Prelude.{◌≡◌, ◌≤◌, ◌<◌, ◌↔◌, Err, OnOk, IfErr, IsErrOf, IsTrue, max, length, map};
 ghost use Rattle.std.specs.Prelude.{MatchResult, Result};
@@ -20,7 +21,8 @@ use qr_layout::Version;
 use qr_symbol::{Symbol, encode, encode_series};
 use std::alloc::Global;
 
-// Encodes `input` as one symbol, or as a series under `-S`, with the level, the version and the modes of `settings`.
+// Encodes `input` with the level, the version and the modes of `settings`, and returns the symbols. The result is a
+// series under `-S`, and otherwise one symbol.
 fn symbols_for(alloc: Global, input: &[u8], settings: &Settings) -> Result<Vec<Symbol>, Fault>
     requires { length input.now ≤ INPUT_MAX }
     ensures { MatchResult result (λ symbols. AreDrawnFor settings.now input.now symbols.items)
@@ -37,7 +39,7 @@ fn symbols_for(alloc: Global, input: &[u8], settings: &Settings) -> Result<Vec<S
     Ok(symbols)
 }
 
-// Encodes `input` as it is, without folding, and returns the drawing job.
+// Encodes `input` without folding its letters, and returns the drawing job: the symbols, and how they are drawn.
 fn job_of(alloc: Global, input: &[u8], settings: &Settings) -> Result<DrawingJob, Fault>
     requires { length input.now ≤ INPUT_MAX }
     ensures { MatchResult result (λ p. IsDrawing settings.now input.now (drawing_of_job p))
@@ -50,7 +52,8 @@ fn job_of(alloc: Global, input: &[u8], settings: &Settings) -> Result<DrawingJob
     })
 }
 
-// Encodes `input`, which is folded first under `-i`, and returns the drawing job.
+// Encodes `input`, and returns the drawing job: the symbols, and how they are drawn. Under `-i`, folds `input` first,
+// that is, turns its small letters into capitals as `fold` does.
 fn make_job(alloc: Global, input: &[u8], settings: &Settings) -> Result<DrawingJob, Fault>
     requires { length input.now ≤ INPUT_MAX }
     ensures { MatchResult result (λ p. IsDrawing settings.now (held settings.now input.now) (drawing_of_job p))
@@ -63,8 +66,9 @@ fn make_job(alloc: Global, input: &[u8], settings: &Settings) -> Result<DrawingJ
     job_of(alloc, input, settings)
 }
 
-// Parses the command line `words`, and encodes its string, or `input` if it has no string; at most `INPUT_MAX` bytes of
-// either are encoded. Returns the drawing job.
+// Parses the command line `words`, encodes the input, and returns the drawing job: the symbols, and how they are drawn.
+// The input is the string among the arguments. If there is no string, the input is read from `input`. At most the first
+// `INPUT_MAX` bytes of the input are encoded.
 fn job_for<R: Source>(alloc: Global, words: &[String], input: &mut R) -> Result<DrawingJob, Fault>
     ensures prepares { Prepares (map string_bytes words.now) (R.device input.old)
         (R.device input.new) result }
@@ -99,7 +103,7 @@ fn write_drawing<W: Sink>(job: &DrawingJob, out: &mut W) -> Result<(), Fault>
     out.flush().map_err(|_| Fault::Write)
 }
 
-// Runs the command, but returns a fault and does not report it.
+// Runs the command as `run` does, but returns a fault and does not write the fault's line.
 fn run_to_result<R: Source, W: Sink>(
     alloc: Global,
     words: &[String],
@@ -119,46 +123,51 @@ fn run_to_result<R: Source, W: Sink>(
     write_drawing(&job, out)
 }
 
-/// Runs the command: parses the arguments `words`, of which the first is the program's name, reads the input, and
-/// writes the drawing to `out`. After a fault it writes the fault's line to `err`. Returns the exit status, 0 or 1.
+/// Runs the command: parses the arguments `words`, reads the input, and writes the drawing to `out`. The first of
+/// `words` is the program's name. The input is read from `input`, unless the arguments contain it as a string. After a
+/// fault, writes the fault's line to `err`. Returns the exit status, which is 0 or 1.
 ///
-/// Reads and writes that are interrupted are tried again: 999 times for the input, 999 times for the drawing, and 999
-/// times for the line of a fault.
+/// An interrupted read of the input is tried again, at most 999 times in all. The same limit holds for interrupted
+/// writes of the drawing, and separately for interrupted writes of a fault's line.
 ///
-/// On success `out` received the whole drawing of the input's symbol, or of its series, and was flushed once, after the
-/// last byte. `err` received nothing, and the status is 0.
+/// After success, `out` received the whole drawing of the input's symbol, or of its series of symbols. Then `out` was
+/// flushed once, after the last byte. `err` received nothing, and the status is 0.
 ///
-/// If the symbols that were drawn are read and joined, the result is exactly the input, and no byte of it was cut off.
-/// With `-i` the result is the folded input, in which letters are capitals as said below.
+/// If the drawn symbols are read and their bytes are joined, the result is exactly the input. No byte of the input was
+/// cut off. With `-i` the result is the folded input. The paragraph on `-i` below states which letters folding turns
+/// into capitals.
 ///
-/// With `-8` the whole input is in byte mode. Without `-8`, kanji mode may be used only with `-k`.
+/// With `-8` the whole input is encoded in byte mode. Without `-8`, kanji mode may be used only if `-k` is given.
 ///
-/// With `-i` the letters `a` to `z` are encoded as capitals; but with `-k` kanji pairs are unchanged, and with `-8` all
-/// bytes are unchanged. Without `-i` nothing is folded.
+/// With `-i` the letters `a` to `z` are encoded as capitals. If `-k` is given too, kanji pairs (two bytes that are one
+/// character of kanji mode) are unchanged. If `-8` is given too, all bytes are unchanged. Without `-i` no letter is
+/// changed.
 ///
-/// On a fault the status is 1, and `err` received the fault's line, or a prefix of the line if a write of it failed.
-/// After a write fault `out` received a prefix of the drawing, or the whole drawing if only the flush failed. After any
-/// other fault no call of `out` was made.
+/// After a fault the status is 1, and `err` received the fault's line. If a write to `err` failed, `err` received a
+/// prefix of this line. After a write fault, `out` received a prefix of the drawing, or the whole drawing if only the
+/// flush failed. After any other fault, nothing was written to `out`, and `out` was not flushed.
 ///
-/// A read fault is reported exactly if a read failed or was interrupted for the 1,000th time. A write fault is reported
-/// exactly if a write of the drawing failed, took no byte, or was interrupted for the 1,000th time, or if the flush
-/// failed.
+/// A read fault is reported exactly if one of two events occurred: a failed read, or the 1,000th interrupted read. A
+/// write fault is reported exactly if one of four events occurred: a failed write of the drawing, a write that accepted
+/// no byte, the 1,000th interrupted write, or a failed flush.
 ///
-/// The input is every byte up to its end. At most 113,425 bytes are read, in at most 114,424 reads, and no read of any
-/// kind comes after the end.
+/// The input is every byte of `input` up to its end, but at most 113,425 bytes are read. No more than 114,424 calls
+/// read from `input`. After the end of `input` no further read is made, not even a read into an empty buffer.
 ///
-/// A run that reports no read fault has read to the end of the input, or 113,425 bytes of it. After a write fault `out`
-/// took at most as many bytes as the drawing has, and `err` always takes at most as many bytes as the line of the fault
-/// has. The counts of the devices show this, so it holds for files, pipes and terminals too.
+/// If a run has to read the input, it reads `input` to its end, or until it has 113,425 bytes. Only a read fault or
+/// lack of memory can stop the reading earlier. After a write fault, the number of bytes that `out` received is at most
+/// the length of the drawing. The number of bytes that `err` received is at most the length of the fault's line. The
+/// counts of the devices show these facts, so the facts hold for files, pipes and terminals too.
 ///
-/// No write of the drawing offers more than 1,200 bytes.
+/// No single write of the drawing offers more than 1,200 bytes to `out`.
 ///
-/// An input is too long only if its least segmentation fits no version from the smallest allowed version on. It needs
-/// too many symbols only if it does not fit one symbol and has more than 16 parts.
+/// An input is refused as too long only if its shortest encoding is too long for every allowed version. With `-S`, an
+/// input is refused for too many symbols only if it does not fit one symbol and is cut into more than 16 parts.
 ///
-/// The promises about bytes hold for readers and writers whose bytes a contract can know, such as those in memory. The
-/// promises about counts hold for devices whose counts start at 0. For the standard streams the counts are promised:
-/// how many bytes were read, that the end was reached, how many bytes were taken, and which faults occurred.
+/// The promises about bytes hold for readers and writers whose bytes a contract can know, such as buffers in memory.
+/// The promises about counts hold for devices whose counts are 0 before the run. For the standard streams, only the
+/// promises about counts hold. These counts show how many bytes were read and written, whether the end of the input was
+/// reached, and which faults occurred.
 ///
 /// # Notes
 ///

@@ -1,4 +1,4 @@
-//! The work of a run after its input is encoded: which symbols are drawn, and how.
+//! The drawing job of a run of the command: the symbols that are to be drawn, and how they are drawn.
 
 ghost use Rattle.std.specs.Prelude.{◌<◌, ◌≤◌, length};
 ghost use Rattle.qr_symbol.specs.Series.{squares_of};
@@ -7,7 +7,8 @@ ghost use Rattle.qr_drawing.specs.Drawing.{HaveOneSide};
 use qr_drawing::Drawing;
 use qr_symbol::Symbol;
 
-/// One symbol, or the symbols of a series, with the type and the margin of their drawing.
+/// The symbols that are to be drawn, with the type and the margin of the drawing. The list contains either one symbol
+/// or all symbols of a series.
 #[derive(Drop)]
 pub(crate) struct DrawingJob {
     pub symbols: Vec<Symbol>,

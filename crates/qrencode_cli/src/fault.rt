@@ -8,7 +8,8 @@ use qr_drawing::DrawFault;
 use qr_symbol::EncodeFault;
 use std::alloc::{AllocError, AllocFailed};
 
-/// Why the command draws nothing, or only a part of the drawing. Lack of memory is always `Memory`.
+/// The reason why the command draws nothing, or only a part of its drawing. Lack of memory is always reported as
+/// `Memory`, never as `Usage` or `Encode`.
 #[derive(Debug, Drop)]
 pub(crate) enum Fault {
     Usage(UsageFault),
@@ -19,8 +20,8 @@ pub(crate) enum Fault {
 }
 
 impl Fault {
-    /// Returns the line that is written to standard error for this fault. For arguments that `clap` refuses, it is the
-    /// text of `clap`.
+    /// Returns the line that reports this fault on standard error. If `clap` refused the arguments, returns the text of
+    /// `clap`.
     pub(crate) fn line(&self) -> &[u8]
         ensures { result.now ≡ fault_line self.now }
     {

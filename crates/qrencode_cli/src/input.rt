@@ -1,4 +1,5 @@
-//! Reads the input: every byte up to its end, or the first `INPUT_MAX` bytes, more than any symbol or series holds.
+//! Reads the command's input to its end, or only its first `INPUT_MAX` bytes. No symbol and no series of symbols can
+//! contain that many bytes.
 
 ghost use Rattle.std.specs.Prelude.{◌≡◌, ◌+◌, ◌≤◌, ◌↔◌, ◌⊎◌, IfErr, IfOk, IsTrue, IsErrOf, length};
 ghost use Rattle.std.specs.Io.KnownBytes.{Consumes};
@@ -13,23 +14,26 @@ use std::alloc::Global;
 
 const CHUNK: usize = 4096;
 
-/// Reads `input` to its end, or `INPUT_MAX` bytes of it, and returns the bytes.
+/// Reads `input` until it ends or `INPUT_MAX` bytes were read, and returns the bytes.
 pub(crate) fn read_input<R: Source>(alloc: Global, input: &mut R) -> Result<Vec<u8>, Fault>
     ensures bytes { IfOk result (λ bytes. IsInputOf (R.device input.old).remaining bytes.items) }
     ensures bounded { IfOk result (λ bytes. length bytes.items ≤ INPUT_MAX) }
     ensures consumed { IfOk result (λ bytes. Consumes (R.device input.old).remaining (R.device input.new).remaining bytes.items) }
-    // `Fault::Read` is returned exactly if the counts show its cause: a read that failed, or the 1,000th interruption.
+    // `Fault::Read` is returned exactly if the device's counts show one of its two causes: a read that failed, or the
+    // 1,000th interrupted read.
     ensures fault { (R.device input.old).counts ≡ no_reads
         → IsErrOf result Fault.Read ↔ IsTrue (is_read_fault (R.device input.new).counts) }
     ensures only { IfErr result (λ f. (f ≡ Fault.Read) ⊎ (f ≡ Fault.Memory)) }
-    // Every byte that the device returned is in the input. The counts show this also if the device's bytes are unknown.
+    // The result contains as many bytes as the reads returned, according to the device's counts. The counts are known
+    // even if the bytes of the device are not.
     ensures given { (R.device input.old).counts ≡ no_reads
         → IfOk result (λ bytes. (R.device input.new).counts.given ≡ length bytes.items) }
-    // The device was read to its end, or `INPUT_MAX` bytes of it were read. The counts show this also if its bytes are
-    // unknown.
+    // The device's counts show that it was read to its end, or that `INPUT_MAX` bytes were read. The counts are known
+    // even if the bytes of the device are not.
     ensures ended { (R.device input.old).counts ≡ no_reads
         → IfOk result (λ bytes. ((R.device input.new).counts.ends ≡ 1) ⊎ (length bytes.items ≡ INPUT_MAX)) }
-    // Each count of the reads keeps its limit, and no read comes after the end of the input.
+    // The device's counts stay within the limits of `IsReadWithin`. One of these limits is that no read comes after the
+    // end of the input.
     ensures within { (R.device input.old).counts ≡ no_reads → IsReadWithin (R.device input.new).counts }
 {
     let mut bytes = Vec::new(alloc);

@@ -1,4 +1,4 @@
-//! Laws of the command. Each function does nothing: its contract is the law.
+//! Laws about the command. Each function does nothing, and its contract states a law.
 
 ghost use Rattle.std.specs.Prelude.{◌≡◌};
 ghost use Rattle.qr_bits.specs.declared.modes.TheConstants.{INPUT_MAX};
@@ -6,49 +6,55 @@ ghost use Rattle.qr_devices.specs.declared.device.TheConstants.{INTERRUPTIONS_MA
 ghost use Rattle.qr_drawing.specs.declared.pen.TheConstants.{WRITE_MAX};
 ghost use Rattle.qrencode_cli.specs.Laws.{AnswersAreOne, FoldingFollowsTheRule, LinesOfFaults, NumbersOfUsageFaults, RefusalsAreOne, RefusalsExcludeDrawings, CommandLines, RulesOfModes, StatusesAreTwo};
 
-/// Each of the 45 listed command lines has the settings beside it, or is refused for the reason beside it.
+/// `CommandLines` lists 45 command lines, each with its settings or with a reason to refuse it. Each command line on
+/// the list has the settings beside it, or is refused for the reason beside it.
 pub fn command_lines()
     ensures { CommandLines }
 {}
 
-/// The values of three constants that other contracts name: at most 113,425 bytes of input are read, one write offers
-/// at most 1,200 bytes, and for each device up to 999 interrupted calls are tried again.
+/// Three constants have these values. At most 113,425 bytes of input are read (`INPUT_MAX`). One write offers at most
+/// 1,200 bytes to a device (`WRITE_MAX`). For each device, at most 999 interrupted calls are tried again
+/// (`INTERRUPTIONS_MAX`).
 pub fn limits()
     ensures input { INPUT_MAX ≡ 113425 }
     ensures piece { WRITE_MAX ≡ 1200 }
     ensures interruptions { INTERRUPTIONS_MAX ≡ 999 }
 {}
 
-/// Arguments and input have at most one drawing. If they have a drawing, they are not refused: then only lack of memory
-/// or a device can make the run fail. If they are refused, only one reason is correct.
+/// A command line and an input have at most one drawing. If they have a drawing, no refusal is correct for them. Then
+/// only a device or lack of memory can make the run fail. For every command line and every input, at most one refusal
+/// is correct.
 pub fn answers_are_one()
     ensures drawing { AnswersAreOne }
     ensures refusal { RefusalsExcludeDrawings }
     ensures reason { RefusalsAreOne }
 {}
 
-/// `-8` allows byte mode only, also beside `-k`. Without `-8`, `-k` allows kanji mode too.
+/// With `-8` only byte mode is allowed, even if `-k` is given too. Without `-8`, the option `-k` allows kanji mode in
+/// addition to the other modes.
 pub fn rules_of_modes()
     ensures { RulesOfModes }
 {}
 
-/// The input is folded under `-i` only. With `-i` and `-k` together, kanji pairs are not changed.
+/// Folding turns the letters `a` to `z` of the input into capitals. The input is folded only if `-i` is given. If `-k`
+/// is given too, folding does not change kanji pairs, that is, two bytes that are one character of kanji mode.
 #[tactic(auto, unfolding(qr_bits::specs::Folding::folded_around_pairs, qr_bits::specs::Modes::is_kanji_pair))]
 pub fn folding_follows_the_rule()
     ensures { FoldingFollowsTheRule }
 {}
 
-/// The status of a run is 0 if it succeeds, and 1 after any fault.
+/// The exit status of a run is 0 if the run succeeds, and 1 after any fault.
 pub fn statuses_are_two()
     ensures { StatusesAreTwo }
 {}
 
-/// Each fault has the line that is listed, except for arguments that `clap` refuses.
+/// `LinesOfFaults` lists the line that each fault writes to standard error. The list leaves out the fault of arguments
+/// that `clap` refuses.
 pub fn lines_of_faults()
     ensures { LinesOfFaults }
 {}
 
-/// Each `UsageFault` has the number that is listed.
+/// Each `UsageFault` has the number that `NumbersOfUsageFaults` lists for it.
 pub fn numbers_of_usage_faults()
     ensures { NumbersOfUsageFaults }
 {}

@@ -1,5 +1,6 @@
-//! The command `qrencode`: it parses its arguments, reads its input, and draws the symbols. Passes on the devices of
-//! `qr_devices` and the drawings of `qr_drawing` that it uses.
+//! This crate is the command `qrencode`: the function `run` parses the arguments, reads the input, and draws the
+//! symbols. The crate re-exports the devices of `qr_devices`, and from `qr_drawing` the types of drawing and the
+//! function `draw`.
 #![tactic(auto)]
 
 mod arguments;

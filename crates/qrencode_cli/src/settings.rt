@@ -1,4 +1,4 @@
-//! Reads the settings from a command line.
+//! Reads the settings of a run from its command line.
 
 ghost use Rattle.std.specs.Prelude.{◌≡◌, ◌≢◌, ◌↔◌, String, Err, Ok, Some, IfOk, MatchResult, map, codes, option_and_then, option_map};
 ghost use Rattle.std.specs.Option.{option_map_or};
@@ -19,30 +19,30 @@ use std::alloc::{AllocError, Global};
 use std::marker::Model;
 use thiserror::Error;
 
-// The default margin in modules: the width of the quiet zone (ISO/IEC 18004:2015, 6.3.8).
+// The default margin, in modules, which is the width of the quiet zone (ISO/IEC 18004:2015, 6.3.8).
 const QUIET_ZONE: u8 = 4;
 
-/// The settings of a run: what the arguments of its command line mean.
+/// The settings of one run of the command, which follow from its command line.
 #[derive(Debug, Drop)]
 pub struct Settings {
-    /// The level of error correction.
+    /// The error correction level.
     pub level: Level,
-    /// The smallest version that may be chosen, or `None` for any version. For a series, the version of its symbols.
+    /// The smallest version that may be chosen, or `None` if every version may be chosen. For a series, the version of
+    /// all its symbols.
     pub smallest: Option<Version>,
     /// The type of the drawing.
     pub kind: Drawing,
-    /// The light margin on each side, in modules, from 0 to 100.
+    /// The width of the light margin on each side of a symbol, in modules, from 0 to 100.
     pub margin: u8,
     /// Whether the whole input is encoded in byte mode.
     pub bytes_only: bool,
-    /// Whether kanji mode may be used. This has no effect if the whole input is encoded in byte mode.
+    /// Whether kanji mode may be used. The value has no effect if `bytes_only` is true.
     pub kanji: bool,
-    /// Whether the letters a to z are encoded as capitals. This has no effect if the whole input is encoded in byte
-    /// mode.
+    /// Whether the letters `a` to `z` are encoded as capitals. The value has no effect if `bytes_only` is true.
     pub fold: bool,
     /// Whether a series of symbols is drawn if the input does not fit one symbol.
     pub structured: bool,
-    /// The input if it is an argument, or `None` if standard input is read.
+    /// The input, if the command line contains it as an argument. The value is `None` if standard input is read.
     pub string: Option<String>,
 }
 
@@ -67,7 +67,7 @@ impl Model for Settings {
 }
 
 impl Settings {
-    // Returns the modes that segments may have.
+    // Returns the rule that says which encoding modes the segments may have.
     pub(crate) fn rule(&self) -> Rule
         ensures { result ≡ rule_for self.now }
     {
@@ -81,19 +81,20 @@ impl Settings {
     }
 }
 
-/// Why a command line is refused. If several of these causes apply, the first in this order is returned.
+/// The reason why a command line is refused. If several of the first four reasons apply, the one that is listed first
+/// here is returned. `Memory` is returned if memory is refused before another reason is found.
 #[derive(Debug, Drop, Error)]
 pub enum UsageFault {
-    /// `clap` refuses the arguments. The text is its message, or the help text if help is asked for.
+    /// `clap` refuses the arguments. The text is the message of `clap`, or the help text if the arguments ask for help.
     #[error("{0}")]
     Words(String),
-    /// The level is not one of L, M, Q and H.
+    /// The error correction level is not L, M, Q or H.
     #[error("unknown level")]
     Level,
     /// The type of drawing is unknown.
     #[error("unknown type")]
     Kind,
-    /// A series is asked for without a version.
+    /// `-S` asks for a series of symbols, but the option `-v` is missing or its number is 0.
     #[error("-S needs -v")]
     NeedsVersion,
     /// Memory was refused.
@@ -104,11 +105,11 @@ pub enum UsageFault {
 impl UsageFault {
     ghost use Rattle.qrencode_cli.specs.Settings.{usage_fault_number};
 
-    /// Returns the number of the fault.
+    /// Returns the number of this fault, from 1 to 5.
     ///
     /// # Notes
     ///
-    /// The number stays the same in later versions of this crate.
+    /// The number of a fault stays the same in later versions of this crate.
     pub fn number(&self) -> u8
         ensures { result ≡ usage_fault_number self.now }
     {
@@ -133,14 +134,15 @@ impl From<AllocError> for UsageFault {
     }
 }
 
-// Returns the first value of the argument `id`, or `None` if it is not given.
+// Returns the first value of the argument `id` among `matches`, or `None` if this argument is not given.
 fn text_in<'a>(matches: &ArgMatches<'a>, id: &str) -> Option<&'a str>
     ensures { option_map (λ s. s.now) result ≡ first_of id.now (rows_of (found_of matches.now)) }
 {
     matches.get_str(id)
 }
 
-// Returns the type of drawing called `name`, in small or capital letters, or `None` if no type is called so.
+// Returns the type of drawing that has the name `name`, or `None` if no type has this name. Small and capital letters
+// are treated alike.
 fn drawing_named(name: &str) -> Option<Drawing>
     ensures { result ≡ drawing_named name.now }
 {
@@ -157,14 +159,16 @@ fn drawing_named(name: &str) -> Option<Drawing>
     }
 }
 
-// Returns the level of `-l`, or L if `-l` is not given. Returns `None` if the level is unknown.
+// Returns the error correction level that `-l` asks for, or level L if `-l` is not given. Returns `None` if `-l` asks
+// for an unknown level.
 fn level_in(matches: &ArgMatches<'_>) -> Option<Level>
     ensures { result ≡ option_map_or level_named (first_of (codes "level") (rows_of (found_of matches.now))) (Some Level.L) }
 {
     text_in(matches, "level").map_or(Some(Level::L), level_named)
 }
 
-// Returns the level called `name`, in a small or a capital letter, or `None` if no level is called so.
+// Returns the error correction level that has the letter `name`, or `None` if no level has this letter. Small and
+// capital letters are treated alike.
 fn level_named(name: &str) -> Option<Level>
     ensures { result ≡ level_named name.now }
 {
@@ -181,40 +185,42 @@ fn level_named(name: &str) -> Option<Level>
     }
 }
 
-// Returns the type of drawing of `-t`, or `None` if it is unknown.
+// Returns the type of drawing that `-t` asks for, or `None` if this type is unknown.
 fn drawing_in(matches: &ArgMatches<'_>) -> Option<Drawing>
     ensures { result ≡ option_and_then drawing_named (first_of (codes "type") (rows_of (found_of matches.now))) }
 {
     text_in(matches, "type").and_then(drawing_named)
 }
 
-// Returns whether the flag `id` is given. It is read as text, since `clap`'s contracts describe values as text.
+// Returns whether the option `id`, an option without a value, is given. Reads the option as a text, because the
+// contracts of `clap` describe every value as a text.
 fn flag_in(matches: &ArgMatches<'_>, id: &str) -> bool
     ensures { result ≡ flag_at (first_of id.now (rows_of (found_of matches.now))) }
 {
     text_in(matches, id) == Some("true")
 }
 
-// Returns the number of the option `id`, or `otherwise` if the option is not given.
+// Returns the number that is the value of the option `id`, or `otherwise` if the option is not given.
 fn number_in(matches: &ArgMatches<'_>, id: &str, otherwise: u8) -> u8
     ensures { result ≡ number_or otherwise (one_of id.now (rows_of (found_of matches.now))) }
 {
     match matches.try_get_one::<u8>(id) {
         Ok(Some(number)) => number,
         Ok(None) => otherwise,
-        // `clap` accepts `-0` as a number in the range, but it does not parse as a `u8`. It means 0.
+        // `clap` accepts the text `-0`, which means 0, as a number in the range. But `-0` does not parse as a `u8`, so
+        // `clap` returns an error here.
         Err(_) => 0,
     }
 }
 
-// Returns the version of `-v`, or `None` if it is 0 or not given.
+// Returns the version that `-v` asks for, or `None` if `-v` is not given or its number is 0.
 fn version_in(matches: &ArgMatches<'_>) -> Option<Version>
     ensures { result ≡ version_at (one_of (codes "version") (rows_of (found_of matches.now))) }
 {
     Version::new(number_in(matches, "version", 0))
 }
 
-// Returns a copy of the positional argument, or `None` if it is not given.
+// Returns a copy of the positional argument, or `None` if no positional argument is given.
 fn string_in(alloc: Global, matches: &ArgMatches<'_>) -> Result<Option<String>, AllocError>
     ensures { IfOk result (λ s. option_map string_bytes s ≡ first_of (codes "string") (rows_of (found_of matches.now))) }
 {
@@ -224,7 +230,7 @@ fn string_in(alloc: Global, matches: &ArgMatches<'_>) -> Result<Option<String>, 
     }
 }
 
-// Reads the settings from the matches of `clap`.
+// Reads the settings from `matches`, the arguments and values that `clap` found in the command line.
 fn settings_in(alloc: Global, matches: &ArgMatches<'_>) -> Result<Settings, UsageFault>
     ensures { MatchResult result (λ s. settings_of (rows_of (found_of matches.now)) ≡ Ok s)
         (IsUsageFault (settings_of (rows_of (found_of matches.now)))) }
@@ -253,13 +259,14 @@ fn settings_in(alloc: Global, matches: &ArgMatches<'_>) -> Result<Settings, Usag
     })
 }
 
-/// Parses a command line, of which the first text is the program's name. `clap` decides which arguments are valid and
-/// which values the options have; its contract states both for commands without subcommands.
+/// Parses the command line `words`, and returns its settings. The first text of `words` is the program's name. The
+/// crate `clap` decides which arguments are valid and which values the options have. The contract of `clap` states both
+/// for commands without subcommands.
 ///
 /// # Errors
 ///
-/// Returns the first fault that applies, in the order `Words`, `Level`, `Kind`, `NeedsVersion`. `Words` is returned
-/// only if `clap` refuses the arguments. Returns `Memory` if memory is refused before another fault is found.
+/// Returns the first fault that applies, in the order `Words`, `Level`, `Kind`, `NeedsVersion`. Returns `Words` only if
+/// `clap` refuses the arguments. Returns `Memory` if memory is refused before another fault is found.
 pub fn options(alloc: Global, words: &[String]) -> Result<Settings, UsageFault>
     ensures settings { MatchResult result (λ s. settings_for (map string_bytes words.now) ≡ Ok s)
         (IsUsageFault (settings_for (map string_bytes words.now))) }

@@ -9,8 +9,9 @@ use Rattle.qrproved.specs.declared.encoding.QrprovedSymbol.{QrprovedSymbol}
 use Rattle.qrproved.specs.Settings.{AreSettings, level_of, rule_of}
 use Rattle.qrproved.specs.Modules.{HoldsSquares}
 
--- `IsWritten x version level rule before after s` holds if the buffer `before` became `after`, which contains the symbol
--- of the input x, and the struct s contains its version, side and mask. The symbol is read as the input [own].
+-- `IsWritten x version level rule before after s` holds if a buffer changed from `before` to `after` because the symbol
+-- of the input `x` was written to its first bytes. The numbers `version`, `level` and `rule` of the call are in range.
+-- The struct `s` contains the symbol's version, side and mask. If the symbol is read, the result is the input [own].
 pub record IsWritten (x : List ℕ) (version level rule : ℕ) (before after : List ℕ) (s : QrprovedSymbol) : Type 0 where
   pub settings : AreSettings version level rule
   pub square : Grid
@@ -19,8 +20,8 @@ pub record IsWritten (x : List ℕ) (version level rule : ℕ) (before after : L
   pub side : s.side ≡ square.side
   pub holds : HoldsSquares s.side (square ∷ []) before after
 
--- `HasNoRoom x version level rule buffer` holds if the symbol of the input x has more modules than the buffer has bytes
--- [own].
+-- `HasNoRoom x version level rule buffer` holds if the symbol of the input `x` has more modules than `buffer` has
+-- bytes. The symbol has the least version that the input fits, from `version` on [own].
 pub record HasNoRoom (x : List ℕ) (version level rule : ℕ) (buffer : List ℕ) : Type 0 where
   pub least : ℕ
   pub fits : IsVersion version (level_of level) (rule_of rule) x least

@@ -10,9 +10,10 @@ use Rattle.qrproved.specs.declared.series.QrprovedSeries.{QrprovedSeries}
 use Rattle.qrproved.specs.Settings.{AreSettings, level_of, rule_of}
 use Rattle.qrproved.specs.Modules.{HoldsSquares}
 
--- `IsWrittenSeries x version level rule before after t` holds if the buffer `before` became `after`, which contains the
--- series of the input x, and the struct t contains its number of symbols and their side. The symbols are joined to the
--- input, and without kanji mode the series is the shortest possible [own].
+-- `IsWrittenSeries x version level rule before after t` holds if a buffer changed from `before` to `after` because the
+-- series of the input `x` was written to its first bytes. The numbers `version`, `level` and `rule` of the call are in
+-- range. The struct `t` contains the number of symbols and the side of each symbol. If the symbols are read and joined,
+-- the result is the input. Without kanji mode no shorter series exists [own].
 pub record IsWrittenSeries (x : List ℕ) (version level rule : ℕ) (before after : List ℕ) (t : QrprovedSeries) : Type 0 where
   pub settings : AreSettings version level rule
   pub symbols : List Symbol
@@ -23,8 +24,8 @@ pub record IsWrittenSeries (x : List ℕ) (version level rule : ℕ) (before aft
   pub side : t.side ≡ side_of version
   pub holds : HoldsSquares t.side (squares_of symbols) before after
 
--- `HasNoSeriesRoom x version level rule buffer` holds if the series of the input x has more modules than the buffer has
--- bytes [own].
+-- `HasNoSeriesRoom x version level rule buffer` holds if the symbols of the series of the input `x` have more modules
+-- than `buffer` has bytes [own].
 pub record HasNoSeriesRoom (x : List ℕ) (version level rule : ℕ) (buffer : List ℕ) : Type 0 where
   pub symbols : List Symbol
   pub made : IsSeries version (level_of level) (rule_of rule) x symbols

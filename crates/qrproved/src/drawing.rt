@@ -12,20 +12,20 @@ use qr_drawing::{Drawing, draw};
 use qr_symbol::Matrix;
 use std::alloc::{AllocError, Global};
 
-// The checked numbers of a call that draws.
+// The numbers that a caller passes to `qrproved_draw`, after they were checked.
 #[derive(Clone, Copy)]
 struct DrawingSettings {
-    // The number of modules on a side.
+    // The number of modules on a side of each square.
     side: u8,
-    // The number of squares.
+    // The number of squares that are drawn.
     count: u8,
     // The type of drawing.
     drawing: Drawing,
-    // The number of light modules on each side of a square.
+    // The width of the light margin on each side of a square, in modules.
     margin: u8,
 }
 
-// Returns the type of drawing with this number.
+// Returns the type of drawing with the number `number`, or `None` if the number is more than 3.
 fn drawing_of(number: u32) -> Option<Drawing>
     ensures { SomeIff result (number < 4) (drawing_of number) }
 {
@@ -38,7 +38,7 @@ fn drawing_of(number: u32) -> Option<Drawing>
     }
 }
 
-// Returns the settings with these numbers if all of them are in range.
+// Returns the settings with these numbers, or `None` if at least one number is out of range.
 fn drawing_settings_of(side: u32, count: u32, drawing: u32, margin: u32) -> Option<DrawingSettings>
     ensures { SomeIff result (AreDrawingSettings side count drawing margin)
         (record { side = side; count = count; drawing = drawing_of drawing; margin = margin }) }
@@ -51,7 +51,8 @@ fn drawing_settings_of(side: u32, count: u32, drawing: u32, margin: u32) -> Opti
     })
 }
 
-// Returns the squares whose modules have these bytes, one square after another.
+// Returns the `count` squares whose modules are the bytes of `modules`, one square after another. Each square has
+// `side` modules on a side.
 fn squares_of(alloc: Global, modules: &[u8], side: u8, count: u8) -> Result<Vec<Matrix>, AllocError>
     requires least { 1 ≤ side }
     requires most { side ≤ 177 }
@@ -67,7 +68,8 @@ fn squares_of(alloc: Global, modules: &[u8], side: u8, count: u8) -> Result<Vec<
     Ok(squares)
 }
 
-// Returns the drawing of the squares whose modules have these bytes.
+// Returns the drawing of the squares whose modules are the bytes of `modules`, one square after another. `asked`
+// contains the side and the number of the squares, and the type and the margin of the drawing.
 fn drawn(alloc: Global, modules: &[u8], asked: DrawingSettings) -> Result<Vec<u8>, AllocError>
     requires least { 1 ≤ asked.side }
     requires most { asked.side ≤ 177 }
@@ -85,17 +87,19 @@ fn drawn(alloc: Global, modules: &[u8], asked: DrawingSettings) -> Result<Vec<u8
     }
 }
 
-/// Writes the drawing of squares of one side, as `qrencode` draws symbols. Their modules are in the buffer `modules`,
-/// as `qrproved_encode_series` writes them; any byte but 0 is a dark module, and a square need not be a symbol. The
-/// numbers of types of drawing are 0 to 3 for ASCII, ASCIIi, UTF8 and SVG.
+/// Draws squares of modules as the command `qrencode` draws symbols, and writes the drawing to the buffer `text`. All
+/// squares have `side` modules on a side, and need not be symbols. Their modules are in the buffer `modules`, in the
+/// order in which `qrproved_encode_series` writes them. Any byte except 0 is a dark module. The numbers 0 to 3 of
+/// `drawing` are the types ASCII, ASCIIi, UTF8 and SVG.
 ///
-/// The causes of a refusal are checked in this order: the numbers (1 to 177 modules on a side, 1 to 16 squares, a type,
-/// a margin of 0 to 100 modules), too few modules in `modules`, and a buffer `text` that is too short for the drawing.
-/// If there are too few modules, `written` becomes 0. If `text` is too short, `written` becomes the length of the
-/// drawing. The first two causes are found without any allocation.
+/// The causes of a refusal are checked in this order: a number out of range, too few modules in `modules`, and a buffer
+/// `text` that is shorter than the drawing. The numbers are in range for 1 to 177 modules on a side, 1 to 16 squares,
+/// one of the four types, and a margin of 0 to 100 modules. If there are too few modules, `written` becomes 0. If
+/// `text` is too short, `written` becomes the length of the drawing. The first two causes are found before any
+/// allocation.
 ///
-/// On status 0 the text is the drawing of the squares whose modules are in the buffer, in the type and with the margin
-/// asked for, and its length is written.
+/// On status 0 the first bytes of `text` are the drawing of the squares in `modules`, in the type and with the margin
+/// asked for. The length of the drawing is in `written`.
 #[unsafe(no_mangle)]
 pub extern "C" fn qrproved_draw(
     alloc: Global,

@@ -13,7 +13,7 @@ use qr_symbol::encode;
 use qr_symbol::laws::long_inputs_have_none;
 use std::alloc::Global;
 
-/// The version, side and mask of a symbol.
+/// The version, the side and the mask pattern of a symbol that was encoded.
 #[repr(C)]
 #[derive(Clone, Copy)]
 pub struct QrprovedSymbol {
@@ -21,20 +21,21 @@ pub struct QrprovedSymbol {
     pub version: u8,
     /// The number of modules on a side, from 21 to 177.
     pub side: u8,
-    /// The mask, from 0 to 7.
+    /// The number of the mask pattern, from 0 to 7.
     pub mask: u8,
 }
 
-/// Writes the symbol of an input, in the least version from `version` on that it fits. The byte of a module is at index
-/// `row * side + column`. Levels are numbered 0 to 3: L, M, Q and H. Rules are numbered 0 to 2: 0 allows every mode
-/// except kanji, 1 byte mode alone, and 2 every mode.
+/// Encodes `input` as one symbol, and writes its modules to the buffer `modules`. The symbol has the least version that
+/// the input fits, from `version` on. The byte of a module is at index `row * side + column` of the buffer. The numbers
+/// 0 to 3 of `level` stand for L, M, Q and H in this order. The number 0 of `rule` allows every mode except kanji mode,
+/// 1 allows byte mode only, and 2 allows every mode.
 ///
-/// The causes of a refusal are checked in this order: the numbers, an empty input, an input that is too long, a buffer
-/// that is too short. Numbers out of range, an empty input and an input of more than 7,089 bytes are refused before any
-/// allocation.
+/// The causes of a refusal are checked in this order: a number out of range, an empty input, an input that is too long,
+/// a buffer that is too short. Numbers out of range, an empty input and an input of more than 7,089 bytes are refused
+/// before any allocation.
 ///
-/// On status 0 the buffer contains exactly the symbol of the input, row by row, and the symbol is read as the input.
-/// The struct contains the symbol's version, side and mask.
+/// On status 0 the buffer contains exactly the symbol of the input, row by row. If this symbol is read, the result is
+/// the input. The struct contains the symbol's version, side and mask.
 #[unsafe(no_mangle)]
 pub extern "C" fn qrproved_encode(
     alloc: Global,

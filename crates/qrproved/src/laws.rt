@@ -1,4 +1,4 @@
-//! The laws of the calls for C.
+//! Laws about the calls of the library. Each function exists only for its contract, which states a law.
 
 ghost use Rattle.std.specs.Prelude.{◌≡◌, [], ◌∷◌, map, true, false, IfOk};
 ghost use Rattle.qr_layout.specs.declared.level.Level.{Level};
@@ -16,11 +16,12 @@ use crate::status::{
 };
 use std::alloc::AllocError;
 
-/// The number of a status has one meaning in all calls. The statuses are 0 to 10, as the header lists them.
+/// The statuses of all calls have the numbers 0 to 10, as the header `include/qrproved.h` lists them. The number of a
+/// status has the same meaning in all calls.
 ///
 /// # Notes
 ///
-/// The numbers do not change between versions of the library.
+/// The number of a status does not change between versions of the library.
 pub fn statuses()
     ensures done { DONE ≡ 0 }
     ensures empty { EMPTY ≡ 1 }
@@ -35,41 +36,42 @@ pub fn statuses()
     ensures segments { SEGMENTS ≡ 10 }
 {}
 
-/// The numbers 0 to 3 are the four levels, the numbers 0 to 2 are the three rules, and the bytes of a dark and a light
-/// module are 1 and 0.
+/// The numbers 0 to 3 stand for the levels L, M, Q and H in this order. The numbers 0 to 2 stand for the rules `Auto`,
+/// `BytesOnly` and `WithKanji` in this order, which say which encoding modes may be used. The byte of a dark module is
+/// 1, and the byte of a light module is 0.
 pub fn numbers()
     ensures levels { map level_of (0 ∷ 1 ∷ 2 ∷ 3 ∷ []) ≡ Level.L ∷ Level.M ∷ Level.Q ∷ Level.H ∷ [] }
     ensures rules { map rule_of (0 ∷ 1 ∷ 2 ∷ []) ≡ Rule.Auto ∷ Rule.BytesOnly ∷ Rule.WithKanji ∷ [] }
     ensures bytes { map byte_of (true ∷ false ∷ []) ≡ 1 ∷ 0 ∷ [] }
 {}
 
-/// The square that is read from the bytes of a square has the colours of that square.
+/// If the modules of a square are written as bytes, the square that is read from these bytes has the same colours.
 pub fn bytes_are_their_square()
     ensures { BytesAreTheirSquare }
 {}
 
-/// A clone of the struct of a symbol has the same fields.
+/// A clone of a `QrprovedSymbol` has the same fields as the original.
 pub fn symbol_clones(a: QrprovedSymbol) -> Result<QrprovedSymbol, AllocError>
     ensures { IfOk result (λ b. b ≡ a) }
 {
     a.clone()
 }
 
-/// A clone of the struct of a series has the same fields.
+/// A clone of a `QrprovedSeries` has the same fields as the original.
 pub fn series_clones(a: QrprovedSeries) -> Result<QrprovedSeries, AllocError>
     ensures { IfOk result (λ b. b ≡ a) }
 {
     a.clone()
 }
 
-/// A clone of the struct of a symbol's content has the same fields.
+/// A clone of a `QrprovedContent` has the same fields as the original.
 pub fn content_clones(a: QrprovedContent) -> Result<QrprovedContent, AllocError>
     ensures { IfOk result (λ b. b ≡ a) }
 {
     a.clone()
 }
 
-/// A clone of the struct of a damaged symbol has the same fields.
+/// A clone of a `QrprovedMended` has the same fields as the original.
 pub fn mended_clones(a: QrprovedMended) -> Result<QrprovedMended, AllocError>
     ensures { IfOk result (λ b. b ≡ a) }
 {

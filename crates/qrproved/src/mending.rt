@@ -23,50 +23,52 @@ use qr_mending::{Mended, changed_max, mend_symbol, mend_symbol_without};
 use qr_symbol::{Matrix, ReadFault};
 use std::alloc::{AllocError, Global};
 
-/// The content of a damaged symbol, except for its bytes, and its damage.
+/// The content of a damaged symbol that was read, except for its bytes, and the damage of the symbol.
 #[repr(C)]
 #[derive(Clone, Copy)]
 pub struct QrprovedMended {
-    /// The number of bytes that the symbol contains.
+    /// The number of bytes of the input that the symbol contains.
     pub len: usize,
-    /// The number of modules of the whole square that are not known, or that differ from the symbol. It is 0 exactly if
-    /// all modules are known and the square is the symbol.
+    /// The number of modules of the whole square that are not known, or that have another colour than in the undamaged
+    /// symbol. The number is 0 exactly if all modules are known and the square is the undamaged symbol.
     pub wrong_modules: u32,
     /// The version, from 1 to 40.
     pub version: u8,
-    /// 1 if the symbol has a header and so is part of a series; 0 if it has none, and then `position`, `last` and
-    /// `parity` are 0.
+    /// 1 if the symbol has a structured append header, and so is part of a series. Otherwise `has_header`, `position`,
+    /// `last` and `parity` are all 0.
     pub has_header: u8,
     /// The position of the symbol in its series, from 0 to 15.
     pub position: u8,
-    /// The number of symbols of its series less 1, from 0 to 15.
+    /// The number of symbols of the series, less 1, from 0 to 15.
     pub last: u8,
-    /// The parity of the whole input.
+    /// The parity data of the whole input of the series.
     pub parity: u8,
-    /// The number of the level, from 0 to 3.
+    /// The number of the error correction level, from 0 to 3.
     pub level: u8,
-    /// The mask, from 0 to 7.
+    /// The number of the mask pattern, from 0 to 7.
     pub mask: u8,
-    /// The number of modules of format information, of 30 in all, that are wrong or not known.
+    /// The number of modules of format information that are wrong or not known. The two copies have 30 modules
+    /// together.
     pub wrong_format_modules: u8,
-    /// The greatest number of codewords that were changed in a block. Codewords with a module that is not known do not
-    /// count.
+    /// The number of codewords that were corrected in the block with the most of them. Codewords with a module that is
+    /// not known do not count.
     pub changed_most: u8,
-    /// The number of codewords of a block that may be changed, from 2 to 15.
+    /// The greatest number of wrong codewords of a block that can be corrected, from 2 to 15.
     pub changed_allowed: u8,
 }
 
-// The byte of a module that is not known.
+// The byte that stands for a module that is not known.
 const NOT_KNOWN: u8 = 2;
 
-// Returns whether each byte is that of a light module, of a dark module, or of a module that is not known.
+// Returns whether each byte of `modules` is 0, 1 or 2, that is, a light module, a dark module or a module that is not
+// known.
 fn are_modules(modules: &[u8]) -> bool
     ensures { MatchBool result (All (λ b. b ≤ 2) modules.now) (Any (λ b. 2 < b) modules.now) }
 {
     modules.iter().all(|module| *module <= NOT_KNOWN)
 }
 
-// Returns the number of modules that are not known.
+// Returns how many bytes of `modules` stand for a module that is not known.
 fn count_unknown(modules: &[u8]) -> usize
     ensures { result ≡ count_by (λ b. b == 2) modules.now }
 {
@@ -76,7 +78,8 @@ fn count_unknown(modules: &[u8]) -> usize
         .count()
 }
 
-// Returns the square of this side whose dark modules are those that are not known.
+// Returns the square with `side` modules on a side in which a module is dark exactly if its byte in `modules` says that
+// it is not known.
 fn unknown_of(alloc: Global, modules: &[u8], side: u8) -> Result<Matrix, AllocError>
     requires least { 1 ≤ side }
     requires most { side ≤ 177 }
@@ -95,7 +98,8 @@ fn unknown_of(alloc: Global, modules: &[u8], side: u8) -> Result<Matrix, AllocEr
     Ok(unknown)
 }
 
-// Mends the square of the modules, some of which may not be known.
+// Corrects the errors of the square in `modules`, which has `side` modules on a side, and reads it. A module with the
+// byte 2 is not known.
 fn mend_modules(alloc: Global, modules: &[u8], side: u8) -> Result<Mended, ReadFault>
     requires least { 1 ≤ side }
     requires most { side ≤ 177 }
@@ -117,7 +121,7 @@ fn mend_modules(alloc: Global, modules: &[u8], side: u8) -> Result<Mended, ReadF
     mend_symbol_without(alloc, &matrix, &unknown)
 }
 
-// Returns the greatest of the numbers.
+// Returns the greatest number in `numbers`.
 fn greatest(numbers: &[usize]) -> usize
     requires { 1 ≤ length numbers.now }
     ensures { IsGreatest numbers.now result }
@@ -125,7 +129,7 @@ fn greatest(numbers: &[usize]) -> usize
     numbers.iter().copied().max().unwrap_or(0)
 }
 
-// Returns the struct for a mended square whose symbol contains `len` bytes.
+// Returns the struct for the damaged symbol `mended`, which was corrected and contains `len` bytes.
 fn mended_of(len: usize, mended: &Mended) -> QrprovedMended
     requires some { 1 ≤ length mended.now.changed.items }
     requires few { All (λ n. n ≤ 15) mended.now.changed.items }
@@ -159,21 +163,26 @@ fn mended_of(len: usize, mended: &Mended) -> QrprovedMended
     }
 }
 
-/// Reads the symbol whose modules are in the buffer `modules`, as `qrproved_encode` writes them, and mends its damage.
-/// The byte of a light module is 0, and that of a dark module is 1. A module that is not known has the byte 2: a
-/// codeword with such a module takes half as much of the error correction as a misread codeword. Writes the bytes of
-/// the symbol to the buffer `bytes`, and its header and its damage to the struct `mended`.
+/// Reads the symbol whose modules are in the buffer `modules`, in the order in which `qrproved_encode` writes them, and
+/// corrects its errors. The byte 0 is a light module, the byte 1 a dark module, and the byte 2 a module that is not
+/// known. Towards the limit of what can be corrected, a codeword with a module that is not known counts half as much as
+/// a misread codeword. Writes the bytes that the symbol contains to the buffer `bytes`. Writes the symbol's structured
+/// append header and its damage to the struct `mended`.
 ///
-/// The causes of a refusal are checked in this order: the side, too few modules in `modules`, a module with a byte of
-/// more than 2, the format information, the codewords, the parse of the data codewords, a buffer `bytes` that is too
-/// short. The first three are found without any allocation.
+/// The causes of a refusal are checked in the order in which this paragraph lists them. The first three causes are
+/// found before any allocation: a side that no version has, too few modules in `modules`, and a byte of more than 2.
+/// The other causes are damaged format information, damaged codewords, data codewords that cannot be parsed, and a
+/// buffer `bytes` that is too short.
 ///
-/// On status 0 the modules in the buffer are a damaged form of one symbol. The call wrote the bytes and the header that
+/// On status 0 the modules in the buffer are a damaged form of a symbol. The call wrote the bytes and the header that
 /// this symbol contains, and its version, level and mask.
 ///
-/// The struct also contains four counts: how many modules of the whole square are not those of the symbol or not known,
-/// which is 0 exactly if the square is the symbol; how many of the 30 modules of format information are wrong or not
-/// known; how many codewords were changed in the block with the most of them; and how many may be changed in a block.
+/// The struct also contains four numbers. `wrong_modules` is the number of modules of the whole square that are not
+/// known or differ from the symbol. `wrong_modules` is 0 exactly if the square is the symbol. `wrong_format_modules` is
+/// the number of modules, of the 30 modules of format information, that are wrong or not known. `changed_most` is the
+/// number of codewords that were corrected in the block with the most of them. Codewords with a module that is not
+/// known are not counted in `changed_most`. `changed_allowed` is the greatest number of wrong codewords of a block that
+/// can be corrected.
 #[unsafe(no_mangle)]
 pub extern "C" fn qrproved_mend(
     alloc: Global,

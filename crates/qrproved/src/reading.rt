@@ -1,4 +1,4 @@
-//! The call that reads a symbol (ISO/IEC 18004:2015, 12).
+//! The call that reads a symbol without error correction (ISO/IEC 18004:2015, 12).
 
 ghost use Rattle.std.specs.Prelude.{◌≡◌, ◌≢◌, ◌*◌, ◌<◌, ◌≤◌, ◌↔◌, ◌⊎◌, length, MatchOption};
 ghost use Rattle.qr_layout.specs.Version.{side_of};
@@ -15,26 +15,26 @@ use qr_symbol::laws::{contents_are_one, refusals_are_one};
 use qr_symbol::read_symbol;
 use std::alloc::Global;
 
-/// The content of a symbol, except for its bytes.
+/// The content of a symbol that was read, except for its bytes.
 #[repr(C)]
 #[derive(Clone, Copy)]
 pub struct QrprovedContent {
-    /// The number of bytes that the symbol contains.
+    /// The number of bytes of the input that the symbol contains.
     pub len: usize,
     /// The version, from 1 to 40.
     pub version: u8,
-    /// 1 if the symbol has a header and so is part of a series; 0 if it has none, and then `position`, `last` and
-    /// `parity` are 0.
+    /// 1 if the symbol has a structured append header, and so is part of a series. Otherwise `has_header`, `position`,
+    /// `last` and `parity` are all 0.
     pub has_header: u8,
     /// The position of the symbol in its series, from 0 to 15.
     pub position: u8,
-    /// The number of symbols of its series less 1, from 0 to 15.
+    /// The number of symbols of the series, less 1, from 0 to 15.
     pub last: u8,
-    /// The parity of the whole input.
+    /// The parity data of the whole input of the series.
     pub parity: u8,
 }
 
-/// Returns the version whose symbols have this side.
+/// Returns the version whose symbols have `side` modules on a side, or `None` if there is no such version.
 pub(crate) fn version_of_side(side: u32) -> Option<Version>
     ensures { MatchOption result (IsSide side → ⊥)
         (λ v. (1 ≤ v) × (v ≤ 40) × (side ≡ side_of v)) }
@@ -43,7 +43,8 @@ pub(crate) fn version_of_side(side: u32) -> Option<Version>
     Version::of_side(side)
 }
 
-/// Returns the struct for a symbol of this version that contains `len` bytes after the optional header.
+/// Returns the struct for a symbol of version `version` that contains `len` bytes and the optional structured append
+/// header `header`.
 pub(crate) fn content_of(len: usize, version: Version, header: Option<Header>) -> QrprovedContent
     ensures len { result.len ≡ len }
     ensures version { result.version ≡ version }
@@ -64,16 +65,16 @@ pub(crate) fn content_of(len: usize, version: Version, header: Option<Header>) -
     }
 }
 
-/// Reads the symbol whose modules are in the buffer `modules`, as `qrproved_encode` writes them; any byte but 0 is a
-/// dark module. Writes its bytes to the buffer `bytes`, and its version and header to the struct `content`. No errors
-/// are corrected.
+/// Reads the symbol whose modules are in the buffer `modules`, in the order in which `qrproved_encode` writes them. Any
+/// byte except 0 is a dark module. Writes the bytes that the symbol contains to the buffer `bytes`, and its version and
+/// structured append header to the struct `content`. No errors are corrected.
 ///
-/// The causes of a refusal are checked in this order: the side, too few modules in `modules`, the format information,
-/// the codewords, the parse of the data codewords, a buffer `bytes` that is too short. A wrong side and too few modules
-/// are refused without any allocation.
+/// The causes of a refusal are checked in the order in which this paragraph lists them. The first two causes are found
+/// before any allocation: a side that no version has, and too few modules in `modules`. The other causes are wrong
+/// format information, wrong codewords, data codewords that cannot be parsed, and a buffer `bytes` that is too short.
 ///
-/// On status 0 the modules in the buffer are those of a symbol that contains the bytes and the header that were
-/// written.
+/// On status 0 the first copy of the format information and the codewords in `modules` are those of a symbol. The call
+/// wrote the bytes and the header that this symbol contains. The contract states nothing about the other modules.
 #[unsafe(no_mangle)]
 pub extern "C" fn qrproved_read(
     alloc: Global,

@@ -1,4 +1,4 @@
-//! Symbols that the tests share, as the bytes of their modules.
+//! Symbols for the tests of several files. Each symbol is an array with a byte for each module.
 
 use crate::encoding::{QrprovedSymbol, qrproved_encode};
 use crate::modules::write_square;
@@ -7,7 +7,8 @@ use qr_layout::{Level, Version};
 use qr_symbol::{build_masked, interleave};
 use std::test::Fail;
 
-/// Returns the modules of the symbol of version 1 and level M that contains the digits 01234567.
+/// Returns the modules of the symbol of version 1 and level M that contains the digits 01234567, a byte for each
+/// module.
 pub(crate) fn eight_digits(rt: &HostRuntime) -> Result<[u8; 441], Fail> {
     let mut modules = [0u8; 441];
     let mut symbol = QrprovedSymbol {
@@ -22,8 +23,8 @@ pub(crate) fn eight_digits(rt: &HostRuntime) -> Result<[u8; 441], Fail> {
     Ok(modules)
 }
 
-/// Returns the modules of a symbol in version 1-M whose data codewords begin with the mode indicator 0111, which the
-/// parser does not know.
+/// Returns the modules of a symbol of version 1 and level M, a byte for each module. Its data codewords begin with the
+/// mode indicator 0111, which the parser does not know.
 pub(crate) fn another_mode(rt: &HostRuntime) -> Result<[u8; 441], Fail> {
     let version = Version::FIRST;
     let message = [0x70u8; 16];

@@ -13,7 +13,7 @@ use qr_symbol::encode_series;
 use qr_symbol::laws::{long_inputs_have_none, series_are_one, series_have_one_side};
 use std::alloc::Global;
 
-/// The number of symbols of a series, and their side.
+/// The number of symbols of a series, and the side of each symbol.
 #[repr(C)]
 #[derive(Clone, Copy)]
 pub struct QrprovedSeries {
@@ -23,18 +23,18 @@ pub struct QrprovedSeries {
     pub side: u8,
 }
 
-/// Writes the series of an input, all of whose symbols have the version `version`. The byte of a module is at index
-/// `number * side * side + row * side + column`, where `number` is the number of its symbol, from 0 on. The series of
-/// an input that fits one symbol is that symbol, without a header. Levels and rules are numbered as in
-/// `qrproved_encode`.
+/// Encodes `input` as a series of symbols, which all have the version `version`, and writes their modules to the buffer
+/// `modules`. The byte of a module is at index `number * side * side + row * side + column` of the buffer. Here
+/// `number` is the number of the module's symbol, counted from 0. If the input fits one symbol, its series is that
+/// symbol without a structured append header. The numbers of levels and rules are those of `qrproved_encode`.
 ///
-/// The causes of a refusal are checked in this order: the numbers, an empty input, more than 16 symbols, a buffer that
-/// is too short. Numbers out of range, an empty input and an input of more than 113,425 bytes are refused before any
-/// allocation.
+/// The causes of a refusal are checked in this order: a number out of range, an empty input, an input that needs more
+/// than 16 symbols, a buffer that is too short. Numbers out of range, an empty input and an input of more than 113,425
+/// bytes are refused before any allocation.
 ///
 /// On status 0 the buffer contains exactly the series of the input, symbol after symbol. If the symbols are read and
-/// joined, the result is the input. Without kanji mode no shorter series exists. The struct contains the number of
-/// symbols and their side.
+/// their bytes are joined, the result is the input. Without kanji mode no shorter series exists. The struct contains
+/// the number of symbols and the side of each symbol.
 #[unsafe(no_mangle)]
 pub extern "C" fn qrproved_encode_series(
     alloc: Global,

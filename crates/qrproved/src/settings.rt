@@ -1,5 +1,5 @@
-//! Checks the numbers of a call for the version, the level and the rule. C may pass any number, and numbers out
-//! of range are refused.
+//! Checks the numbers that stand for a version, a level and a rule in a call. The rule says which encoding modes may be
+//! used. C may pass any number, and numbers out of range are refused.
 
 ghost use Rattle.std.specs.Prelude.{◌≡◌, ◌<◌, ◌≤◌, SomeIff};
 ghost use Rattle.qrproved.specs.Settings.{AreSettings, level_of, rule_of};
@@ -7,18 +7,18 @@ ghost use Rattle.qrproved.specs.Settings.{AreSettings, level_of, rule_of};
 use qr_bits::Rule;
 use qr_layout::{Level, Version};
 
-/// The version, level and rule that a symbol or a series is made with.
+/// The version, the level and the rule with which a symbol or a series is made.
 #[derive(Clone, Copy)]
 pub(crate) struct Settings {
-    /// The smallest version of a symbol, or the version of a series.
+    /// The smallest version that a single symbol may have, or the version of all symbols of a series.
     pub version: Version,
-    /// The level of error correction.
+    /// The error correction level.
     pub level: Level,
-    /// The modes that segments may have.
+    /// The rule that says which encoding modes the segments may have.
     pub rule: Rule,
 }
 
-/// Returns the number if it is from `least` to `most`.
+/// Returns `number` if it is from `least` to `most`, and otherwise `None`.
 pub(crate) fn between(number: u32, least: u8, most: u8) -> Option<u8>
     ensures { SomeIff result ((least ≤ number) × (number ≤ most)) number }
 {
@@ -29,7 +29,7 @@ pub(crate) fn between(number: u32, least: u8, most: u8) -> Option<u8>
     Some(byte)
 }
 
-/// Returns the settings with these numbers if all of them are in range.
+/// Returns the settings with these numbers, or `None` if at least one number is out of range.
 pub(crate) fn settings_of(version: u32, level: u32, rule: u32) -> Option<Settings>
     ensures { SomeIff result (AreSettings version level rule)
         (record { version = version; level = level_of level; rule = rule_of rule }) }
@@ -41,7 +41,7 @@ pub(crate) fn settings_of(version: u32, level: u32, rule: u32) -> Option<Setting
     })
 }
 
-// Returns the level with this number.
+// Returns the error correction level with the number `number`, or `None` if the number is more than 3.
 fn level_of(number: u32) -> Option<Level>
     ensures { SomeIff result (number < 4) (level_of number) }
 {
@@ -54,7 +54,7 @@ fn level_of(number: u32) -> Option<Level>
     }
 }
 
-/// Returns the number of the level.
+/// Returns the number of the error correction level `level`, from 0 to 3.
 pub(crate) fn number_of(level: Level) -> u8
     ensures in_range { result < 4 }
     ensures same { level_of result ≡ level }
@@ -67,7 +67,7 @@ pub(crate) fn number_of(level: Level) -> u8
     }
 }
 
-// Returns the rule with this number.
+// Returns the rule with the number `number`, or `None` if the number is more than 2.
 fn rule_of(number: u32) -> Option<Rule>
     ensures { SomeIff result (number < 3) (rule_of number) }
 {

@@ -1,45 +1,47 @@
-//! The statuses that calls return. A number has the same meaning for all calls.
+//! The statuses that the calls for C return. The number of a status has the same meaning for all calls.
 
 ghost use Rattle.std.specs.Prelude.{◌≡◌};
 ghost use Rattle.qrproved.specs.Steps.Status.{encode_status, read_status};
 
 use qr_symbol::{EncodeFault, ReadFault};
 
-/// The call wrote everything that it was called for.
+/// The call succeeded, and wrote its whole result.
 pub(crate) const DONE: u8 = 0;
 
-/// The input has no byte.
+/// The input is empty.
 pub(crate) const EMPTY: u8 = 1;
 
-/// The input fits no version from the smallest one on.
+/// The input fits no version from the smallest allowed version on.
 pub(crate) const TOO_LONG: u8 = 2;
 
-/// The input needs more than 16 symbols of the version.
+/// The input needs a series of more than 16 symbols of the version.
 pub(crate) const TOO_MANY: u8 = 3;
 
 /// An allocation was refused.
 pub(crate) const MEMORY: u8 = 4;
 
-/// The version, the level, the rule or a number of a drawing is out of range, or a byte is not that of a module.
+/// The version, the level, the rule or a number of a drawing is out of range, or `qrproved_mend` read a byte of more
+/// than 2.
 pub(crate) const SETTINGS: u8 = 5;
 
-/// A buffer is too short.
+/// A buffer of the caller is too short.
 pub(crate) const ROOM: u8 = 6;
 
-/// No version has this side.
+/// No version has symbols with this number of modules on a side.
 pub(crate) const SIDE: u8 = 7;
 
-/// The format information belongs to no level and mask; when damage is mended, it is near to no level and mask.
+/// The format information is not that of any level and mask. When a damaged symbol is read, each copy of the format
+/// information differs from that of every level and mask in more than three modules.
 pub(crate) const FORMAT: u8 = 8;
 
-/// The error correction codewords of a block are not those of its data codewords; when damage is mended, some block has
-/// more damage than can be mended.
+/// The error correction codewords of a block do not match its data codewords. When a damaged symbol is read, some block
+/// has more damage than can be corrected.
 pub(crate) const CHECK: u8 = 9;
 
 /// The data codewords cannot be parsed.
 pub(crate) const SEGMENTS: u8 = 10;
 
-// Returns the status of an input that is not encoded because of this fault.
+// Returns the status for an input that cannot be encoded because of `fault`.
 pub(crate) fn encode_status(fault: EncodeFault) -> u8
     ensures { result ≡ encode_status fault }
 {
@@ -51,8 +53,8 @@ pub(crate) fn encode_status(fault: EncodeFault) -> u8
     }
 }
 
-// Returns the status of a symbol that is not read or not mended because of this fault. `Series` is never the fault of a
-// single symbol.
+// Returns the status for a symbol that cannot be read because of `fault`. `ReadFault::Series` is a fault of several
+// symbols, and never of a single symbol.
 pub(crate) fn read_status(fault: ReadFault) -> u8
     ensures { result ≡ read_status fault }
 {

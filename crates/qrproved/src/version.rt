@@ -1,11 +1,13 @@
-//! The version of the library.
+//! The version number of the library.
 
 ghost use Rattle.std.specs.Prelude.{◌≡◌};
 
-// The version of the library: 10,000 times the major number, 100 times the minor one, and the patch.
+// The version number of the library: 10,000 times the major number, plus 100 times the minor number, plus the patch
+// number.
 const VERSION: u32 = 100;
 
-/// Returns the version of the library: 10,000 times the major number, 100 times the minor one, and the patch.
+/// Returns the version number of the library: 10,000 times the major number, plus 100 times the minor number, plus the
+/// patch number.
 #[unsafe(no_mangle)]
 pub extern "C" fn qrproved_version() -> u32
     ensures { result ≡ 100 }

@@ -1,4 +1,4 @@
--- The results of the parts of a run.
+-- The results of the steps of a run of the command.
 use Rattle.std.specs.Prelude.{◌≡◌, ◌<◌, ◌≤◌, ℕ, List, [], length, IfErr, Result, MatchResult}
 use Rattle.clap.specs.Walk.{Text}
 use Rattle.qrencode_cli.specs.Command.{HasDrawing, InputConsumedFor, IsFault, OutputHolds}
@@ -16,11 +16,12 @@ use Rattle.qrencode_cli.specs.declared.fault.Fault.TheVariants.{Encode, Memory, 
 use Rattle.qr_symbol.specs.declared.fault.EncodeFault.TheVariants.{Empty, TooLong, TooMany}
 use Rattle.qrencode_cli.specs.declared.drawing_job.DrawingJob.{DrawingJob}
 
--- `drawing_of_job job` is the drawing of the job's symbols
+-- `drawing_of_job job` is the drawing of the symbols of the drawing job `job`
 abbrev pub drawing_of_job : DrawingJob → List ℕ
 drawing_of_job job = drawn job.kind job.margin (squares_of job.symbols.items)
 
--- `AreDrawnFor s input symbols` holds if `symbols` are what the settings `s` ask for of the input, and can be drawn
+-- `AreDrawnFor s input symbols` holds if `symbols` are the symbols of `input` under the settings `s`, and these symbols
+-- can be drawn
 pub record AreDrawnFor (s : SettingsView) (input : List ℕ) (symbols : List Symbol) : Type 0 where
   pub asked : AreSymbols s input (squares_of symbols)
   pub joined : IsJoined (squares_of symbols) input
@@ -30,7 +31,8 @@ pub record AreDrawnFor (s : SettingsView) (input : List ℕ) (symbols : List Sym
   pub few : length symbols ≤ 16
   pub one_side : HaveOneSide (squares_of symbols)
 
--- `IsInputFault s input f` holds if the fault `f` is a correct reason why the input has no drawing, or lack of memory
+-- `IsInputFault s input f` holds if the fault `f` is a correct reason why `input` has no drawing under the settings
+-- `s`, or if `f` is lack of memory
 abbrev pub IsInputFault : SettingsView → List ℕ → Fault → Type 0
 IsInputFault s input (Encode Empty) = input ≡ []
 IsInputFault s input (Encode TooLong) = IsTooLong s input
@@ -38,20 +40,21 @@ IsInputFault s input (Encode TooMany) = IsTooMany s input
 IsInputFault s input Memory = Unit {0}
 IsInputFault s input _ = ⊥
 
--- `IsEarly f` holds if the fault `f` comes before any byte is written
+-- `IsEarly f` holds if the fault `f` can only occur before any byte is written
 abbrev pub IsEarly : Fault → Type 0
 IsEarly Write = ⊥
 IsEarly _ = Unit {0}
 
--- `Prepares words old new result` holds if `result` is the job that the command line `words` and the reader's input
--- ask for, or a fault that occurs before any byte is written
+-- `Prepares words old new result` holds if `result` is the drawing job for the command line `words` and its input, or a
+-- fault that occurs before any byte is written. The reader of the input changed from `old` to `new`
 pub record Prepares (words : List Text) (old new : Reader) (result : Result DrawingJob Fault) : Type 0 where
   pub given : List ℕ
   pub is_input : IsInputOf old.remaining given
   pub reads : InputConsumedFor (settings_for words) old new given result
   pub answer : MatchResult result (λ p. HasDrawing words given (drawing_of_job p)) (λ f. IsFault words given f × IsEarly f)
 
--- `Attempts words in0 in1 out0 out1 result` says what a run did before it reports a fault on standard error
+-- `Attempts words in0 in1 out0 out1 result` holds if a run for the command line `words` can have this `result`, before
+-- a fault is reported. The reader changed from `in0` to `in1`, and standard output changed from `out0` to `out1`
 pub record Attempts (words : List Text) (in0 in1 : Reader) (out0 out1 : Writer) (result : Result (Unit {0}) Fault) : Type 0 where
   pub given : List ℕ
   pub is_input : IsInputOf in0.remaining given

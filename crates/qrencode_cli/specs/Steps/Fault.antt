@@ -1,4 +1,4 @@
--- How faults of the command line and of encoding become faults of the command.
+-- How the faults of the command line and of encoding become faults of the command.
 use Rattle.qr_symbol.specs.declared.fault.EncodeFault.{EncodeFault}
 use Rattle.qr_symbol.specs.declared.fault.EncodeFault.TheVariants as encode
 use Rattle.qrencode_cli.specs.declared.fault.Fault.{Fault}
@@ -6,12 +6,12 @@ use Rattle.qrencode_cli.specs.declared.fault.Fault.TheVariants as fault
 use Rattle.qrencode_cli.specs.declared.settings.UsageFault.{UsageFault}
 use Rattle.qrencode_cli.specs.declared.settings.UsageFault.TheVariants as usage
 
--- `fault_of_words f` is the command's fault for the fault `f` of the command line
+-- `fault_of_words f` is the fault of the command for `f`, which is a fault of the command line
 abbrev pub fault_of_words : UsageFault → Fault
 fault_of_words usage.Memory = fault.Memory
 fault_of_words f = fault.Usage f
 
--- `fault_of_input f` is the command's fault for the fault `f` of encoding
+-- `fault_of_input f` is the fault of the command for `f`, which is a fault of encoding the input
 abbrev pub fault_of_input : EncodeFault → Fault
 fault_of_input encode.Memory = fault.Memory
 fault_of_input f = fault.Encode f
