@@ -1,11 +1,12 @@
 /* QR Code symbols (ISO/IEC 18004:2015, QR Code Model 2). The library encodes an input as a symbol or as a series of
- * symbols, draws symbols as text or as SVG, reads a symbol as it was drawn, and reads a damaged symbol, whose damage it
- * mends and measures. The calls are proved to meet their contracts, in crates/qrproved; docs/LIBRARY.md says what the
- * contracts mean for a caller. tests/library compares this file with the exports.
+ * symbols, draws symbols as text or as SVG, and reads symbols. It also mends damaged symbols: it corrects their errors, and
+ * measures the damage. The calls are proved to meet their contracts, which are in crates/qrproved. docs/LIBRARY.md says what
+ * the contracts mean for a caller. tests/library compares this file with the exports of the library.
  *
- * Modules are bytes in a buffer of the caller, row by row from the top left. The buffer does not contain the quiet zone,
- * the four light modules that a drawing needs on each side; qrproved_draw adds it. A call keeps nothing: no state, no file,
- * no lock. It allocates memory by malloc, and frees all of this memory before it returns.
+ * A module is a byte in a buffer of the caller. The modules are in the buffer row by row, from the top left. The buffer does
+ * not contain the quiet zone, which is the four light modules that a drawing needs on each side; qrproved_draw adds the
+ * quiet zone. After a call the library keeps no state, no file and no lock. A call allocates memory by malloc, and frees all
+ * of this memory before it returns.
  *
  * At each call the caller has to meet these conditions:
  * - each pointer points to as many bytes as the length beside it says, or to a struct; a pointer with the length 0 is not
@@ -14,7 +15,7 @@
  * - during the call nothing else writes to the buffers or the struct, and nothing else reads a buffer or a struct to which
  *   the call writes;
  * - malloc returns memory that is aligned for every type that fits in it, as the C standard requires;
- * - no call is made from a signal handler, nor in the forked child of a process with threads, since malloc may not be
+ * - no call is made from a signal handler, or in the forked child of a process with threads, since malloc may not be
  *   called there.
  * Calls may run at the same time in any threads, each call with its own buffers and its own struct.
  */
@@ -38,30 +39,30 @@ extern "C" {
 #define QRPROVED_BYTES_MAX 7089    /* bytes that suffice for the content of any symbol: digits in version 40, level L */
 #define QRPROVED_MARGIN_MAX 100    /* the widest light margin on each side of a drawing, in modules */
 
-/* Levels: how much of a damaged symbol can be restored, about 7, 15, 25 or 30 % of the codewords. */
+/* The levels of error correction, by which about 7, 15, 25 or 30 % of a symbol's codewords can be restored. */
 #define QRPROVED_LEVEL_L 0
 #define QRPROVED_LEVEL_M 1
 #define QRPROVED_LEVEL_Q 2
 #define QRPROVED_LEVEL_H 3
 
-/* Rules: which modes the segments of an input may have. */
-#define QRPROVED_RULE_AUTO 0       /* numeric, alphanumeric and byte mode, mixed so that the length in bits is least */
+/* The rules for the modes that the segments of an input may have. */
+#define QRPROVED_RULE_AUTO 0       /* numeric, alphanumeric and byte mode, mixed so that the number of bits is least */
 #define QRPROVED_RULE_BYTES_ONLY 1 /* the whole input in byte mode */
-#define QRPROVED_RULE_WITH_KANJI 2 /* as AUTO, and also kanji mode for pairs of bytes that are Shift JIS characters */
+#define QRPROVED_RULE_WITH_KANJI 2 /* the modes of AUTO, and kanji mode for pairs of bytes that are Shift JIS characters */
 
-/* Types of drawings. Each type is drawn as qrencode draws it. */
+/* The types of drawings. A drawing of each type is the same as that of the program qrencode. */
 #define QRPROVED_ASCII 0  /* text: two # for a dark module, two spaces for a light module */
 #define QRPROVED_ASCIIi 1 /* text: two spaces for a dark module, two # for a light module */
-#define QRPROVED_UTF8 2   /* text: two modules, one above the other, are a character whose filled half is light */
+#define QRPROVED_UTF8 2   /* text: a character shows two modules, one above the other; its filled half is light */
 #define QRPROVED_SVG 3    /* a whole SVG document, in which a module is one unit wide */
 
-/* The statuses that calls return. On every status but 0 the buffer and the struct are unchanged. */
+/* The statuses that calls return. On every status but 0 the caller's buffer and struct are unchanged. */
 #define QRPROVED_DONE 0     /* the buffer and the struct are written */
 #define QRPROVED_EMPTY 1    /* the input has no byte */
 #define QRPROVED_TOO_LONG 2 /* the input fits no version from the smallest allowed version on */
 #define QRPROVED_TOO_MANY 3 /* the input takes more than 16 symbols of the version */
 #define QRPROVED_MEMORY 4   /* malloc refused memory */
-#define QRPROVED_SETTINGS 5 /* a number is out of its range, or a byte is no module */
+#define QRPROVED_SETTINGS 5 /* a number is out of its range, or the byte of a module is more than 2 */
 #define QRPROVED_ROOM 6     /* a buffer is too short */
 #define QRPROVED_SIDE 7     /* no version has this side */
 #define QRPROVED_FORMAT 8   /* the format information belongs to no level and mask */
@@ -91,10 +92,10 @@ struct qrproved_content {
 	uint8_t parity;     /* the exclusive or of all bytes of the input of the series */
 };
 
-/* The content of a damaged symbol that was mended, and the measure of its damage. */
+/* The content of a damaged symbol that was mended, and the counts of its damage. */
 struct qrproved_mended {
 	size_t len;                   /* number of bytes that the symbol contains */
-	uint32_t wrong_modules;       /* how many modules of the square are wrong or not known; if 0, the square is the symbol */
+	uint32_t wrong_modules;       /* number of modules that are wrong or not known; if 0, the square is the symbol */
 	uint8_t version;              /* from 1 to 40 */
 	uint8_t has_header;           /* 1 for a symbol of a series; 0 for a plain symbol, and then the next three fields are 0 */
 	uint8_t position;             /* position of the symbol in its series, from 0 to 15 */
@@ -102,13 +103,13 @@ struct qrproved_mended {
 	uint8_t parity;               /* the exclusive or of all bytes of the input of the series */
 	uint8_t level;                /* QRPROVED_LEVEL_L to QRPROVED_LEVEL_H */
 	uint8_t mask;                 /* from 0 to 7 */
-	uint8_t wrong_format_modules; /* how many of the 30 modules of format information are wrong or not known */
-	uint8_t changed_most;         /* how many codewords were wrong in the block with the most wrong codewords; codewords with a
+	uint8_t wrong_format_modules; /* number of the 30 modules of format information that are wrong or not known */
+	uint8_t changed_most;         /* number of wrong codewords in the block with the most wrong codewords; codewords with a
 	                               * module that is not known do not count */
-	uint8_t changed_allowed;      /* how many codewords may be wrong in each block, from 2 to 15 */
+	uint8_t changed_allowed;      /* number of codewords that may be wrong in each block, from 2 to 15 */
 };
 
-/* The layout of the structs, on which the compiled calls depend. */
+/* Checks of the sizes and offsets of the structs, on which the compiled calls depend. */
 #if defined(__cplusplus) && __cplusplus >= 201103L
 #define QRPROVED_HOLDS(fact) static_assert(fact, #fact)
 #elif defined(__STDC_VERSION__) && __STDC_VERSION__ >= 201112L
@@ -147,73 +148,73 @@ QRPROVED_HOLDS(offsetof(struct qrproved_mended, changed_allowed) == 21);
 #undef QRPROVED_HOLDS
 
 /* The caller has to check the result of a call, and may not pass NULL as the pointer to a struct or to a number. Compilers
- * that know these attributes warn if a caller does otherwise. */
+ * that know these attributes warn about a caller that does so, or that does not check the result. */
 #if defined(__GNUC__)
 #define QRPROVED_CALL(pointer) __attribute__((warn_unused_result, nonnull(pointer)))
 #else
 #define QRPROVED_CALL(pointer)
 #endif
 
-/* Returns the version of the library that was linked: 10000 * major + 100 * minor + patch. QRPROVED_VERSION_NUMBER is the
- * version of the header in the same form. */
+/* Returns the version of the library that was linked, as the number 10000 * major + 100 * minor + patch.
+ * QRPROVED_VERSION_NUMBER is the version of this header, in the same form. */
 uint32_t qrproved_version(void);
 
-/* Encodes the input as a symbol and writes its modules: modules[row * side + column] is 1 if that module is dark, and 0 if
- * it is light. Bytes after the last module are unchanged.
+/* Encodes the input as a symbol and writes the modules of the symbol: modules[row * side + column] is 1 if the module in this
+ * row and column is dark, and 0 if it is light. Bytes of the buffer after the last module are unchanged.
  *
  * version  the smallest allowed version, from 1 to 40; the symbol has the least allowed version that the input fits
  * level    QRPROVED_LEVEL_L to QRPROVED_LEVEL_H
  * rule     QRPROVED_RULE_AUTO to QRPROVED_RULE_WITH_KANJI
  * modules  the buffer for the modules; QRPROVED_SYMBOL_MAX bytes suffice for any symbol
  *
- * Returns one of these statuses; the causes are checked in this order:
- *   SETTINGS  no such version, level or rule
+ * Returns one of these statuses. The causes are checked in this order:
+ *   SETTINGS  version, level or rule is out of its range
  *   EMPTY     input_len is 0
  *   TOO_LONG  the input fits no version from the smallest allowed version on; more than 7,089 bytes are always TOO_LONG
  *   ROOM      modules_len is less than the number of modules of the symbol
  *   DONE      the call succeeded
- * If memory is refused, the call returns MEMORY in place of any of these statuses, except for SETTINGS, EMPTY and an input
- * of more than 7,089 bytes.
+ * If memory is refused, the call returns MEMORY in place of any of these statuses. The exceptions are SETTINGS, EMPTY, and
+ * TOO_LONG for an input of more than 7,089 bytes, which do not depend on memory.
  */
 QRPROVED_CALL(8)
 uint8_t qrproved_encode(const uint8_t *input, size_t input_len, uint32_t version, uint32_t level, uint32_t rule,
                         uint8_t *modules, size_t modules_len, struct qrproved_symbol *symbol);
 
-/* Encodes the input as a series of symbols (structured append), all of one version, and writes their modules:
- * modules[(k * side + row) * side + column] is a module of symbol k, and k begins at 0. An input that fits one symbol is
- * encoded as one plain symbol. Bytes after the last module are unchanged.
+/* Encodes the input as a series of symbols (structured append), all of one version, and writes the modules of the symbols:
+ * modules[(k * side + row) * side + column] is the module of symbol k in this row and column, where k begins at 0. An input
+ * that fits one symbol is encoded as one plain symbol. Bytes of the buffer after the last module are unchanged.
  *
  * version  the version of all symbols, from 1 to 40
  * modules  the buffer for the modules; QRPROVED_SERIES_MAX bytes suffice for any series
  *
- * The other arguments are those of qrproved_encode. Returns one of these statuses; the causes are checked in this order:
- *   SETTINGS  no such version, level or rule
+ * The other arguments are those of qrproved_encode. Returns one of these statuses. The causes are checked in this order:
+ *   SETTINGS  version, level or rule is out of its range
  *   EMPTY     input_len is 0
  *   TOO_MANY  the input takes more than 16 symbols of the version; more than 113,425 bytes are always TOO_MANY
  *   ROOM      modules_len is less than the number of modules of the series
  *   DONE      the call succeeded
- * If memory is refused, the call returns MEMORY in place of any of these statuses, except for SETTINGS, EMPTY and an input
- * of more than 113,425 bytes.
+ * If memory is refused, the call returns MEMORY in place of any of these statuses. The exceptions are SETTINGS, EMPTY, and
+ * TOO_MANY for an input of more than 113,425 bytes, which do not depend on memory.
  */
 QRPROVED_CALL(8)
 uint8_t qrproved_encode_series(const uint8_t *input, size_t input_len, uint32_t version, uint32_t level, uint32_t rule,
                                uint8_t *modules, size_t modules_len, struct qrproved_series *series);
 
-/* Reads the symbol whose modules are in the first buffer, in the order in which qrproved_encode writes them. Any byte but 0
- * is a dark module, and bytes after the last module are ignored. The call writes the content of the symbol to the start of
- * the second buffer, and the rest of the second buffer is unchanged. It corrects no errors: each codeword has to be as it
- * was drawn.
+/* Reads a symbol. The first buffer contains the modules of the symbol, in the order in which qrproved_encode writes them. Any
+ * byte but 0 is a dark module, and bytes after the last module are ignored. The call writes the content of the symbol to the
+ * start of the second buffer, and leaves the rest of this buffer unchanged. The call corrects no errors: each codeword has
+ * to be as it was drawn.
  *
- * side   modules on a side: 21, 25, and so on to 177
+ * side   number of modules on a side: 21, 25, and so on to 177
  * bytes  the buffer for the content; QRPROVED_BYTES_MAX bytes suffice for any symbol
  *
- * The call reads the first copy of the format information, which is beside the top left finder pattern, and the codewords.
- * The data codewords have to match the error correction codewords, and are parsed up to the terminator. The call ignores
+ * The call reads the codewords and the first copy of the format information, which is beside the top left finder pattern.
+ * The data codewords have to match the error correction codewords. They are parsed up to the terminator. The call ignores
  * the finder, alignment and timing patterns, the version information, the second copy of the format information, the
  * remainder bits, and the bits after the terminator. So DONE does not mean that a scanner finds the symbol. If
  * qrproved_mend returns DONE and wrong_modules is 0, every module of the square is right.
  *
- * Returns one of these statuses; the causes are checked in this order:
+ * Returns one of these statuses. The causes are checked in this order:
  *   SIDE      no version has this side
  *   ROOM      modules_len is less than side times side
  *   FORMAT    the first copy of the format information belongs to no level and mask
@@ -227,36 +228,36 @@ QRPROVED_CALL(6)
 uint8_t qrproved_read(const uint8_t *modules, size_t modules_len, uint32_t side, uint8_t *bytes, size_t bytes_len,
                       struct qrproved_content *content);
 
-/* Reads a damaged symbol, mends its damage, and measures the damage. The modules are in the first buffer, in the order in
- * which qrproved_encode writes them: 0 is a light module, 1 is a dark module, and 2 is a module that is not known, because
- * of a smudge or a fold, or because the camera did not see it. Bytes after the last module are ignored. The call writes the
- * content of the symbol to the start of the second buffer, and the rest of the second buffer is unchanged. If qrproved_read
- * reads modules that are all 0 or 1, this call reads the same content from them.
+/* Reads a damaged symbol, mends its damage, and measures the damage. The first buffer contains the modules of the symbol, in
+ * the order in which qrproved_encode writes them: 0 is a light module, 1 is a dark module, and 2 is a module that is not
+ * known. A module may be unknown because of a smudge or a fold, or because the camera did not see it. Bytes after the last
+ * module are ignored. The call writes the content of the symbol to the start of the second buffer, and leaves the rest of
+ * this buffer unchanged. If all modules are 0 or 1 and qrproved_read reads them, this call reads the same content.
  *
- * side   modules on a side: 21, 25, and so on to 177
+ * side   number of modules on a side: 21, 25, and so on to 177
  * bytes  the buffer for the content; QRPROVED_BYTES_MAX bytes suffice for any symbol
  *
- * A symbol contains two copies of the format information, which is the level and the mask. The first copy, which is beside
+ * The format information is the level and the mask, and a symbol contains two copies of it. The first copy, which is beside
  * the top left finder pattern, is used if at most three of its 15 modules are wrong. If more than three are wrong, or if
- * some block cannot be mended with this level and mask, the second copy is used, on the same condition. In the format
+ * some block cannot be mended with this level and mask, the second copy is used on the same condition. In the format
  * information a module that is not known is read as a dark module.
  *
- * In each block the call mends at most changed_allowed wrong codewords; this is the number that the standard allows. A
- * codeword with a module that is not known counts half as much as a wrong codeword: in each block the number of such
- * codewords, plus twice the number of wrong codewords among the other codewords, may be at most twice changed_allowed. The
- * remaining modules (finder, timing and alignment patterns, version information, remainder bits) may all be wrong, since
- * they contain nothing of the content; but their wrong modules count in wrong_modules.
+ * In each block the call mends at most changed_allowed wrong codewords, which is the number that the standard allows. A
+ * codeword with a module that is not known counts half as much as a wrong codeword. In each block, add the number of such
+ * codewords to twice the number of wrong codewords among the other codewords: the sum may be at most twice changed_allowed.
+ * Finder, timing and alignment patterns, version information and remainder bits may all be wrong, since they contain nothing
+ * of the content. But their wrong modules count in wrong_modules.
  *
- * To check a label before it is sold: the square is sound if wrong_modules is 0. Then the square is, module by module, the
- * symbol that the standard defines for its content in its version, level and mask. To check a label after it was printed:
- * the label is readable as long as DONE is returned. changed_most divided by changed_allowed is the share of the correction
- * that is spent, in the block with the most wrong codewords. Neither check covers what a camera sees: quiet zone, contrast,
- * print growth, distortion and curvature are not in a square of modules.
+ * To check a label before it is sold, require that wrong_modules is 0. Then the square is, module by module, the symbol that
+ * the standard defines for its content in its version, level and mask. To check a label after it was printed, call
+ * qrproved_mend with its modules: the label is readable as long as DONE is returned. changed_most divided by changed_allowed
+ * is the share of the error correction that is spent, in the block with the most wrong codewords. Neither check covers what
+ * a camera sees: quiet zone, contrast, print growth, distortion and curvature are not in a square of modules.
  *
  * Damage beyond these bounds may change a symbol so much that it is within the bounds of another symbol. The call then
  * reads the other symbol, as any reader would.
  *
- * Returns one of these statuses; the causes are checked in this order:
+ * Returns one of these statuses. The causes are checked in this order:
  *   SIDE      no version has this side
  *   ROOM      modules_len is less than side times side
  *   SETTINGS  a byte among the first side times side bytes is more than 2
@@ -272,13 +273,13 @@ QRPROVED_CALL(6)
 uint8_t qrproved_mend(const uint8_t *modules, size_t modules_len, uint32_t side, uint8_t *bytes, size_t bytes_len,
                       struct qrproved_mended *mended);
 
-/* Draws squares of modules, all of one side, and writes the drawing, byte for byte as qrencode draws symbols. Texts are
- * drawn one after the other; in SVG the squares are one below the other in one document. The modules are in a buffer, one
- * square after the other, in the order in which qrproved_encode_series writes them. Any byte but 0 is a dark module, and
- * bytes after the last module are ignored. A square need not be a symbol. The text does not end with a byte 0, and the rest
- * of its buffer is unchanged.
+/* Draws squares of modules, all of one side, and writes the drawing, byte for byte as qrencode draws symbols. As text, the
+ * squares are drawn one after the other. As SVG, they are drawn one below the other in one document. The first buffer
+ * contains the modules, one square after the other, in the order in which qrproved_encode_series writes them. Any byte but 0
+ * is a dark module, and bytes after the last module are ignored. A square need not be a symbol. The call writes no byte 0
+ * after the drawing, and leaves the rest of the buffer text unchanged.
  *
- * side     modules on a side, from 1 to 177
+ * side     number of modules on a side, from 1 to 177
  * count    number of squares, from 1 to QRPROVED_COUNT_MAX
  * drawing  QRPROVED_ASCII to QRPROVED_SVG
  * margin   number of light modules on each side of each square, from 0 to QRPROVED_MARGIN_MAX; a scanner needs 4
@@ -286,13 +287,13 @@ uint8_t qrproved_mend(const uint8_t *modules, size_t modules_len, uint32_t side,
  * written  set to the length of the drawing on DONE, and on ROOM because of text_len; set to 0 on ROOM because of
  *          modules_len; unchanged otherwise
  *
- * Returns one of these statuses; the causes are checked in this order:
+ * Returns one of these statuses. The causes are checked in this order:
  *   SETTINGS  side, count, drawing or margin is out of its range
  *   ROOM      modules_len is less than count times side times side
  *   ROOM      text_len is less than the length of the drawing
  *   DONE      the call succeeded
  * If memory is refused, the call returns MEMORY in place of any status after the first ROOM: the drawing is made in memory,
- * and is copied when it is whole. On every status but DONE the text is unchanged.
+ * and is copied when it is complete. On every status but DONE the text is unchanged.
  */
 QRPROVED_CALL(9)
 uint8_t qrproved_draw(const uint8_t *modules, size_t modules_len, uint32_t side, uint32_t count, uint32_t drawing,
