@@ -82,6 +82,18 @@ with_columns g right x = with_row (with_row g right (has x.right)) (right - 1) (
 abbrev pub AreWithin : ℕ → Columns → Type 0
 AreWithin s x = (row : ℕ) → s ≤ row → (has x.right row ≡ false) × (has x.left row ≡ false)
 
+-- The row of the module with the index `rank` in a column of the strip x of a symbol of s rows. Modules are counted in the
+-- direction of the strip.
+abbrev pub row_of : ℕ → Strip → ℕ → ℕ
+row_of s x rank = if x.upward then s - 1 - rank else rank
+
+-- `AreLight s x k region y` holds if all modules of the columns y that are in the encoding region are light, from the row
+-- with the index k on. Rows are counted in the direction of the strip x of a symbol of s rows, and the columns `region`
+-- contain the rows of the encoding region.
+abbrev pub AreLight : ℕ → Strip → ℕ → Columns → Columns → Type 0
+AreLight s x k region y = (rank : ℕ) → k ≤ rank → rank < s
+    → ((has region.right (row_of s x rank) && has y.right (row_of s x rank)) ≡ false) × ((has region.left (row_of s x rank) && has y.left (row_of s x rank)) ≡ false)
+
 -- `IsRegion v right x` holds if the columns x contain the rows of column `right`, and of the column to its left, that
 -- are in the encoding region.
 abbrev pub IsRegion : ℕ → ℕ → Columns → Type 0
