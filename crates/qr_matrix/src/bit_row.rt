@@ -256,19 +256,17 @@ impl BitRow {
         self.0[number] = word;
     }
 
-    /// Replaces the four bits from bit `place` on by the four bits of `bits`. The lowest bit of `bits` becomes bit
-    /// `place`, and `place` is a multiple of four.
-    pub fn put_four(&mut self, place: u8, bits: u8)
+    /// Sets those of the four bits from bit `place` on whose bit in `bits` is 1. The lowest bit of `bits` belongs to bit
+    /// `place`. All other bits of the bit row stay as they are. `place` is a multiple of four.
+    pub fn set_four(&mut self, place: u8, bits: u8)
         requires place_in { place < 192 }
         requires whole { place % 4 ≡ 0 }
         requires bits { bits < 16 }
-        ensures { (i : ℕ) → has self.new i ≡ (if nat_le place i && nat_lt i (place + 4)
-            then has_bit bits (i - place) else has self.old i) }
+        ensures { (i : ℕ) → has self.new i
+            ≡ (has self.old i || nat_le place i && nat_lt i (place + 4) && has_bit bits (i - place)) }
     {
-        let steps = place % 64;
-        let word = self.0[usize::from(place / 64)];
-        let changed = (word ^ u64::from(bits) << steps) & 15 << steps;
-        self.0[usize::from(place / 64)] = word ^ changed;
+        let set = u64::from(bits) << (place % 64);
+        self.0[usize::from(place / 64)] |= set;
     }
 }
 

@@ -2,13 +2,13 @@
 //! 7.7.2 and 7.7.3). `draw_codewords` draws strip by strip, where a strip is two columns that are filled together.
 //! `draw_along_walk` draws module by module.
 
-ghost use Rattle.std.specs.Prelude.{◌≡◌, ℕ, List, ◌*◌, ◌%◌, ◌+◌, ◌-◌, ◌<◌, ◌≤◌, ◌==◌, ◌&&◌, if◌then◌else◌, false, length, slice_index};
+ghost use Rattle.std.specs.Prelude.{◌≡◌, ℕ, List, ◌*◌, ◌%◌, ◌+◌, ◌-◌, ◌<◌, ◌≤◌, ◌==◌, ◌&&◌, if◌then◌else◌, not, false, length, slice_index};
 ghost use Rattle.qr_layout.specs.Version.{side_of};
 ghost use Rattle.qr_layout.specs.Strips.{both_of, rows_from};
 ghost use Rattle.qr_bits.specs.Bits.{codeword_bit};
 ghost use Rattle.qr_matrix.specs.Grid.{square, colour, painted, transposed, IsSquare};
 ghost use Rattle.qr_matrix.specs.BitRow.{has, has_bit};
-ghost use Rattle.qr_symbol.specs.Steps.Drawing.{placed_colour, number_after, walked_colour, AreDrawn, AreNext, AreWithin, IsDrawnAcross, IsCodewordBits, IsRegion, region_grid};
+ghost use Rattle.qr_symbol.specs.Steps.Drawing.{placed_colour, number_after, walked_colour, AreDrawn, AreLight, AreNext, AreWithin, IsDrawnAcross, IsCodewordBits, IsRegion, region_grid};
 
 use crate::mask::inverts;
 use crate::patterns::is_bit_set;
@@ -159,6 +159,18 @@ fn columns_of(across: &Matrix, right: u8) -> Columns
     }
 }
 
+// Returns the columns `columns` of a strip with all modules of the encoding region light. In the columns `region`, a bit
+// is 1 if the module in its row is in the encoding region.
+fn with_light_region(columns: Columns, region: &Columns) -> Columns
+    ensures right { (row : ℕ) → has result.right row ≡ (has columns.right row && not (has region.now.right row)) }
+    ensures left { (row : ℕ) → has result.left row ≡ (has columns.left row && not (has region.now.left row)) }
+{
+    Columns {
+        right: columns.right ^ (columns.right & region.right),
+        left: columns.left ^ (columns.left & region.left),
+    }
+}
+
 // Draws the next of the eight bits `bits` in row `row` of a column, if the module there is in the encoding region.
 // Before the call, `taken` of the eight bits were drawn. Returns how many of the eight bits are drawn after the call.
 // In `region`, a bit is 1 if the module in its row of the column is in the encoding region.
@@ -197,8 +209,10 @@ fn draw_rows(
     requires right_in { strip.right < side_of v }
     requires rows_in { passed + count ≤ side_of v }
     requires few { count ≤ 4 }
+    requires light { AreLight (side_of v) strip passed region.now columns.old }
     ensures few { result ≤ 2 * count }
     ensures within { AreWithin (side_of v) columns.new }
+    ensures light { AreLight (side_of v) strip (passed + count) region.now columns.new }
     ensures drawn { (cw : List ℕ) → (number : ℕ) → AreNext cw number bits
         → AreDrawn v cw strip passed count number columns.old (number + result) columns.new }
 {
@@ -216,7 +230,7 @@ fn draw_rows(
 // rows that is in the encoding region gets the next bit. `passed` is the number of rows of the strip that come before
 // these rows. Returns the number of bits that were drawn. In `both`, the bit of a row is 1 if both modules of the strip
 // in this row are in the encoding region. If all eight modules are in the encoding region, four modules of each column
-// are set at once.
+// are drawn at once. They are still light, so it is enough to set the bits that are 1.
 #[inline(always)]
 fn draw_four(
     columns: &mut Columns,
@@ -234,8 +248,10 @@ fn draw_four(
     requires rows_in { passed + 4 ≤ side_of v }
     requires whole { passed % 4 ≡ (if strip.upward then 1 else 0) }
     requires both { (row : ℕ) → has both.now row ≡ (has region.now.right row && has region.now.left row) }
+    requires light { AreLight (side_of v) strip passed region.now columns.old }
     ensures few { result ≤ 8 }
     ensures within { AreWithin (side_of v) columns.new }
+    ensures light { AreLight (side_of v) strip (passed + 4) region.now columns.new }
     ensures drawn { (cw : List ℕ) → (number : ℕ) → AreNext cw number bits
         → AreDrawn v cw strip passed 4 number columns.old (number + result) columns.new }
 {
@@ -246,8 +262,8 @@ fn draw_four(
     };
     if both.four(top) == 15 {
         let split = SPLITS[usize::from(strip.upward)][usize::from(bits)];
-        columns.right.put_four(top, split / 16);
-        columns.left.put_four(top, split % 16);
+        columns.right.set_four(top, split / 16);
+        columns.left.set_four(top, split % 16);
         return 8;
     }
     draw_rows(columns, v, region, bits, strip, passed, 4)
@@ -271,6 +287,7 @@ fn draw_columns(
     requires left_in { 1 ≤ strip.right }
     requires right_in { strip.right < side_of v }
     requires few { first ≤ 29648 }
+    requires light { AreLight (side_of v) strip 0 region.now columns.old }
     ensures within { AreWithin (side_of v) columns.new }
     ensures drawn { AreDrawn v codewords.now strip 0 (side_of v) first columns.old result columns.new }
 {
@@ -313,7 +330,7 @@ fn draw_strip(
 {
     let Strip { right, upward } = strip;
     let within = columns_of(region, right);
-    let mut columns = columns_of(across, right);
+    let mut columns = with_light_region(columns_of(across, right), &within);
     let next = if upward {
         let strip = Strip {
             right,

@@ -12,3 +12,7 @@ pub mod AcrossLemmas
 pub mod ColumnLemmas
 -- The table that splits eight bits into those of the two columns of a strip.
 pub mod SplitLemmas
+-- The modules of a strip that are still to be drawn, which are light.
+pub mod LightLemmas
+-- Modules that are drawn do not depend on their colour before.
+pub mod OverLemmas

@@ -91,6 +91,18 @@ with_columns g right x = with_row (with_row g right (has x.right)) (right - 1) (
 abbrev pub AreWithin : ℕ → Columns → Type 0
 AreWithin s x = (row : ℕ) → s ≤ row → (has x.right row ≡ false) × (has x.left row ≡ false)
 
+-- `row_of s x rank` is the row with the index `rank` of the strip x, in a symbol of s rows. The rows of a strip are
+-- counted from 0, in the direction in which the strip is filled.
+abbrev pub row_of : ℕ → Strip → ℕ → ℕ
+row_of s x rank = if x.upward then s - 1 - rank else rank
+
+-- `AreLight s x k region y` holds if the columns y of the strip x are light in the encoding region from the row with the
+-- index k on. The symbol has s rows. In the columns `region`, a bit is 1 if the module in its row is in the encoding
+-- region.
+abbrev pub AreLight : ℕ → Strip → ℕ → Columns → Columns → Type 0
+AreLight s x k region y = (rank : ℕ) → k ≤ rank → rank < s
+    → ((has region.right (row_of s x rank) && has y.right (row_of s x rank)) ≡ false) × ((has region.left (row_of s x rank) && has y.left (row_of s x rank)) ≡ false)
+
 -- `IsRegion v right x` holds if the columns x show the encoding region of version v in two columns of the symbol:
 -- column `right` and the column to its left. In each of the columns x, the bit with the index of a row is 1 exactly if
 -- the module in this row is in the encoding region.

@@ -2,7 +2,7 @@
 use Rattle.std.proofs.Common.{◌≢◌, List, length, get_or, set, ◌≡◌, ℕ, zero, suc, ◌+◌, ◌-◌, ◌*◌, ◌/◌, ◌%◌, ◌^◌, ◌<◌, ◌≤◌, min, eqb, ltb, Bool, true, false, not, ◌&&◌, cond, bit_and, bit_or, bit_xor, max, ◌||◌, count_ones, refl, sym, ap, ◌∙◌, subst, inl, inr, arith}
 use Rattle.std.specs.Int.{bit_at}
 use lib.Count.{ones, ones_in}
-use Rattle.std.proofs.lemmas.Nat.{and_le_l, and_le_r, ones_cat, ones-le, shr-shr, shr_split, mod_below, pow_pos, shr_below}
+use Rattle.std.proofs.lemmas.Nat.{and_le_l, ones_cat, ones-le, shr-shr, shr_split, mod_below, pow_pos, shr_below}
 use Rattle.std.proofs.lemmas.Nat.Bits.{bit_at_above, bit_at_and, bit_at_or, bit_at_xor, bit_at-lt, bit_at_cat_low, bit_at_ones, bit_at_ones_above, bit_at-suc, bit_at_cat_high, bit_at-zero, shr_and_one}
 use Rattle.std.proofs.Math.ListN.{length-set}
 use Rattle.std.proofs.lemmas.List.{get_or_past, get_or-set_same, get_or-set_other}
@@ -274,7 +274,3 @@ has_bit-shl-high d s k =
     let e : d * 2 ^ s + 0 ≡ d * 2 ^ s = omega arith in
     let f : s + k - s ≡ k = omega arith in
     ap (λ z. eqb (bit_at z (s + k)) 1) (sym e) ∙ ap (λ z. eqb z 1) (bit_at_cat_high d s 0 (s + k) (pow_pos s) (omega arith) ∙ ap (bit_at d) f)
-
--- the conjunction of any number with a word is a word
-pub masked-small : (x m : ℕ) → bit_and x (m % 2 ^ 64) < 2 ^ 64
-masked-small x m = let l = and_le_r x (m % 2 ^ 64) in omega arith

@@ -1,81 +1,78 @@
--- Four bits of a bit row replaced at once.
-use Rattle.std.proofs.Common.{List, length, get_or, set, ◌≡◌, ℕ, ◌+◌, ◌-◌, ◌*◌, ◌/◌, ◌%◌, ◌^◌, ◌<◌, ◌≤◌, eqb, ltb, leb, Bool, true, false, not, ◌&&◌, cond, bit_and, bit_xor, refl, sym, ap, ◌∙◌, inl, inr, arith}
-use Rattle.std.proofs.lemmas.Nat.{and_le_r, xor_lt}
+-- Four bits of a bit row set at once.
+use Rattle.std.proofs.Common.{List, length, get_or, set, ◌≡◌, ℕ, ◌+◌, ◌-◌, ◌*◌, ◌/◌, ◌%◌, ◌^◌, ◌<◌, ◌≤◌, eqb, ltb, leb, Bool, true, false, ◌&&◌, ◌||◌, cond, bit_or, refl, sym, ap, ◌∙◌, ◌⊎◌, inl, inr, true≢false, arith}
+use Rattle.std.proofs.lemmas.Nat.{or_lt}
+use Rattle.std.proofs.lemmas.Nat.Bits.{bit_at_above}
 use Rattle.std.proofs.Math.Nat.{mul-le-mul_right}
 use Rattle.std.proofs.Math.Pow.{pow_mono}
 use Rattle.std.proofs.lemmas.Bool.{cases_lt}
 use Rattle.std.proofs.lemmas.Bool.Decides.{nat_tests}
 use Rattle.qr_matrix.specs.BitRow.{has, has_bit}
-use Rattle.qr_matrix.specs.Penalty.{is_same}
 use Rattle.qr_matrix.specs.Grid.{Grid, colour, painted, with_row}
 use Rattle.qr_matrix.proofs.lemmas.matrix.GridLemmas.{square-same, colour-square}
 use Rattle.qr_matrix.proofs.lemmas.matrix.MatrixLemmas.{with_row-same}
-use Rattle.qr_matrix.proofs.lemmas.bit_row.PlaceLemmas.{has-place, has_bit-and, has_bit-xor, has_bit-ones, word-step, has_bit-shl-low, has_bit-shl-high}
+use Rattle.qr_matrix.proofs.lemmas.bit_row.PlaceLemmas.{has-place, has_bit-or, word-step, has_bit-shl-low, has_bit-shl-high}
 
--- a bit that is changed where it differs from another and a mask lets it
-pub replaced : (n b m t : Bool) → m ≡ t → not (is_same n (not (is_same n b) && m)) ≡ cond t b n
-replaced n b m t e = ap (λ z. not (is_same n (not (is_same n b) && z))) e ∙ told n b t
+-- bit j of a number b that is shifted up by s
+shl-bit : (b s j : ℕ) → has_bit (b * 2 ^ s) j ≡ (leb s j && has_bit b (j - s))
+shl-bit b s j = elim (cases_lt j s) [
+  | inl l ↦ (let t : leb s j ≡ false = grind (arith, nat_tests) in has_bit-shl-low b s j l ∙ sym (ap (λ z. z && has_bit b (j - s)) t))
+  | inr l ↦
+      let e : s + (j - s) ≡ j = omega arith in
+      let t : leb s j ≡ true = grind (arith, nat_tests) in
+      ap (has_bit (b * 2 ^ s)) (sym e) ∙ (has_bit-shl-high b s (j - s) ∙ sym (ap (λ z. z && has_bit b (j - s)) t))
+]
+
+-- no bit from bit 4 on is set in a number below 16
+above-four : (b k : ℕ) → b < 16 → 4 ≤ k → has_bit b k ≡ false
+unfolding has_bit
+above-four b k l m = ap (λ z. eqb z 1) (bit_at_above b 4 k l m)
+
+-- the bits of a number below 16 are four bits
+four-bits : (c p bits : ℕ) → bits < 16 → (leb c p && has_bit bits (p - c)) ≡ (leb c p && ltb p (c + 4) && has_bit bits (p - c))
+four-bits c p bits l = elim (cases_lt p (c + 4)) [
+  | inl m ↦ (let t : ltb p (c + 4) ≡ true = grind (arith, nat_tests) in told (leb c p) (ltb p (c + 4)) (has_bit bits (p - c)) (inl t))
+  | inr m ↦ told (leb c p) (ltb p (c + 4)) (has_bit bits (p - c)) (inr (above-four bits (p - c) l (omega arith)))
+]
   where
-    told : (n b t : Bool) → not (is_same n (not (is_same n b) && t)) ≡ cond t b n
-    told true true true = refl
-    told true true false = refl
-    told true false true = refl
-    told true false false = refl
-    told false true true = refl
-    told false true false = refl
-    told false false true = refl
-    told false false false = refl
+    told : (a b h : Bool) → (b ≡ true) ⊎ (h ≡ false) → (a && h) ≡ (a && b && h)
+    told true b h (inl e) = sym (ap (λ z. z && h) e)
+    told true true h (inr e) = refl
+    told true false h (inr e) = e
+    told false b h e = refl
 
--- if the mask does not let a bit change, the other bit does not matter
-spared : (n b d m t : Bool) → m ≡ false → t ≡ false → not (is_same n (not (is_same n b) && m)) ≡ cond t d n
-spared n b d m t e f = replaced n b m false e ∙ sym (ap (λ z. cond z d n) f)
-
--- the w bits from s on are those of b
-pub bits-from : (w n b s j : ℕ) → has_bit (bit_xor n (bit_and (bit_xor n (b * 2 ^ s)) ((2 ^ w - 1) * 2 ^ s))) j ≡ cond (leb s j && ltb j (s + w)) (has_bit b (j - s)) (has_bit n j)
-bits-from w n b s j =
-    let d = bit_and (bit_xor n (b * 2 ^ s)) ((2 ^ w - 1) * 2 ^ s) in
-    let mask = has_bit ((2 ^ w - 1) * 2 ^ s) j in
-    let inner : has_bit d j ≡ (not (is_same (has_bit n j) (has_bit (b * 2 ^ s) j)) && mask) = has_bit-and (bit_xor n (b * 2 ^ s)) ((2 ^ w - 1) * 2 ^ s) j ∙ ap (λ z. z && mask) (has_bit-xor n (b * 2 ^ s) j) in
-    has_bit-xor n d j ∙ (ap (λ z. not (is_same (has_bit n j) z)) inner ∙ elim (cases_lt j s) [
-      | inl l ↦ spared (has_bit n j) (has_bit (b * 2 ^ s) j) (has_bit b (j - s)) mask (leb s j && ltb j (s + w)) (has_bit-shl-low (2 ^ w - 1) s j l) (grind (arith, nat_tests))
-      | inr l ↦
-          let k = j - s in
-          let e : s + k ≡ j = omega arith in
-          let up : (x : ℕ) → has_bit (x * 2 ^ s) j ≡ has_bit x k = λ x. ap (has_bit (x * 2 ^ s)) (sym e) ∙ has_bit-shl-high x s k in
-          let t : ltb k w ≡ (leb s j && ltb j (s + w)) = grind (arith, nat_tests) in
-          ap (λ z. not (is_same (has_bit n j) (not (is_same (has_bit n j) z) && mask))) (up b) ∙ replaced (has_bit n j) (has_bit b k) mask (leb s j && ltb j (s + w)) (up (2 ^ w - 1) ∙ (has_bit-ones w k ∙ t))
-    ])
-
--- a word whose four bits are changed is a line with four places of these colours
-pub four-put : (ws : List ℕ) (c i k b bits : ℕ) → length ws ≡ 3 → ((j : ℕ) → get_or ws j 0 < 2 ^ 64) → c < 192 → c % 4 ≡ 0 → i ≡ c / 64 → k ≡ c / 64 → b ≡ bits → bits < 16
-    → (p : ℕ) → has (set ws k (bit_xor (get_or ws i 0) (bit_and (bit_xor (get_or ws i 0) (b * 2 ^ (c % 64) % 2 ^ 64)) (15 * 2 ^ (c % 64) % 2 ^ 64)))) p ≡ cond (leb c p && ltb p (c + 4)) (has_bit bits (p - c)) (has ws p)
-four-put ws c i k b bits l w h n e f g few =
+-- a word in which four bits are set is a bit row with these bits set
+pub four-set : (ws : List ℕ) (c k b bits : ℕ) → length ws ≡ 3 → ((j : ℕ) → get_or ws j 0 < 2 ^ 64) → c < 192 → c % 4 ≡ 0 → k ≡ c / 64 → b ≡ bits → bits < 16
+    → (p : ℕ) → has (set ws k (bit_or (get_or ws k 0) (b * 2 ^ (c % 64) % 2 ^ 64))) p ≡ (has ws p || leb c p && ltb p (c + 4) && has_bit bits (p - c))
+four-set ws c k b bits l w h n f g few =
     let s = c % 64 in
-    let word = get_or ws i 0 in
+    let word = get_or ws k 0 in
     let low : s ≤ 60 = omega arith in
     let power : 2 ^ s ≤ 2 ^ 60 = pow_mono low in
     let product : b * 2 ^ s ≤ 15 * 2 ^ s = mul-le-mul_right (2 ^ s) (omega arith) in
-    let bits_same : b * 2 ^ s % 2 ^ 64 ≡ b * 2 ^ s = omega arith in
-    let mask_same : 15 * 2 ^ s % 2 ^ 64 ≡ 15 * 2 ^ s = omega arith in
-    let d = bit_and (bit_xor word (b * 2 ^ s % 2 ^ 64)) (15 * 2 ^ s % 2 ^ 64) in
-    let same : d ≡ bit_and (bit_xor word (b * 2 ^ s)) (15 * 2 ^ s) = λ i. bit_and (bit_xor word (bits_same i)) (mask_same i) in
-    let below : d < 2 ^ 64 = let m = and_le_r (bit_xor word (b * 2 ^ s % 2 ^ 64)) (15 * 2 ^ s % 2 ^ 64) in omega arith in
-    let x = bit_xor word d in
-    word-step ws k x (λ p. cond (leb c p && ltb p (c + 4)) (has_bit bits (p - c)) (has ws p)) l w (xor_lt 64 word d (w i) below) (omega arith)
+    let same : b * 2 ^ s % 2 ^ 64 ≡ b * 2 ^ s = omega arith in
+    let small : b * 2 ^ s % 2 ^ 64 < 2 ^ 64 = omega arith in
+    word-step ws k (bit_or word (b * 2 ^ s % 2 ^ 64)) (λ p. has ws p || leb c p && ltb p (c + 4) && has_bit bits (p - c)) l w (or_lt 64 word _ (w k) small) (omega arith)
     (λ j m.
     let p = 64 * k + j in
-    let t : (leb s j && ltb j (s + 4)) ≡ (leb c p && ltb p (c + 4)) = let q : p ≡ 64 * (c / 64) + j = omega arith in let r : c ≡ 64 * (c / 64) + s = omega arith in grind (arith, nat_tests) in
+    let r : c ≡ 64 * (c / 64) + s = omega arith in
+    let t : leb s j ≡ leb c p = grind (arith, nat_tests) in
     let u : j - s ≡ p - c = omega arith in
-    let q : p / 64 ≡ i = omega arith in
-    let r : p % 64 ≡ j = omega arith in
-    let v : has_bit word j ≡ has ws p = sym (has-place ws p w (omega arith) ∙ (ap (λ z. has_bit (get_or ws z 0) (p % 64)) q ∙ ap (has_bit word) r)) in
-    ap (λ z. has_bit (bit_xor word z) j) same ∙ (bits-from 4 word b s j
-    ∙ (ap (λ z. cond z (has_bit b (j - s)) (has_bit word j)) t
-    ∙ (ap (λ z. cond (leb c p && ltb p (c + 4)) z (has_bit word j)) (ap (λ z. has_bit z (j - s)) g ∙ ap (has_bit bits) u)
-    ∙ ap (λ z. cond (leb c p && ltb p (c + 4)) (has_bit bits (p - c)) z) v))))
+    let q : p / 64 ≡ k = omega arith in
+    let o : p % 64 ≡ j = omega arith in
+    let v : has_bit word j ≡ has ws p = sym (has-place ws p w (omega arith) ∙ (ap (λ z. has_bit (get_or ws z 0) (p % 64)) q ∙ ap (has_bit word) o)) in
+    let x : (leb s j && has_bit b (j - s)) ≡ (leb c p && has_bit bits (p - c)) = λ i. t i && has_bit (g i) (u i) in
+    ap (λ z. has_bit (bit_or word z) j) same ∙ (has_bit-or word (b * 2 ^ s) j
+    ∙ (ap (λ z. z || has_bit (b * 2 ^ s) j) v ∙ ap (λ z. has ws p || z) (shl-bit b s j ∙ (x ∙ four-bits c p bits few)))))
     (λ p q.
     let t : (leb c p && ltb p (c + 4)) ≡ false = grind (arith, nat_tests) in
-    sym (ap (λ z. cond z (has_bit bits (p - c)) (has ws p)) t))
+    none (leb c p) (ltb p (c + 4)) (has_bit bits (p - c)) (has ws p) t)
+  where
+    none : (a b h p : Bool) → (a && b) ≡ false → p ≡ (p || a && b && h)
+    none true true h p e = absurd (true≢false e)
+    none true false h true e = refl
+    none true false h false e = refl
+    none false b h true e = refl
+    none false b h false e = refl
 
 -- ---- four places of a square
 

@@ -16,7 +16,6 @@ use Rattle.qr_matrix.specs.Steps.{bit_in, exchanged}
 use Rattle.qr_matrix.proofs.lemmas.bit_row.PlaceLemmas.{has-place, has_bit-and, has_bit-xor, has_bit-shr, word-step, has_bit-shl-low, has_bit-shl-high}
 use Rattle.qr_matrix.proofs.lemmas.matrix.GridLemmas.{square-same, colour-square}
 use Rattle.qr_matrix.proofs.lemmas.bit_row.RepeatLemmas.{below-at, same-same}
-use Rattle.qr_matrix.proofs.lemmas.matrix.FourLemmas.{replaced}
 
 -- ---- numbers of rows and columns in pairs of parts
 
@@ -75,6 +74,20 @@ changed false true true = refl
 changed false true false = refl
 changed false false true = refl
 changed false false false = refl
+
+-- a bit that is changed where it differs from another and a mask lets it
+replaced : (n b m t : Bool) → m ≡ t → not (is_same n (not (is_same n b) && m)) ≡ cond t b n
+replaced n b m t e = ap (λ z. not (is_same n (not (is_same n b) && z))) e ∙ told n b t
+  where
+    told : (n b t : Bool) → not (is_same n (not (is_same n b) && t)) ≡ cond t b n
+    told true true true = refl
+    told true true false = refl
+    told true false true = refl
+    told true false false = refl
+    told false true true = refl
+    told false true false = refl
+    told false false true = refl
+    told false false false = refl
 
 -- after the exchange of the words u and l, bit c of the upper word is bit c of u in the left part, and bit c - s of l in
 -- the right part; the mask m contains the columns of the left parts

@@ -26,6 +26,7 @@ loop-group-init c =
       most = omega arith;
       few = omega arith;
       within = c.draw_rows.ensures.within;
+      light = λ j l m. c.draw_rows.ensures.light j (omega arith) m;
       drawn = subst (λ z. AreDrawn v cw c.args.strip 0 z c.args.first c.args.columns.now (c.args.first + c.from.result) c.draw_rows.new.columns) e
           (subst (λ z. AreDrawn v cw c.args.strip 0 c.from-before.result c.args.first c.args.columns.now z c.draw_rows.new.columns) f
           (c.draw_rows.ensures.drawn cw c.args.first (c.eight_bits-bits.ensures cw w.ensures.bits)));
@@ -56,6 +57,7 @@ loop-group-preserved c =
       most = now.2;
       few = omega (arith, i.few, c.from-number.ensures, four.ensures.few);
       within = four.ensures.within;
+      light = λ j l m. four.ensures.light j (omega arith) m;
       drawn = subst (λ z. AreDrawn v cw c.args.strip 0 z c.args.first c.args.columns.now number four.new.columns) e
           (rows-drawn v cw c.args.strip 0 k 4 c.args.first old number c.args.columns.now c.loop-group.columns four.new.columns i.drawn
           (subst (λ z. AreDrawn v cw c.args.strip z 4 old c.loop-group.columns number four.new.columns) g

@@ -2,10 +2,11 @@ use Rattle.std.proofs.Common.{◌≡◌, ◌<◌, ◌+◌, ◌-◌, cond, refl, 
 use Rattle.qr_layout.specs.Version.{side_of}
 use Rattle.qr_matrix.specs.BitRow.{has, has_bit}
 use Rattle.qr_matrix.specs.Grid.{painted}
-use Rattle.qr_symbol.specs.Steps.Drawing.{AreDrawn, with_columns}
+use Rattle.qr_symbol.specs.Steps.Drawing.{AreDrawn, row_of, with_columns}
 use Rattle.qr_symbol.specs.declared.drawing.Columns.{Columns}
 use Rattle.qr_symbol.proofs.lemmas.drawing.AcrossLemmas.{after-plus, drawn-row}
 use Rattle.qr_symbol.proofs.lemmas.drawing.ColumnLemmas.{columns-square, left-drawn, right-drawn, rows-drawn, rows-none, still-light}
+use Rattle.qr_symbol.proofs.lemmas.drawing.LightLemmas.{light-module, rows-apart}
 use Rattle.qr_symbol.proofs.drawing.draw_rows.Goals as goal
 use Rattle.qr_symbol.proofs.drawing.draw_rows.Goals.{then-strip, else-strip}
 
@@ -18,6 +19,7 @@ loop-rank-init c =
       from = omega arith;
       few = omega arith;
       within = c.requires.within;
+      light = c.requires.light;
       drawn = λ cw number next.
           let f : number ≡ number + 0 = omega arith in
           subst (λ z. AreDrawn v cw c.args.strip c.args.passed z number x (number + 0) x) e
@@ -61,6 +63,12 @@ loop-rank-preserved c =
         still-light t (has_bit c.args.bits (7 - c.loop-rank.taken)) (has old.right j) (has one.new.column j) j row s inside l (one.ensures.column j) (i.within j l).0,
         still-light u (has_bit c.args.bits (7 - one.result)) (has old.left j) (has two.new.column j) j row s inside l (two.ensures.column j) (i.within j l).1,
       );
+      light = λ j l m.
+          let q = row_of s x j in
+          let apart : q ≡ row → ⊥ = λ e. rows-apart x.upward s j k m (omega arith) (e ∙ r) in (
+            light-module t (has_bit c.args.bits (7 - c.loop-rank.taken)) (has old.right q) (has one.new.column q) (has c.args.region.now.right q) q row apart (one.ensures.column q) (i.light j (omega arith) m).0,
+            light-module u (has_bit c.args.bits (7 - one.result)) (has old.left q) (has two.new.column q) (has c.args.region.now.left q) q row apart (two.ensures.column q) (i.light j (omega arith) m).1,
+          );
       drawn = λ cw number next.
           let a = number + c.loop-rank.taken in
           let b = number + one.result in
@@ -82,3 +90,6 @@ pub returns-clause-drawn : goal.returns-clause-drawn
 returns-clause-drawn c = λ cw number next.
     let e : c.loop-rank.rank - c.args.passed ≡ c.args.count = omega (arith, c.loop-rank-test.false, c.loop-rank.invariant.from) in
     subst (λ z. AreDrawn c.args.v cw c.args.strip c.args.passed z number c.args.columns.now (number + c.loop-rank.taken) c.loop-rank.columns) e (c.loop-rank.invariant.drawn cw number next)
+
+pub returns-clause-light : goal.returns-clause-light
+returns-clause-light c = λ j l m. c.loop-rank.invariant.light j (omega (arith, c.loop-rank-test.false, c.loop-rank.invariant.from)) m

@@ -1,11 +1,12 @@
 -- The columns of a strip, held apart from the square in which they are two rows.
-use Rattle.std.proofs.Common.{◌≡◌, ℕ, ◌+◌, ◌-◌, ◌<◌, ◌≤◌, Bool, true, false, cond, eqb, leb, ltb, ◌&&◌, List, refl, sym, ◌∙◌, ap, inl, inr, arith}
+use Rattle.std.proofs.Common.{◌≡◌, ℕ, ◌+◌, ◌-◌, ◌<◌, ◌≤◌, Bool, true, false, cond, eqb, leb, ltb, ◌&&◌, List, refl, sym, ◌∙◌, ap, ◌⊎◌, inl, inr, arith}
 use Rattle.std.proofs.lemmas.Bool.Decides.{nat_tests}
 use Rattle.std.proofs.lemmas.Bool.{cases_eq}
 use Rattle.qr_matrix.specs.Grid.{Grid, square, colour, painted, with_row, IsSquare}
 use Rattle.qr_matrix.specs.BitRow.{has, has_bit}
 use Rattle.qr_matrix.proofs.Facts.{square-same, colour-square, with_row-same, row-four}
 use Rattle.qr_layout.specs.declared.strips.Strip.{Strip}
+use Rattle.qr_layout.specs.Region.{is_in_region}
 use Rattle.qr_layout.specs.Version.{side_of}
 use Rattle.qr_symbol.specs.Steps.Drawing.{with_columns, AreDrawn}
 use Rattle.qr_symbol.specs.declared.drawing.Columns.{Columns}
@@ -125,23 +126,6 @@ left-four g right top bits x y k l e h =
     (λ c m. h c ∙ ap (cond (leb top c && ltb c (top + 4)) (has_bit bits (c - top))) (sym (left-colour g right x c k l m)))
     ∙ row-four (with_columns g right x) (right - 1) top bits)
 
--- a square with its own rows as columns is the same square
-pub columns-same : (s : ℕ) (g : Grid) (right : ℕ) (x : Columns) → IsSquare s g → ((c : ℕ) → has x.right c ≡ colour g right c) → ((c : ℕ) → has x.left c ≡ colour g (right - 1) c) → with_columns g right x ≡ g
-columns-same s g right x q e f =
-    square-same g.side (λ r c. cond (eqb r (right - 1)) (has x.left c) (colour (with_row g right (has x.right)) r c)) (colour g) (λ r c l m.
-    ap (cond (eqb r (right - 1)) (has x.left c)) (colour-square g.side (λ r c. cond (eqb r right) (has x.right c) (colour g r c)) r c l m)
-    ∙ told r c)
-    ∙ sym (q ∙ ap (λ z. square z (colour g)) (sym (ap (λ (z : Grid). z.side) q)))
-  where
-    told : (r c : ℕ) → cond (eqb r (right - 1)) (has x.left c) (cond (eqb r right) (has x.right c) (colour g r c)) ≡ colour g r c
-    told r c = elim (cases_eq r (right - 1)) [
-      | inl k ↦ (let t : eqb r (right - 1) ≡ true = grind (arith, nat_tests) in rw t (f c ∙ ap (λ z. colour g z c) (sym k)))
-      | inr k ↦ (let t : eqb r (right - 1) ≡ false = grind (arith, nat_tests) in rw t (elim (cases_eq r right) [
-        | inl k ↦ (let t : eqb r right ≡ true = grind (arith, nat_tests) in rw t (e c ∙ ap (λ z. colour g z c) (sym k)))
-        | inr k ↦ (let t : eqb r right ≡ false = grind (arith, nat_tests) in rw t refl)
-      ]))
-    ]
-
 -- if no row is drawn, the columns and the number stay the same
 pub rows-none : (v : ℕ) (cw : List ℕ) (x : Strip) (k a : ℕ) (y : Columns) → AreDrawn v cw x k 0 a y a y
 rows-none v cw x k a y g e = drawn-none v cw a (with_columns g x.right y) (columns-square (side_of v) g x.right y e)
@@ -159,3 +143,31 @@ still-light false d p z i row s l m e f = e ∙ f
 -- a bit below the last row stays unset when four modules are drawn
 pub still-light-four : (d p z : Bool) (i top s : ℕ) → top + 4 ≤ s → s ≤ i → z ≡ cond (leb top i && ltb i (top + 4)) d p → p ≡ false → z ≡ false
 still-light-four d p z i top s l m e f = (let u : (leb top i && ltb i (top + 4)) ≡ false = grind (arith, nat_tests) in e ∙ (ap (λ b. cond b d p) u ∙ f))
+
+-- replacing two columns changes modules of these columns alone
+pub columns-apart : (v : ℕ) (g : Grid) (right : ℕ) (x : Columns) → g.side ≡ side_of v
+    → ((row : ℕ) → row < side_of v → (has x.right row ≡ colour g right row) ⊎ (is_in_region v row right ≡ true))
+    → ((row : ℕ) → row < side_of v → (has x.left row ≡ colour g (right - 1) row) ⊎ (is_in_region v row (right - 1) ≡ true))
+    → (row col : ℕ) → row < side_of v → col < side_of v → (colour (with_columns g right x) col row ≡ colour g col row) ⊎ (((col ≡ right) ⊎ (col ≡ right - 1)) × (is_in_region v row col ≡ true))
+columns-apart v g right x e here there row col l m =
+    let is = two-rows g right (right - 1) (has x.right) (has x.left) col row (omega arith) (omega arith) in
+    elim (cases_eq col (right - 1)) [
+      | inl k ↦
+          let t : eqb col (right - 1) ≡ true = grind (arith, nat_tests) in
+          elim (there row l) [
+            | inl w ↦ inl (is ∙ (ap (λ b. cond b (has x.left row) (cond (eqb col right) (has x.right row) (colour g col row))) t ∙ (w ∙ ap (λ z. colour g z row) (sym k))))
+            | inr w ↦ inr (inr k, ap (is_in_region v row) k ∙ w)
+          ]
+      | inr k ↦
+          let t : eqb col (right - 1) ≡ false = grind (arith, nat_tests) in
+          let other = is ∙ ap (λ b. cond b (has x.left row) (cond (eqb col right) (has x.right row) (colour g col row))) t in
+          elim (cases_eq col right) [
+            | inl k ↦
+                let u : eqb col right ≡ true = grind (arith, nat_tests) in
+                elim (here row l) [
+                  | inl w ↦ inl (other ∙ (ap (λ b. cond b (has x.right row) (colour g col row)) u ∙ (w ∙ ap (λ z. colour g z row) (sym k))))
+                  | inr w ↦ inr (inl k, ap (is_in_region v row) k ∙ w)
+                ]
+            | inr k ↦ (let u : eqb col right ≡ false = grind (arith, nat_tests) in inl (other ∙ ap (λ b. cond b (has x.right row) (colour g col row)) u))
+          ]
+    ]
