@@ -47,23 +47,3 @@ fn capital(byte: u8) -> u8
 {
     byte.to_ascii_uppercase()
 }
-
-#[cfg(test)]
-mod tests {
-    use super::*;
-    use std::test::Fail;
-
-    #[test]
-    fn three_bytes(rt: HostRuntime) -> Result<(), Fail> {
-        let rows = [
-            ("around a pair", Rule::WithKanji, b"\x93\x61\x41"),
-            ("without kanji mode", Rule::Auto, b"\x93\x41\x41"),
-            ("in byte mode", Rule::BytesOnly, b"\x93\x61\x61"),
-        ];
-        for (name, rule, wanted) in rows {
-            let folded = fold(rt.alloc(), b"\x93\x61\x61", rule)?;
-            assert_eq!(rt; folded.as_slice(), wanted.as_slice(), "{name}");
-        }
-        Ok(())
-    }
-}

@@ -33,14 +33,3 @@ pub fn parity(input: &[u8]) -> u8
 {
     input.iter().fold(0, |parity, byte| parity ^ *byte)
 }
-
-#[cfg(test)]
-mod tests {
-    use super::*;
-
-    #[test]
-    fn parity_of_eight_letters(rt: HostRuntime) {
-        assert_eq!(rt; parity(b"ABCDEFGH"), 0x08);
-        assert_eq!(rt; parity(b""), 0);
-    }
-}

@@ -229,14 +229,3 @@ pub fn kanji_compute()
         (0x80FC ∷ 0x813F ∷ 0x81FD ∷ 0xA040 ∷ 0xDFFC ∷ 0xEBC0 ∷ 0xFC40 ∷ [])
         ≡ false ∷ false ∷ false ∷ false ∷ false ∷ false ∷ false ∷ [] }
 {}
-
-#[cfg(test)]
-mod tests {
-    use super::*;
-
-    #[test]
-    fn numbers_of_faults(rt: HostRuntime) {
-        assert_eq!(rt; bit_fault_numbers(BitFault::TooLong), 2);
-        assert_eq!(rt; parse_fault_numbers(ParseFault::BadValue), 4);
-    }
-}

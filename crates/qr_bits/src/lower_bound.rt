@@ -40,27 +40,3 @@ pub fn least_bits(input: &[u8]) -> u32
     }
     sixths / 6
 }
-
-#[cfg(test)]
-mod tests {
-    use super::*;
-    use std::test::Fail;
-
-    // Worked out by hand: three digits take 10 bits, two other bytes up to `Z` take 11, two greater bytes take 13, and the
-    // sum is rounded down.
-    #[test]
-    fn least_bits_of_inputs(rt: HostRuntime) -> Result<(), Fail> {
-        let rows = [
-            ("no byte", &b""[..], 0),
-            ("three digits", b"012", 10),
-            ("two capitals", b"AZ", 11),
-            ("two small letters", b"az", 13),
-            ("one of each", b"1A[", 15),
-        ];
-        for (name, input, bits) in rows {
-            assert!(rt; input.len() <= INPUT_MAX);
-            assert_eq!(rt; least_bits(input), bits, "{name}");
-        }
-        Ok(())
-    }
-}

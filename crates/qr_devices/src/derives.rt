@@ -62,38 +62,3 @@ pub fn device_faults_clone(a: Faults) -> Result<Faults, AllocError>
 {
     a.clone()
 }
-
-#[cfg(test)]
-mod tests {
-    use super::*;
-    use std::test::Fail;
-
-    // Values are equal if all their fields are equal, and unequal if one field differs.
-    #[test]
-    fn equal_and_unequal_values(rt: HostRuntime) -> Result<(), Fail> {
-        let (interrupted, failed) = (Trouble::Interrupted, Trouble::Failed);
-        assert!(rt; troubles_are_equal(failed, failed) && !troubles_are_equal(failed, interrupted));
-        let mut read = ReadCounts::NONE;
-        assert!(rt; read_counts_are_equal(read, ReadCounts::NONE));
-        read.calls = 1;
-        assert!(rt; !read_counts_are_equal(read, ReadCounts::NONE));
-        let mut written = WriteCounts::NONE;
-        assert!(rt; write_counts_are_equal(written, WriteCounts::NONE));
-        written.settled = true;
-        assert!(rt; !write_counts_are_equal(written, WriteCounts::NONE));
-        let mut faults = Faults::NONE;
-        assert!(rt; device_faults_are_equal(faults, Faults::NONE));
-        faults.flush_fails = true;
-        assert!(rt; !device_faults_are_equal(faults, Faults::NONE));
-        Ok(())
-    }
-
-    #[test]
-    fn clones(rt: HostRuntime) -> Result<(), Fail> {
-        assert_eq!(rt; trouble_clones(Trouble::Failed)?, Trouble::Failed);
-        assert_eq!(rt; read_counts_clones(ReadCounts::NONE)?, ReadCounts::NONE);
-        assert_eq!(rt; write_counts_clones(WriteCounts::NONE)?, WriteCounts::NONE);
-        assert_eq!(rt; device_faults_clone(Faults::NONE)?, Faults::NONE);
-        Ok(())
-    }
-}

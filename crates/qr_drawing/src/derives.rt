@@ -34,23 +34,3 @@ pub fn draw_fault_clones(a: DrawFault) -> Result<DrawFault, AllocError>
 {
     a.clone()
 }
-
-#[cfg(test)]
-mod tests {
-    use super::*;
-    use std::test::Fail;
-
-    #[test]
-    fn equal_and_unequal_values(rt: HostRuntime) {
-        assert!(rt; drawings_are_equal(Drawing::Svg, Drawing::Svg));
-        assert!(rt; !drawings_are_equal(Drawing::Ascii, Drawing::AsciiInverse));
-        assert!(rt; draw_faults_are_equal(DrawFault::Write, DrawFault::Write));
-    }
-
-    #[test]
-    fn clones(rt: HostRuntime) -> Result<(), Fail> {
-        assert_eq!(rt; drawing_clones(Drawing::Svg)?, Drawing::Svg);
-        assert_eq!(rt; draw_fault_clones(DrawFault::Write)?, DrawFault::Write);
-        Ok(())
-    }
-}

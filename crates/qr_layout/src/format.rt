@@ -51,37 +51,3 @@ impl Version {
         Some(VERSION_WORDS[usize::from(number - 7)])
     }
 }
-
-#[cfg(test)]
-mod tests {
-    use super::*;
-    use std::test::Fail;
-
-    #[test]
-    fn format_words_of_the_standard(rt: HostRuntime) {
-        for (word, want, name) in [
-            (format_word(Level::L, 0), 0x77C4, "level L, mask 0"),
-            (format_word(Level::M, 0), 0x5412, "level M, mask 0"),
-            (format_word(Level::M, 5), 0x40CE, "level M, mask 5"),
-            (format_word(Level::Q, 0), 0x355F, "level Q, mask 0"),
-            (format_word(Level::H, 7), 0x083B, "level H, mask 7"),
-        ] {
-            assert_eq!(rt; word, want, "{name}");
-        }
-    }
-
-    #[test]
-    fn version_words_of_the_standard(rt: HostRuntime) -> Result<(), Fail> {
-        for (number, want) in [
-            (6, None),
-            (7, Some(0x07C94)),
-            (8, Some(0x085BC)),
-            (9, Some(0x09A99)),
-            (40, Some(0x28C69)),
-        ] {
-            let version = Version::new(number).ok_or("no such version")?;
-            assert_eq!(rt; version.version_word(), want, "version {number}");
-        }
-        Ok(())
-    }
-}

@@ -236,29 +236,3 @@ pub fn default_module() -> Module
 {
     Module::default()
 }
-
-#[cfg(test)]
-mod tests {
-    use super::*;
-    use std::test::Fail;
-
-    #[test]
-    fn first_values(rt: HostRuntime) {
-        assert_eq!(rt; first_version().number(), 1);
-        assert_eq!(rt; default_module(), Module { row: 0, col: 0 });
-    }
-
-    #[test]
-    fn places_by_their_numbers(rt: HostRuntime) -> Result<(), Fail> {
-        let version = Version::FIRST;
-        for (number, want) in [
-            (0, Some(Module { row: 20, col: 20 })),
-            (2, Some(Module { row: 19, col: 20 })),
-            (207, Some(Module { row: 12, col: 0 })),
-            (208, None),
-        ] {
-            assert_eq!(rt; nth_place(version, number), want, "number {number}");
-        }
-        Ok(())
-    }
-}

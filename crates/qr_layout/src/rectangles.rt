@@ -54,20 +54,3 @@ pub fn fixed_rectangles(v: Version) -> ArrayVec<Rectangle, 7>
     }
     rectangles
 }
-
-#[cfg(test)]
-mod tests {
-    use super::*;
-    use std::test::Fail;
-
-    #[test]
-    fn rectangles_of_versions_6_and_7(rt: HostRuntime) -> Result<(), Fail> {
-        let sixth = fixed_rectangles(Version::new(6).ok_or("version 6")?);
-        assert!(rt; sixth.len() == 5, "no version information");
-        let seventh = fixed_rectangles(Version::new(7).ok_or("version 7")?);
-        assert!(rt; seventh.len() == 7, "two blocks of version information");
-        let last = seventh[6];
-        assert!(rt; (last.top, last.bottom) == (34, 37) && (last.left, last.right) == (0, 6));
-        Ok(())
-    }
-}

@@ -73,27 +73,3 @@ pub fn all_strips(v: Version) -> Strips
         remaining: 8 + 2 * v.number(),
     }
 }
-
-#[cfg(test)]
-mod tests {
-    use super::*;
-    use std::test::Fail;
-
-    #[test]
-    fn strips_of_version_1(rt: HostRuntime) -> Result<(), Fail> {
-        let version = Version::FIRST;
-        let rows = [
-            (0usize, 20u8, true, "the first strip goes up"),
-            (1, 18, false, "the second goes down"),
-            (6, 8, true, "the last one to the right of the timing column"),
-            (7, 5, false, "column 6 is in no strip"),
-            (9, 1, false, "the last strip"),
-        ];
-        for (number, right, upward, name) in rows {
-            let strip = Strip { right, upward };
-            assert_eq!(rt; all_strips(version).nth(number), Some(strip), "{name}");
-        }
-        assert_eq!(rt; all_strips(version).nth(10), None, "ten strips");
-        Ok(())
-    }
-}

@@ -102,35 +102,3 @@ impl Version {
         REMAINDER_BITS[usize::from(self.number - 1)]
     }
 }
-
-#[cfg(test)]
-mod tests {
-    use super::*;
-    use std::test::Fail;
-
-    #[test]
-    fn forty_versions(rt: HostRuntime) -> Result<(), Fail> {
-        assert_eq!(rt; Version::new(0), None, "no version 0");
-        assert_eq!(rt; Version::new(41), None, "no version 41");
-        for (number, side, codewords, bits) in [
-            (1, 21, 26, 0),
-            (6, 41, 172, 7),
-            (40, 177, 3706, 0),
-        ] {
-            let version = Version::new(number).ok_or("no such version")?;
-            assert_eq!(rt; version.number(), number);
-            assert_eq!(rt; version.side(), side, "side of version {number}");
-            assert_eq!(rt;
-                version.total_codewords(),
-                codewords,
-                "codewords of version {number}"
-            );
-            assert_eq!(rt;
-                version.remainder_bits(),
-                bits,
-                "remainder bits of version {number}"
-            );
-        }
-        Ok(())
-    }
-}

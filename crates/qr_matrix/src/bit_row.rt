@@ -280,25 +280,3 @@ fn low_bits(n: u32) -> u64
 
 // A word in which every sixth bit is set: the bits 0, 6, 12 and so on up to 60.
 const SIXTHS: u64 = 0x1041_0410_4104_1041;
-
-#[cfg(test)]
-mod tests {
-    use super::*;
-    use std::test::Fail;
-
-    #[test]
-    fn four_bits_are_replaced(rt: HostRuntime) -> Result<(), Fail> {
-        for (place, bits) in [(0u8, 0b0001u8), (60, 0b0110), (64, 0b1011), (188, 0b0000)] {
-            assert!(rt; place <= 188 && place % 4 == 0 && bits < 16);
-            let mut row = BitRow::below(192);
-            row.put_four(place, bits);
-            assert_eq!(rt; row.four(place), bits, "bits from {place} on");
-            for other in 0..192u8 {
-                if other < place || place + 4 <= other {
-                    assert!(rt; row.at(other), "bit {other}, not from {place} on");
-                }
-            }
-        }
-        Ok(())
-    }
-}

@@ -61,26 +61,3 @@ impl Iterator for DarkRuns {
         Some(Run { start, end })
     }
 }
-
-#[cfg(test)]
-mod tests {
-    use super::*;
-    use std::test::Fail;
-
-    #[test]
-    fn runs_over_the_border_of_words(rt: HostRuntime) -> Result<(), Fail> {
-        let mut matrix = Matrix::new(rt.alloc(), 132)?;
-        matrix.fill(3, 4, 0, 2, true);
-        matrix.fill(3, 4, 60, 66, true);
-        matrix.fill(3, 4, 67, 128, true);
-        matrix.set(3, 131, true);
-        let mut runs = matrix.dark_runs(3);
-        for (start, end) in [(0, 2), (60, 66), (67, 128), (131, 132)] {
-            let run = runs.next().ok_or("a run")?;
-            assert_eq!(rt; (run.start, run.end), (start, end));
-        }
-        assert!(rt; runs.next().is_none());
-        assert!(rt; matrix.dark_runs(4).next().is_none(), "a light row");
-        Ok(())
-    }
-}

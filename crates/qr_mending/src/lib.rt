@@ -13,8 +13,6 @@ mod mending;
 mod message;
 mod polynomial;
 mod roots;
-#[cfg(test)]
-mod samples;
 mod series;
 mod sums;
 mod unread;

@@ -33,26 +33,3 @@ pub fn read_fault_clones(a: ReadFault) -> Result<ReadFault, AllocError>
 {
     a.clone()
 }
-
-#[cfg(test)]
-mod tests {
-    use super::*;
-    use qr_bits::ParseFault;
-    use std::test::Fail;
-
-    #[test]
-    fn equal_and_unequal_faults(rt: HostRuntime) -> Result<(), Fail> {
-        let (cut, bad_mode) = (
-            ReadFault::Segments(ParseFault::Cut),
-            ReadFault::Segments(ParseFault::BadMode),
-        );
-        assert!(rt; read_faults_are_equal(cut, cut) && !read_faults_are_equal(cut, bad_mode));
-        assert!(rt; !read_faults_are_equal(cut, ReadFault::Check));
-        let (empty, too_long) = (EncodeFault::Empty, EncodeFault::TooLong);
-        assert!(rt; encode_faults_are_equal(empty, empty));
-        assert!(rt; !encode_faults_are_equal(empty, too_long));
-        assert_eq!(rt; read_fault_clones(cut)?, cut);
-        assert_eq!(rt; encode_fault_clones(too_long)?, too_long);
-        Ok(())
-    }
-}

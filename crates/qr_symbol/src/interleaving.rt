@@ -240,37 +240,3 @@ pub fn deinterleave(
 {
     deinterleave_blocks(alloc, version.blocks(level), codewords)
 }
-
-#[cfg(test)]
-mod tests {
-    use super::*;
-    use std::test::Fail;
-
-    #[test]
-    fn four_blocks_of_two_lengths(rt: HostRuntime) -> Result<(), Fail> {
-        let version = Version::new(5).ok_or("version 5")?;
-        let mut message = Vec::new(rt.alloc());
-        for byte in 0..62u8 {
-            message.push(byte)?;
-        }
-        let wanted = version.data_codewords(Level::Q);
-        assert!(rt; message.len() == usize::from(wanted));
-        let interleaved = interleave(rt.alloc(), version, Level::Q, &message)?;
-        assert!(rt; interleaved.len() == 134, "five and Q hold 134 codewords");
-        let first = [0u8, 15, 30, 46, 1, 16, 31, 47];
-        assert_eq!(rt;
-            &interleaved[..8],
-            &first[..],
-            "the first codewords of the four blocks"
-        );
-        let last = [45u8, 61];
-        assert_eq!(rt;
-            &interleaved[60..62],
-            &last[..],
-            "the sixteenth of the two long blocks"
-        );
-        let again = deinterleave(rt.alloc(), version, Level::Q, &interleaved)?;
-        assert_eq!(rt; &again[..], &message[..], "put back");
-        Ok(())
-    }
-}

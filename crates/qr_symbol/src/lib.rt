@@ -29,8 +29,6 @@ pub mod laws;
 mod mask;
 mod patterns;
 mod reading;
-#[cfg(test)]
-mod samples;
 mod series;
 mod symbol;
 mod version_choice;

@@ -2,22 +2,21 @@
 
 ghost use Rattle.std.specs.Prelude.{◌<◌, ◌≤◌, length};
 ghost use Rattle.std.specs.Option.{ForSome};
+ghost use Rattle.qr_bits.specs.declared.modes.TheConstants.{INPUT_MAX};
 
-use crate::choice::build;
-use crate::interleaving::interleave;
-use crate::symbol::Symbol;
 use qr_bits::{Header, INPUT_MAX, Mode, Segment, codewords, covers};
 use qr_layout::{Level, Version};
+use qr_symbol::{Symbol, build, interleave};
 use std::test::Fail;
 
 /// The codewords of `01234567` in version 1-M.
-pub(crate) static EIGHT_DIGITS: [u8; 26] = [
+pub static EIGHT_DIGITS: [u8; 26] = [
     0x10, 0x20, 0x0C, 0x56, 0x61, 0x80, 0xEC, 0x11, 0xEC, 0x11, 0xEC, 0x11, 0xEC, 0x11, 0xEC, 0x11,
     0xA5, 0x24, 0xD4, 0xC1, 0xED, 0x36, 0xC7, 0x87, 0x2C, 0x55,
 ];
 
 /// Returns the data codewords of the bytes, after the optional header.
-pub(crate) fn byte_codewords(
+pub fn byte_codewords(
     rt: &HostRuntime,
     bytes: &[u8],
     header: Option<Header>,
@@ -38,7 +37,7 @@ pub(crate) fn byte_codewords(
 }
 
 /// Returns the symbol of the bytes, after the optional header.
-pub(crate) fn byte_symbol(
+pub fn byte_symbol(
     rt: &HostRuntime,
     bytes: &[u8],
     header: Option<Header>,

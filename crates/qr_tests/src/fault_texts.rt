@@ -1,0 +1,83 @@
+//! The numbers and the texts of faults.
+
+use qr_bits::laws::{bit_fault_numbers, parse_fault_numbers};
+use qr_bits::{BitFault, ParseFault};
+use qr_symbol::{EncodeFault, ReadFault};
+use qrencode_cli::{DrawFault, UsageFault};
+use std::test::Fail;
+
+// Each fault of each crate has the number that is listed here.
+#[test]
+fn numbers_of_faults(rt: HostRuntime) {
+    assert_eq!(rt; (BitFault::Memory as u8, BitFault::TooLong as u8), (1, 2));
+    assert_eq!(rt;
+        (ParseFault::Memory as u8, ParseFault::BadMode as u8),
+        (1, 2)
+    );
+    assert_eq!(rt; (ParseFault::Cut as u8, ParseFault::BadValue as u8), (3, 4));
+    assert_eq!(rt;
+        (EncodeFault::Empty as u8, EncodeFault::TooLong as u8),
+        (1, 2)
+    );
+    assert_eq!(rt;
+        (EncodeFault::TooMany as u8, EncodeFault::Memory as u8),
+        (3, 4)
+    );
+    assert_eq!(rt; DrawFault::Write as u8, 1);
+    let faults = [
+        ReadFault::Memory,
+        ReadFault::Side,
+        ReadFault::Format,
+        ReadFault::Check,
+        ReadFault::Segments(ParseFault::Cut),
+        ReadFault::Series,
+    ];
+    for (fault, number) in faults.iter().zip(1..7u8) {
+        assert_eq!(rt; fault.number(), number);
+    }
+    let words = UsageFault::Words(String::new(rt.alloc()));
+    assert_eq!(rt; (words.number(), UsageFault::Level.number()), (1, 2));
+    assert_eq!(rt;
+        (UsageFault::Kind.number(), UsageFault::NeedsVersion.number()),
+        (3, 4)
+    );
+    assert_eq!(rt; UsageFault::Memory.number(), 5);
+}
+
+#[test]
+fn numbers_by_laws(rt: HostRuntime) {
+    assert_eq!(rt; bit_fault_numbers(BitFault::TooLong), 2);
+    assert_eq!(rt; parse_fault_numbers(ParseFault::BadValue), 4);
+}
+
+#[test]
+fn texts_of_bit_faults(rt: HostRuntime) -> Result<(), Fail> {
+    for (fault, wanted) in [
+        (BitFault::Memory, "out of memory"),
+        (BitFault::TooLong, "the bits are more than the symbol holds"),
+    ] {
+        let text = format!(in rt.alloc(); "{fault}")?;
+        assert_eq!(rt; text.as_str(), wanted);
+    }
+    Ok(())
+}
+
+#[test]
+fn texts_of_parse_faults(rt: HostRuntime) -> Result<(), Fail> {
+    for (fault, wanted) in [
+        (ParseFault::Memory, "out of memory"),
+        (ParseFault::BadMode, "unknown mode indicator"),
+        (
+            ParseFault::Cut,
+            "the codewords end within a header or a segment",
+        ),
+        (
+            ParseFault::BadValue,
+            "a group of digits or characters is too large",
+        ),
+    ] {
+        let text = format!(in rt.alloc(); "{fault}")?;
+        assert_eq!(rt; text.as_str(), wanted);
+    }
+    Ok(())
+}
