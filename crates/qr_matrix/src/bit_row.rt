@@ -256,8 +256,8 @@ impl BitRow {
         self.0[number] = word;
     }
 
-    /// Sets those of the four bits from bit `place` on whose bit in `bits` is 1. The lowest bit of `bits` belongs to bit
-    /// `place`. All other bits of the bit row stay as they are. `place` is a multiple of four.
+    /// Sets those of the four bits from bit `place` on whose bit in `bits` is 1. The lowest bit of `bits` belongs to
+    /// bit `place`. All other bits of the bit row stay as they are. `place` is a multiple of four.
     pub fn set_four(&mut self, place: u8, bits: u8)
         requires place_in { place < 192 }
         requires whole { place % 4 ≡ 0 }

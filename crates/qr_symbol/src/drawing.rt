@@ -159,8 +159,8 @@ fn columns_of(across: &Matrix, right: u8) -> Columns
     }
 }
 
-// Returns the columns `columns` of a strip with all modules of the encoding region light. In the columns `region`, a bit
-// is 1 if the module in its row is in the encoding region.
+// Returns the columns `columns` of a strip with all modules of the encoding region light. In the columns `region`, a
+// bit is 1 if the module in its row is in the encoding region.
 fn with_light_region(columns: Columns, region: &Columns) -> Columns
     ensures right { (row : ℕ) → has result.right row ≡ (has columns.right row && not (has region.now.right row)) }
     ensures left { (row : ℕ) → has result.left row ≡ (has columns.left row && not (has region.now.left row)) }

@@ -1,4 +1,4 @@
-//! Data codewords: made from segments, and parsed.
+//! Tests of data codewords, which are made from segments and are parsed again.
 
 ghost use Rattle.std.specs.Prelude.{◌<◌, ◌≤◌, length};
 ghost use Rattle.std.specs.Option.{ForSome};
@@ -259,8 +259,8 @@ fn faults(rt: HostRuntime) -> Result<(), Fail> {
     Ok(())
 }
 
-// Counts the pairs of codewords that can be read, that end too early, and that have an indicator of no mode. Two
-// codewords have no room for the data of a segment, so `BadValue` does not occur.
+// Parses all 65,536 pairs of codewords, and counts how many have a content and how many have each fault. Two codewords
+// are too short for the data of a segment, so the fault `BadValue` does not occur.
 #[test]
 fn all_pairs_of_codewords(rt: HostRuntime) -> Result<(), Fail> {
     let (mut read, mut cut, mut no_mode) = (0u32, 0u32, 0u32);

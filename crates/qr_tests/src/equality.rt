@@ -1,4 +1,5 @@
-//! Values are equal if all their fields are equal, and unequal if one field differs. A clone is equal to its value.
+//! Tests of `==` and `clone`. Values are equal if all their fields are equal, and unequal if one field differs. A clone
+//! is equal to its value.
 
 use qr_bits::{BitFault, Header, Mode, ParseFault, Rule, Segment};
 use qr_layout::{Level, Module, Role, Strip, Version};

@@ -1,4 +1,4 @@
-//! The numbers and the texts of faults.
+//! Tests of the numbers and the texts of faults.
 
 use qr_bits::laws::{bit_fault_numbers, parse_fault_numbers};
 use qr_bits::{BitFault, ParseFault};

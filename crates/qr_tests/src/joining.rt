@@ -1,4 +1,4 @@
-//! Reading a series, and joining it to the input.
+//! Tests of `read_series`, which reads the symbols of a series and joins their bytes to the input.
 
 ghost use Rattle.std.specs.Prelude.{◌<◌};
 
@@ -9,7 +9,8 @@ use qr_matrix::Matrix;
 use qr_symbol::{ReadFault, Symbol, read_series};
 use std::test::Fail;
 
-// Returns a part of the series of `ABCDEFGH` at 1-H: `ABCDE` at position 0, `FGH` at position 1.
+// Returns a symbol of the series of `ABCDEFGH` in version 1 and level H. Position 0 contains `ABCDE`, and position 1
+// contains `FGH`.
 fn part(rt: &HostRuntime, position: u8) -> Result<Symbol, Fail>
     requires { position < 2 }
 {
@@ -26,7 +27,7 @@ fn part(rt: &HostRuntime, position: u8) -> Result<Symbol, Fail>
     byte_symbol(rt, bytes, Some(header), Level::H)
 }
 
-// Returns a symbol of this side whose modules are all light.
+// Returns a symbol with `side` modules on a side, all of them light.
 fn light(rt: &HostRuntime, side: u8) -> Result<Symbol, Fail>
     requires least { 0 < side }
     requires most { side < 178 }

@@ -1,4 +1,5 @@
-//! The layout of a symbol: versions, blocks, format and version information, and what each module contains.
+//! Tests of the layout of a symbol: versions, blocks, format information, version information, and what each module
+//! contains.
 
 use qr_layout::{
     Blocks, Level, Module, Role, Version, alignment_centres, cell, fixed_rectangles, format_word,

@@ -1,4 +1,4 @@
-//! Squares of modules: reading and changing modules, runs, and the differences of two squares.
+//! Tests of `Matrix`, a square of modules: its modules are read and changed, and two squares are compared.
 
 use qr_matrix::{Matrix, differences};
 use std::test::Fail;
@@ -62,7 +62,7 @@ fn a_row_is_masked_within(rt: HostRuntime) -> Result<(), Fail> {
     Ok(())
 }
 
-// A square with one word in each row, and one with three.
+// Transposes two squares: in one square a row is one word of 64 bits, in the other it is three words.
 #[test]
 fn a_square_is_transposed(rt: HostRuntime) -> Result<(), Fail> {
     let places = [
@@ -147,7 +147,7 @@ fn runs_over_the_border_of_words(rt: HostRuntime) -> Result<(), Fail> {
     Ok(())
 }
 
-// Two squares with three words in each row. All modules are light but the listed ones, which are dark.
+// Counts the modules in which two squares differ. Only the listed modules are dark. A row is three words of 64 bits.
 #[test]
 fn differences_are_counted(rt: HostRuntime) -> Result<(), Fail> {
     let rows = [

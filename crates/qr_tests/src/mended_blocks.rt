@@ -1,12 +1,12 @@
-//! Mending the codewords of a block.
+//! Tests of the correction of damaged blocks.
 
 use crate::samples::EIGHT_DIGITS;
 use qr_field::Divisor;
 use qr_mending::{mend, mend_with_erasures};
 use std::process::Abort;
 
-// Damages the block of `01234567` and mends it. Returns the number of mended codewords if the block is as before, or
-// `None` if it is not mended.
+// Replaces the codewords of `damage` in the block of `01234567`, and corrects the block. Returns the number of
+// codewords that were corrected, or `None` if the block could not be corrected.
 fn mended_count(rt: &impl Abort, t: usize, damage: &[(usize, u8)]) -> Option<usize> {
     let mut damaged = EIGHT_DIGITS;
     for (place, codeword) in damage {
@@ -46,8 +46,9 @@ fn block_of_eight_digits_damaged(rt: HostRuntime) {
     }
 }
 
-// Damages the block of `01234567` and mends it with erasures. Returns the number of misread codewords if the block
-// is as before, or `None` if it is not mended.
+// Replaces the codewords of `unread` and `misread` in the block of `01234567`, and corrects the block. The codewords of
+// `unread` are passed as erased. Returns the number of misread codewords, or `None` if the block could not be
+// corrected.
 fn mended_with_erasures(
     rt: &impl Abort,
     spare: usize,
@@ -78,8 +79,8 @@ fn mended_with_erasures(
     None
 }
 
-// The expected results were found by trying all sets of positions and solving the linear equations for the codewords
-// there.
+// The expected results were found by a search: for every set of positions, the linear equations for the codewords at
+// these positions were solved.
 #[test]
 fn block_of_eight_digits_with_erasures(rt: HostRuntime) {
     let unread = [

@@ -1,4 +1,4 @@
-//! Mending symbols and series.
+//! Tests of the correction of damaged symbols and of damaged series.
 
 use crate::samples::EIGHT_DIGITS;
 use qr_bits::Rule;
@@ -8,9 +8,9 @@ use qr_mending::{mend_series, mend_symbol, mend_symbol_without};
 use qr_symbol::{ReadFault, build_masked, encode_series};
 use std::test::Fail;
 
-// Inverts these modules of the symbol of `01234567` at 1-M and mends it. Returns the number of changed codewords,
-// the number of wrong modules of format information, and the number of all wrong modules, or the fault if the symbol
-// is not mended.
+// Inverts `modules` in the symbol of `01234567` in version 1 and level M, and corrects the symbol. Returns the number
+// of misread codewords, the number of wrong modules of format information, and the number of all wrong modules. Returns
+// the fault if the symbol could not be corrected.
 fn mend_inverted(
     rt: &HostRuntime,
     modules: &[(u8, u8)],
@@ -39,8 +39,8 @@ fn mend_inverted(
     }
 }
 
-// In version 1-M four of the 26 codewords may be changed, since two of the ten error correction codewords are kept
-// unused.
+// In version 1 and level M, up to four of the 26 codewords can be corrected, since two of the ten error correction
+// codewords are kept unused.
 #[test]
 fn eight_digits_damaged(rt: HostRuntime) -> Result<(), Fail> {
     let first = [(0u8, 8u8), (1, 8), (2, 8), (3, 8)];
@@ -85,7 +85,7 @@ fn eight_digits_damaged(rt: HostRuntime) -> Result<(), Fail> {
     Ok(())
 }
 
-// A module of each of nine codewords at 1-M.
+// The rows and columns of nine modules, each of another codeword, in version 1 and level M.
 static CODEWORDS: [(u8, u8); 9] = [
     (20, 20),
     (16, 20),
@@ -98,9 +98,10 @@ static CODEWORDS: [(u8, u8); 9] = [
     (12, 16),
 ];
 
-// Inverts these modules of the symbol of `01234567` at 1-M and mends it; the first `unread` of them are passed as
-// not read. Returns the number of misread codewords, the number of wrong modules of format information, and the
-// number of all wrong modules, or the fault if the symbol is not mended.
+// Inverts `modules` in the symbol of `01234567` in version 1 and level M, and corrects the symbol. The first modules,
+// as many as `unread` says, are passed as not read. Returns the number of misread codewords, the number of wrong
+// modules of format information, and the number of all wrong modules. Returns the fault if the symbol could not be
+// corrected.
 fn mend_inverted_without(
     rt: &HostRuntime,
     modules: &[(u8, u8)],
@@ -138,7 +139,7 @@ fn mend_inverted_without(
     }
 }
 
-// In version 1-M eight of the ten error correction codewords may be used.
+// In version 1 and level M, eight of the ten error correction codewords may be used for corrections.
 #[test]
 fn eight_digits_with_unread_modules(rt: HostRuntime) -> Result<(), Fail> {
     let format = [(0u8, 8u8), (1, 8), (2, 8)];
@@ -176,8 +177,8 @@ fn eight_digits_with_unread_modules(rt: HostRuntime) -> Result<(), Fail> {
     Ok(())
 }
 
-// Returns the two symbols of `ABCDEFGH` at 1-H, which contain `ABCDE` and `FGH`, with one module of each inverted.
-// In version 1 and level H up to eight wrong codewords can be mended.
+// Returns the two symbols of the series of `ABCDEFGH` in version 1 and level H, which contain `ABCDE` and `FGH`. One
+// module of each symbol is inverted. In this version and level, up to eight wrong codewords can be corrected.
 fn damaged_parts(rt: &HostRuntime) -> Result<Vec<Matrix>, Fail> {
     let symbols = encode_series(
         rt.alloc(),

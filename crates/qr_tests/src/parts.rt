@@ -1,11 +1,11 @@
-//! Dividing an input into a series of symbols.
+//! Tests of `encode_series`, which divides an input into the symbols of a series.
 
 use qr_bits::{Header, INPUT_MAX, Rule};
 use qr_layout::{Level, Version};
 use qr_symbol::{EncodeFault, Symbol, encode_series, read_series, read_symbol};
 use std::test::Fail;
 
-// Returns whether the symbol is read as these bytes after this optional header.
+// Returns whether `symbol` contains the bytes `bytes`, and before them the structured append header `header`, if any.
 fn says(
     rt: &HostRuntime,
     symbol: &Symbol,
@@ -85,7 +85,7 @@ fn numbers_of_symbols_at_1_h(rt: HostRuntime) -> Result<(), Fail> {
     Ok(())
 }
 
-// The longest inputs of 16 symbols: each part fills a symbol of version 1-H after its header.
+// Encodes the longest inputs that fit 16 symbols of version 1 and level H. Each of the 16 symbols is full.
 #[test]
 fn sixteen_full_parts_at_1_h(rt: HostRuntime) -> Result<(), Fail> {
     let (letters, digits) = ([b'a'; 80], [b'7'; 176]);

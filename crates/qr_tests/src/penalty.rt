@@ -1,4 +1,4 @@
-//! The penalty of small and large squares.
+//! Tests of the penalty of small and large squares.
 
 use qr_matrix::{Matrix, penalty};
 use std::test::Fail;
@@ -8,7 +8,7 @@ enum Pattern {
     Light,
     Dark,
     Chequered,
-    // The ratio of a finder pattern and then four light modules, in the first row from this column on.
+    // In the first row, from this column on: the ratio 1:1:3:1:1 of a finder pattern, and then four light modules.
     WindowFrom(u8),
 }
 
@@ -16,7 +16,7 @@ const WINDOW: [bool; 11] = [
     true, false, true, true, true, false, true, false, false, false, false,
 ];
 
-// Returns whether a pattern has a dark module in this row and column.
+// Returns whether `pattern` has a dark module in row `row` and column `col`.
 fn is_dark(pattern: Pattern, row: u8, col: u8) -> bool {
     match pattern {
         Pattern::Light => false,
@@ -30,7 +30,7 @@ fn is_dark(pattern: Pattern, row: u8, col: u8) -> bool {
 
 #[test]
 fn penalties(rt: HostRuntime) -> Result<(), Fail> {
-    // The rows have one, two and three words. Runs and a window cross the borders of words.
+    // A row is one, two or three words of 64 bits. Some runs and one window continue from one word to the next.
     let rows = [
         ("all light", 21u8, Pattern::Light, 2098),
         ("a chequered square", 21, Pattern::Chequered, 0),

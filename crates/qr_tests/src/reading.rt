@@ -1,4 +1,4 @@
-//! Reading a symbol.
+//! Tests of `read_symbol`.
 
 use crate::samples::{EIGHT_DIGITS, byte_symbol};
 use qr_bits::{Mode, Rule, Segment};
@@ -7,7 +7,8 @@ use qr_matrix::Matrix;
 use qr_symbol::{ReadFault, build_masked, encode, read_symbol};
 use std::test::Fail;
 
-// Returns whether the square is read as these bytes in one segment of this mode, without a header.
+// Returns whether `matrix` is read as the bytes `bytes`, in one segment of the mode `mode` and without a structured
+// append header.
 fn says(rt: &HostRuntime, matrix: &Matrix, mode: Mode, bytes: &[u8]) -> Result<bool, Fail> {
     let parsed = read_symbol(rt.alloc(), matrix)?;
     let segment = Segment {
@@ -66,8 +67,8 @@ fn eight_digits_with_a_module_inverted(rt: HostRuntime) -> Result<(), Fail> {
     Ok(())
 }
 
-// In a symbol of version 1, 15 modules contain the first format information and 208 modules contain codewords. All
-// other modules are ignored.
+// Inverts each module of a symbol of version 1 in turn. 15 modules contain the first copy of the format information,
+// and 208 modules contain codewords. All other modules are ignored.
 #[test]
 fn each_module_inverted(rt: HostRuntime) -> Result<(), Fail> {
     let version = Version::FIRST;
@@ -97,7 +98,7 @@ fn each_module_inverted(rt: HostRuntime) -> Result<(), Fail> {
     Ok(())
 }
 
-// Version 2 has 44 codewords; the seven modules after them contain its remainder bits.
+// Inverts the remainder bits of a symbol of version 2: the seven modules after its 44 codewords.
 #[test]
 fn remainder_bits_inverted(rt: HostRuntime) -> Result<(), Fail> {
     let version = Version::new(2).ok_or("version 2")?;

@@ -1,4 +1,5 @@
-//! Codewords and symbols for the tests: symbols of version 1 with one segment of byte mode, after an optional header.
+//! Codewords and symbols for the tests. The symbols have version 1 and one segment of byte mode, after an optional
+//! structured append header.
 
 ghost use Rattle.std.specs.Prelude.{◌<◌, ◌≤◌, length};
 ghost use Rattle.std.specs.Option.{ForSome};
@@ -9,13 +10,13 @@ use qr_layout::{Level, Version};
 use qr_symbol::{Symbol, build, interleave};
 use std::test::Fail;
 
-/// The codewords of `01234567` in version 1-M.
+/// The codewords of `01234567` in version 1 and level M: 16 data codewords and 10 error correction codewords.
 pub static EIGHT_DIGITS: [u8; 26] = [
     0x10, 0x20, 0x0C, 0x56, 0x61, 0x80, 0xEC, 0x11, 0xEC, 0x11, 0xEC, 0x11, 0xEC, 0x11, 0xEC, 0x11,
     0xA5, 0x24, 0xD4, 0xC1, 0xED, 0x36, 0xC7, 0x87, 0x2C, 0x55,
 ];
 
-/// Returns the data codewords of the bytes, after the optional header.
+/// Returns the data codewords of the structured append header `header`, if any, and of `bytes` in one segment.
 pub fn byte_codewords(
     rt: &HostRuntime,
     bytes: &[u8],
@@ -36,7 +37,7 @@ pub fn byte_codewords(
     Ok(codewords(rt.alloc(), bytes, &[segment], header, version, level)?)
 }
 
-/// Returns the symbol of the bytes, after the optional header.
+/// Returns the symbol of the structured append header `header`, if any, and of `bytes` in one segment.
 pub fn byte_symbol(
     rt: &HostRuntime,
     bytes: &[u8],

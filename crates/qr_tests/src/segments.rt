@@ -1,4 +1,4 @@
-//! Segments: their number of bits, the best ones for an input, the longest prefix that fits, and folding.
+//! Tests of segments: their number of bits, the best segments for an input, the longest prefix that fits, and folding.
 
 ghost use Rattle.std.specs.Prelude.{◌≡◌, ◌<◌, ◌≤◌, length};
 ghost use Rattle.std.specs.List.{All, sum_by};
@@ -84,17 +84,6 @@ fn segments_that_cover(rt: HostRuntime) {
         !covers(b"1", &[segment(Mode::Byte, 0), digit]),
         "an empty segment"
     );
-}
-
-// In two segments, eight digits and a letter need 60 bits in version 1, and 64 bits in version 10. In version 27,
-// character count indicators are longer. There one segment, which needs 67 bits, is shorter than two segments.
-#[test]
-fn bits_of_digits_and_a_letter(rt: HostRuntime) -> Result<(), Fail> {
-    let apart = [segment(Mode::Numeric, 8), segment(Mode::Alphanumeric, 1)];
-    assert_eq!(rt; bits(1, &apart)?, 60);
-    assert_eq!(rt; bits(10, &apart)?, 64);
-    assert_eq!(rt; bits(27, &[segment(Mode::Alphanumeric, 9)])?, 67);
-    Ok(())
 }
 
 fn are_segments(
@@ -203,8 +192,8 @@ fn kanji(rt: HostRuntime) -> Result<(), Fail> {
     Ok(())
 }
 
-// Worked out by hand: three digits take 10 bits, two other bytes up to `Z` take 11, two greater bytes take 13, and the
-// sum is rounded down.
+// The expected values were worked out by hand. Three digits take 10 bits, two other bytes up to `Z` take 11 bits, and
+// two greater bytes take 13 bits. The sum is rounded down.
 #[test]
 fn least_bits_of_inputs(rt: HostRuntime) -> Result<(), Fail> {
     let rows = [
@@ -241,7 +230,8 @@ fn prefixes_at_1_h(rt: HostRuntime) -> Result<(), Fail> {
     Ok(())
 }
 
-// The room at 1-M after a header is 108 bits. Seven kanji pairs take 103 bits; six pairs and half a pair take 110.
+// In version 1 and level M, 108 bits are left after a structured append header. Seven kanji pairs take 103 bits, and
+// six pairs with half a pair take 110 bits.
 #[test]
 fn pairs_at_1_m(rt: HostRuntime) -> Result<(), Fail> {
     let pairs = b"\x93\x5F\x93\x5F\x93\x5F\x93\x5F\x93\x5F\x93\x5F\x93\x5F\x93\x5F";

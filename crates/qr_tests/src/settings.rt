@@ -1,4 +1,4 @@
-//! The settings of a command line.
+//! Tests of the settings of a command line.
 
 use crate::runs::line_of;
 use qr_layout::{Level, Version};

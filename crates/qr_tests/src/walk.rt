@@ -1,4 +1,4 @@
-//! The order in which codewords fill the encoding region.
+//! Tests of the order in which codewords fill the encoding region.
 
 use qr_layout::laws::{default_module, first_version, nth_place};
 use qr_layout::{Module, Strip, Version, all_strips, region_len, walk, walk_after};
@@ -27,7 +27,6 @@ fn walks_resumed(rt: HostRuntime) -> Result<(), Fail> {
             [(9, 18), (9, 17)],
             "downward beside the format information",
         ),
-        (1, (9, 7), [(9, 5), (9, 4)], "over the timing column"),
         (
             2,
             (21, 19),
