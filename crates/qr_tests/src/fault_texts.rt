@@ -1,5 +1,6 @@
 //! Tests of the numbers and the texts of faults.
 
+use crate::runs::{Devices, run_with};
 use qr_bits::laws::{bit_fault_numbers, parse_fault_numbers};
 use qr_bits::{BitFault, ParseFault};
 use qr_symbol::{EncodeFault, ReadFault};
@@ -79,5 +80,37 @@ fn texts_of_parse_faults(rt: HostRuntime) -> Result<(), Fail> {
         let text = format!(in rt.alloc(); "{fault}")?;
         assert_eq!(rt; text.as_str(), wanted);
     }
+    Ok(())
+}
+
+// The message of a fault is the text of the line that the command writes for it.
+#[test]
+fn messages_are_the_texts_of_lines(rt: HostRuntime) -> Result<(), Fail> {
+    let digits = vec![in rt.alloc(); b'7'; 7090]?;
+    let digits = digits.as_slice();
+    assert!(rt; digits.len() == 7090);
+    let usage = [
+        (UsageFault::Level, ["-l", "X", "-t", "SVG"].as_slice()),
+        (UsageFault::Kind, ["-t", "PNG"].as_slice()),
+        (UsageFault::NeedsVersion, ["-S", "-t", "SVG"].as_slice()),
+    ];
+    for (fault, words) in &usage {
+        let r = run_with(rt.alloc(), words, b"A", Devices::WITHOUT_FAULTS)?;
+        let line = format!(in rt.alloc(); "qrencode: {fault}\n")?;
+        assert_eq!(rt; r.err.bytes(), line.as_bytes());
+    }
+    let series = ["-S", "-v", "1", "-t", "SVG"];
+    let encode = [
+        (EncodeFault::Empty, ["-t", "SVG"].as_slice(), &digits[..0]),
+        (EncodeFault::TooLong, ["-t", "SVG"].as_slice(), digits),
+        (EncodeFault::TooMany, series.as_slice(), digits),
+    ];
+    for (fault, words, input) in &encode {
+        let r = run_with(rt.alloc(), words, input, Devices::WITHOUT_FAULTS)?;
+        let line = format!(in rt.alloc(); "qrencode: {fault}\n")?;
+        assert_eq!(rt; r.err.bytes(), line.as_bytes());
+    }
+    let memory = format!(in rt.alloc(); "{} {}", UsageFault::Memory, EncodeFault::Memory)?;
+    assert_eq!(rt; memory.as_str(), "out of memory out of memory");
     Ok(())
 }

@@ -101,38 +101,3 @@ impl<T: Drop> From<AllocFailed<T>> for Fault {
         Fault::Memory
     }
 }
-
-#[cfg(test)]
-mod tests {
-    use super::*;
-    use std::test::Fail;
-
-    // The lines that the manual page lists. The message of a fault is the text of its line.
-    #[test]
-    fn lines(rt: HostRuntime) -> Result<(), Fail> {
-        let rows = [
-            (Fault::Usage(UsageFault::Level), "unknown level"),
-            (Fault::Usage(UsageFault::Kind), "unknown type"),
-            (Fault::Usage(UsageFault::NeedsVersion), "-S needs -v"),
-            (Fault::Usage(UsageFault::Memory), "out of memory"),
-            (Fault::Encode(EncodeFault::Empty), "input is empty"),
-            (Fault::Encode(EncodeFault::TooLong), "input does not fit"),
-            (Fault::Encode(EncodeFault::TooMany), "more than 16 symbols"),
-            (Fault::Encode(EncodeFault::Memory), "out of memory"),
-            (Fault::Read, "read error"),
-            (Fault::Memory, "out of memory"),
-            (Fault::Write, "write error"),
-        ];
-        for (fault, words) in &rows {
-            let line = format!(in rt.alloc(); "qrencode: {words}\n")?;
-            assert_eq!(rt; fault.line(), line.as_bytes());
-            let message = match fault {
-                Fault::Usage(usage) => format!(in rt.alloc(); "{usage}")?,
-                Fault::Encode(encode) => format!(in rt.alloc(); "{encode}")?,
-                _ => continue,
-            };
-            assert_eq!(rt; message.as_str(), *words);
-        }
-        Ok(())
-    }
-}
