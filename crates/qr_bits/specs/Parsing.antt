@@ -144,8 +144,8 @@ segments_at (suc n) v bits =
     if ends bits then Ok ([], []) else (segment_at v bits >>= λ s. segments_at n v s.2 >>= λ r. Ok (s.0 ∷ r.0, s.1 ++ r.1))
 
 -- `segments_of v bits` reads all segments from `bits`, in a symbol of version `v`, until the terminator comes or fewer
--- than four bits remain. The result is the segments, together with the bytes of all segments. Each segment has at least
--- four bits, so there are at most as many segments as bits (ISO/IEC 18004:2015, 7.4.1, 7.4.9)
+-- than four bits remain. The result is the segments, together with the bytes of all segments. The recursion is bounded
+-- by the number of bits, which is enough, since each segment has at least four bits (ISO/IEC 18004:2015, 7.4.1, 7.4.9)
 unfoldable pub segments_of : ℕ → List Bool → Result (List Segment × List ℕ) ParseFault
 segments_of v bits = segments_at (length bits) v bits
 

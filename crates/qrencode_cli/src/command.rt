@@ -165,9 +165,9 @@ fn run_to_result<R: Source, W: Sink>(
 /// input is refused for too many symbols only if it does not fit one symbol and is cut into more than 16 parts.
 ///
 /// The promises about bytes hold for readers and writers whose bytes a contract can know, such as buffers in memory.
-/// The promises about counts hold for devices whose counts are 0 before the run. For the standard streams, only the
-/// promises about counts hold. These counts show how many bytes were read and written, whether the end of the input was
-/// reached, and which faults occurred.
+/// The counts of a device show how many bytes were read and written, whether the end of the input was reached, and
+/// which faults occurred. The promises about these counts hold for devices whose counts are 0 before the run. For the
+/// standard streams, only the promises about counts hold.
 ///
 /// # Notes
 ///

@@ -165,8 +165,8 @@ fn mended_of(len: usize, mended: &Mended) -> QrprovedMended
 
 /// Reads the symbol whose modules are in the buffer `modules`, in the order in which `qrproved_encode` writes them, and
 /// corrects its errors. The byte 0 is a light module, the byte 1 a dark module, and the byte 2 a module that is not
-/// known. Towards the limit of what can be corrected, a codeword with a module that is not known counts half as much as
-/// a misread codeword. Writes the bytes that the symbol contains to the buffer `bytes`. Writes the symbol's structured
+/// known. A codeword with a module that is not known uses half as much of the error correction as a misread codeword.
+/// Writes the bytes that the symbol contains to the buffer `bytes`. Writes the symbol's structured
 /// append header and its damage to the struct `mended`.
 ///
 /// The causes of a refusal are checked in the order in which this paragraph lists them. The first three causes are
