@@ -1,11 +1,11 @@
 //! The strips of two columns in which a symbol is filled, from right to left. The walk over the encoding region skips those
 //! places of a strip that contain patterns or information (ISO/IEC 18004:2015, 7.7.3).
 
-ghost use Rattle.std.specs.Prelude.{◌<◌, ◌≤◌, List};
+ghost use Rattle.std.specs.Prelude.{◌≡◌, ◌<◌, ◌≤◌, List};
 ghost use Rattle.std.specs.Iterator.{YieldsFirst, item_count};
 ghost use Rattle.std.specs.List.{All};
-ghost use Rattle.qr_layout.specs.Order.{IsOrder, in_region_of};
-ghost use Rattle.qr_layout.specs.Strips.{places_of};
+ghost use Rattle.qr_layout.specs.Order.{IsOrder, column_without_timing, in_region_of};
+ghost use Rattle.qr_layout.specs.Strips.{places_of, strip_at};
 ghost use Rattle.qr_layout.specs.Version.{side_of};
 ghost use Rattle.qr_layout.specs.declared.strips.Strip.{Strip};
 
@@ -19,6 +19,28 @@ pub struct Strip {
     pub right: u8,
     /// Whether the strip is filled from the last row to the first.
     pub upward: bool,
+}
+
+// Returns the strip with this number, counted from the left and from 1.
+#[inline(always)]
+pub(crate) fn strip_at(number: u8) -> Strip
+    requires least { 0 < number }
+    requires most { number ≤ 88 }
+    ensures { result ≡ strip_at number }
+{
+    // The number of the right column when the timing column is skipped.
+    let untimed = 2 * number - 1;
+    let right = if untimed < 6 { untimed } else { untimed + 1 };
+    let upward = number % 2 == 0;
+    Strip { right, upward }
+}
+
+// Returns the column's number when the timing column is skipped.
+#[inline(always)]
+pub(crate) fn column_without_timing(col: u8) -> u8
+    ensures { result ≡ column_without_timing col }
+{
+    if col < 6 { col } else { col - 1 }
 }
 
 /// The strips of a symbol. Contracts describe them by the list of the strips that are still to come.
@@ -52,12 +74,9 @@ impl Iterator for Strips {
         if self.remaining == 0 {
             return None;
         }
-        // The number of the right column when the timing column is skipped.
-        let untimed = 2 * self.remaining - 1;
-        let right = if untimed < 6 { untimed } else { untimed + 1 };
-        let upward = self.remaining % 2 == 0;
+        let strip = strip_at(self.remaining);
         self.remaining -= 1;
-        Some(Strip { right, upward })
+        Some(strip)
     }
 }
 
