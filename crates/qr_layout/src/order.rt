@@ -7,91 +7,77 @@ ghost use Rattle.std.specs.Prelude.{◌≡◌, ◌<◌, ◌≤◌, ◌↔◌, If
 ghost use Rattle.std.specs.Iterator.{YieldsFirst, item_count};
 ghost use Rattle.qr_layout.specs.Region.{InRegion};
 ghost use Rattle.qr_layout.specs.Order.{IsOrder, IsOrderAfter};
-ghost use Rattle.qr_layout.specs.Version.{module_count_of};
+ghost use Rattle.qr_layout.specs.Version.{module_count_of, side_of};
 ghost use Rattle.qr_layout.specs.declared.region.Module.{Module};
-ghost use Rattle.qr_layout.specs.Steps.Order.{place_of, next_of, cursor_at};
+ghost use Rattle.qr_layout.specs.Steps.Order.{IsCursor, place_of, next_of, cursor_at};
 
 use crate::region::{Module, is_in_region};
+use crate::strips::{column_without_timing, strip_at};
 use crate::version::Version;
 use std::marker::Model;
 
 // A position of the walk over the modules of a symbol. `strips` is the number of the strip, counted from the left and
 // from 1; the number 0 means the end of the walk. `row` is a row of the symbol, and `at_left` is true if the position
-// is the left module of the strip in this row. `upward` is true if the walk goes upward in the strip.
+// is the left module of the strip in this row.
 #[derive(Clone, Copy)]
 struct Cursor {
     strips: u8,
     row: u8,
     at_left: bool,
-    upward: bool,
 }
 
 impl Cursor {
+    // Returns the module at this position.
     fn place(self) -> Module
         requires strips_left { 0 < self.strips }
         requires strips_in { self.strips ≤ 88 }
         ensures { result ≡ place_of self }
     {
-        // The index of the module's column if column 6, which contains a timing pattern, is not counted.
-        let untimed = 2 * self.strips - 1 - if self.at_left { 1 } else { 0 };
-        let col = if untimed < 6 { untimed } else { untimed + 1 };
+        let right = strip_at(self.strips).right;
+        let col = if self.at_left { right - 1 } else { right };
         Module { row: self.row, col }
     }
 
+    // Returns the position that follows this position in a symbol of version `v`. The next strip begins in the row in
+    // which this strip ends.
     #[tactic(auto, unfolding(crate::specs::Steps::Order::next_of))]
-    fn next(self, side: u8) -> Cursor
+    fn next(self, v: Version) -> Cursor
         requires strips_left { 0 < self.strips }
-        requires row_in { self.row < side }
-        ensures { result ≡ next_of side self }
+        requires position { IsCursor v self }
+        ensures { result ≡ next_of (side_of v) self }
     {
+        let upward = strip_at(self.strips).upward;
+        let last = if upward { 0 } else { v.side() - 1 };
         if !self.at_left {
             Cursor {
                 at_left: true,
                 ..self
             }
-        } else if self.upward {
-            if self.row == 0 {
-                Cursor {
-                    strips: self.strips - 1,
-                    row: 0,
-                    at_left: false,
-                    upward: false,
-                }
-            } else {
-                Cursor {
-                    row: self.row - 1,
-                    at_left: false,
-                    ..self
-                }
-            }
-        } else if self.row + 1 == side {
+        } else if self.row == last {
             Cursor {
                 strips: self.strips - 1,
                 at_left: false,
-                upward: true,
                 ..self
             }
         } else {
             Cursor {
-                row: self.row + 1,
+                row: if upward { self.row - 1 } else { self.row + 1 },
                 at_left: false,
                 ..self
             }
         }
     }
 
+    // Returns the position of the walk at the module `m`.
     #[tactic(auto, unfolding(crate::specs::Steps::Order::cursor_at))]
     fn at(m: Module) -> Cursor
         ensures { result ≡ cursor_at m }
     {
-        // The index of the module's column if column 6, which contains a timing pattern, is not counted.
-        let untimed = if m.col < 6 { m.col } else { m.col - 1 };
-        let strips = untimed / 2 + 1;
+        let untimed = column_without_timing(m.col);
         Cursor {
-            strips,
+            strips: untimed / 2 + 1,
             row: m.row,
             at_left: untimed % 2 == 0,
-            upward: strips % 2 == 0,
         }
     }
 }
@@ -129,10 +115,9 @@ impl Iterator for Steps {
 
     #[inline(always)]
     fn next(&mut self) -> Option<Module> {
-        let side = self.version.side();
         while self.cursor.strips > 0 {
             let here = self.cursor.place();
-            self.cursor = self.cursor.next(side);
+            self.cursor = self.cursor.next(self.version);
             if is_in_region(self.version, here.row, here.col) {
                 return Some(here);
             }
@@ -153,7 +138,6 @@ pub fn walk(v: Version) -> Steps
             strips: 8 + 2 * v.number(),
             row: v.side() - 1,
             at_left: false,
-            upward: true,
         },
     }
 }
@@ -168,7 +152,7 @@ pub fn walk_after(v: Version, m: Module) -> Option<Steps>
         return None;
     }
     let here = Cursor::at(m);
-    let next = here.next(v.side());
+    let next = here.next(v);
     Some(Steps {
         version: v,
         cursor: next,

@@ -1,11 +1,11 @@
 //! The strips of a symbol (ISO/IEC 18004:2015, 7.7.3). A strip is two neighbouring columns that are filled together.
 //! Only those modules of a strip that are in the encoding region contain bits of codewords.
 
-ghost use Rattle.std.specs.Prelude.{◌<◌, ◌≤◌, List};
+ghost use Rattle.std.specs.Prelude.{◌≡◌, ◌<◌, ◌≤◌, List};
 ghost use Rattle.std.specs.Iterator.{YieldsFirst, item_count};
 ghost use Rattle.std.specs.List.{All};
-ghost use Rattle.qr_layout.specs.Order.{IsOrder, in_region_of};
-ghost use Rattle.qr_layout.specs.Strips.{places_of};
+ghost use Rattle.qr_layout.specs.Order.{IsOrder, column_without_timing, in_region_of};
+ghost use Rattle.qr_layout.specs.Strips.{places_of, strip_at};
 ghost use Rattle.qr_layout.specs.Version.{side_of};
 ghost use Rattle.qr_layout.specs.declared.strips.Strip.{Strip};
 
@@ -20,6 +20,28 @@ pub struct Strip {
     pub right: u8,
     /// Whether the strip is filled upward, from the last row of the symbol to the first row.
     pub upward: bool,
+}
+
+// Returns the strip with the number `number`. Strips are numbered from left to right, beginning with 1.
+#[inline(always)]
+pub(crate) fn strip_at(number: u8) -> Strip
+    requires least { 0 < number }
+    requires most { number ≤ 88 }
+    ensures { result ≡ strip_at number }
+{
+    // The index of the right column if column 6, which contains a timing pattern, is not counted.
+    let untimed = 2 * number - 1;
+    let right = if untimed < 6 { untimed } else { untimed + 1 };
+    let upward = number % 2 == 0;
+    Strip { right, upward }
+}
+
+// Returns the index of the column `col` if column 6, which contains a timing pattern, is not counted.
+#[inline(always)]
+pub(crate) fn column_without_timing(col: u8) -> u8
+    ensures { result ≡ column_without_timing col }
+{
+    if col < 6 { col } else { col - 1 }
 }
 
 /// An iterator over the strips of a symbol, from right to left. In contracts, the value of the iterator is the list of
@@ -54,12 +76,9 @@ impl Iterator for Strips {
         if self.remaining == 0 {
             return None;
         }
-        // The index of the strip's right column if column 6, which contains a timing pattern, is not counted.
-        let untimed = 2 * self.remaining - 1;
-        let right = if untimed < 6 { untimed } else { untimed + 1 };
-        let upward = self.remaining % 2 == 0;
+        let strip = strip_at(self.remaining);
         self.remaining -= 1;
-        Some(Strip { right, upward })
+        Some(strip)
     }
 }
 

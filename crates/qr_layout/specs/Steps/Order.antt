@@ -1,30 +1,27 @@
 -- Positions of the walk, which visits the modules of the encoding region in the order in which the codewords fill them.
 -- The walk goes through strips of two columns, from right to left.
-use Rattle.std.specs.Prelude.{◌≡◌, ℕ, ◌+◌, ◌-◌, ◌*◌, ◌/◌, ◌%◌, ◌<◌, ◌≤◌, Bool, true, false, nat_lt, ◌==◌, if◌then◌else◌, List, [], ◌∷◌}
+use Rattle.std.specs.Prelude.{ℕ, ◌+◌, ◌-◌, ◌*◌, ◌/◌, ◌%◌, ◌<◌, ◌≤◌, Bool, true, false, ◌==◌, if◌then◌else◌, List, [], ◌∷◌}
 use Prim.Native.Nat.{zero, suc}
 use Rattle.qr_layout.specs.declared.region.Module.{Module}
 use Rattle.qr_layout.specs.declared.order.Cursor.{Cursor}
 use Rattle.qr_layout.specs.Region.{is_in_region}
 use Rattle.qr_layout.specs.Version.{side_of}
+use Rattle.qr_layout.specs.Order.{column_without_timing}
+use Rattle.qr_layout.specs.Strips.{strip_at}
 
 -- `half_of at_left` is 1 for the left module of a row of a strip (two columns that are filled together), and 0 for the
 -- right module
 abbrev pub half_of : Bool → ℕ
 half_of at_left = if at_left then 1 else 0
 
--- `column_of strips half` is a column of the strip with the number `strips`, counted from the left and from 1. The
--- value 0 of `half` means the right column, and the value 1 the left column; no strip contains column 6
-abbrev pub column_of : ℕ → ℕ → ℕ
-column_of strips half = let c = 2 * strips - 1 - half in if nat_lt c 6 then c else c + 1
-
 -- `place_of a` is the module at the position a of the walk
 abbrev pub place_of : Cursor → Module
-place_of a = record { row = a.row; col = column_of a.strips (half_of a.at_left) }
+place_of a = let right = (strip_at a.strips).right in record { row = a.row; col = if a.at_left then right - 1 else right }
 
 -- `rank_of s a` is the number of rows of the strip that the walk visits before the row of the position a, in a symbol
 -- with s modules on a side
 abbrev pub rank_of : ℕ → Cursor → ℕ
-rank_of s a = if a.upward then s - 1 - a.row else a.row
+rank_of s a = if (strip_at a.strips).upward then s - 1 - a.row else a.row
 
 -- `left_of s a` is the number of positions from the position a to the end of the walk, including a itself, in a symbol
 -- with s modules on a side
@@ -33,21 +30,18 @@ left_of s a = a.strips * (2 * s) - (2 * rank_of s a + half_of a.at_left)
 
 -- `next_of s a` is the position that follows the position a in a symbol with s modules on a side. After the right
 -- module of a row comes the left module, and after the left module the next row of the strip. After the last row of a
--- strip comes the next strip, which the walk visits in the other direction
+-- strip comes the next strip, which begins in the same row
 unfoldable pub next_of : ℕ → Cursor → Cursor
 next_of s a =
     if a.at_left then
-    (if a.upward then
-    (if a.row == 0 then record { strips = a.strips - 1; row = 0; at_left = false; upward = false } else record { strips = a.strips; row = a.row - 1; at_left = false; upward = true })
-    else
-    (if a.row + 1 == s then record { strips = a.strips - 1; row = a.row; at_left = false; upward = true } else record { strips = a.strips; row = a.row + 1; at_left = false; upward = false }))
-    else record { strips = a.strips; row = a.row; at_left = true; upward = a.upward }
+    (if rank_of s a + 1 == s then record { strips = a.strips - 1; row = a.row; at_left = false }
+    else record { strips = a.strips; row = if (strip_at a.strips).upward then a.row - 1 else a.row + 1; at_left = false })
+    else record { strips = a.strips; row = a.row; at_left = true }
 
 -- `IsCursor v a` holds if a is a position of the walk of version v, or the end of this walk
 pub record IsCursor (v : ℕ) (a : Cursor) : Type 0 where
   pub strips_in : a.strips ≤ 8 + 2 * v
   pub row_in : a.row < side_of v
-  pub turned : a.upward ≡ (a.strips % 2 == 0)
 
 -- `places_within v n a` lists the modules of the encoding region that the walk of version v visits at n positions,
 -- beginning with the position a
@@ -62,11 +56,9 @@ to_come v a = places_within v (left_of (side_of v) a) a
 
 -- `first_cursor v` is the position at which the walk of version v begins
 abbrev pub first_cursor : ℕ → Cursor
-first_cursor v = record { strips = 8 + 2 * v; row = 16 + 4 * v; at_left = false; upward = true }
+first_cursor v = record { strips = 8 + 2 * v; row = 16 + 4 * v; at_left = false }
 
--- `cursor_at m` is the position of the walk at the module m. The position consists of the strip of m, the row of m, the
--- half of the strip (left or right), and the direction of the strip
+-- `cursor_at m` is the position of the walk at the module m. The position consists of the strip of m, the row of m, and
+-- the half of the strip (left or right)
 unfoldable pub cursor_at : Module → Cursor
-cursor_at m =
-    let c = (if nat_lt m.col 6 then m.col else m.col - 1) in
-    record { strips = c / 2 + 1; row = m.row; at_left = c % 2 == 0; upward = (c / 2 + 1) % 2 == 0 }
+cursor_at m = let c = column_without_timing m.col in record { strips = c / 2 + 1; row = m.row; at_left = c % 2 == 0 }

@@ -1,13 +1,14 @@
 -- The positions of the walk: each step leaves one position fewer, and a position with fewer positions left has a later
 -- key.
-use Rattle.std.proofs.Common.{◌≡◌, ℕ, zero, suc, ◌+◌, ◌-◌, ◌*◌, ◌/◌, ◌%◌, ◌<◌, ◌≤◌, Bool, true, false, cond, eqb, sym, ap, ◌∙◌, inl, inr, ◌⊎◌, arith}
+use Rattle.std.proofs.Common.{◌≡◌, ℕ, zero, suc, ◌+◌, ◌-◌, ◌*◌, ◌/◌, ◌%◌, ◌<◌, ◌≤◌, Bool, true, false, cond, eqb, ap, inl, inr, ◌⊎◌, arith}
 use Rattle.std.proofs.Math.Nat.{mul-le-mul_right}
 use Rattle.std.proofs.lemmas.Bool.Decides.{nat_tests}
 use Rattle.std.proofs.lemmas.Bool.{cases_lt}
 use Rattle.qr_layout.specs.declared.order.Cursor.{Cursor}
 use Rattle.qr_layout.specs.Version.{side_of}
 use Rattle.qr_layout.specs.Order.{column_without_timing, Key, strip_of, key_of, is_before}
-use Rattle.qr_layout.specs.Steps.Order.{half_of, column_of, place_of, rank_of, left_of, next_of, IsCursor}
+use Rattle.qr_layout.specs.Strips.{strip_at}
+use Rattle.qr_layout.specs.Steps.Order.{half_of, place_of, rank_of, left_of, next_of, IsCursor}
 
 -- if p is positive, then w is at most p * w
 pub mul-le_one : (p w : ℕ) → 0 < p → w ≤ p * w
@@ -30,16 +31,16 @@ next-left s a h k = let m = mul-le_one a.strips (2 * s) h in let n = mul-pred a.
 -- in version v, the position after position a of the walk is a position of the walk or the end of the walk
 pub next-IsCursor : (v : ℕ) (a : Cursor) → IsCursor v a → 0 < a.strips → IsCursor v (next_of (side_of v) a)
 unfolding next_of
-next-IsCursor v a k h = record { strips_in = let i = k.strips_in in grind (arith, nat_tests); row_in = let i = k.row_in in grind (arith, nat_tests); turned = let i = k.turned in grind (arith, nat_tests) }
+next-IsCursor v a k h = record { strips_in = let i = k.strips_in in grind (arith, nat_tests); row_in = let i = k.row_in in grind (arith, nat_tests) }
 
 -- the number of a half of a strip is 0 or 1
 pub half_of-bound : (b : Bool) → half_of b < 2
 half_of-bound true = omega arith
 half_of-bound false = omega arith
 
--- half h of strip p has column number 2 * p - 1 - h when column 6 is left out
-column-back : (p h : ℕ) → 0 < p → h < 2 → column_without_timing (column_of p h) ≡ 2 * p - 1 - h
-column-back p h k l = grind (arith, nat_tests)
+-- the module at position a has column number 2 * a.strips - 1 - half_of a.at_left when column 6 is left out
+column-back : (a : Cursor) → 0 < a.strips → column_without_timing (place_of a).col ≡ 2 * a.strips - 1 - half_of a.at_left
+column-back a k = grind (arith, nat_tests)
 
 -- in version v, if c is the number that half h of strip p has when column 6 is left out, then c is in the strip with
 -- number 8 + 2 * v - p from the right
@@ -57,17 +58,16 @@ side-arith p false k = grind (arith, nat_tests)
 
 -- in version v, the module at position a is in the strip with number 8 + 2 * v - a.strips from the right
 key-strip : (v : ℕ) (a : Cursor) → IsCursor v a → 0 < a.strips → strip_of v (place_of a).col ≡ 8 + 2 * v - a.strips
-key-strip v a i k = let l = half_of-bound a.at_left in let m = i.strips_in in strip-arith v a.strips (half_of a.at_left) _ (column-back a.strips (half_of a.at_left) k l) k m l
+key-strip v a i k = let l = half_of-bound a.at_left in let m = i.strips_in in strip-arith v a.strips (half_of a.at_left) _ (column-back a k) k m l
 
 -- in version v, the key of the module at position a has the strip, the rank and the half of a
 key_of-place : (v : ℕ) (a : Cursor) → IsCursor v a → 0 < a.strips → key_of v (place_of a) ≡ record { strip = 8 + 2 * v - a.strips; rank = rank_of (side_of v) a; side = half_of a.at_left }
 unfolding key_of
 key_of-place v a i k =
-    let l = half_of-bound a.at_left in
     let s = key-strip v a i k in
-    let c = column-back a.strips (half_of a.at_left) k l in
-    let t : eqb (strip_of v (place_of a).col % 2) 0 ≡ a.upward = rw s (parity-arith v a.strips i.strips_in ∙ sym i.turned) in
-    let d : cond (eqb (column_without_timing (column_of a.strips (half_of a.at_left)) % 2) 1) 0 1 ≡ half_of a.at_left = rw c (side-arith a.strips a.at_left k) in
+    let c = column-back a k in
+    let t : eqb (strip_of v (place_of a).col % 2) 0 ≡ (strip_at a.strips).upward = rw s (parity-arith v a.strips i.strips_in) in
+    let d : cond (eqb (column_without_timing (place_of a).col % 2) 1) 0 1 ≡ half_of a.at_left = rw c (side-arith a.strips a.at_left k) in
     λ j. record { strip = s j; rank = cond (t j) (side_of v - 1 - a.row) a.row; side = d j }
 
 -- the rank of a position a whose row is below s is below s

@@ -1,5 +1,5 @@
 -- The modules that the walk visits are the order of the version.
-use Rattle.std.proofs.Common.{◌≡◌, ℕ, zero, suc, ◌+◌, ◌-◌, ◌*◌, ◌/◌, ◌%◌, ◌<◌, ◌≤◌, Bool, true, false, cond, eqb, ltb, List, [], ◌∷◌, ◌++◌, length, get_or, refl, sym, ap, ◌∙◌, subst, inl, inr, arith}
+use Rattle.std.proofs.Common.{◌≡◌, ℕ, zero, suc, ◌+◌, ◌-◌, ◌*◌, ◌<◌, ◌≤◌, Bool, true, false, cond, List, [], ◌∷◌, ◌++◌, length, get_or, refl, sym, ap, ◌∙◌, subst, inl, inr, arith}
 use Rattle.std.proofs.Math.Nat.{mul-le-mul_right}
 use Rattle.std.proofs.lemmas.Bool.{cases_lt}
 use Rattle.std.proofs.lemmas.Bool.Decides.{nat_tests}
@@ -10,7 +10,8 @@ use Rattle.qr_layout.specs.declared.order.Cursor.{Cursor}
 use Rattle.qr_layout.specs.Region.{is_in_region, InRegion}
 use Rattle.qr_layout.specs.Version.{side_of}
 use Rattle.qr_layout.specs.Order.{key_of, is_before, IsOrder, IsOrderAfter}
-use Rattle.qr_layout.specs.Steps.Order.{half_of, column_of, place_of, rank_of, left_of, next_of, IsCursor, places_within, to_come, first_cursor, cursor_at}
+use Rattle.qr_layout.specs.Strips.{strip_at}
+use Rattle.qr_layout.specs.Steps.Order.{half_of, place_of, rank_of, left_of, next_of, IsCursor, places_within, to_come, first_cursor, cursor_at}
 use Rattle.qr_layout.proofs.lemmas.order.ListLemmas.{Rises}
 use Rattle.qr_layout.proofs.lemmas.region.RegionLemmas.{row-in, col-in, col-not_timing}
 use Rattle.qr_layout.proofs.lemmas.order.PathLemmas.{half_of-bound, rank-bound, mul-lt, mul-le_one, next-left, next-IsCursor, is_before-left}
@@ -95,12 +96,11 @@ same-cursor v a b i j k l e =
     let q = half_of-bound b.at_left in
     let t = same-arith a.strips b.strips (2 * s) (2 * rank_of s a + half_of a.at_left) (2 * rank_of s b + half_of b.at_left) (omega arith) (omega arith) k l e in
     let d = digits-same (rank_of s a) (rank_of s b) (half_of a.at_left) (half_of b.at_left) p q t.1 in
-    let u : a.upward ≡ b.upward = i.turned ∙ (ap (λ z. eqb (z % 2) 0) t.0 ∙ sym j.turned) in
-    let f : cond b.upward (s - 1 - a.row) a.row ≡ cond b.upward (s - 1 - b.row) b.row = ap (λ z. cond z (s - 1 - a.row) a.row) (sym u) ∙ d.0 in
-    let r = rank-same s a.row b.row b.upward i.row_in j.row_in f in
+    let f : cond (strip_at b.strips).upward (s - 1 - a.row) a.row ≡ rank_of s b = ap (λ z. cond (strip_at z).upward (s - 1 - a.row) a.row) (sym t.0) ∙ d.0 in
+    let r = rank-same s a.row b.row (strip_at b.strips).upward i.row_in j.row_in f in
     let h = half_of-same a.at_left b.at_left d.1 in
     let st = t.0 in
-    λ z. record { strips = st z; row = r z; at_left = h z; upward = u z }
+    λ z. record { strips = st z; row = r z; at_left = h z }
 
 -- ---- the walk, n positions at a time
 
@@ -174,7 +174,7 @@ finds v (suc n) a b i e j l h t =
 
 -- in version v, the position at which the walk begins is a position of the walk
 pub start-IsCursor : (v : ℕ) → IsCursor v (first_cursor v)
-start-IsCursor v = record { strips_in = omega arith; row_in = omega arith; turned = grind (arith, nat_tests) }
+start-IsCursor v = record { strips_in = omega arith; row_in = omega arith }
 
 -- the position of a module m is in a strip
 pub at-strips : (m : Module) → 0 < (cursor_at m).strips
@@ -184,21 +184,22 @@ at-strips m = omega arith
 -- the position of each module m of the square of version v is a position of the walk
 pub at-IsCursor : (v : ℕ) (m : Module) → m.row < side_of v → m.col < side_of v → IsCursor v (cursor_at m)
 unfolding cursor_at
-at-IsCursor v m h k = record { strips_in = grind (arith, nat_tests); row_in = h; turned = refl }
-
--- for each column c except column 6, the strip and the half of c give column c again
-column-at : (c : ℕ) → (c ≡ 6 → ⊥) → let d = cond (ltb c 6) c (c - 1) in column_of (d / 2 + 1) (half_of (eqb (d % 2) 0)) ≡ c
-column-at c h = grind (arith, nat_tests)
+at-IsCursor v m h k = record { strips_in = grind (arith, nat_tests); row_in = h }
 
 -- the module at the position of module m is m, unless m is in column 6
 pub at-place : (m : Module) → (m.col ≡ 6 → ⊥) → place_of (cursor_at m) ≡ m
 unfolding cursor_at
-at-place m h = let e = column-at m.col h in λ z. record { row = m.row; col = e z }
+at-place m h = grind (arith, nat_tests)
+
+-- at the beginning of the walk of version v, both positions of each row of each strip are left
+pub start-left : (v : ℕ) → left_of (side_of v) (first_cursor v) ≡ (8 + 2 * v) * (2 * side_of v)
+unfolding left_of
+start-left v = grind (arith, nat_tests)
 
 -- in version v, no position b has more positions left than the beginning of the walk
 start-most : (v : ℕ) (b : Cursor) → IsCursor v b → left_of (side_of v) b ≤ left_of (side_of v) (first_cursor v)
 unfolding left_of
-start-most v b j = let m = mul-le-mul_right (2 * side_of v) j.strips_in in omega (arith, m)
+start-most v b j = let m = mul-le-mul_right (2 * side_of v) j.strips_in in omega (arith, m, start-left v)
 
 -- ---- the order
 
@@ -275,7 +276,7 @@ after v m h =
 
 -- the modules that the walk of the code yields, which starts at the last row of the rightmost strip, are the order of
 -- version v
-pub walk-order : (v n s : ℕ) → n ≡ v → s ≡ side_of v → IsOrder v (to_come v (record { strips = 8 + 2 * n; row = s - 1; at_left = false; upward = true }))
+pub walk-order : (v n s : ℕ) → n ≡ v → s ≡ side_of v → IsOrder v (to_come v (record { strips = 8 + 2 * n; row = s - 1; at_left = false }))
 walk-order v n s e f =
     let g : s - 1 ≡ 16 + 4 * v = omega arith in
     let h : 8 + 2 * n ≡ 8 + 2 * v = omega arith in
@@ -284,49 +285,39 @@ walk-order v n s e f =
 -- ---- one step of the code
 
 -- if the code steps from position a to position b, then b is a position of the walk or the end of the walk
-pub step-cursor : (v s : ℕ) (a b : Cursor) → s ≡ side_of v → IsCursor v a → 0 < a.strips → b ≡ next_of s a → IsCursor v b
-step-cursor v s a b e i k f = rw (f, e) (next-IsCursor v a i k)
+pub step-cursor : (v : ℕ) (a b : Cursor) → IsCursor v a → 0 < a.strips → b ≡ next_of (side_of v) a → IsCursor v b
+step-cursor v a b i k f = rw f (next-IsCursor v a i k)
 
 -- if the code steps from position a to position b, then b has fewer positions left than a
-pub step-left : (v s : ℕ) (a b : Cursor) → s ≡ side_of v → IsCursor v a → 0 < a.strips → b ≡ next_of s a → left_of (side_of v) b < left_of (side_of v) a
-step-left v s a b e i k f = rw (f, e) (let d = next-left (side_of v) a k i.row_in in omega arith)
+pub step-left : (v : ℕ) (a b : Cursor) → IsCursor v a → 0 < a.strips → b ≡ next_of (side_of v) a → left_of (side_of v) b < left_of (side_of v) a
+step-left v a b i k f = rw f (let d = next-left (side_of v) a k i.row_in in omega arith)
 
 -- if the code steps from position a to position b, and the module m at a is in the encoding region, then the modules from
 -- a on are m and the modules from b on
-pub step-yields : (v s : ℕ) (a b : Cursor) (m : Module) (t : Bool) → s ≡ side_of v → IsCursor v a → 0 < a.strips → b ≡ next_of s a → m ≡ place_of a → t ≡ is_in_region v m.row m.col → t ≡ true → to_come v a ≡ m ∷ to_come v b
-step-yields v s a b m t e i k f g h j =
+pub step-yields : (v : ℕ) (a b : Cursor) (m : Module) (t : Bool) → IsCursor v a → 0 < a.strips → b ≡ next_of (side_of v) a → m ≡ place_of a → t ≡ is_in_region v m.row m.col → t ≡ true → to_come v a ≡ m ∷ to_come v b
+step-yields v a b m t i k f g h j =
     let q : is_in_region v a.row (place_of a).col ≡ true = subst (λ (z : Module). is_in_region v z.row z.col ≡ true) g (sym h ∙ j) in
-    rw (f, e, g) (to_come-next v a i k ∙ ap (λ z. cond z (place_of a ∷ to_come v (next_of (side_of v) a)) (to_come v (next_of (side_of v) a))) q)
+    rw (f, g) (to_come-next v a i k ∙ ap (λ z. cond z (place_of a ∷ to_come v (next_of (side_of v) a)) (to_come v (next_of (side_of v) a))) q)
 
 -- if the code steps from position a to position b, and the module m at a is not in the encoding region, then the modules
 -- from a on are the modules from b on
-pub step-passes : (v s : ℕ) (a b : Cursor) (m : Module) (t : Bool) → s ≡ side_of v → IsCursor v a → 0 < a.strips → b ≡ next_of s a → m ≡ place_of a → t ≡ is_in_region v m.row m.col → t ≡ false → to_come v a ≡ to_come v b
-step-passes v s a b m t e i k f g h j =
+pub step-passes : (v : ℕ) (a b : Cursor) (m : Module) (t : Bool) → IsCursor v a → 0 < a.strips → b ≡ next_of (side_of v) a → m ≡ place_of a → t ≡ is_in_region v m.row m.col → t ≡ false → to_come v a ≡ to_come v b
+step-passes v a b m t i k f g h j =
     let q : is_in_region v a.row (place_of a).col ≡ false = subst (λ (z : Module). is_in_region v z.row z.col ≡ false) g (sym h ∙ j) in
-    rw (f, e) (to_come-next v a i k ∙ ap (λ z. cond z (place_of a ∷ to_come v (next_of (side_of v) a)) (to_come v (next_of (side_of v) a))) q)
+    rw f (to_come-next v a i k ∙ ap (λ z. cond z (place_of a ∷ to_come v (next_of (side_of v) a)) (to_come v (next_of (side_of v) a))) q)
 
 -- if the code resumes the walk after module m of the encoding region, at position b, then the modules from b on are the
 -- modules that come after m in the order
-pub after-order : (v s : ℕ) (m : Module) (a b : Cursor) (t : Bool) → s ≡ side_of v → t ≡ is_in_region v m.row m.col → t ≡ true → a ≡ cursor_at m → b ≡ next_of s a → IsOrderAfter v m (to_come v b)
-after-order v s m a b t e h j f g = rw (g, e, f) (after v m (sym h ∙ j))
+pub after-order : (v : ℕ) (m : Module) (a b : Cursor) (t : Bool) → t ≡ is_in_region v m.row m.col → t ≡ true → a ≡ cursor_at m → b ≡ next_of (side_of v) a → IsOrderAfter v m (to_come v b)
+after-order v m a b t h j f g = rw (g, f) (after v m (sym h ∙ j))
 
 -- the position a that the code computes for module m is in a strip
 pub after-strips : (m : Module) (a : Cursor) → a ≡ cursor_at m → 0 < a.strips
 after-strips m a f = rw f (at-strips m)
 
--- the position of module m is in the row of m
-at-row : (m : Module) → (cursor_at m).row ≡ m.row
-unfolding cursor_at
-at-row m = refl
-
--- the position a that the code computes for a module m of the encoding region is in a row of the square
-pub after-row : (v s : ℕ) (m : Module) (a : Cursor) (t : Bool) → s ≡ side_of v → t ≡ is_in_region v m.row m.col → t ≡ true → a ≡ cursor_at m → a.row < s
-after-row v s m a t e h j f = rw (f, e) (subst (λ z. z < side_of v) (sym (at-row m)) (row-in v m (sym h ∙ j)))
-
--- the position b that follows the position of a module m of the encoding region is a position of the walk or the end of
--- the walk
-pub after-cursor : (v s : ℕ) (m : Module) (a b : Cursor) (t : Bool) → s ≡ side_of v → t ≡ is_in_region v m.row m.col → t ≡ true → a ≡ cursor_at m → b ≡ next_of s a → IsCursor v b
-after-cursor v s m a b t e h j f g = step-cursor v s a b e (subst (IsCursor v) (sym f) (at-IsCursor v m (row-in v m (sym h ∙ j)) (col-in v m (sym h ∙ j)))) (after-strips m a f) g
+-- the position a that the code computes for a module m of the encoding region is a position of the walk
+pub after-position : (v : ℕ) (m : Module) (a : Cursor) (t : Bool) → t ≡ is_in_region v m.row m.col → t ≡ true → a ≡ cursor_at m → IsCursor v a
+after-position v m a t h j f = rw f (at-IsCursor v m (row-in v m (sym h ∙ j)) (col-in v m (sym h ∙ j)))
 
 -- if xs is m followed by ys, then ys is shorter than xs
 pub length-less : (xs ys : List Module) (m : Module) → xs ≡ m ∷ ys → length ys < length xs

@@ -1,6 +1,6 @@
 -- The places of the strips, one strip after the other, are the order of the version when the places outside the encoding
 -- region are left out.
-use Rattle.std.proofs.Common.{◌≡◌, ℕ, zero, suc, ◌+◌, ◌-◌, ◌*◌, ◌%◌, ◌<◌, ◌≤◌, Bool, true, false, not, cond, eqb, ltb, List, [], ◌∷◌, ◌++◌, refl, sym, ap, ◌∙◌, arith}
+use Rattle.std.proofs.Common.{◌≡◌, ℕ, zero, suc, ◌+◌, ◌-◌, ◌*◌, ◌<◌, ◌≤◌, false, cond, List, [], ◌∷◌, ◌++◌, refl, sym, ap, ◌∙◌, arith}
 use Rattle.std.proofs.lemmas.List.Elements.{All-from_recursion}
 use Rattle.std.proofs.lemmas.Bool.Decides.{nat_tests}
 use Rattle.std.specs.List.{All, AllByRecursion}
@@ -10,9 +10,9 @@ use Rattle.qr_layout.specs.declared.strips.Strip.{Strip}
 use Rattle.qr_layout.specs.Region.{is_in_region}
 use Rattle.qr_layout.specs.Version.{side_of}
 use Rattle.qr_layout.specs.Order.{IsOrder, in_region_of}
-use Rattle.qr_layout.specs.Steps.Order.{column_of, place_of, left_of, next_of, places_within, to_come, first_cursor}
+use Rattle.qr_layout.specs.Steps.Order.{place_of, left_of, next_of, places_within, to_come, first_cursor}
 use Rattle.qr_layout.specs.Strips.{rows_from, both_of, places_of, strip_at, strips_to_come}
-use Rattle.qr_layout.proofs.lemmas.order.WalkLemmas.{places-nil, places-suc, to_come-start}
+use Rattle.qr_layout.proofs.lemmas.order.WalkLemmas.{places-nil, places-suc, start-left, to_come-start}
 
 -- the right places of n rows of strips, from position a on, in the encoding region or not
 pairs_within : ℕ → ℕ → Cursor → List Module
@@ -33,10 +33,7 @@ pairs-suc v n a = refl
 -- if position a is at the right place of a row, then one step leads to the place to the left of it
 second-place : (s : ℕ) (a : Cursor) → a.at_left ≡ false → place_of (next_of s a) ≡ record { row = a.row; col = (place_of a).col - 1 }
 unfolding next_of
-second-place s a e = rw (e, cols a.strips) refl
-  where
-    cols : (p : ℕ) → column_of p 1 ≡ column_of p 0 - 1
-    cols p = grind (arith, nat_tests)
+second-place s a e = rw e refl
 
 -- if position a is at the right place of a row, then two steps lead to the right place of a row
 right-again : (s : ℕ) (a : Cursor) → a.at_left ≡ false → (next_of s (next_of s a)).at_left ≡ false
@@ -64,54 +61,33 @@ kept v (suc n) a e =
 -- ---- row by row, and strip by strip
 
 -- the position at the right place of the row of strip p that comes after k other rows of this strip
-abbrev at_row : ℕ → ℕ → Bool → ℕ → Cursor
-at_row s p upward k = record { strips = p; row = cond upward (s - 1 - k) k; at_left = false; upward = upward }
+abbrev at_row : ℕ → ℕ → ℕ → Cursor
+at_row s p k = record { strips = p; row = cond (strip_at p).upward (s - 1 - k) k; at_left = false }
 
 -- in a square of side s, two steps lead from row k of strip p to row k + 1 of this strip, if there is such a row
-next-row : (s p k : ℕ) (upward : Bool) → k + 1 < s → next_of s (next_of s (at_row s p upward k)) ≡ at_row s p upward (k + 1)
+next-row : (s p k : ℕ) → k + 1 < s → next_of s (next_of s (at_row s p k)) ≡ at_row s p (k + 1)
 unfolding next_of
-next-row s p k true l =
-    let t : eqb (s - 1 - k) 0 ≡ false = grind (arith, nat_tests) in
-    let e : s - 1 - k - 1 ≡ s - 1 - (k + 1) = omega arith in
-    rw t (λ i. record { strips = p; row = e i; at_left = false; upward = true })
-next-row s p k false l = let t : eqb (k + 1) s ≡ false = grind (arith, nat_tests) in rw t refl
+next-row s p k l = grind (arith, nat_tests)
 
--- in a square of side s, two steps lead from the last row of strip p to the first row of strip p - 1, which goes the other
--- way
-next-strip : (s p k : ℕ) (upward : Bool) → k + 1 ≡ s → next_of s (next_of s (at_row s p upward k)) ≡ at_row s (p - 1) (not upward) 0
+-- in a square of side s, two steps lead from the last row of strip p + 1 to the first row of strip p
+next-strip : (s p k : ℕ) → k + 1 ≡ s → next_of s (next_of s (at_row s (suc p) k)) ≡ at_row s p 0
 unfolding next_of
-next-strip s p k true e = let t : eqb (s - 1 - k) 0 ≡ true = grind (arith, nat_tests) in rw t refl
-next-strip s p k false e =
-    let t : eqb (k + 1) s ≡ true = grind (arith, nat_tests) in
-    let f : k ≡ s - 1 - 0 = omega arith in
-    rw t (λ i. record { strips = p - 1; row = f i; at_left = false; upward = true })
-
--- strip p goes the other way than strip p + 1
-turned : (p : ℕ) → not (eqb (suc p % 2) 0) ≡ eqb (p % 2) 0
-turned p = grind (arith, nat_tests)
-
--- the position at row k of strip p is at row k of the strip that `strip_at p` describes, and at the right column of this
--- strip
-row-place : (s p k : ℕ) → place_of (at_row s p (eqb (p % 2) 0) k) ≡ record { row = cond (strip_at p).upward (s - 1 - k) k; col = (strip_at p).right }
-row-place s p k = let e : 2 * p - 1 - 0 ≡ 2 * p - 1 = omega arith in λ i. record { row = cond (eqb (p % 2) 0) (s - 1 - k) k; col = cond (ltb (e i) 6) (e i) (e i + 1) }
+next-strip s p k e = grind (arith, nat_tests)
 
 -- in version v, the right places of n + 1 + m rows, from row k of strip p + 1 on, are the right places of the n + 1 rows
 -- that are left in this strip, followed by the right places of m rows from strip p on
-rows-then : (v p k n m : ℕ) → k + suc n ≡ side_of v → pairs_within v (suc n + m) (at_row (side_of v) (suc p) (eqb (suc p % 2) 0) k) ≡ rows_from (side_of v) (strip_at (suc p)) k (suc n) ++ pairs_within v m (at_row (side_of v) p (eqb (p % 2) 0) 0)
+rows-then : (v p k n m : ℕ) → k + suc n ≡ side_of v → pairs_within v (suc n + m) (at_row (side_of v) (suc p) k) ≡ rows_from (side_of v) (strip_at (suc p)) k (suc n) ++ pairs_within v m (at_row (side_of v) p 0)
 rows-then v p k zero m e =
     let s = side_of v in
-    let a = at_row s (suc p) (eqb (suc p % 2) 0) k in
+    let a = at_row s (suc p) k in
     let q : suc zero + m ≡ suc m = omega arith in
-    let f : suc p - 1 ≡ p = omega arith in
-    let next : next_of s (next_of s a) ≡ at_row s p (eqb (p % 2) 0) 0 = next-strip s (suc p) k (eqb (suc p % 2) 0) (omega arith) ∙ (ap (λ z. at_row s z (not (eqb (suc p % 2) 0)) 0) f ∙ ap (λ z. at_row s p z 0) (turned p)) in
-    ap (λ z. pairs_within v z a) q ∙ (pairs-suc v m a ∙ (ap (λ z. place_of a ∷ pairs_within v m z) next ∙ ap (λ (z : Module). z ∷ pairs_within v m (at_row s p (eqb (p % 2) 0) 0)) (row-place s (suc p) k)))
+    ap (λ z. pairs_within v z a) q ∙ (pairs-suc v m a ∙ ap (λ z. place_of a ∷ pairs_within v m z) (next-strip s p k (omega arith)))
 rows-then v p k (suc n) m e =
     let s = side_of v in
-    let a = at_row s (suc p) (eqb (suc p % 2) 0) k in
+    let a = at_row s (suc p) k in
     let q : suc (suc n) + m ≡ suc (suc n + m) = omega arith in
-    ap (λ z. pairs_within v z a) q ∙ (pairs-suc v (suc n + m) a ∙ (ap (λ z. place_of a ∷ pairs_within v (suc n + m) z) (next-row s (suc p) k (eqb (suc p % 2) 0) (omega arith))
-    ∙ (ap (λ (z : List Module). place_of a ∷ z) (rows-then v p (k + 1) n m (omega arith))
-    ∙ ap (λ (z : Module). z ∷ (rows_from s (strip_at (suc p)) (k + 1) (suc n) ++ pairs_within v m (at_row s p (eqb (p % 2) 0) 0))) (row-place s (suc p) k))))
+    ap (λ z. pairs_within v z a) q ∙ (pairs-suc v (suc n + m) a ∙ (ap (λ z. place_of a ∷ pairs_within v (suc n + m) z) (next-row s (suc p) k (omega arith))
+    ∙ ap (λ (z : List Module). place_of a ∷ z) (rows-then v p (k + 1) n m (omega arith))))
 
 -- the right places of all rows of the strips, in a square of side s
 abbrev all_rows : ℕ → List Strip → List Module
@@ -120,15 +96,15 @@ all_rows s (x ∷ xs) = rows_from s x 0 s ++ all_rows s xs
 
 -- in version v, the right places of all rows from the first row of strip p on are the right places of strip p and of the
 -- strips to the left of it
-rows-all : (v p : ℕ) → pairs_within v (p * side_of v) (at_row (side_of v) p (eqb (p % 2) 0) 0) ≡ all_rows (side_of v) (strips_to_come p)
-rows-all v zero = let e : zero * side_of v ≡ 0 = omega arith in ap (λ z. pairs_within v z (at_row (side_of v) 0 true 0)) e ∙ pairs-nil v (at_row (side_of v) 0 true 0)
+rows-all : (v p : ℕ) → pairs_within v (p * side_of v) (at_row (side_of v) p 0) ≡ all_rows (side_of v) (strips_to_come p)
+rows-all v zero = let e : zero * side_of v ≡ 0 = omega arith in ap (λ z. pairs_within v z (at_row (side_of v) 0 0)) e ∙ pairs-nil v (at_row (side_of v) 0 0)
 rows-all v (suc p) =
     let s = side_of v in
     let n = s - 1 in
     let e : suc p * s ≡ suc n + p * s = times p s (omega arith) in
     let f : suc n ≡ s = omega arith in
-    ap (λ z. pairs_within v z (at_row s (suc p) (eqb (suc p % 2) 0) 0)) e ∙ (rows-then v p 0 n (p * s) (omega arith)
-    ∙ (ap (λ z. rows_from s (strip_at (suc p)) 0 z ++ pairs_within v (p * s) (at_row s p (eqb (p % 2) 0) 0)) f ∙ ap (λ (z : List Module). rows_from s (strip_at (suc p)) 0 s ++ z) (rows-all v p)))
+    ap (λ z. pairs_within v z (at_row s (suc p) 0)) e ∙ (rows-then v p 0 n (p * s) (omega arith)
+    ∙ (ap (λ z. rows_from s (strip_at (suc p)) 0 z ++ pairs_within v (p * s) (at_row s p 0)) f ∙ ap (λ (z : List Module). rows_from s (strip_at (suc p)) 0 s ++ z) (rows-all v p)))
   where
     times : (p s : ℕ) → 0 < s → suc p * s ≡ suc (s - 1) + p * s
     times p s l = omega arith
@@ -146,15 +122,11 @@ places-both s (x ∷ xs) = both-append (rows_from s x 0 s) (all_rows s xs) ∙ a
 
 -- in version v, the number of positions left at the beginning of the walk is twice the number of rows of all strips
 left-start : (v : ℕ) → 2 * ((8 + 2 * v) * side_of v) ≡ left_of (side_of v) (first_cursor v)
-unfolding left_of
-left-start v = let e : (8 + 2 * v) * (2 * side_of v) ≡ 2 * ((8 + 2 * v) * side_of v) = omega arith in omega arith
+left-start v = omega (arith, start-left v)
 
 -- in version v, the walk begins at the right place of the first row of the rightmost strip
-start-row : (v : ℕ) → at_row (side_of v) (8 + 2 * v) (eqb ((8 + 2 * v) % 2) 0) 0 ≡ first_cursor v
-start-row v =
-    let t : eqb ((8 + 2 * v) % 2) 0 ≡ true = grind (arith, nat_tests) in
-    let e : side_of v - 1 - 0 ≡ 16 + 4 * v = omega arith in
-    ap (λ z. at_row (side_of v) (8 + 2 * v) z 0) t ∙ (λ i. record { strips = 8 + 2 * v; row = e i; at_left = false; upward = true })
+start-row : (v : ℕ) → at_row (side_of v) (8 + 2 * v) 0 ≡ first_cursor v
+start-row v = grind (arith, nat_tests)
 
 -- in version v, the places of all strips, when the places outside the encoding region are left out, are the order
 pub strips-order : (v n : ℕ) → n ≡ v → IsOrder v (in_region_of v (places_of (side_of v) (strips_to_come (8 + 2 * n))))

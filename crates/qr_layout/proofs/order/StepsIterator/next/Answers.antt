@@ -6,24 +6,24 @@ use Rattle.qr_layout.proofs.order.StepsIterator.next.Goals as goal
 pub invariant_of-self-then-is_in_region : goal.invariant_of-self-then-is_in_region
 invariant_of-self-then-is_in_region c =
     let i = c.loop-self.invariant in
-    (i.least, i.most, step-cursor c.loop-self.self-inside.version c.side-side.result c.loop-self.self-inside.cursor c.next-self-inside.result i.side i.position c.loop-self-test.true c.next-self-inside.ensures)
+    (i.least, i.most, step-cursor c.loop-self.self-inside.version c.loop-self.self-inside.cursor c.next-self-inside.result i.position c.loop-self-test.true c.next-self-inside.ensures)
 
 pub returns-then-is_in_region-clause-steps : goal.returns-then-is_in_region-clause-steps
 returns-then-is_in_region-clause-steps c =
     let i = c.loop-self.invariant in
-    sym c.self.view_is ∙ (sym i.same_rest ∙ step-yields c.loop-self.self-inside.version c.side-side.result c.loop-self.self-inside.cursor c.next-self-inside.result c.place-here.result c.is_in_region.result i.side i.position c.loop-self-test.true c.next-self-inside.ensures c.place-here.ensures c.is_in_region.ensures c.if-is_in_region.true)
+    sym c.self.view_is ∙ (sym i.same_rest ∙ step-yields c.loop-self.self-inside.version c.loop-self.self-inside.cursor c.next-self-inside.result c.place-here.result c.is_in_region.result i.position c.loop-self-test.true c.next-self-inside.ensures c.place-here.ensures c.is_in_region.ensures c.if-is_in_region.true)
 
 pub returns-then-is_in_region-clause-goes : goal.returns-then-is_in_region-clause-goes
 returns-then-is_in_region-clause-goes c =
     let i = c.loop-self.invariant in
-    let e = sym c.self.view_is ∙ (sym i.same_rest ∙ step-yields c.loop-self.self-inside.version c.side-side.result c.loop-self.self-inside.cursor c.next-self-inside.result c.place-here.result c.is_in_region.result i.side i.position c.loop-self-test.true c.next-self-inside.ensures c.place-here.ensures c.is_in_region.ensures c.if-is_in_region.true) in
+    let e = sym c.self.view_is ∙ (sym i.same_rest ∙ step-yields c.loop-self.self-inside.version c.loop-self.self-inside.cursor c.next-self-inside.result c.place-here.result c.is_in_region.result i.position c.loop-self-test.true c.next-self-inside.ensures c.place-here.ensures c.is_in_region.ensures c.if-is_in_region.true) in
     let l = length-less c.args.self.now (to_come c.loop-self.self-inside.version c.next-self-inside.result) c.place-here.result e in
     record { on = λ _. (tt, tt, l); keeps = tt; rests = λ _. tt }
 
 pub loop-self-smaller : goal.loop-self-smaller
 loop-self-smaller c =
     let i = c.loop-self.invariant in
-    step-left c.loop-self.self-inside.version c.side-side.result c.loop-self.self-inside.cursor c.next-self-inside.result i.side i.position c.loop-self-test.true c.next-self-inside.ensures
+    step-left c.loop-self.self-inside.version c.loop-self.self-inside.cursor c.next-self-inside.result i.position c.loop-self-test.true c.next-self-inside.ensures
 
 pub loop-self-preserved : goal.loop-self-preserved
 loop-self-preserved c =
@@ -32,9 +32,8 @@ loop-self-preserved c =
       same_version = i.same_version;
       least = i.least;
       most = i.most;
-      side = i.side;
-      position = step-cursor c.loop-self.self-inside.version c.side-side.result c.loop-self.self-inside.cursor c.next-self-inside.result i.side i.position c.loop-self-test.true c.next-self-inside.ensures;
-      same_rest = sym (step-passes c.loop-self.self-inside.version c.side-side.result c.loop-self.self-inside.cursor c.next-self-inside.result c.place-here.result c.is_in_region.result i.side i.position c.loop-self-test.true c.next-self-inside.ensures c.place-here.ensures c.is_in_region.ensures c.if-is_in_region.false) ∙ i.same_rest;
+      position = step-cursor c.loop-self.self-inside.version c.loop-self.self-inside.cursor c.next-self-inside.result i.position c.loop-self-test.true c.next-self-inside.ensures;
+      same_rest = sym (step-passes c.loop-self.self-inside.version c.loop-self.self-inside.cursor c.next-self-inside.result c.place-here.result c.is_in_region.result i.position c.loop-self-test.true c.next-self-inside.ensures c.place-here.ensures c.is_in_region.ensures c.if-is_in_region.false) ∙ i.same_rest;
     }
 
 pub returns-clause-steps : goal.returns-clause-steps

@@ -8,7 +8,6 @@ invariant-loop-self l = record {
   same_version : l.self-inside.version ≡ l.initial.self-inside.version;
   least : 1 ≤ l.self-inside.version;
   most : l.self-inside.version ≤ 40;
-  side : l.side ≡ side_of l.self-inside.version;
   position : IsCursor l.self-inside.version l.self-inside.cursor;
   same_rest : to_come l.self-inside.version l.self-inside.cursor ≡ to_come l.initial.self-inside.version l.initial.self-inside.cursor;
 }
