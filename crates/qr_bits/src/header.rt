@@ -27,7 +27,8 @@ pub(crate) fn header_bits(header: Option<Header>) -> u64
     }
 }
 
-/// Returns the parity data of `input`: the bitwise exclusive or of all its bytes (8.3).
+/// Returns the parity data of `input`: the bitwise exclusive or of all its bytes (8.3). In a series, the headers of all
+/// symbols contain the parity data of the whole input.
 pub fn parity(input: &[u8]) -> u8
     ensures { result ≡ parity_of input.now }
 {

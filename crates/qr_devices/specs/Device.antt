@@ -82,7 +82,7 @@ abbrev pub AppendsBeginning : Option (List ℕ) → Option (List ℕ) → List �
 AppendsBeginning old new whole = (prefix : List ℕ) × IsBeginning prefix whole × Appends old new prefix
 
 -- `is_read_fault c` is true if the counts `c` show that a read failed, or that reads were interrupted (EINTR) 1,000
--- times or more [own]
+-- times or more: up to 999 interrupted reads are tried again [own]
 abbrev pub is_read_fault : ReadCounts → Bool
 is_read_fault c = nat_lt 0 c.failed || nat_le 1000 c.interrupted
 

@@ -15,7 +15,8 @@ use crate::patterns::is_bit_set;
 use qr_layout::{Module, Strip, Version, all_strips, walk};
 use qr_matrix::{BitRow, Matrix};
 
-// Returns the codeword with the index `place`, or 0 if `place` is after the last codeword.
+// Returns the codeword with the index `place`, or 0 if `place` is after the last codeword. So the remainder bits, which
+// follow the codewords, are 0 before a mask pattern inverts them.
 fn codeword_at(codewords: &[u8], place: usize) -> u8
     ensures { result ≡ slice_index codewords.now place }
 {

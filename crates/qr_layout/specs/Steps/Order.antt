@@ -43,8 +43,8 @@ pub record IsCursor (v : ℕ) (a : Cursor) : Type 0 where
   pub strips_in : a.strips ≤ 8 + 2 * v
   pub row_in : a.row < side_of v
 
--- `places_within v n a` lists the modules of the encoding region that the walk of version v visits at n positions,
--- beginning with the position a
+-- `places_within v n a` lists modules that a walk visits: those of the encoding region at n positions of the walk, from
+-- the position a on. The walk is over a symbol of version v. A position that is not in the encoding region is skipped
 unfoldable pub places_within : ℕ → ℕ → Cursor → List Module
 places_within v zero a = []
 places_within v (suc n) a =
