@@ -50,8 +50,8 @@ middle_data = 0x31 ∷ 0x24 ∷ 0x84 ∷ 0x03 ∷ 0x46 ∷ 0x47 ∷ 0x48 ∷ 0x0
 -- the parse. In the first six rows, a number is too large: 1000 for three digits, 100 for two digits, 10 for one digit,
 -- 2025 for two characters, 45 for one character, and a kanji value with the low byte BD (hexadecimal). In the next
 -- three rows, the codewords end within the data of a segment, within a character count indicator, and within a
--- structured append header. In the last two rows, a mode indicator belongs to no mode, and a second header follows the
--- first [own].
+-- structured append header. In the last two rows, a mode indicator belongs to none of the four modes, and a second
+-- header follows the first [own].
 abbrev pub unreadable : List (List ℕ × ParseFault)
 unreadable =
     (0x10 ∷ 0x0F ∷ 0xE8 ∷ [], BadValue)

@@ -15,8 +15,8 @@ use Rattle.qr_bits.specs.Padding.{capacity_of, IsData}
 use Rattle.qr_bits.specs.Header.{header_bits}
 use Rattle.qr_bits.specs.Parsing.{ends, parse}
 
--- A parse of bits returns a header, segments and bytes exactly if the bits begin with the bit stream of this header,
--- these segments and these bytes, and end there. The bits end there if fewer than four bits are left, or if the
+-- A parse of bits returns an optional header, segments and bytes exactly if the bits begin with the bit stream of this
+-- header, these segments and these bytes, and end there. The bits end there if fewer than four bits are left, or if the
 -- terminator comes next (ISO/IEC 18004:2015, 7.4.1, 7.4.9, 8.1).
 abbrev pub StreamsAreParsed : Type 0
 StreamsAreParsed =
@@ -70,8 +70,8 @@ abbrev pub FittingInputsAreShort : Type 0
 FittingInputsAreShort =
     (v : ℕ) (l : Level) (r : Rule) (xs : List ℕ) → 1 ≤ v → v ≤ 40 → HasFit v r xs (capacity_of v l) → length xs ≤ 7089
 
--- The segments that `IsLeastSegmentation` describes cover the bytes of the input, as `Covers` defines it. No valid
--- assignment of modes to the bytes takes fewer bits than these segments have [own].
+-- The segments that `IsLeastSegmentation` describes cover the bytes of the input, as `Covers` defines it. These
+-- segments have at most n bits exactly if some valid assignment of modes to the bytes takes at most n bits [own].
 abbrev pub LeastSegmentationsFit : Type 0
 LeastSegmentationsFit =
     (v : ℕ) (r : Rule) (xs : List ℕ) (segs : List Segment) → IsLeastSegmentation v r xs segs →

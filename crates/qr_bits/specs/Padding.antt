@@ -33,8 +33,8 @@ pads zero = []
 pads (suc zero) = 0xEC ∷ []
 pads (suc (suc n)) = 0xEC ∷ 0x11 ∷ pads n
 
--- `padded n stream` is the list of the bits of `n` data codewords: the bit stream `stream`, its terminator, zero bits
--- up to the end of a codeword, and pad codewords (ISO/IEC 18004:2015, 7.4.9, 7.4.10)
+-- `padded n stream` is the list of the bits of `n` data codewords: the bit stream `stream` of at most 8n bits, its
+-- terminator, zero bits up to the end of a codeword, and pad codewords (ISO/IEC 18004:2015, 7.4.9, 7.4.10)
 unfoldable pub padded : ℕ → List Bool → List Bool
 padded n stream =
     let whole = filled (terminated (8 * n) stream) in

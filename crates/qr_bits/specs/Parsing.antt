@@ -99,8 +99,8 @@ values_of Alphanumeric n bits = characters_of n bits
 values_of Byte n bits = Ok (bytes_of n bits)
 values_of Kanji n bits = pairs_of n bits
 
--- `mode_of n` is the mode that has the mode indicator `n`. If no mode has this indicator, the result is the fault
--- `BadMode` (ISO/IEC 18004:2015, 7.4.1, Table 2)
+-- `mode_of n` is the mode that has the mode indicator `n`. If none of the four modes has this indicator, the result is
+-- the fault `BadMode` (ISO/IEC 18004:2015, 7.4.1, Table 2)
 unfoldable pub mode_of : ℕ → Result Mode ParseFault
 mode_of n =
     if n == indicator Numeric then Ok Numeric else
@@ -163,8 +163,8 @@ header_at bits =
     else Ok (record { position = value (take 4 bits); last = value (take 4 (drop 4 bits)); parity = value (take 8 (drop 8 bits)) }, drop 16 bits)
 
 -- `first_header bits` reads a structured append header if `bits` begins with the mode indicator of a header. The result
--- is then the header, together with the bits after it. Otherwise the result is no header, together with all of `bits`
--- (ISO/IEC 18004:2015, 8.1)
+-- is then the header, together with the bits after it, or the fault `Cut`. Otherwise the result is no header, together
+-- with all of `bits` (ISO/IEC 18004:2015, 8.1)
 unfoldable pub first_header : List Bool → Result (Option Header × List Bool) ParseFault
 first_header bits = if begins_header bits then (header_at (drop 4 bits) >>= λ h. Ok (Some h.0, h.1)) else Ok (None, bits)
 

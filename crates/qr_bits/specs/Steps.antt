@@ -1,4 +1,4 @@
--- Defines the steps by which the code of this crate computes its results. Only contracts of private functions use these
+-- Defines the steps by which the code of this crate computes its results. Only contracts of private code use these
 -- definitions, so a reader of the public contracts can skip this folder.
 pub mod RunState
 pub mod Table

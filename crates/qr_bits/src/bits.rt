@@ -9,8 +9,7 @@ use crate::modes::{STRUCTURED_APPEND, TERMINATOR};
 use std::alloc::{AllocError, Global};
 use std::marker::Model;
 
-/// Collects bits into codewords. In contracts, the value of a `BitWriter` is the list of the bits that were written so
-/// far.
+/// Collects bits into codewords. In contracts, the value of a `BitWriter` is the list of the bits written so far.
 #[derive(Drop)]
 pub(crate) struct BitWriter {
     whole: Vec<u8>,
@@ -71,7 +70,7 @@ impl BitWriter {
         Ok(())
     }
 
-    /// Returns the codewords that were written. The number of bits that were written must be a multiple of eight.
+    /// Returns the written codewords. The number of written bits must be a multiple of eight.
     pub(crate) fn into_codewords(self) -> Vec<u8>
         requires { length self % 8 ≡ 0 }
         ensures { bits_of result.items ≡ self }
@@ -156,8 +155,7 @@ impl<'a> BitReader<'a> {
         bit
     }
 
-    /// Reads the next `width` bits, and returns them as a number. The first of these bits is the most significant bit
-    /// of the number.
+    /// Reads the next `width` bits as a number, the most significant bit first.
     pub(crate) fn take(&mut self, width: usize) -> u16
         requires there { width ≤ length self.old }
         requires fits { width ≤ 16 }
@@ -188,7 +186,7 @@ impl<'a> BitReader<'a> {
         self.len() >= 4 && self.indicator() == STRUCTURED_APPEND
     }
 
-    /// Returns the next four bits as a number, and leaves these bits unread.
+    /// Returns the next four bits as a number, and leaves them unread.
     fn indicator(&self) -> u16
         requires { 4 ≤ length self.now }
         ensures { result ≡ value (take 4 self.now) }

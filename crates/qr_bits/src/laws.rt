@@ -1,6 +1,6 @@
-//! The functions of this file are laws: their contracts state facts that follow from the definitions in `specs/`. Some
-//! laws hold for every input. The other laws compute examples, and compare the results with values that the standard
-//! prints or that were worked out by hand.
+//! The functions of this file are laws: their contracts state facts about the definitions in `specs/` and about the
+//! public types. Some laws hold for every input. The other laws compute examples, and compare the results with values
+//! that the standard prints or that were worked out by hand.
 
 ghost use Rattle.std.specs.Prelude.{◌≡◌, ◌-◌, ◌/◌, ◌%◌, ℕ, List, [], ◌∷◌, ◌++◌, true, false, length, map, codes};
 ghost use Rattle.qr_layout.specs.declared.level.Level.{Level};
@@ -214,8 +214,8 @@ pub fn parse_fault_numbers(fault: ParseFault) -> u8
 }
 
 /// The definitions compute the values of the standard's two kanji examples and of the greatest kanji pair, and compute
-/// these pairs from their values (7.4.6). The definitions also decide, at the edges of the two ranges of kanji pairs,
-/// which pairs of bytes are kanji pairs.
+/// these pairs from their values (7.4.6). The definitions also decide which pairs of bytes in and outside the two
+/// ranges are kanji pairs.
 #[tactic(auto, unfolding(crate::specs::Modes::is_kanji_pair, crate::specs::Modes::kanji_value, crate::specs::Parsing::kanji_pair))]
 pub fn kanji_compute()
     ensures first { kanji_value 0x93 0x5F ≡ 0xD9F }

@@ -65,13 +65,13 @@ fn longest_by_rows(input: &[u8], version: Version, rule: Rule, room: u64) -> usi
 /// Returns the length of the longest prefix of `input` that fits in a symbol of this version and level after a
 /// structured append header. The segments of the prefix may have the modes that `rule` allows.
 ///
-/// In kanji mode, a prefix may fit although a shorter prefix does not fit. A shorter prefix that ends within a kanji
-/// pair needs a segment in byte mode for its last byte. The function never returns an error.
+/// Under `Rule::WithKanji`, a prefix may fit although a shorter prefix does not fit. A prefix that ends within a kanji
+/// pair may need a segment in byte mode for its last byte. The function never returns an error.
 ///
 /// # Notes
 ///
-/// The function never allocates. The parameter `_alloc` and the return type `Result` make its calls look like the calls
-/// of the other functions of this crate.
+/// The function never allocates. The parameter `_alloc` and the return type `Result` make its calls look like those of
+/// `segments` and `codewords`.
 pub fn longest_fit(
     _alloc: Global,
     input: &[u8],

@@ -22,7 +22,8 @@ pub enum Mode {
     Alphanumeric,
     /// Writes any bytes; each byte takes eight bits.
     Byte,
-    /// Writes pairs of bytes that are Shift JIS characters; each pair takes thirteen bits.
+    /// Writes Shift JIS pairs of bytes from 8140 to 9FFC and from E040 to EBBF (hexadecimal); each pair takes thirteen
+    /// bits.
     Kanji,
 }
 
@@ -61,7 +62,7 @@ pub(crate) fn indicator(mode: Mode) -> u16
     }
 }
 
-// Returns the mode that has the mode indicator `indicator`, or `BadMode` if no mode has this indicator.
+// Returns the mode that has the mode indicator `indicator`, or `BadMode` if none of the four modes has this indicator.
 #[tactic(auto, unfolding(crate::specs::Parsing::mode_of))]
 pub(crate) fn mode_of(indicator: u16) -> Result<Mode, ParseFault>
     ensures { result ≡ mode_of indicator }

@@ -33,9 +33,10 @@ pub(crate) fn capacity(version: Version, level: Level) -> u64
 
 /// Returns the data codewords of a symbol of this version and level, which contains `input` in the segments `segs`. The
 /// data codewords are the bits of the structured append header, if there is one, the bits of the segments, a
-/// terminator, and pad codewords (7.4.9, 7.4.10).
+/// terminator, zero bits up to the end of a codeword, and pad codewords (7.4.9, 7.4.10).
 ///
-/// Returns `TooLong` if the header and the segments together have more bits than the data codewords of the symbol.
+/// Returns `TooLong` if the header and the segments together have more bits than the data codewords of the symbol. The
+/// only other error is `Memory`.
 pub fn codewords(
     alloc: Global,
     input: &[u8],

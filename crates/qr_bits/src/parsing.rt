@@ -53,13 +53,15 @@ impl Model for Parsed {
 }
 
 /// Parses data codewords up to the terminator, or until fewer than four bits are left. All further bits are ignored.
-/// The parse succeeds exactly if the bits before this end are an optional structured append header, followed by
-/// segments. The segments may be chosen in any way and may be empty, and the padding may be any bits.
+/// Unless memory is refused, the parse succeeds exactly if the bits before this end are an optional structured append
+/// header, followed by segments. The segments may be chosen in any way and may be empty, and the padding may be any
+/// bits.
 ///
-/// If the parse fails, returns the fault that occurs first. The fault is `BadMode` if a mode indicator belongs to no
-/// mode, or if a structured append header is not at the beginning. The fault is `Cut` if the codewords end within a
-/// header, a character count indicator, or the data of a segment. The fault is `BadValue` if the number for a group of
-/// digits or characters is too large, or if a value in kanji mode belongs to no kanji pair.
+/// If the parse fails, returns the fault that occurs first. The fault is `Memory` if memory is refused. The fault is
+/// `BadMode` if a mode indicator belongs to none of the four modes, or if a structured append header is not at the
+/// beginning. The fault is `Cut` if the codewords end within a header, a character count indicator, or the data of a
+/// segment. The fault is `BadValue` if the number for a group of digits or characters is too large, or if a value in
+/// kanji mode belongs to no kanji pair.
 #[tactic(auto, unfolding(crate::specs::Parsing::parse))]
 pub fn parse(alloc: Global, codewords: &[u8], version: Version) -> Result<Parsed, ParseFault>
     requires { length codewords.now ≤ 3706 }

@@ -1,9 +1,10 @@
 //! Finds a mode for each byte of an input, so that the segments take the fewest bits. A table of the best modes is
 //! filled from the last byte to the first.
 //!
-//! The number of bits that the remaining bytes add depends only on their modes and on the state before them, a
-//! `RunState`. For each state and each mode of the next byte, there is a sum: the bits that the byte adds, plus the
-//! fewest bits that the bytes after it then add. The best mode for the state is the mode with the least sum.
+//! In a given version, the number of bits that the remaining bytes add depends only on their modes and on the state
+//! before them, a `RunState`. For each state and each mode of the next byte, there is a sum: the bits that the byte
+//! adds, plus the fewest bits that the bytes after it then add. The best mode for the state is the mode with the least
+//! sum.
 //!
 //! One number represents a choice of a mode: four times the number of bits of the choice, plus the rank of the mode. So
 //! the best choice has the least number: it has the fewest bits, and the lowest rank among the choices with equally
@@ -110,8 +111,8 @@ fn choices(
     let start = digits.min(no_digits);
     // In the states `Digit3`, `Character2`, `InBytes` and `WholePair`, the last group of bytes is complete. To continue
     // the segment then takes fewer bits than to begin a new segment of the same mode, and both lead to the same
-    // `RunState`. So a new segment of the same mode is never the best choice. That is why `start`, the least number of
-    // all new segments, can be used for these states although it includes a new segment of the same mode.
+    // `RunState`. So a new segment of the same mode is never the best choice, and these states can use `start`, the
+    // least number of all new segments, although it includes one of the same mode.
     let digit2 = number_if(digit, number(3, Mode::Numeric), rest.digit2);
     let digit3 = number_if(digit, number(3, Mode::Numeric), rest.digit3);
     let digit1 = number_if(digit, number(4, Mode::Numeric), rest.digit1);

@@ -37,8 +37,9 @@ errors (None ∷ rs) (y ∷ ys) = errors rs ys
 errors (Some x ∷ rs) (y ∷ ys) = difference x y + errors rs ys
 
 -- `ErasuresAreUnambiguous` holds if what was read of a damaged block always fits only one list of data codewords. The
--- block has n error correction codewords and at most 255 codewords in all. In this block k codewords are unread and at
--- most t codewords are misread, where k + 2t is at most n (ISO/IEC 18004:2015, 7.5.1)
+-- block has a known number of data codewords, n error correction codewords, and at most 255 codewords in all. In this
+-- block k codewords are unread and at most t codewords are misread, where k + 2t is at most n (ISO/IEC 18004:2015,
+-- 7.5.1)
 abbrev pub ErasuresAreUnambiguous : Type 0
 ErasuresAreUnambiguous =
     (n t : ℕ) (d e d' e' : List ℕ) (read : List (Option ℕ)) → IsCorrection d n e → IsCorrection d' n e' →

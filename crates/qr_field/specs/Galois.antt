@@ -32,8 +32,8 @@ prime_modulus = 0x11D
 abbrev pub IsProduct : ℕ → ℕ → ℕ → Type 0
 IsProduct a b p = IsRemainder 8 prime_modulus (carryless 8 a b) p
 
--- `remainder_of n divisor k x` is the remainder of the number x, which has n + k bits, by `divisor`, a polynomial of
--- degree n. The remainder is computed by long division in k steps
+-- `remainder_of n divisor k x` is the remainder of the number x, which has at most n + k bits, by `divisor`, a
+-- polynomial of degree n. The remainder is computed by long division in k steps
 unfoldable pub remainder_of : ℕ → ℕ → ℕ → ℕ → ℕ
 remainder_of n divisor zero x = x
 remainder_of n divisor (suc k) x = remainder_of n divisor k (bit_xor x (bit_at x (n + k) * (divisor * 2 ^ k)))

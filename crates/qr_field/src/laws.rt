@@ -61,7 +61,8 @@ pub fn blocks_lie_apart()
 
 /// Some codewords of a block may be unread (as under a blot), and other codewords may be misread. Let k be the number
 /// of unread codewords, and t the number of misread codewords. If k + 2t is at most the number of error correction
-/// codewords, only one list of data codewords fits what was read. The law holds for blocks of at most 255 codewords.
+/// codewords, only one list of data codewords fits what was read. The law holds for blocks of at most 255 codewords
+/// with a known number of data codewords.
 pub fn erasures_are_unambiguous()
     ensures { ErasuresAreUnambiguous }
 {}

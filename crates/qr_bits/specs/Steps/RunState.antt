@@ -119,7 +119,7 @@ pub record IsChoice (v : ℕ) (r : Rule) (p : RunState) (x : ℕ) (pair : Bool) 
 -- `choice_number may bits m` represents the choice of the mode `m` for the next byte as one number. The number is four
 -- times `bits` plus the rank of `m`, where `bits` is the number of bits that the byte and the bytes after it then add.
 -- So the better of two choices has the smaller number. If `may` is false, the mode may not be used, and the number is
--- greater than the number of every choice.
+-- 2^32 - 1. For inputs of at most `INPUT_MAX` bytes, this is greater than the number of every choice.
 abbrev pub choice_number : Bool → ℕ → Mode → ℕ
 choice_number may bits m = if may then 4 * bits + rank m else 4294967295
 
