@@ -18,8 +18,8 @@ centre_table =
 unfoldable pub centres_of : ℕ → List ℕ
 centres_of v = slice_index_or centre_table (v - 1) []
 
--- `is_corner_pair s a b` holds if row a and column b meet in a corner that has a finder pattern, in a symbol with s
--- modules on a side. Alignment patterns have centres in row a and in column b, but not in such a corner (ISO/IEC
+-- `is_corner_pair s a b` holds if row a and column b, in which alignment patterns have centres, meet in a corner with a
+-- finder pattern. The symbol has s modules on a side. No alignment pattern has its centre in such a corner (ISO/IEC
 -- 18004:2015, 6.3.6)
 abbrev pub is_corner_pair : ℕ → ℕ → ℕ → Bool
 is_corner_pair s a b = (a == 6 && b == 6) || (a == 6 && b == s - 7) || (a == s - 7 && b == 6)

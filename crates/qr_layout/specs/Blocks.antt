@@ -54,7 +54,7 @@ longest_of b = b.short_len + min b.long 1 + b.ec_len
 
 -- `damage_of l` is a percentage for the error correction level l. In every version, half the number of error correction
 -- codewords of a block, rounded down, is at least this percentage of the number of its codewords. If at most this
--- percentage of the codewords are misread, the codewords that were read fit one block only [own]
+-- percentage of a block is misread, the codewords that were read fit one block only [own]
 abbrev pub damage_of : Level → ℕ
 damage_of L = 9
 damage_of M = 17

@@ -46,8 +46,8 @@ printed_correction l v = 2 * slice_index_or (printed_errors l) (v - 1) 0 + slice
 
 -- `gap_between v k` is the distance between neighbouring rows of alignment pattern centres in version v, which has k
 -- such rows. Only the first two rows may have another distance. The distance is the least even number for which k - 1
--- such distances are enough to reach from row 6 to the last of these rows. In version 32 the distance is 26 (ISO/IEC
--- 18004:2015, Annex E)
+-- such distances are enough to reach from row 6 to the last of these rows. In version 32 the distance is 26 instead
+-- (ISO/IEC 18004:2015, Annex E)
 abbrev pub gap_between : ℕ → ℕ → ℕ
 gap_between v k = if v == 32 then 26 else 2 * ((side_of v - 13 + 2 * (k - 1) - 1) / (2 * (k - 1)))
 
@@ -74,8 +74,8 @@ abbrev pub region_size : ℕ → ℕ
 region_size v =
     side_of v ^ 2 - 225 - 2 * (side_of v - 17) - alignment_size (length (centres_of v)) - version_size v
 
--- `always_dark` is the role of a module that is dark in every symbol, and `always_light` is the role of a module that
--- is light in every symbol [own]
+-- `always_dark` is the role of a module that is dark in every symbol of its version, and `always_light` is the role of
+-- a module that is always light [own]
 abbrev always_dark : Role
 always_dark = Fixed true
 

@@ -1,4 +1,4 @@
--- Definitions that describe how the program computes. Apart from the model of the iterator `Steps`, only contracts of
--- private functions use these definitions. A reader who judges the promises of the public functions need not read them.
+-- Definitions that describe how the program computes. Apart from the model of the iterator `Steps`, only proofs and
+-- contracts of private functions use them. A reader who judges the promises of the public functions need not read them.
 pub mod Order
 pub mod Rectangles

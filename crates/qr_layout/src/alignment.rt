@@ -85,7 +85,7 @@ impl Version {
     }
 }
 
-// Returns whether the row or column `at` is at most two rows or columns away from `centre`.
+// Returns whether the row or column `at` is at most two away from `centre`.
 fn is_near(centre: u8, at: u8) -> bool
     ensures { result ≡ (nat_le (centre - 2) at && nat_lt at (centre + 3)) }
 {
@@ -96,8 +96,8 @@ fn is_near(centre: u8, at: u8) -> bool
     }
 }
 
-// Returns whether row `a` and column `b` meet in a corner of the symbol that has a finder pattern. Alignment patterns
-// have centres in row `a` and in column `b`, but not in such a corner. `side` is the number of modules on a side of the
+// Returns whether row `a` and column `b`, in which alignment patterns have centres, meet in a corner with a finder
+// pattern. No alignment pattern has its centre in such a corner. `side` is the number of modules on a side of the
 // symbol.
 pub(crate) fn is_corner_pair(side: u8, a: u8, b: u8) -> bool
     requires { 21 ≤ side }

@@ -1,5 +1,5 @@
-//! Equality and clones of the public types of this crate. The operator `==` returns true exactly if its two operands
-//! are the same value. A clone of a value is the same value.
+//! Equality and clones of versions, levels, modules, roles, block sizes and strips. The operator `==` returns true
+//! exactly if its two operands are the same value. Unless memory is refused, the clone of a value is the same value.
 
 ghost use Rattle.std.specs.Prelude.{◌≡◌, ◌↔◌, IsTrue, IfOk};
 

@@ -1,5 +1,5 @@
 //! Laws about the layout of symbols, for every version, level and mask pattern. The contract of each function states a
-//! law. The functions themselves do nothing, except for `nth_place`, `first_version` and `default_module`.
+//! law. The functions that are defined here do nothing, except for `nth_place`, `first_version` and `default_module`.
 
 ghost use Rattle.std.specs.Prelude.{◌≡◌, ◌<◌, ◌≤◌, ◌-◌, ◌*◌, ◌/◌, ◌⊎◌, ◌↔◌, ◌||◌, not, true, ℕ, List, ◌∷◌, ◌++◌, length, map, slice_get};
 ghost use Rattle.std.specs.List.{list_any, range_with_len};
@@ -26,7 +26,7 @@ use crate::order::walk;
 use crate::region::Module;
 use crate::version::Version;
 
-/// For each version, only one list of modules is the order in which the encoding region is filled (`IsOrder`).
+/// For each version, at most one list of modules is the order in which the encoding region is filled (`IsOrder`).
 pub fn order_is_one(v: Version)
     ensures { (ms ns : List Module) → IsOrder v ms → IsOrder v ns → ms ≡ ns }
 {}
@@ -102,8 +102,8 @@ pub fn data_codewords_compute()
 {}
 
 /// For all versions and levels, a block has two error correction codewords for each misread codeword that can be
-/// corrected, and in addition its misdecode protection codewords. Table 9 of the standard prints both numbers: of
-/// misread codewords that can be corrected, and of misdecode protection codewords.
+/// corrected, and in addition its misdecode protection codewords. Table 9 of the standard prints the number of such
+/// misread codewords and of misdecode protection codewords.
 #[tactic(auto, unfolding(crate::specs::Blocks::correction_len_of))]
 pub fn correction_lens_compute()
     ensures l { map (λ v. correction_len_of v L) all_versions ≡ map (printed_correction L) all_versions }

@@ -1,7 +1,7 @@
 //! The walk visits the modules of the encoding region in the order in which the bits of the codewords fill them
-//! (ISO/IEC 18004:2015, 7.7.3). The walk goes through strips of two columns, from the rightmost strip to the leftmost
-//! strip. The walk goes upward in the first strip, downward in the second strip, and so on in turn. In each row of a
-//! strip, the right module comes first. No strip contains column 6, which contains a timing pattern.
+//! (ISO/IEC 18004:2015, 7.7.3). The walk goes through strips of two columns, from right to left. The walk goes upward
+//! in the first strip, downward in the second, and so on in turn. In each row of a strip, the right module comes first.
+//! No strip contains column 6, which contains a timing pattern.
 
 ghost use Rattle.std.specs.Prelude.{◌≡◌, ◌<◌, ◌≤◌, ◌↔◌, IfSome, IsSome, List, length};
 ghost use Rattle.std.specs.Iterator.{YieldsFirst, item_count};
@@ -68,7 +68,7 @@ impl Cursor {
         }
     }
 
-    // Returns the position of the walk at the module `m`.
+    // Returns the position of the walk at the module `m`, if `m` is not in column 6.
     #[tactic(auto, unfolding(crate::specs::Steps::Order::cursor_at))]
     fn at(m: Module) -> Cursor
         ensures { result ≡ cursor_at m }

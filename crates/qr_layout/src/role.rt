@@ -1,5 +1,5 @@
 //! The role of each module of a symbol: a fixed colour, a bit of the format information or of the version information,
-//! or a bit of the codewords (ISO/IEC 18004:2015, 6.3 and 7.7.2).
+//! a bit of a codeword, or a remainder bit (ISO/IEC 18004:2015, 6.3 and 7.7.2).
 
 ghost use Rattle.std.specs.Prelude.{◌≡◌, ◌≢◌, ◌<◌, ◌≤◌, ◌==◌, ◌&&◌, not};
 ghost use Rattle.std.specs.List.{list_any};
@@ -128,7 +128,7 @@ pub fn format_place(bit: u8) -> Module
 }
 
 /// Returns the place of the bit `bit` of the format information in the second copy, beside the other two finder
-/// patterns (ISO/IEC 18004:2015, 7.9.1). The number `bit` is from 0 to 14.
+/// patterns of version `v` (ISO/IEC 18004:2015, 7.9.1). The number `bit` is from 0 to 14.
 pub fn second_format_place(v: Version, bit: u8) -> Module
     requires { bit < 15 }
     ensures place { result ≡ second_place (side_of v) bit }
@@ -162,8 +162,9 @@ fn format_bit_down(side: u8, row: u8) -> Option<u8>
     }
 }
 
-// Returns the index of the bit of the format information that the module in column `col` of row 8 contains. Returns
-// `None` if this module contains no such bit. `side` is the number of modules on a side of the symbol.
+// Returns the index of the bit of the format information that the module in column `col` of row 8 contains, where `col`
+// is not 8. Returns `None` if this module contains no such bit. `side` is the number of modules on a side of the
+// symbol.
 fn format_bit_across(side: u8, col: u8) -> Option<u8>
     requires least { 21 ≤ side }
     requires col_in { col < side }

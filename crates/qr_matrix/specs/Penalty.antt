@@ -59,8 +59,8 @@ head_window = false ∷ false ∷ false ∷ false ∷ true ∷ false ∷ true �
 unfoldable pub is_window : ℕ → (ℕ → Bool) → ℕ → Bool
 is_window s line c = nat_le (c + 11) s && (reads line c tail_window || reads line c head_window)
 
--- `window_count s line` is the number of windows in `line`, a row or column of `s` modules. A window is the ratio
--- 1:1:3:1:1 of a finder pattern, before or after four light modules [own]
+-- `window_count s line` is the number of windows in `line`, a row or column of `s` modules. A window is eleven modules:
+-- the ratio 1:1:3:1:1 of a finder pattern, before or after four light modules [own]
 unfoldable pub window_count : ℕ → (ℕ → Bool) → ℕ
 window_count s line = count_below s (is_window s line)
 
@@ -95,7 +95,8 @@ over_lines s dark f = sum_below s (λ r. f (dark r)) + sum_below s (λ c. f (λ 
 
 -- `penalty_of s dark` is the penalty of a symbol of `s` rows and columns, where `dark r c` is the colour of a module.
 -- The penalty is the sum of four costs. The runs of one colour have the cost `run_cost`, and the share of dark modules
--- has the cost `dark_cost`. Each square of two by two modules of one colour costs 3 points. Each ratio 1:1:3:1:1 before
--- or after four light modules costs 40 points (ISO/IEC 18004:2015, 7.8.3.1, Table 11)
+-- has the cost `dark_cost`. Each square of two by two modules of one colour costs 3 points. Each window costs 40
+-- points: eleven modules with the ratio 1:1:3:1:1 before or after four light modules (ISO/IEC 18004:2015, 7.8.3.1,
+-- Table 11)
 unfoldable pub penalty_of : ℕ → (ℕ → ℕ → Bool) → ℕ
 penalty_of s dark = over_lines s dark (run_cost s) + 3 * square_count s dark + 40 * over_lines s dark (window_count s) + dark_cost s (dark_count s dark)

@@ -1,5 +1,5 @@
 -- Defines what single steps of the code do with bit rows, with runs of modules of one colour, and with tiles of 64 by
--- 64 modules. Only contracts of private functions use these definitions.
+-- 64 modules. Apart from the model of `BitRow`, only proofs and contracts of private functions use these definitions.
 use Rattle.std.specs.Prelude.{◌≡◌, ℕ, ◌+◌, ◌-◌, ◌*◌, ◌%◌, ◌^◌, ◌<◌, ◌==◌, ◌&&◌, not, true, false, Bool, List, Option, None, Some, length, slice_index, nat_lt, if◌then◌else◌}
 use Rattle.qr_matrix.specs.Penalty.{count_below}
 use Rattle.qr_matrix.specs.Runs.{begins_five, begins_long_run}

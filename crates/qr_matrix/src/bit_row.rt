@@ -1,5 +1,5 @@
-//! Stores rows of 192 bits in three words of 64 bits. Each row of modules of a symbol is stored as such a bit row. The
-//! contract of each function describes the result bit by bit.
+//! Stores rows of 192 bits in three words of 64 bits. Each row of modules of a symbol is stored as such a bit row. Most
+//! contracts describe the result bit by bit.
 
 ghost use Rattle.std.specs.Prelude.{◌≡◌, ℕ, List, ◌+◌, ◌-◌, ◌*◌, ◌/◌, ◌%◌, ◌^◌, ◌<◌, ◌≤◌, ◌&&◌, ◌||◌, not, true, false, nat_le, nat_lt, ◌==◌, if◌then◌else◌};
 ghost use Rattle.qr_matrix.specs.Penalty.{is_same};
@@ -100,8 +100,7 @@ impl BitRow {
         }
     }
 
-    /// Returns the bit row that repeats the six lowest bits of `pattern`: bit `c` of the result is bit `c % 6` of
-    /// `pattern`.
+    /// Returns the bit row that repeats the six bits of `pattern`: bit `c` of the result is bit `c % 6` of `pattern`.
     pub(crate) fn repeated(pattern: u8) -> BitRow
         requires { pattern < 64 }
         ensures { (c : ℕ) → c < 192 → has result c ≡ has_bit pattern (c % 6) }
@@ -121,7 +120,8 @@ impl BitRow {
         self ^ (self & other)
     }
 
-    /// Returns this bit row moved by `steps` bits: bit `c` of the result is bit `c + steps` of this bit row.
+    /// Returns this bit row moved by `steps` bits (from 1 to 63): bit `c` of the result is bit `c + steps` of this bit
+    /// row.
     pub(crate) fn shifted_left(self, steps: u32) -> BitRow
         requires some { 0 < steps }
         requires few { steps < 64 }

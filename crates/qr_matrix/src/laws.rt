@@ -1,5 +1,5 @@
 //! States laws of the penalty (ISO/IEC 18004:2015, 7.8.3.1, Table 11), and of the differences between two squares of
-//! modules. For the penalty, the code counts on words of 64 modules, and the definitions count module by module. The
+//! modules. For the penalty, the code counts on words of 64 modules, and the definitions count on single modules. The
 //! laws state that both counts are equal for every square. The functions without a parameter do nothing: their
 //! contracts are the laws. The functions with a parameter return counts, and their contracts state what is counted.
 
@@ -35,7 +35,7 @@ pub fn runs_cost_by_places()
 {}
 
 /// Returns the cost of the runs of all rows and columns, counted on words of 64 modules. The definition of the penalty
-/// yields the same cost, counted module by module.
+/// yields the same cost, counted run by run.
 pub fn runs_on_words(m: &Matrix) -> u32
     ensures { result ≡ over_lines m.now.side (colour m.now) (run_cost m.now.side) }
 {
@@ -50,9 +50,9 @@ pub fn squares_on_words(m: &Matrix) -> u32
     runs_and_squares(m, m.words()).1
 }
 
-/// Returns the number of windows in all rows and columns, counted on words of 64 modules. A window is the ratio
-/// 1:1:3:1:1 of a finder pattern, before or after four light modules. The definition of the penalty yields the same
-/// number, counted module by module.
+/// Returns the number of windows in all rows and columns, counted on words of 64 modules. A window is eleven modules:
+/// the ratio 1:1:3:1:1 of a finder pattern, before or after four light modules. The definition of the penalty yields
+/// the same number, counted module by module.
 pub fn windows_on_words(m: &Matrix) -> u32
     ensures { result ≡ over_lines m.now.side (colour m.now) (window_count m.now.side) }
 {

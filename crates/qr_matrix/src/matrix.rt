@@ -34,7 +34,8 @@ impl Model for Matrix {
 }
 
 impl Matrix {
-    /// Returns a square of light modules, with `side` modules on a side. `side` is from 1 to 177.
+    /// Returns a square of light modules with `side` modules on a side, from 1 to 177, or an error if memory is
+    /// refused.
     pub fn new(alloc: Global, side: u8) -> Result<Matrix, AllocError>
         requires least { 1 ≤ side }
         requires most { side ≤ 177 }
@@ -63,8 +64,7 @@ impl Matrix {
     }
 
     /// Returns the four modules of row `row` from column `col` on, as the bits of a number. The lowest bit is column
-    /// `col`, which is a multiple of four, and a set bit is a dark module. The result is the same as if the modules
-    /// were read one by one.
+    /// `col`, which is a multiple of four, and a set bit is a dark module. All four modules must be in the square.
     pub fn four(&self, row: u8, col: u8) -> u8
         requires row_in { row < self.now.side }
         requires col_in { col + 4 ≤ self.now.side }
@@ -100,7 +100,7 @@ impl Matrix {
     }
 
     // Returns a bit row (192 bits) in which bit `c` is set if the module in column `c` of row `row` has another colour
-    // than the module before it. Before column 0, the colour counts as light.
+    // than the module before it. Outside the square, the colour counts as light.
     pub(crate) fn changes(&self, row: u8) -> BitRow
         requires { row < self.now.side }
         ensures changes { (c : ℕ) → c < 192 → has result c ≡ is_change (colour self.now row) c }
@@ -142,7 +142,8 @@ impl Matrix {
     }
 
     // Returns row `row` as a bit row. `words` is the number of words that the modules of a row fill. If `words` is a
-    // constant where this function is called, the compiler leaves out all operations on the words that are not filled.
+    // constant where this function is called, the compiler can leave out all operations on the words that are not
+    // filled.
     #[inline(always)]
     pub(crate) fn bit_row_in(&self, row: usize, words: u8) -> BitRow
         requires row_in { row < self.now.side }
@@ -167,7 +168,7 @@ impl Matrix {
     }
 
     /// Sets the colours of row `row` to the bits of `bits`: the module in column `c` becomes dark if bit `c` is set,
-    /// and light otherwise.
+    /// and light otherwise. No bit of a column outside the square may be set.
     pub fn set_bit_row(&mut self, row: u8, bits: BitRow)
         requires row_in { row < self.old.side }
         requires past { (c : ℕ) → self.old.side ≤ c → has bits c ≡ false }
@@ -177,7 +178,7 @@ impl Matrix {
     }
 
     // Sets the colours of up to 64 modules of row `row`, from column `64 * number` on, to the bits of `word`. The
-    // lowest bit of `word` is the colour of column `64 * number`.
+    // lowest bit of `word` is the colour of column `64 * number`. No bit of a column outside the square may be set.
     pub(crate) fn set_word(&mut self, row: usize, number: usize, word: u64)
         requires row_in { row < self.old.side }
         requires word_in { number < 3 }
@@ -190,8 +191,8 @@ impl Matrix {
 
     /// Sets the modules of row `row` to the colours that they have in `plain`, but inverts some of these colours. A
     /// module is inverted if it is dark in `within` and the bit of `pattern` for its column is 1. `pattern` has six
-    /// bits, which are repeated every six columns; the lowest bit is for column 0. The result is the same as if the
-    /// modules were set one by one.
+    /// bits, which are repeated every six columns; the lowest bit is for column 0. All three squares must have the same
+    /// side.
     pub fn set_row_masked(&mut self, row: u8, plain: &Matrix, within: &Matrix, pattern: u8)
         requires row_in { row < self.old.side }
         requires plain_side { plain.now.side ≡ self.old.side }
@@ -226,7 +227,7 @@ impl Matrix {
 
     /// Sets the modules of a rectangle to one colour: dark if `dark` is true, and light otherwise. The rectangle has
     /// the rows from `top` up to, but not including, `bottom`, and the columns from `left` up to, but not including,
-    /// `right`. The result is the same as if the modules were set one by one.
+    /// `right`, and must be inside the square.
     pub fn fill(&mut self, top: u8, bottom: u8, left: u8, right: u8, dark: bool)
         requires rows_in_order { top ≤ bottom }
         requires bottom_in { bottom ≤ self.old.side }
@@ -242,8 +243,8 @@ impl Matrix {
         }
     }
 
-    /// Sets this square to the transposed square `other`: the module in row `r` and column `c` gets the colour that
-    /// `other` has in row `c` and column `r`.
+    /// Sets this square to the transpose of `other`, which must have the same side: the module in row `r` and column
+    /// `c` gets the colour that `other` has in row `c` and column `r`.
     pub fn set_transposed(&mut self, other: &Matrix)
         requires { other.now.side ≡ self.old.side }
         ensures { self.new ≡ transposed other.now }

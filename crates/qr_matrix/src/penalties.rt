@@ -11,7 +11,8 @@ use crate::windows::window_count;
 // The points of Table 11 for each square of two by two modules of one colour.
 const SQUARE_POINTS: u32 = 3;
 
-// The points of Table 11 for each ratio 1:1:3:1:1 of a finder pattern before or after four light modules.
+// The points of Table 11 for each window: eleven modules with the ratio 1:1:3:1:1 of a finder pattern before or after
+// four light modules.
 const WINDOW_POINTS: u32 = 40;
 
 // The points of Table 11 for each whole twentieth by which the share of dark modules differs from a half.
@@ -63,8 +64,9 @@ fn penalty_in(m: &Matrix, words: u8) -> u32
 }
 
 /// Returns the penalty of a square of modules, which is a sum of points (ISO/IEC 18004:2015, 7.8.3.1, Table 11). Points
-/// are given for runs of one colour, for squares of two by two modules of one colour, and for the share of dark
-/// modules. Points are also given for each ratio 1:1:3:1:1 of a finder pattern before or after four light modules.
+/// are given for runs of five or more modules of one colour, for squares of two by two modules of one colour, and for
+/// the share of dark modules. Points are also given for each window: eleven modules with the ratio 1:1:3:1:1 of a
+/// finder pattern before or after four light modules.
 pub fn penalty(m: &Matrix) -> u32
     ensures { result ≡ penalty_of m.now.side (colour m.now) }
 {

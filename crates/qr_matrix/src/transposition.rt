@@ -98,7 +98,8 @@ fn tile_of(matrix: &Matrix, band: usize, word: usize) -> [u64; 64]
 }
 
 // Sets the modules of one tile of `matrix` to the colours of `tile`. The tile has 64 rows and columns, and begins at
-// row `64 * band` and column `64 * word` of the square. Modules of the tile outside the square are left out.
+// row `64 * band` and column `64 * word` of the square. Rows of the tile below the square are left out. Columns of the
+// tile beside the square must be light.
 fn set_tile(matrix: &mut Matrix, band: usize, word: usize, tile: &[u64; 64])
     requires whole { IsSquare matrix.old.side matrix.old }
     requires band_in { 64 * band ≤ matrix.old.side }

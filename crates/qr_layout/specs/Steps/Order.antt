@@ -43,8 +43,8 @@ pub record IsCursor (v : ℕ) (a : Cursor) : Type 0 where
   pub strips_in : a.strips ≤ 8 + 2 * v
   pub row_in : a.row < side_of v
 
--- `places_within v n a` lists modules that a walk visits: those of the encoding region at n positions of the walk, from
--- the position a on. The walk is over a symbol of version v. A position that is not in the encoding region is skipped
+-- `places_within v n a` lists those modules at n positions of the walk of version v, from the position a on, that are
+-- in the encoding region
 unfoldable pub places_within : ℕ → ℕ → Cursor → List Module
 places_within v zero a = []
 places_within v (suc n) a =
@@ -58,7 +58,7 @@ to_come v a = places_within v (left_of (side_of v) a) a
 abbrev pub first_cursor : ℕ → Cursor
 first_cursor v = record { strips = 8 + 2 * v; row = 16 + 4 * v; at_left = false }
 
--- `cursor_at m` is the position of the walk at the module m. The position consists of the strip of m, the row of m, and
--- the half of the strip (left or right)
+-- `cursor_at m` is the position of the walk at the module m, if m is not in column 6. The position consists of the
+-- strip of m, the row of m, and the half of the strip (left or right)
 unfoldable pub cursor_at : Module → Cursor
 cursor_at m = let c = column_without_timing m.col in record { strips = c / 2 + 1; row = m.row; at_left = c % 2 == 0 }

@@ -6,7 +6,7 @@ use Rattle.qr_layout.specs.Version.{side_of}
 use Rattle.qr_layout.specs.Alignment.{centres_of, alignment_places}
 use Rattle.qr_layout.specs.Rectangles.{fixed_rectangles}
 
--- `IsWithin s b` holds if the rectangle b is inside a symbol with s modules on a side
+-- `IsWithin s b` holds if the bounds of the rectangle b are in order, and inside a symbol with s modules on a side
 pub record IsWithin (s : ℕ) (b : Rectangle) : Type 0 where
   pub rows : b.top ≤ b.bottom
   pub bottom : b.bottom ≤ s
