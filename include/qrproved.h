@@ -5,8 +5,8 @@
  *
  * A module is a byte in a buffer of the caller. The modules are in the buffer row by row, from the top left. The buffer does
  * not contain the quiet zone, which is the four light modules that a drawing needs on each side; qrproved_draw adds the
- * quiet zone. After a call the library keeps no state, no file and no lock. A call allocates memory by malloc, and frees all
- * of this memory before it returns.
+ * quiet zone. After a call the library keeps no state, no file and no lock. A call allocates memory by malloc and realloc,
+ * and frees all of this memory before it returns.
  *
  * At each call the caller has to meet these conditions:
  * - each pointer points to as many bytes as the length beside it says, or to a struct; a pointer with the length 0 is not
@@ -14,7 +14,8 @@
  * - no two of the buffers and the struct overlap;
  * - during the call nothing else writes to the buffers or the struct, and nothing else reads a buffer or a struct to which
  *   the call writes;
- * - malloc returns memory that is aligned for every type that fits in it, as the C standard requires;
+ * - malloc, realloc and free belong to one allocator, which returns memory that is aligned for every type that fits in it,
+ *   as the C standard requires;
  * - no call is made from a signal handler, or in the forked child of a process with threads, since malloc may not be
  *   called there.
  * Calls may run at the same time in any threads, each call with its own buffers and its own struct.
@@ -56,13 +57,14 @@ extern "C" {
 #define QRPROVED_UTF8 2   /* text: a character shows two modules, one above the other; its filled half is light */
 #define QRPROVED_SVG 3    /* a whole SVG document, in which a module is one unit wide */
 
-/* The statuses that calls return. On every status but 0 the caller's buffer and struct are unchanged. */
+/* The statuses that calls return; each call below lists the exact causes. On every status but 0 the caller's buffer and
+ * struct are unchanged. */
 #define QRPROVED_DONE 0     /* the buffer and the struct are written */
 #define QRPROVED_EMPTY 1    /* the input has no byte */
 #define QRPROVED_TOO_LONG 2 /* the input fits no version from the smallest allowed version on */
 #define QRPROVED_TOO_MANY 3 /* the input takes more than 16 symbols of the version */
-#define QRPROVED_MEMORY 4   /* malloc refused memory */
-#define QRPROVED_SETTINGS 5 /* a number is out of its range, or the byte of a module is more than 2 */
+#define QRPROVED_MEMORY 4   /* malloc or realloc refused memory */
+#define QRPROVED_SETTINGS 5 /* a number is out of its range, or in qrproved_mend the byte of a module is more than 2 */
 #define QRPROVED_ROOM 6     /* a buffer is too short */
 #define QRPROVED_SIDE 7     /* no version has this side */
 #define QRPROVED_FORMAT 8   /* the format information belongs to no level and mask */
@@ -248,14 +250,15 @@ uint8_t qrproved_read(const uint8_t *modules, size_t modules_len, uint32_t side,
  * Finder, timing and alignment patterns, version information and remainder bits may all be wrong, since they contain nothing
  * of the content. But their wrong modules count in wrong_modules.
  *
- * To check a label before it is sold, require that wrong_modules is 0. Then the square is, module by module, the symbol that
- * the standard defines for its content in its version, level and mask. To check a label after it was printed, call
- * qrproved_mend with its modules: the label is readable as long as DONE is returned. changed_most divided by changed_allowed
- * is the share of the error correction that is spent, in the block with the most wrong codewords. Neither check covers what
- * a camera sees: quiet zone, contrast, print growth, distortion and curvature are not in a square of modules.
+ * To check a label before it is sold, require that DONE is returned and wrong_modules is 0. Then the square is, module
+ * by module, the symbol that the standard defines for its data codewords in its version, level and mask. To check a
+ * label after it was printed, call qrproved_mend with its modules: the label is readable as long as DONE is returned.
+ * If all modules are known, changed_most divided by changed_allowed is the share of the error correction that is spent,
+ * in the block with the most wrong codewords. Neither check covers what a camera sees: quiet zone, contrast, print
+ * growth, distortion and curvature.
  *
  * Damage beyond these bounds may change a symbol so much that it is within the bounds of another symbol. The call then
- * reads the other symbol, as any reader would.
+ * reads the other symbol, as any reader may.
  *
  * Returns one of these statuses. The causes are checked in this order:
  *   SIDE      no version has this side

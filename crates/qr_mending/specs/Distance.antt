@@ -1,4 +1,4 @@
--- Defines in how many modules or codewords two different symbols of the same version have to differ.
+-- Defines in how many modules or codewords two symbols of the same version differ.
 use Rattle.std.specs.Prelude.{◌≡◌, ◌⊎◌, ℕ, ◌*◌, ◌<◌, ◌≤◌, List}
 use Rattle.qr_field.specs.Distance.{differences}
 use Rattle.qr_layout.specs.declared.level.Level.{Level}

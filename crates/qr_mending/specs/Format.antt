@@ -55,9 +55,8 @@ wrong_bit false shown wanted = bit_difference shown wanted
 abbrev pub wrong_bits_without : Grid → FormatCopy → Grid → Level → ℕ → ℕ
 wrong_bits_without unknown copy g l mask = sum_below 15 (λ i. wrong_bit (copy_bit copy unknown i) (copy_bit copy g i) (word_bit (format_word_of l mask) i))
 
--- `IsNearFormat copy g l mask` holds if level `l` and mask `mask` are near to one copy of the format information in the
--- square `g` of modules. A level and a mask are near to a copy if their format information differs from the copy in at
--- most three modules (ISO/IEC 18004:2015, 7.9.1, Annex C).
+-- `IsNearFormat copy g l mask` holds if the format information of level `l` and mask `mask`, from 0 to 7, differs from
+-- one copy in the square `g` of modules in at most three modules (ISO/IEC 18004:2015, 7.9.1, Annex C).
 pub record IsNearFormat (copy : FormatCopy) (g : Grid) (l : Level) (mask : ℕ) : Type 0 where
   pub in_range : mask < 8
   pub near : wrong_bits copy g l mask ≤ 3

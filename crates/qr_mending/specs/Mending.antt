@@ -40,9 +40,9 @@ HoldsDamaged v l mask g message changed = HoldsDamagedWithout None v l mask g me
 
 -- `IsOfNoUseWithout unknown copy v g` holds if one copy of the format information is of no use for mending the square
 -- `g` of modules, which has version `v`. For each level and mask, one of two conditions is true. Either their format
--- information differs from the copy in more than three modules, or some block has more wrong codewords than can be
--- corrected. If `unknown` contains a square, the dark modules of this square are those that were not read. A codeword
--- with a module that was not read is erased (ISO/IEC 18004:2015, 7.5.1, 7.9.1, 12).
+-- information differs from the copy in more than three modules, or some block has more erased and misread codewords
+-- than can be corrected. If `unknown` contains a square, the dark modules of this square are those that were not read.
+-- A codeword with a module that was not read is erased (ISO/IEC 18004:2015, 7.5.1, 7.9.1, 12).
 abbrev pub IsOfNoUseWithout : Option Grid → FormatCopy → ℕ → Grid → Type 0
 IsOfNoUseWithout unknown copy v g = (l : Level) (mask : ℕ) → IsNearFormat copy g l mask
     → (message changed : List ℕ) → HoldsDamagedWithout unknown v l mask g message changed → ⊥
@@ -166,10 +166,10 @@ pub record HasWrongModulesWithout (unknown : Option Grid) (g : Grid) (v : ℕ) (
 abbrev pub HasWrongModules : Grid → ℕ → Level → ℕ → List ℕ → ℕ → Type 0
 HasWrongModules g v l mask changed wrong = HasWrongModulesWithout None g v l mask changed wrong
 
--- `IsBeyondMendingWithout unknown g` holds if the square `g` of modules has more wrong codewords than can be corrected.
--- At least one level and mask have format information that differs from a copy in `g` in at most three modules. But
--- with each such level and mask, some block has more wrong codewords than can be corrected. A codeword with a module
--- that was not read is erased (ISO/IEC 18004:2015, 7.5.1, 7.9.1, 12).
+-- `IsBeyondMendingWithout unknown g` holds if the square `g` of modules, which has as many rows as some version, cannot
+-- be mended. At least one level and mask have format information that differs from a copy in `g` in at most three
+-- modules. But with each such level and mask, some block has more erased and misread codewords than can be corrected. A
+-- codeword with a module that was not read is erased (ISO/IEC 18004:2015, 7.5.1, 7.9.1, 12).
 pub record IsBeyondMendingWithout (unknown : Option Grid) (g : Grid) : Type 0 where
   pub version : ℕ
   pub sized : IsOfVersion g version
@@ -182,9 +182,9 @@ pub record IsBeyondMendingWithout (unknown : Option Grid) (g : Grid) : Type 0 wh
 -- `IsUnmendedWithout unknown g e` holds if mending the square `g` of modules may fail with the fault `e`. Some modules
 -- of `g` may not have been read. The fault is `Side` if no version has as many rows as `g`. The fault is `Format` if a
 -- version has as many rows, but the format information of each level and mask differs from both copies in more than
--- three modules. The fault is `Check` if more codewords are wrong than can be corrected. The fault is `Segments` if the
--- mended data codewords cannot be parsed. The fault `Memory` is possible for every square of modules, and the fault
--- `Series` is impossible (ISO/IEC 18004:2015, 12).
+-- three modules. The fault is `Check` if more codewords are erased and misread than can be corrected. The fault is
+-- `Segments` if the mended data codewords cannot be parsed. The fault `Memory` is possible for every square of modules,
+-- and the fault `Series` is impossible (ISO/IEC 18004:2015, 12).
 abbrev pub IsUnmendedWithout : Option Grid → Grid → ReadFault → Type 0
 IsUnmendedWithout unknown g unread.Memory = Unit {0}
 IsUnmendedWithout unknown g unread.Side = (v : ℕ) → IsOfVersion g v → ⊥

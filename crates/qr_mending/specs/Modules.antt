@@ -30,11 +30,11 @@ index_of t (u ∷ us) = if (t.place == u.place) && (t.block == u.block) then 0 e
 abbrev pub modules_of : List Module → ℕ → List Module
 modules_of places k = take 8 (drop (8 * k) places)
 
--- `part_differences g h places positions first i n` is the number of modules in the first `n` codewords of block `i`
--- that have different colours in the squares `g` and `h`. `places` lists the modules of the encoding region in the
--- order in which codewords fill them. `positions` lists the positions of all data codewords, or of all error correction
--- codewords, in interleaved order. `first` is the index that the first of these codewords has among all interleaved
--- codewords of the symbol (ISO/IEC 18004:2015, 7.6, 7.7.3).
+-- `part_differences g h places positions first i n` is the number of modules in the first `n` data or error correction
+-- codewords of block `i` that have different colours in the squares `g` and `h`. `places` lists the modules of the
+-- encoding region in the order in which codewords fill them. `positions` lists the positions of all data codewords, or
+-- of all error correction codewords, in interleaved order. `first` is the index that the first of these codewords has
+-- among all interleaved codewords of the symbol (ISO/IEC 18004:2015, 7.6, 7.7.3).
 abbrev pub part_differences : Grid → Grid → List Module → List Position → (first i n : ℕ) → ℕ
 part_differences g h places positions first i zero = 0
 part_differences g h places positions first i (suc n) =

@@ -26,7 +26,8 @@ abbrev pub IsUnmendedSeries : List Grid → ReadFault → Type 0
 IsUnmendedSeries squares e = IsUnjoinedBy IsMendedContent IsUnmended squares e
 
 -- `IsDamagedSquare damaged whole` holds if the square `damaged` of modules is a damaged form of the square `whole`. The
--- square `whole` can be read without mending (ISO/IEC 18004:2015, 7.5.1, 7.9.1, 12).
+-- format information and the data codewords of `whole` can be read without mending
+-- (ISO/IEC 18004:2015, 7.5.1, 7.9.1, 12).
 pub record IsDamagedSquare (damaged whole : Grid) : Type 0 where
   pub version : ℕ
   pub level : Level
@@ -38,7 +39,7 @@ pub record IsDamagedSquare (damaged whole : Grid) : Type 0 where
   pub holds : IsMessage version level mask whole message
   pub form : IsDamagedForm damaged version level mask message changed
 
--- `AreDamagedSquares damaged whole` holds if each square of modules in the list `damaged` is a damaged form of the
--- square with the same index in the list `whole` [own].
+-- `AreDamagedSquares damaged whole` holds if the lists `damaged` and `whole` have the same length, and each square of
+-- modules in `damaged` is a damaged form of the square with the same index in `whole` [own].
 unfoldable pub AreDamagedSquares : List Grid → List Grid → Type 0
 AreDamagedSquares damaged whole = AllZip IsDamagedSquare damaged whole

@@ -51,10 +51,10 @@ pub(crate) fn is_block(divisor: &Divisor, codewords: &[u8]) -> bool
     correction.as_slice() == &codewords[start..]
 }
 
-/// Mends a damaged block: replaces `codewords` with the block that differs from it in at most `t` codewords. Twice `t`
-/// must be at most the number of error correction codewords, which `divisor` determines. Returns the number of
-/// codewords that were wrong. Returns `None` if every block differs from `codewords` in more than `t` codewords, and
-/// then leaves `codewords` unchanged (ISO/IEC 18004:2015, 7.5.1 and Annex B).
+/// Mends a damaged block of at most 255 codewords: replaces `codewords` with the block that differs from it in at most
+/// `t` codewords. Twice `t` must be at most the number of error correction codewords, which `divisor` determines.
+/// Returns the number of codewords that were wrong. Returns `None` if every block differs from `codewords` in more than
+/// `t` codewords, and then leaves `codewords` unchanged (ISO/IEC 18004:2015, 7.5.1 and Annex B).
 pub fn mend(divisor: &Divisor, t: usize, codewords: &mut [u8]) -> Option<usize>
     requires half { 2 * t ≤ divisor.now }
     requires least { divisor.now ≤ length codewords.old }

@@ -79,13 +79,14 @@ fn count_misread(codewords: &[u8], erased: &[bool], mended: &[u8]) -> usize
     count
 }
 
-/// Mends a damaged block in which some codewords could not be read and other codewords may be misread. `erased` is true
-/// at the index of each codeword that could not be read; such a codeword is called erased. The values of erased
-/// codewords in `codewords` have no effect on the mended block. To correct an erased codeword, one error correction
-/// codeword is needed; to correct a misread codeword, two are needed. In total at most `spare` error correction
-/// codewords may be needed. In a symbol, `spare` is twice the number that `changed_max` returns. Returns the number of
-/// misread codewords, without the erased codewords. Returns `None` if there is no block for which `spare` error
-/// correction codewords are enough, and then leaves `codewords` unchanged (ISO/IEC 18004:2015, 7.5.1 and Annex B).
+/// Mends a damaged block of at most 255 codewords. `erased` is true at the index of each codeword that could not be
+/// read; such a codeword is called erased. Other codewords may be misread. The values of erased codewords in
+/// `codewords` have no effect on the mended block. To correct an erased codeword, one error correction codeword is
+/// needed; to correct a misread codeword, two are needed. In total at most `spare` of the error correction codewords,
+/// whose number `divisor` determines, may be needed. In a symbol, `spare` is twice the number that `changed_max`
+/// returns. Returns the number of misread codewords, without the erased codewords. Returns `None` if there is no block
+/// for which `spare` error correction codewords are enough, and then leaves `codewords` unchanged
+/// (ISO/IEC 18004:2015, 7.5.1 and Annex B).
 pub fn mend_with_erasures(
     divisor: &Divisor,
     spare: usize,

@@ -1,7 +1,7 @@
 //! States laws about the mending of damaged blocks and symbols. A damaged block or symbol can be mended to at most one
-//! result. A symbol that can be mended is not refused, unless memory is refused. Most functions here do nothing: the
-//! contract of such a function is the law. Each of the other functions mends one or more symbols, and its contract is a
-//! law about the result.
+//! result. A symbol that can be mended and read is not refused, unless memory is refused. Most functions here do
+//! nothing: the contract of such a function is the law. Each of the other functions mends one or more symbols, and its
+//! contract is a law about the result.
 
 ghost use Rattle.std.specs.Prelude.{◌≡◌, ◌≢◌, ◌↔◌, ◌⊎◌, Err, ℕ, ◌*◌, ◌/◌, ◌≤◌, false, List, length, replicate, Option, None, Some, MatchResult};
 ghost use Rattle.std.specs.List.{All};
@@ -131,7 +131,7 @@ pub fn changes_are_bounded()
     ensures tolerance { (v : ℕ) (l : Level) → 1 ≤ v → v ≤ 40 → (2 ≤ tolerance_of v l) × (tolerance_of v l ≤ 15) }
 {}
 
-/// If a damaged symbol can be mended and read, it can be refused for only one fault, which is lack of memory.
+/// If a damaged symbol can be mended and read, it can be refused only for lack of memory.
 pub fn mended_readings_are_not_refused()
     ensures { (unknown : Option Grid) (g : Grid) (v : ℕ) (l : Level) (m : ℕ) (p : Content) (x : List ℕ) (e : ReadFault)
         → IsMendedReadingWithout unknown g v l m p x → IsUnmendedWithout unknown g e → e ≡ ReadFault.Memory }
@@ -144,8 +144,8 @@ pub fn mending_refusals_are_one()
         → (e ≡ ReadFault.Memory) ⊎ (f ≡ ReadFault.Memory) ⊎ (e ≡ f) }
 {}
 
-/// If memory is not refused, `mend_symbol` returns a fault exactly if `IsUnmended` holds for the damaged symbol and
-/// this fault. The definition `IsUnmended` lists the reasons for each fault.
+/// If memory is not refused, `mend_symbol` returns a fault other than `Memory` exactly if `IsUnmended` holds for the
+/// damaged symbol and this fault. The definition `IsUnmended` lists the reasons for each fault.
 pub fn mendings_are_refused_exactly(alloc: Global, damaged: &Matrix) -> Result<Mended, ReadFault>
     ensures { (e : ReadFault) → e ≢ ReadFault.Memory
         → (result ≡ Err e) ↔ ((result ≢ Err ReadFault.Memory) × IsUnmended damaged.now e) }
@@ -153,9 +153,9 @@ pub fn mendings_are_refused_exactly(alloc: Global, damaged: &Matrix) -> Result<M
     mend_symbol(alloc, damaged)
 }
 
-/// If memory is not refused, `mend_symbol_without` returns a fault exactly if `IsUnmendedWithout` holds for the damaged
-/// symbol and this fault. The definition `IsUnmendedWithout` lists the reasons for each fault. The dark modules of
-/// `unknown` are those that were not read.
+/// If memory is not refused, `mend_symbol_without` returns a fault other than `Memory` exactly if `IsUnmendedWithout`
+/// holds for the damaged symbol and this fault. The definition `IsUnmendedWithout` lists the reasons for each fault.
+/// The dark modules of `unknown` are those that were not read.
 pub fn mendings_without_are_refused_exactly(
     alloc: Global,
     damaged: &Matrix,
@@ -198,9 +198,9 @@ pub fn damaged_symbols_are_mended(alloc: Global, damaged: &Matrix) -> Result<Men
 /// input, unless memory is refused. `damaged` may be any square of modules with as many rows as the symbol, under two
 /// conditions. Any of its modules may be unread; these modules are dark in `unknown`. The first condition is that in
 /// each block the number of erased codewords, plus twice the number of misread codewords, is at most twice
-/// `changed_max`. The second condition is that at most three modules of the first copy of the format information are
-/// wrong. If the symbol cannot be mended with the first copy, it is enough that at most three modules of the second
-/// copy are wrong. The result contains the exact numbers of misread codewords and of wrong modules.
+/// `changed_max`. The second condition is that in `damaged` at most three modules of the first copy of the format
+/// information have a wrong colour. If the symbol cannot be mended with the first copy, the same condition for the
+/// second copy is enough. The result contains the exact numbers of misread codewords and of wrong modules.
 pub fn damaged_symbols_without_modules_are_mended(
     alloc: Global,
     damaged: &Matrix,
@@ -235,8 +235,8 @@ pub fn few_wrong_modules_are_mended(alloc: Global, damaged: &Matrix) -> Result<M
     mend_symbol(alloc, damaged)
 }
 
-/// If memory is not refused, `mend_series` returns a fault exactly if `IsUnmendedSeries` holds for the damaged symbols
-/// and this fault. The definition `IsUnmendedSeries` lists the reasons for each fault.
+/// If memory is not refused, `mend_series` returns a fault other than `Memory` exactly if `IsUnmendedSeries` holds for
+/// the damaged symbols and this fault. The definition `IsUnmendedSeries` lists the reasons for each fault.
 pub fn series_mendings_are_refused_exactly(
     alloc: Global,
     damaged: &[Matrix],

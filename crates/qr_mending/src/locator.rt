@@ -75,8 +75,8 @@ fn solve(pool: &mut ArrayVec<Polynomial, 16>, syndromes: &[u8], i: usize, t: usi
     }
 }
 
-// Returns a polynomial of degree at most `t` that solves equations 0 to `t` - 1. A polynomial solves equation i if the
-// sum of the products of its coefficients and the syndromes from index i on is 0.
+// Returns a polynomial of degree at most `t`, with leading coefficient 1, that solves equations 0 to `t` - 1. A
+// polynomial solves equation i if the sum of the products of its coefficients and the syndromes from index i on is 0.
 pub(crate) fn locator(syndromes: &[u8], t: usize) -> Polynomial
     requires small { t ≤ 15 }
     requires long { 2 * t ≤ length syndromes.now }

@@ -142,8 +142,7 @@ pub struct Mended {
     pub wrong_format_modules: u8,
     /// The number of wrong modules in the whole symbol. A module is wrong if it could not be read, or if it does not
     /// have the colour that it has in the undamaged symbol. The modules of function patterns, version information and
-    /// remainder bits are counted too. The number is 0 exactly if every module was read and has the colour that it has
-    /// in the undamaged symbol.
+    /// remainder bits are counted too.
     pub wrong_modules: u32,
     /// For each block, the number of codewords that were misread. Codewords that are known to be unreadable are not
     /// counted.

@@ -81,8 +81,7 @@ impl Polynomial {
     }
 
     // Returns the sum of this polynomial and a multiple of the polynomial `pivot`, which has a lower degree. The
-    // multiple is chosen so that the returned polynomial solves the equation of `window`. A polynomial solves this
-    // equation if `miss` returns 0 for the polynomial and `window`.
+    // multiple is chosen so that `miss` returns 0 for the returned polynomial and `window`.
     pub(crate) fn relieved(&self, pivot: &Polynomial, window: &[u8]) -> Polynomial
         requires lower { pivot.now.degree < self.now.degree }
         requires fits { self.now.degree < 16 }

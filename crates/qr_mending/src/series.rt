@@ -32,7 +32,7 @@ fn mend_all(alloc: Global, damaged: &[Matrix]) -> Result<Vec<Parsed>, ReadFault>
 ///
 /// Returns the fault of the first symbol that cannot be mended, whatever the headers of the symbols contain. Returns
 /// `Series` if all symbols are mended, but they are neither one symbol without a header nor a whole series. Returns
-/// `Series` also if `damaged` is empty.
+/// `Series` also if `damaged` is empty, and `Memory` if memory is refused.
 ///
 /// # Notes
 ///

@@ -18,8 +18,8 @@ use Rattle.qrproved.specs.Settings.{level_of}
 abbrev pub square_of_unknown : ℕ → List ℕ → Grid
 square_of_unknown side bytes = square side (λ row col. slice_index_or bytes (row * side + col) 0 == 2)
 
--- `unknown_in side bytes` is the square in which exactly the unknown modules, those with the byte 2, are dark. The
--- square has `side` modules on a side. The value is `None` if no module is unknown [own].
+-- `unknown_in side bytes` is the square in which exactly the unknown modules, those with the byte 2 in `bytes`, are
+-- dark. The square has `side` modules on a side. The value is `None` if no module is unknown [own].
 abbrev pub unknown_in : ℕ → List ℕ → Option Grid
 unknown_in side bytes = if count_by (λ b. b == 2) (take (side * side) bytes) == 0 then None else Some (square_of_unknown side bytes)
 
@@ -80,6 +80,6 @@ pub record HasMoreMendedBytes (modules : List ℕ) (side : ℕ) (buffer : List �
   pub room : length buffer < length content.bytes
 
 -- `IsUnmendedAt modules side fault` holds if the damaged square in `modules` cannot be read because of `fault`. The
--- square has `side` modules on a side [own].
+-- square has `side` modules on a side, and each of its bytes is 0, 1 or 2 [own].
 abbrev pub IsUnmendedAt : List ℕ → ℕ → ReadFault → Type 0
 IsUnmendedAt modules side fault = AreModules modules side × IsUnmendedWithout (unknown_in side modules) (square_of_bytes side modules) fault

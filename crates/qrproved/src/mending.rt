@@ -166,8 +166,8 @@ fn mended_of(len: usize, mended: &Mended) -> QrprovedMended
 /// Reads the symbol whose modules are in the buffer `modules`, in the order in which `qrproved_encode` writes them, and
 /// corrects its errors. The byte 0 is a light module, the byte 1 a dark module, and the byte 2 a module that is not
 /// known. A codeword with a module that is not known uses half as much of the error correction as a misread codeword.
-/// Writes the bytes that the symbol contains to the buffer `bytes`. Writes the symbol's structured
-/// append header and its damage to the struct `mended`.
+/// Writes the bytes that the symbol contains to the buffer `bytes`. Writes the symbol's structured append header and
+/// its damage to the struct `mended`.
 ///
 /// The causes of a refusal are checked in the order in which this paragraph lists them. The first three causes are
 /// found before any allocation: a side that no version has, too few modules in `modules`, and a byte of more than 2.
@@ -178,11 +178,10 @@ fn mended_of(len: usize, mended: &Mended) -> QrprovedMended
 /// this symbol contains, and its version, level and mask.
 ///
 /// The struct also contains four numbers. `wrong_modules` is the number of modules of the whole square that are not
-/// known or differ from the symbol. `wrong_modules` is 0 exactly if the square is the symbol. `wrong_format_modules` is
-/// the number of modules, of the 30 modules of format information, that are wrong or not known. `changed_most` is the
-/// number of codewords that were corrected in the block with the most of them. Codewords with a module that is not
-/// known are not counted in `changed_most`. `changed_allowed` is the greatest number of wrong codewords of a block that
-/// can be corrected.
+/// known or differ from the symbol. `wrong_format_modules` is the number of modules, of the 30 modules of format
+/// information, that are wrong or not known. `changed_most` is the number of codewords that were corrected in the block
+/// with the most of them. Codewords with a module that is not known are not counted in `changed_most`.
+/// `changed_allowed` is the greatest number of wrong codewords of a block that can be corrected.
 #[unsafe(no_mangle)]
 pub extern "C" fn qrproved_mend(
     alloc: Global,

@@ -28,7 +28,7 @@ pub struct QrprovedSeries {
 /// `number` is the number of the module's symbol, counted from 0. If the input fits one symbol, its series is that
 /// symbol without a structured append header. The numbers of levels and rules are those of `qrproved_encode`.
 ///
-/// The causes of a refusal are checked in this order: a number out of range, an empty input, an input that needs more
+/// The causes of a refusal are checked in this order: a number out of range, an empty input, an input that takes more
 /// than 16 symbols, a buffer that is too short. Numbers out of range, an empty input and an input of more than 113,425
 /// bytes are refused before any allocation.
 ///

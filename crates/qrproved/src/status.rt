@@ -14,7 +14,7 @@ pub(crate) const EMPTY: u8 = 1;
 /// The input fits no version from the smallest allowed version on.
 pub(crate) const TOO_LONG: u8 = 2;
 
-/// The input needs a series of more than 16 symbols of the version.
+/// The input takes more than 16 symbols of the version.
 pub(crate) const TOO_MANY: u8 = 3;
 
 /// An allocation was refused.

@@ -24,11 +24,12 @@ abbrev pub weighted : List ℕ → List ℕ → List ℕ
 weighted p [] = []
 weighted p (c ∷ e) = product c (eval (power (length e)) p) ∷ weighted p e
 
--- `IsLocated p e` holds if the polynomial `p` locates the errors `e`, which are the coefficients of the error
--- polynomial. If the coefficient of x^m in `e` is not 0, the value of `p` at 2^m is 0. This is stated by a recurrence
--- for the values of the error polynomial at the powers of 2. Let d be the degree of `p`. Then each value is a sum of d
--- products: each of the d values before it is multiplied by a coefficient of `p`. The coefficients of `p` are listed
--- from that of the lowest power of x on. The leading coefficient of `p` is 1.
+-- `IsLocated p e` holds if the polynomial `p` locates the errors `e`, at most 255 bytes, which are the coefficients of
+-- the error polynomial. If the coefficient of x^m in `e` is not 0, the value of `p` at 2^m is 0. The values of the
+-- error polynomial at the powers of 2 also follow a recurrence. Let d be the degree of `p`. Then each value after the
+-- first d is a sum of d products: each of the d values before it is multiplied by a coefficient of `p`. The
+-- coefficients of `p` are listed from that of the lowest power of x on. The recurrence takes the leading coefficient as
+-- 1.
 pub record IsLocated (p e : List ℕ) : Type 0 where
   pub bytes : All IsByte e
   pub most : length e ≤ 255

@@ -44,8 +44,8 @@ pub record HasDegrees (most : ℕ) (pool : List Polynomial) : Type 0 where
 
 -- `IsPool t i syndromes pool` holds if `pool` is a list of polynomials that solve the first `i` of `t` equations. The
 -- degrees of the polynomials rise along the list and are at most `t`, and each leading coefficient is 1. A polynomial
--- solves equation j if the sum of the products of its coefficients and the syndromes from index j on is 0. The list
--- begins with `t` + 1 polynomials, and for each equation at most one polynomial is removed.
+-- solves equation j if the sum of the products of its coefficients and the syndromes from index j on is 0. The list has
+-- at least `t` + 1 - `i` polynomials.
 pub record IsPool (t i : ℕ) (syndromes : List ℕ) (pool : List Polynomial) : Type 0 where
   pub count : t + 1 ≤ length pool + i
   pub degrees : HasDegrees t pool
