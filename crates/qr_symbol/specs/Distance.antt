@@ -1,4 +1,4 @@
--- This file states in how many codewords the blocks of two symbols differ.
+-- This file states that symbols with different data codewords differ in many codewords of some block.
 use Rattle.std.specs.Prelude.{◌≡◌, ℕ, ◌+◌, ◌*◌, ◌<◌, ◌≤◌, Option, List, [], ◌++◌, slice_index_or}
 use Rattle.qr_field.specs.Distance.{differences, erasures, errors}
 use Rattle.qr_layout.specs.declared.level.Level.{Level}

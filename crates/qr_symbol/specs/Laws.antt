@@ -28,7 +28,6 @@ computed_rows =
     (0b111111 ∷ 0b111000 ∷ 0b110110 ∷ 0b101010 ∷ 0b101101 ∷ 0b100011 ∷ 0b111111 ∷ 0b111000 ∷ 0b110110 ∷ 0b101010 ∷ 0b101101 ∷ 0b100011 ∷ []) ∷
     (0b101010 ∷ 0b000111 ∷ 0b100011 ∷ 0b010101 ∷ 0b111000 ∷ 0b011100 ∷ 0b101010 ∷ 0b000111 ∷ 0b100011 ∷ 0b010101 ∷ 0b111000 ∷ 0b011100 ∷ []) ∷ []
 
--- `bits_down n bit` is the number with the n binary digits `bit (n - 1)` down to `bit 0`. The highest digit is `bit (n
--- - 1)` [own].
+-- `bits_down n bit` is the number with the n binary digits `bit (n - 1)` to `bit 0`, the highest digit first [own].
 abbrev pub bits_down : ℕ → (ℕ → Bool) → ℕ
 bits_down n bit = value (map (λ i. bit (n - 1 - i)) (range_with_len 0 n))

@@ -60,9 +60,9 @@ AreSymbolsFrom v l rule last parity k (p ∷ ps) (s ∷ ss) =
     × AreSymbolsFrom v l rule last parity (k + 1) ps ss
 
 -- `IsSplit v l rule x symbols` holds if the bytes x do not fit one symbol without a structured append header, and are
--- cut into at most 16 parts. The list `symbols` contains one symbol for each part, in the order of the parts, and each
--- symbol has a structured append header. The symbols have version v and level l, and `rule` says which modes the
--- segments may have [own].
+-- cut into at most 16 parts, as `AreParts` says. The list `symbols` contains one symbol for each part, in order. The
+-- structured append header of a symbol contains its position, counted from 0, the number of symbols less 1, and the
+-- parity data of x. The symbols have version v and level l, and `rule` says which modes the segments may have [own].
 pub record IsSplit (v : ℕ) (l : Level) (rule : Rule) (x : List ℕ) (symbols : List Symbol) : Type 0 where
   pub too_long : FitsVersion v l rule x → ⊥
   pub parts : List (List ℕ)
@@ -81,8 +81,8 @@ pub record IsPlainSymbol (v : ℕ) (l : Level) (rule : Rule) (x : List ℕ) (sym
 
 -- `IsSeries v l rule x symbols` holds if the list `symbols` is the series that encodes the bytes x at version v and
 -- level l. If the bytes fit one symbol without a structured append header, the series is this one symbol. Otherwise the
--- bytes are cut into at most 16 parts, and the series has one symbol for each part. `rule` says which modes the
--- segments may have [own].
+-- bytes are cut into at most 16 parts, as `AreParts` says, and the series has one symbol for each part. `rule` says
+-- which modes the segments may have [own].
 abbrev pub IsSeries : ℕ → Level → Rule → List ℕ → List Symbol → Type 0
 IsSeries v l rule x symbols = IsPlainSymbol v l rule x symbols ⊎ IsSplit v l rule x symbols
 

@@ -1,5 +1,4 @@
-//! The laws in this file are about `==` and `clone`, which are derived for the public types. `==` returns true exactly
-//! if the two values are the same, and `clone` returns the same value.
+//! The laws in this file are about `==` and `clone`, which are derived for the two types of faults.
 
 ghost use Rattle.std.specs.Prelude.{◌≡◌, ◌↔◌, IsTrue, IfOk};
 

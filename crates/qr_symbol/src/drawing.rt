@@ -145,8 +145,8 @@ struct Columns {
     left: BitRow,
 }
 
-// Returns the two columns of the strip with the right column `right`; the two columns are filled together. The square
-// of modules `across` is transposed: its rows are the columns of the symbol.
+// Returns the two columns of a strip, which are filled together; `right` is the index of the right one. The square of
+// modules `across` is transposed: its rows are the columns of the symbol.
 fn columns_of(across: &Matrix, right: u8) -> Columns
     requires left_in { 1 ≤ right }
     requires right_in { right < across.now.side }
@@ -192,8 +192,8 @@ fn draw_module(column: &mut BitRow, region: &BitRow, bits: u8, taken: u8, row: u
 
 // Draws the first bits of `bits` in `count` rows of a strip (two columns that are filled together). Each module of
 // these rows that is in the encoding region gets the next bit. `passed` is the number of rows of the strip that come
-// before these rows. Returns the number of bits that were drawn. Most rows of a strip are drawn by `draw_four`, and
-// only a few by this function.
+// before these rows. Returns the number of bits that were drawn. In a large symbol, `draw_four` draws most rows without
+// this function.
 #[inline(never)]
 fn draw_rows(
     columns: &mut Columns,

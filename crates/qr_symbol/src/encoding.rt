@@ -42,8 +42,7 @@ pub(crate) const SYMBOL_BYTES_MAX: usize = 7089;
 ///
 /// # Notes
 ///
-/// In the parameters of this function, the level comes before the version. In the parameters of `encode_series`, the
-/// version comes first.
+/// Here the level comes before the version. In `encode_series` the version comes first.
 pub fn encode(
     alloc: Global,
     input: &[u8],

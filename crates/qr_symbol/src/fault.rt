@@ -60,14 +60,14 @@ impl From<BitFault> for EncodeFault {
     }
 }
 
-/// The reason why symbols are not read. The causes from `Side` on are checked in the order of this list. Memory may be
-/// refused at any step.
+/// The reason why symbols are not read. The causes from `Side` on are checked in the order of this list. `Memory` has
+/// no fixed place in this order.
 #[derive(Clone, Copy, Debug, PartialEq, Eq, Error)]
 pub enum ReadFault {
     /// An allocation was refused.
     #[error("out of memory")]
     Memory,
-    /// No version has as many modules on each side as the square that was read.
+    /// No version has the side of the square that was read.
     #[error("no version has this side")]
     Side,
     /// The format information beside the top left finder pattern is that of no level and mask pattern.

@@ -1,6 +1,6 @@
 //! This file contains the laws of mask patterns, of interleaving, of reading and of series of symbols. Most functions
-//! of this file contain no code: the contract of such a function is the law. The other functions build, read, compare
-//! or clone values, and the contract of such a function is a law about its result.
+//! of this file contain no code: their contract is the law. The other functions build, read, compare or clone values,
+//! and their contract is a law about the result.
 
 ghost use Rattle.std.specs.Prelude.{◌≡◌, ◌<◌, ◌≤◌, ◌+◌, ◌%◌, ◌⊎◌, ℕ, false, List, length, map, None, ◌∷◌, IfOk, IfErr, ◌≢◌, ◌↔◌, Err};
 ghost use Rattle.std.specs.List.{All};
@@ -201,7 +201,7 @@ pub fn series_are_one()
 {}
 
 /// Each part that an input is cut into fits a symbol after a structured append header. Without kanji mode, the input
-/// cannot be cut into fewer parts that fit, so the series of the input is the shortest possible.
+/// cannot be cut into fewer parts that fit, so the series of an input that is not empty is the shortest possible.
 pub fn series_are_shortest()
     ensures fit { (v : ℕ) (l : Level) (rule : Rule) (x : List ℕ) (parts : List (List ℕ))
         → AreParts v l rule x parts → FitParts v l rule x parts }

@@ -145,7 +145,7 @@ fn paint_finder(matrix: &mut Matrix, v: Version, block: Module, centre: Module)
 }
 
 // Draws the three corners of a symbol: the finder patterns, their separators, and the modules of row 8 and column 8
-// that are beside the finder patterns. These modules contain the format information and the dark module.
+// that are beside the finder patterns. These modules include those of the format information and the dark module.
 fn paint_corners(matrix: &mut Matrix, v: Version, format: u32)
     requires { IsSquare (side_of v) matrix.old }
     ensures { matrix.new ≡ square (side_of v) (λ r c. if list_any (is_in_rectangle r c) (corner_rectangles (side_of v))
@@ -232,7 +232,7 @@ fn clear_ring(matrix: &mut Matrix, row: u8, col: u8)
     matrix.fill(row, row + 1, col + 1, col + 2, false);
 }
 
-// Makes the light ring of each alignment pattern light: the eight modules round its centre.
+// Makes the eight modules round the centre of each alignment pattern light.
 fn clear_rings(matrix: &mut Matrix, v: Version, centres: &[Module])
     requires square { IsSquare (side_of v) matrix.old }
     requires centres { centres.now ≡ alignment_places (side_of v) (centres_of v) }

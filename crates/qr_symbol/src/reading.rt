@@ -97,8 +97,8 @@ pub fn read_codewords(
 
 /// Reads a symbol, without any correction of errors (ISO/IEC 18004:2015, 12). The number of modules on a side
 /// determines the version. The level and the mask pattern are read only from the format information beside the top left
-/// finder pattern. The error correction codewords must be those of the data codewords. The function patterns, the
-/// second copy of the format information, the version information and the remainder bits are ignored.
+/// finder pattern. The function patterns, the dark module, the second copy of the format information, the version
+/// information and the remainder bits are ignored.
 ///
 /// Unless an allocation is refused, a square of modules is read exactly if four conditions hold. The side of the square
 /// is that of a version. The format information is that of a level and a mask pattern. The error correction codewords

@@ -37,12 +37,11 @@ use std::alloc::Global;
 ///
 /// Returns `Empty` exactly if the input has no byte. Unless an allocation is refused, returns `TooMany` exactly if the
 /// input has no series, since it is cut into more than 16 parts. If kanji mode is not allowed, `TooMany` also means
-/// that the input cannot be cut into at most 16 parts in any other way. Returns `Memory` if an allocation is refused.
+/// that in every cut into at most 16 parts, some part does not fit. Returns `Memory` if an allocation is refused.
 ///
 /// # Notes
 ///
-/// In the parameters of this function, the version comes before the level. In the parameters of `encode`, the level
-/// comes first.
+/// Here the version comes before the level. In `encode` the level comes first.
 pub fn encode_series(
     alloc: Global,
     input: &[u8],

@@ -51,9 +51,9 @@ fn last_of_width(version: Version) -> u8
 }
 
 // Returns 1, 10 or 27: the first version of a range of versions in which character count indicators are equally wide.
-// The input fits no version before the returned version. A range is skipped if none of its symbols has enough bits for
-// the input. With byte mode alone, a range is skipped only because of the length of the input, since computing the
-// number of bits as well would save little time.
+// The input fits no version before the returned version. A range is skipped only if the length of the input, or a lower
+// bound on its number of bits, shows that the input fits no version of the range. With byte mode alone, the lower bound
+// is not computed, since that would save little time.
 fn first_for(input: &[u8], rule: Rule) -> u8
     requires { length input.now ≤ INPUT_MAX }
     ensures first { 1 ≤ result }

@@ -5,9 +5,9 @@ use Rattle.qr_layout.specs.Region.{is_in_region}
 use Rattle.qr_matrix.specs.Grid.{Grid, colour, IsSquare}
 use Rattle.qr_symbol.specs.Steps.Patterns.{paint_of, symmetric_format}
 
--- `HasPatterns v g` holds if the square of modules g has the side of version v, and contains the function patterns and
--- the version information of this version. Of the format information in g, only bit 7 is dark. The modules of the
--- encoding region may have any colour.
+-- `HasPatterns v g` holds if the square of modules g has the side of version v, and contains the function patterns, the
+-- dark module and the version information of this version. Of the format information in g, only bit 7 is dark. The
+-- modules of the encoding region may have any colour.
 pub record HasPatterns (v : ℕ) (g : Grid) : Type 0 where
   pub square : IsSquare (side_of v) g
   pub outside : (r c : ℕ) → r < side_of v → c < side_of v → is_in_region v r c ≡ false → colour g r c ≡ paint_of v symmetric_format r c

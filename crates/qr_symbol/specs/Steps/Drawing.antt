@@ -96,9 +96,9 @@ AreWithin s x = (row : ℕ) → s ≤ row → (has x.right row ≡ false) × (ha
 abbrev pub row_of : ℕ → Strip → ℕ → ℕ
 row_of s x rank = if x.upward then s - 1 - rank else rank
 
--- `AreLight s x k region y` holds if the columns y of the strip x are light in the encoding region from the row with
--- the index k on. The symbol has s rows. In the columns `region`, a bit is 1 if the module in its row is in the
--- encoding region.
+-- `AreLight s x k region y` holds if the columns y of the strip x are light in the encoding region from row k on,
+-- counted from 0 in the direction of the strip. The symbol has s rows. In the columns `region`, a bit is 1 if the
+-- module in its row is in the encoding region.
 abbrev pub AreLight : ℕ → Strip → ℕ → Columns → Columns → Type 0
 AreLight s x k region y = (rank : ℕ) → k ≤ rank → rank < s
     → ((has region.right (row_of s x rank) && has y.right (row_of s x rank)) ≡ false) × ((has region.left (row_of s x rank) && has y.left (row_of s x rank)) ≡ false)

@@ -13,9 +13,8 @@ pub record AppendsInterleaved (c : BlockSizes) (d before after : List ℕ) : Typ
   pub order : IsPositionOrder c positions
   pub interleaved : after ≡ before ++ map (codeword_at c d) positions
 
--- `IsChecks b d blocks xs` holds if the list xs contains the error correction codewords of the first blocks of a
--- symbol, block after block. The number of these blocks is `blocks`. The symbol has the blocks b and the data codewords
--- d.
+-- `IsChecks b d blocks xs` holds if the list xs contains the error correction codewords of the first `blocks` blocks of
+-- a symbol, block after block. The symbol has the blocks b and the data codewords d.
 pub record IsChecks (b : Blocks) (d : List ℕ) (blocks : ℕ) (xs : List ℕ) : Type 0 where
   pub corrections : List (List ℕ)
   pub count : length corrections ≡ blocks

@@ -28,7 +28,7 @@ symmetric_format = 128
 
 -- `is_dark_in_six s at` is true if the module with index `at` in row 6, or in column 6, is dark; s is the side of the
 -- symbol, in modules. The first seven and the last seven modules of this row or column are dark, since they belong to
--- finder patterns. Of the modules between them, those at even indices are dark, since they belong to a timing pattern.
+-- finder patterns. Of the modules between them, those at even indices are the dark modules of a timing pattern.
 abbrev pub is_dark_in_six : ℕ → ℕ → Bool
 is_dark_in_six s at = nat_lt at 7 || nat_le (s - 7) at || at % 2 == 0
 
