@@ -236,7 +236,11 @@ fn prefixes_at_1_h(rt: HostRuntime) -> Result<(), Fail> {
 fn pairs_at_1_m(rt: HostRuntime) -> Result<(), Fail> {
     let pairs = b"\x93\x5F\x93\x5F\x93\x5F\x93\x5F\x93\x5F\x93\x5F\x93\x5F\x93\x5F";
     let (version, rule) = (Version::FIRST, Rule::WithKanji);
-    assert_eq!(rt; version.data_codewords(Level::M), 16, "128 bits with a header's 20");
+    assert_eq!(rt;
+        version.data_codewords(Level::M),
+        16,
+        "128 bits with a header's 20"
+    );
     assert_eq!(rt;
         longest_fit(rt.alloc(), pairs, version, Level::M, rule)?,
         14,
