@@ -81,14 +81,14 @@ IsBeginning prefix whole = (rest : List ℕ) × (prefix ++ rest ≡ whole)
 abbrev pub AppendsBeginning : Option (List ℕ) → Option (List ℕ) → List ℕ → Type 0
 AppendsBeginning old new whole = (prefix : List ℕ) × IsBeginning prefix whole × Appends old new prefix
 
--- `is_read_fault c` is true if the counts `c` show that a read failed, or that reads were interrupted (EINTR) 1,000
--- times or more: up to 999 interrupted reads are tried again [own]
+-- `is_read_fault c` is true if the counts `c` show that a read failed, or that 1,000 reads or more were interrupted
+-- (EINTR): up to 999 interrupted reads are tried again [own]
 abbrev pub is_read_fault : ReadCounts → Bool
 is_read_fault c = nat_lt 0 c.failed || nat_le 1000 c.interrupted
 
 -- `is_write_fault c` is true if the counts `c` show one of three causes. Either a write or a flush failed, or the
--- device accepted no byte of a write that offered at least one byte, or writes were interrupted (EINTR) 1,000 times or
--- more [own]
+-- device accepted no byte of a write that offered at least one byte, or 1,000 writes or more were interrupted (EINTR)
+-- [own]
 abbrev pub is_write_fault : WriteCounts → Bool
 is_write_fault c = nat_lt 0 c.failed || (nat_lt 0 c.zeros || nat_le 1000 c.interrupted)
 

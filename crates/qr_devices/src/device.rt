@@ -10,7 +10,8 @@ ghost use Rattle.qr_devices.specs.Device.{flush_counted, read_counted, write_cou
 ghost use Rattle.qr_devices.specs.declared.device.ReadCounts.{ReadCounts};
 ghost use Rattle.qr_devices.specs.declared.device.WriteCounts.{WriteCounts};
 
-/// The greatest number of interrupted calls (EINTR) of one device that are tried again.
+/// The greatest number of interrupted calls (EINTR) that are tried again while one input is read or one text is
+/// written.
 pub const INTERRUPTIONS_MAX: u16 = 999;
 
 /// The two ways in which a read, a write or a flush of a device can fail.

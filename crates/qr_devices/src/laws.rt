@@ -23,7 +23,7 @@ pub fn no_faults() -> Faults
     Faults::NONE
 }
 
-/// At most 999 interrupted calls of one device are tried again.
+/// The limit of interrupted calls that are tried again is 999.
 pub fn interruptions_are_limited()
     ensures { INTERRUPTIONS_MAX ≡ 999 }
 {}

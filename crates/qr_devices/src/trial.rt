@@ -34,8 +34,8 @@ impl Faults {
 }
 
 /// A device for tests: bytes in memory that are read, or room in memory for bytes that are written. A call moves as
-/// many bytes as its `Faults`, the length of the buffer, and the remaining bytes or room allow. A call fails or is
-/// interrupted exactly if the `Faults` of the device state so. A write to a full device returns 0.
+/// many bytes as the device's `Faults`, the length of the buffer, and the remaining bytes or room allow. A call fails
+/// or is interrupted exactly if these `Faults` state so. A write to a full device returns 0.
 #[derive(Drop)]
 pub struct Trial {
     bytes: Vec<u8>,

@@ -45,8 +45,8 @@ row_path top margin g y = texts_below (raster_width margin g) (run_path top marg
 unfoldable pub symbol_path : ℕ → ℕ → Grid → List ℕ
 symbol_path top margin g = texts_below (raster_width margin g) (row_path top margin g)
 
--- `square_at squares k` is the square of modules with the index `k` in the list `squares`, where indices begin at 0
--- [own]
+-- `square_at squares k` is the square of modules with the index `k` in the list `squares`, where indices begin at 0. If
+-- the list has no such square, the value is a square without modules [own]
 abbrev pub square_at : List Grid → ℕ → Grid
 square_at squares k = slice_index_or squares k (light 0)
 

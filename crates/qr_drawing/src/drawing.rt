@@ -112,7 +112,7 @@ fn put_drawing<S: HasSquare, W: Sink>(
 ///
 /// Allocates no memory, and offers the writer `out` at most 1,200 bytes at a time. Writes that are interrupted are
 /// tried again, up to 999 of them in all. The call fails only if the writer fails; in this case the writer has accepted
-/// a prefix of the drawing.
+/// a prefix of the drawing. The writer is not flushed.
 pub fn draw<S: HasSquare, W: Sink>(
     symbols: &[S],
     kind: Drawing,

@@ -13,7 +13,7 @@ use thiserror::Error;
 /// The greatest number of bytes that one write offers to the writer.
 pub const WRITE_MAX: usize = 1200;
 
-/// The cause for which a drawing was not written to its end.
+/// The reason why a drawing was not written to its end.
 #[derive(Clone, Copy, Debug, PartialEq, Eq, Error)]
 pub enum DrawFault {
     /// The writer failed, accepted no byte of a write, or was interrupted for the 1,000th time.

@@ -15,10 +15,10 @@ use itoa::Buffer;
 use qr_devices::Sink;
 use qr_symbol::Matrix;
 
-// The greatest number of bytes of a box. A box is the part of the path that surrounds one run of dark modules.
+// No box has more bytes than this number. A box is the part of the path that surrounds one run of dark modules.
 const BOX_MAX: usize = 32;
 
-// The greatest number of bytes of the document before the first box.
+// The document has no more bytes than this number before the first box.
 const HEAD_MAX: usize = 300;
 
 // The number of bytes of the document after the last box.
@@ -137,8 +137,8 @@ fn push_background(text: &mut ArrayVec<u8, 1200>, width: u16, height: u16)
     push_all(text, b"\" fill=\"#ffffff\"/>\n");
 }
 
-// Appends all lines before the path of an SVG document, and the beginning of the path, to `text`. The document has
-// `width` by `height` modules.
+// Appends all lines before the path of an SVG document, and the beginning of the line with the path, to `text`. The
+// document has `width` by `height` modules.
 fn push_head(text: &mut ArrayVec<u8, 1200>, width: u16, height: u16)
     requires room { array_vec_len text.old + 300 ≤ 1200 }
     ensures { text.new.items ≡ text.old.items ++ head width height }

@@ -107,8 +107,8 @@ fn push_cell(text: &mut ArrayVec<u8, 1200>, style: TextStyle, upper: bool, lower
     }
 }
 
-// Returns the row of `matrix` that row `row` of the raster shows, or `None` if `row` is in the margin. The raster is
-// the square of modules with its margin.
+// Returns the row of `matrix` that row `row` of the raster shows, or `None` if `row` is in the margin or below the
+// raster. The raster is the square of modules with its margin.
 #[tactic(auto, using(crate::proofs::lemmas::svg::PathLemmas::is_dark_at_above, crate::proofs::lemmas::svg::PathLemmas::is_dark_at_below))]
 fn square_row(matrix: &Matrix, margin: u8, row: u16) -> Option<u8>
     ensures { ShowsRow margin matrix.now row result }
@@ -124,8 +124,8 @@ fn square_row(matrix: &Matrix, margin: u8, row: u16) -> Option<u8>
 }
 
 // Returns the colours of eight modules of row `row` of `matrix`, from column `col` on, as the bits of a number. The
-// lowest bit is column `col`, which is a multiple of eight, and a set bit is a dark module. If `row` is `None`, all
-// eight modules are light.
+// lowest bit is column `col`, which is a multiple of eight, and a set bit is a dark module. Bits of columns outside the
+// square may have any value. If `row` is `None`, all eight bits are 0.
 #[inline(always)]
 #[tactic(auto, using(crate::proofs::lemmas::text::CellLemmas::dark_none))]
 fn dark_bits(matrix: &Matrix, row: Option<u8>, col: u8) -> u8
@@ -386,7 +386,7 @@ fn put_lines<W: Sink>(
 }
 
 // Writes the lines of text of the symbol `matrix`, as `put_lines` does. The compiler makes a copy of this function for
-// each style, with all functions that it calls. So no loop has to branch on the style.
+// each style, with the inlined functions that it calls. So no loop has to branch on the style.
 #[inline(always)]
 fn put_lines_of<W: Sink>(
     pen: &mut Pen,

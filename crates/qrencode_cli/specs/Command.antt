@@ -71,8 +71,8 @@ IsRefusal words given (fault.Encode encode.TooMany) = HasRefusal words given IsT
 IsRefusal words given _ = ⊥
 
 -- `IsFault words given f` holds if the fault `f` can occur for the command line `words` and for `given`, the bytes that
--- the reader returned. A refusal can occur if it is correct. A read fault can occur if the arguments contain no string,
--- and a write fault if there is a drawing. Lack of memory can always occur [own]
+-- the reader returned. A refusal can occur if it is correct. A read fault can occur if the command line is not refused
+-- and contains no string, and a write fault if there is a drawing. Lack of memory can always occur [own]
 abbrev pub IsFault : List Text → List ℕ → Fault → Type 0
 IsFault words given fault.Read = HasSettingsWith words (λ s. s.string ≡ None)
 IsFault words given fault.Memory = Unit {0}
@@ -140,8 +140,9 @@ ErrorHolds old new line = AppendsBeginning old.taken new.taken line
 -- `outcome` and this exit `status`. The outcome is success or a fault. The reader and the two writers are `in0`, `out0`
 -- and `err0` before the run, and `in1`, `out1` and `err1` after it. The arguments and the input determine the outcome,
 -- except for lack of memory and faults of devices. If the counts of a device were 0 before the run, the counts after it
--- show whether the device had a fault. After success, standard error receives nothing, and the status is 0. After a
--- fault, standard error receives the fault's line, and the status is 1 [own]
+-- show whether the device had a fault, and stay within their limits. No write of the drawing offers more than 1,200
+-- bytes. After success, standard error receives nothing, and the status is 0. After a fault, standard error receives
+-- the fault's line, and the status is 1 [own]
 pub record Runs (words : List Text) (in0 in1 : Reader) (out0 out1 err0 err1 : Writer) (outcome : Result (Unit {0}) Fault) (status : ℕ) : Type 0 where
   pub given : List ℕ
   pub is_input : IsInputOf in0.remaining given

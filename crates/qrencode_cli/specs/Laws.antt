@@ -112,12 +112,12 @@ abbrev pub AreAlike : Fault → Fault → Type 0
 AreAlike (fault.Usage (usage.Words text)) (fault.Usage (usage.Words other)) = Unit {0}
 AreAlike r q = r ≡ q
 
--- `RefusalsAreOne` holds if at most one refusal is correct for a command line and an input [own].
+-- `RefusalsAreOne` holds if all refusals that are correct for a command line and an input are alike [own].
 abbrev pub RefusalsAreOne : Type 0
 RefusalsAreOne = (words : List Text) (given : List ℕ) (r q : Fault) → IsRefusal words given r → IsRefusal words given q → AreAlike r q
 
 -- `RulesOfModes` holds if the options -8 and -k decide which modes are allowed. With -8 only byte mode is allowed, even
--- if -k is given too. Without -8, the option -k allows kanji mode in addition to the other modes [own]
+-- if -k is given too. Without -8, all modes but kanji mode are allowed, and kanji mode too if -k is given [own]
 pub record RulesOfModes : Type 0 where
   pub bytes : (s : SettingsView) → s.bytes_only ≡ true → rule_for s ≡ BytesOnly
   pub kanji : (s : SettingsView) → s.bytes_only ≡ false → s.kanji ≡ true → rule_for s ≡ WithKanji

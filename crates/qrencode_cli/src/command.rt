@@ -67,8 +67,8 @@ fn make_job(alloc: Global, input: &[u8], settings: &Settings) -> Result<DrawingJ
 }
 
 // Parses the command line `words`, encodes the input, and returns the drawing job: the symbols, and how they are drawn.
-// The input is the string among the arguments. If there is no string, the input is read from `input`. At most the first
-// `INPUT_MAX` bytes of the input are encoded.
+// The input is the string among the arguments. If there is no string, the input is read from `input`. Bytes of the
+// input after the first `INPUT_MAX` are not used.
 fn job_for<R: Source>(alloc: Global, words: &[String], input: &mut R) -> Result<DrawingJob, Fault>
     ensures prepares { Prepares (map string_bytes words.now) (R.device input.old)
         (R.device input.new) result }
@@ -134,8 +134,7 @@ fn run_to_result<R: Source, W: Sink>(
 /// flushed once, after the last byte. `err` received nothing, and the status is 0.
 ///
 /// If the drawn symbols are read and their bytes are joined, the result is exactly the input. No byte of the input was
-/// cut off. With `-i` the result is the folded input. The paragraph on `-i` below states which letters folding turns
-/// into capitals.
+/// cut off. With `-i` the result is the folded input, which is described below.
 ///
 /// With `-8` the whole input is encoded in byte mode. Without `-8`, kanji mode may be used only if `-k` is given.
 ///
@@ -143,9 +142,9 @@ fn run_to_result<R: Source, W: Sink>(
 /// character of kanji mode) are unchanged. If `-8` is given too, all bytes are unchanged. Without `-i` no letter is
 /// changed.
 ///
-/// After a fault the status is 1, and `err` received the fault's line. If a write to `err` failed, `err` received a
-/// prefix of this line. After a write fault, `out` received a prefix of the drawing, or the whole drawing if only the
-/// flush failed. After any other fault, nothing was written to `out`, and `out` was not flushed.
+/// After a fault the status is 1, and `err` received the fault's line. If writing this line failed, `err` received a
+/// prefix of it. After a write fault, `out` received a prefix of the drawing, or the whole drawing if only the flush
+/// failed. After any other fault, nothing was written to `out`, and `out` was not flushed.
 ///
 /// A read fault is reported exactly if one of two events occurred: a failed read, or the 1,000th interrupted read. A
 /// write fault is reported exactly if one of four events occurred: a failed write of the drawing, a write that accepted

@@ -8,8 +8,8 @@ use qr_drawing::DrawFault;
 use qr_symbol::EncodeFault;
 use std::alloc::{AllocError, AllocFailed};
 
-/// The reason why the command draws nothing, or only a part of its drawing. Lack of memory is always reported as
-/// `Memory`, never as `Usage` or `Encode`.
+/// The reason why a run of the command fails. Lack of memory is always reported as `Memory`, never as `Usage` or
+/// `Encode`.
 #[derive(Debug, Drop)]
 pub(crate) enum Fault {
     Usage(UsageFault),

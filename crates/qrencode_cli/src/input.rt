@@ -28,8 +28,7 @@ pub(crate) fn read_input<R: Source>(alloc: Global, input: &mut R) -> Result<Vec<
     // even if the bytes of the device are not.
     ensures given { (R.device input.old).counts ≡ no_reads
         → IfOk result (λ bytes. (R.device input.new).counts.given ≡ length bytes.items) }
-    // The device's counts show that it was read to its end, or that `INPUT_MAX` bytes were read. The counts are known
-    // even if the bytes of the device are not.
+    // The device's counts show that it was read to its end, or that `INPUT_MAX` bytes were read.
     ensures ended { (R.device input.old).counts ≡ no_reads
         → IfOk result (λ bytes. ((R.device input.new).counts.ends ≡ 1) ⊎ (length bytes.items ≡ INPUT_MAX)) }
     // The device's counts stay within the limits of `IsReadWithin`. One of these limits is that no read comes after the

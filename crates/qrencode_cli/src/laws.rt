@@ -23,21 +23,22 @@ pub fn limits()
 
 /// A command line and an input have at most one drawing. If they have a drawing, no refusal is correct for them. Then
 /// only a device or lack of memory can make the run fail. For every command line and every input, at most one refusal
-/// is correct.
+/// is correct, apart from the text of `clap`.
 pub fn answers_are_one()
     ensures drawing { AnswersAreOne }
     ensures refusal { RefusalsExcludeDrawings }
     ensures reason { RefusalsAreOne }
 {}
 
-/// With `-8` only byte mode is allowed, even if `-k` is given too. Without `-8`, the option `-k` allows kanji mode in
-/// addition to the other modes.
+/// With `-8` only byte mode is allowed, even if `-k` is given too. Without `-8`, all modes but kanji mode are allowed,
+/// and kanji mode too if `-k` is given.
 pub fn rules_of_modes()
     ensures { RulesOfModes }
 {}
 
-/// Folding turns the letters `a` to `z` of the input into capitals. The input is folded only if `-i` is given. If `-k`
-/// is given too, folding does not change kanji pairs, that is, two bytes that are one character of kanji mode.
+/// The input is folded for the allowed modes if `-i` is given, and is unchanged otherwise. Folding turns the letters
+/// `a` to `z` into capitals. With `-k`, folding does not change kanji pairs, that is, two bytes that are one character
+/// of kanji mode. With `-8`, folding changes nothing.
 #[tactic(auto, unfolding(qr_bits::specs::Folding::folded_around_pairs, qr_bits::specs::Modes::is_kanji_pair))]
 pub fn folding_follows_the_rule()
     ensures { FoldingFollowsTheRule }

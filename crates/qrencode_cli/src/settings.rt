@@ -82,7 +82,7 @@ impl Settings {
 }
 
 /// The reason why a command line is refused. If several of the first four reasons apply, the one that is listed first
-/// here is returned. `Memory` is returned if memory is refused before another reason is found.
+/// here is returned. `Memory` is returned if memory is refused before another reason is returned.
 #[derive(Debug, Drop, Error)]
 pub enum UsageFault {
     /// `clap` refuses the arguments. The text is the message of `clap`, or the help text if the arguments ask for help.
@@ -185,7 +185,7 @@ fn level_named(name: &str) -> Option<Level>
     }
 }
 
-// Returns the type of drawing that `-t` asks for, or `None` if this type is unknown.
+// Returns the type of drawing that `-t` asks for, or `None` if this type is unknown or missing.
 fn drawing_in(matches: &ArgMatches<'_>) -> Option<Drawing>
     ensures { result ≡ option_and_then drawing_named (first_of (codes "type") (rows_of (found_of matches.now))) }
 {
@@ -266,7 +266,7 @@ fn settings_in(alloc: Global, matches: &ArgMatches<'_>) -> Result<Settings, Usag
 /// # Errors
 ///
 /// Returns the first fault that applies, in the order `Words`, `Level`, `Kind`, `NeedsVersion`. Returns `Words` only if
-/// `clap` refuses the arguments. Returns `Memory` if memory is refused before another fault is found.
+/// `clap` refuses the arguments. Returns `Memory` if memory is refused before another fault is returned.
 pub fn options(alloc: Global, words: &[String]) -> Result<Settings, UsageFault>
     ensures settings { MatchResult result (λ s. settings_for (map string_bytes words.now) ≡ Ok s)
         (IsUsageFault (settings_for (map string_bytes words.now))) }

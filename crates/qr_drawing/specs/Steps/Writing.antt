@@ -1,5 +1,5 @@
 -- Defines what happens to the writer and to the bytes in the pen when a part of a text is written. The pen is a buffer
--- of bytes that are not written yet. Only contracts of private functions use these definitions.
+-- of bytes that are not written yet.
 use Rattle.std.specs.Prelude.{◌≡◌, ◌≤◌, ◌<◌, ◌+◌, ◌^◌, ◌++◌, ℕ, max, length, List, true}
 use Rattle.std.specs.Io.KnownBytes.{Appends}
 use Rattle.qr_devices.specs.Device.{AppendsBeginning, IsWrittenWithin, Writer, counted, is_write_fault}
@@ -22,8 +22,9 @@ pub record Sends (old new : Writer) (text held : List ℕ) : Type 0 where
   pub many : old.counts.taken < 2 ^ 64 → new.counts.taken ≡ counted (old.counts.taken + length sent)
 
 -- `Writes old new tried tries text held` holds if `text` was written, except for its last bytes `held`, which wait in
--- the pen. The writer was `old` before, and is `new` afterwards. The number of interrupted writes was `tried` before,
--- and is `tries` afterwards
+-- the pen. The writer was `old` before, and is `new` afterwards. If the writer had no fault and `tried` interrupted
+-- writes before, it has no fault and `tries` interrupted writes afterwards. No write offered more than 1,200 bytes, and
+-- there was no flush
 pub record Writes (old new : Writer) (tried tries : ℕ) (text held : List ℕ) : Type 0 where
   pub sends : Sends old new text held
   pub well : IsWell old.counts tried → IsWell new.counts tries
@@ -31,8 +32,9 @@ pub record Writes (old new : Writer) (tried tries : ℕ) (text held : List ℕ) 
   pub flushes : new.counts.flushes ≡ old.counts.flushes
 
 -- `Stops old new tried text` holds if a fault of the writer ended the writing of `text`, after the writer had accepted
--- a prefix of `text`. The writer was `old` before, and is `new` afterwards. The number of interrupted writes was
--- `tried` before
+-- a prefix of `text`. The writer was `old` before, and is `new` afterwards. If the writer had no fault and `tried`
+-- interrupted writes before, its counts show one fault afterwards. No write offered more than 1,200 bytes, and there
+-- was no flush
 pub record Stops (old new : Writer) (tried : ℕ) (text : List ℕ) : Type 0 where
   pub prefix : AppendsBeginning old.taken new.taken text
   pub most : old.counts.taken < 2 ^ 64 → new.counts.taken ≤ counted (old.counts.taken + length text)

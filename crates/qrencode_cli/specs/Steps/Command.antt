@@ -21,7 +21,8 @@ abbrev pub drawing_of_job : DrawingJob → List ℕ
 drawing_of_job job = drawn job.kind job.margin (squares_of job.symbols.items)
 
 -- `AreDrawnFor s input symbols` holds if `symbols` are the symbols of `input` under the settings `s`, and these symbols
--- can be drawn
+-- can be drawn. If they are read and joined, the result is `input`, which has at least one byte and fewer than
+-- `INPUT_MAX` bytes
 pub record AreDrawnFor (s : SettingsView) (input : List ℕ) (symbols : List Symbol) : Type 0 where
   pub asked : AreSymbols s input (squares_of symbols)
   pub joined : IsJoined (squares_of symbols) input
