@@ -13,7 +13,7 @@ ghost use Rattle.qr_layout.specs.Role.{finder_ring, is_alignment_light, role_of}
 ghost use Rattle.qr_layout.specs.Format.{version_word_of};
 ghost use Rattle.qr_matrix.specs.Grid.{square, colour, light, IsSquare};
 ghost use Rattle.qr_symbol.specs.Symbol.{word_bit};
-ghost use Rattle.qr_symbol.specs.Steps.Patterns.{fixed_colour, format_or, is_dark_in_six, paint_of};
+ghost use Rattle.qr_symbol.specs.Steps.Patterns.{fixed_colour, format_bits_or, format_or, is_dark_in_six, paint_of};
 ghost use Rattle.qr_symbol.specs.Steps.Drawing.{region_grid};
 
 use qr_layout::{
@@ -144,8 +144,42 @@ fn paint_finder(matrix: &mut Matrix, v: Version, block: Module, centre: Module)
     draw_finder(matrix, centre.row, centre.col);
 }
 
+// The number of bits of the format information.
+pub(crate) const FORMAT_BITS: u8 = 15;
+
+// Draws the bits with the indices from `first` to `end - 1` of the format information over a symbol, each bit in both
+// copies. The bits of the number `format` are the format information.
+#[inline(always)]
+fn draw_format_bits(matrix: &mut Matrix, v: Version, format: u32, first: u8, end: u8)
+    requires square { IsSquare (side_of v) matrix.old }
+    requires in_order { first ≤ end }
+    requires end_in { end ≤ 15 }
+    ensures { matrix.new ≡ square (side_of v) (λ r c. format_bits_or first end format (role_of v r c) (colour matrix.old r c)) }
+{
+    for bit in first..end {
+        let dark = is_bit_set(format, bit);
+        let one = format_place(bit);
+        matrix.set(one.row, one.col, dark);
+        let other = second_format_place(v, bit);
+        matrix.set(other.row, other.col, dark);
+    }
+}
+
+// Draws both copies of the format information over a symbol. The bits of the number `format` are the format
+// information. The bits are drawn in three parts: in the first part and in the last part, the places of each copy are
+// in one row or in one column, so the compiler needs no tests to find them.
+pub(crate) fn draw_format(matrix: &mut Matrix, v: Version, format: u32)
+    requires { IsSquare (side_of v) matrix.old }
+    ensures { matrix.new ≡ square (side_of v) (λ r c. format_or format (role_of v r c) (colour matrix.old r c)) }
+{
+    draw_format_bits(matrix, v, format, 0, 6);
+    draw_format_bits(matrix, v, format, 6, 9);
+    draw_format_bits(matrix, v, format, 9, FORMAT_BITS);
+}
+
 // Draws the three corners of a symbol: the finder patterns, their separators, and the modules of row 8 and column 8
-// that are beside the finder patterns. These modules include those of the format information and the dark module.
+// that are beside the finder patterns. Of these modules beside the finder patterns, two belong to the timing patterns,
+// one is the dark module, and the others are the format information.
 fn paint_corners(matrix: &mut Matrix, v: Version, format: u32)
     requires { IsSquare (side_of v) matrix.old }
     ensures { matrix.new ≡ square (side_of v) (λ r c. if list_any (is_in_rectangle r c) (corner_rectangles (side_of v))
@@ -159,13 +193,10 @@ fn paint_corners(matrix: &mut Matrix, v: Version, format: u32)
     paint_finder(matrix, v, Module { row: 0, col: 0 }, near);
     paint_finder(matrix, v, Module { row: 0, col: far }, right);
     paint_finder(matrix, v, Module { row: far, col: 0 }, below);
-    let beside = [
-        Rectangle::new(8..9, 0..9),
-        Rectangle::new(8..9, far..side),
-        Rectangle::new(0..8, 8..9),
-        Rectangle::new(far..side, 8..9),
-    ];
-    paint_rectangles(matrix, v, format, &beside);
+    matrix.set(8, 6, true);
+    matrix.set(6, 8, true);
+    matrix.set(far, 8, true);
+    draw_format(matrix, v, format);
 }
 
 // Returns whether the module with the index `at` in row 6, or in column 6, is dark. The first seven and the last seven
@@ -270,22 +301,4 @@ pub(crate) fn draw_region(matrix: &mut Matrix, v: Version)
     matrix.fill(0, side, 0, side, true);
     clear_rectangles(matrix, v, fixed_rectangles(v).as_slice());
     fill_alignment(matrix, v, alignment_centres(v).as_slice(), false);
-}
-
-// The number of bits of the format information.
-pub(crate) const FORMAT_BITS: u8 = 15;
-
-// Draws both copies of the format information over a symbol. The bits of the number `format` are the format
-// information.
-pub(crate) fn draw_format(matrix: &mut Matrix, v: Version, format: u32)
-    requires { IsSquare (side_of v) matrix.old }
-    ensures { matrix.new ≡ square (side_of v) (λ r c. format_or format (role_of v r c) (colour matrix.old r c)) }
-{
-    for bit in 0..FORMAT_BITS {
-        let dark = is_bit_set(format, bit);
-        let first = format_place(bit);
-        matrix.set(first.row, first.col, dark);
-        let second = second_format_place(v, bit);
-        matrix.set(second.row, second.col, dark);
-    }
 }

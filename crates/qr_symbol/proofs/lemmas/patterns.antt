@@ -6,3 +6,5 @@ pub mod TimingLemmas
 pub mod FinderLemmas
 -- The format information, drawn bit by bit over a symbol.
 pub mod FormatDrawingLemmas
+-- The modules of row 8 and column 8 that are beside the finder patterns.
+pub mod CornerLemmas

@@ -1,5 +1,5 @@
 -- This file defines which colours the modules outside the encoding region have after each step of drawing.
-use Rattle.std.specs.Prelude.{ℕ, ◌-◌, ◌%◌, ◌==◌, ◌||◌, nat_le, nat_lt, Bool, false}
+use Rattle.std.specs.Prelude.{ℕ, ◌-◌, ◌%◌, ◌==◌, ◌&&◌, ◌||◌, nat_le, nat_lt, if◌then◌else◌, Bool, false}
 use Rattle.qr_layout.specs.declared.role.Role.{Role}
 use Rattle.qr_layout.specs.declared.role.Role.TheVariants.{Fixed, FormatBit, VersionBit, Region}
 use Rattle.qr_layout.specs.Format.{version_word_of}
@@ -40,3 +40,12 @@ format_or format (Fixed dark) other = other
 format_or format (FormatBit i) other = word_bit format i
 format_or format (VersionBit i) other = other
 format_or format Region other = other
+
+-- `format_bits_or first end format role other` is the colour of a module after the bits with the indices from first to
+-- end - 1 of the format information were drawn, where `role` says what the module is for. A module with one of these
+-- bits has the colour of its bit in the number `format`. Every other module keeps the colour `other`.
+unfoldable pub format_bits_or : ℕ → ℕ → ℕ → Role → Bool → Bool
+format_bits_or first end format (Fixed dark) other = other
+format_bits_or first end format (FormatBit i) other = if nat_le first i && nat_lt i end then word_bit format i else other
+format_bits_or first end format (VersionBit i) other = other
+format_bits_or first end format Region other = other

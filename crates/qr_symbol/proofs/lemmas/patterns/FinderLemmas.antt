@@ -13,11 +13,6 @@ use Rattle.qr_layout.specs.Steps.Rectangles.{IsWithin}
 use Rattle.qr_symbol.specs.Steps.Patterns.{paint_of}
 use Rattle.qr_symbol.proofs.lemmas.patterns.TimingLemmas.{paint-fixed}
 
--- the rectangles of row 8 and column 8 beside the finder patterns
-abbrev pub beside : ℕ → List Rectangle
-beside s =
-    record { top = 8; bottom = 9; left = 0; right = 9 } ∷ record { top = 8; bottom = 9; left = s - 8; right = s } ∷ record { top = 0; bottom = 8; left = 8; right = 9 } ∷ record { top = s - 8; bottom = s; left = 8; right = 9 } ∷ []
-
 -- the places in the rings up to k round a centre are a square
 pub rings-square : (a b r c k : ℕ) → k ≤ a → k ≤ b → (leb (a - k) r && ltb r (a + (k + 1)) && leb (b - k) c && ltb c (b + (k + 1))) ≡ ltb (ring_of a b r c) (k + 1)
 rings-square a b r c k l m = grind (arith, nat_tests)
@@ -80,17 +75,3 @@ block-paint v r c a b top left format w h i j k near =
     in-its-block : (t x y w : Bool) → (t ≡ true → x ≡ y) → cond t x w ≡ cond t y w
     in-its-block true x y w e = e refl
     in-its-block false x y w e = refl
-
--- the blocks of the finder patterns, and the rectangles beside them, as one test
-pub corner-parts : (s r c : ℕ) → 21 ≤ s → r < s → c < s → list_any (is_in_rectangle r c) (corner_rectangles s)
-    ≡ ((((leb 0 r && ltb r 8 && leb 0 c && ltb c 8) || (leb 0 r && ltb r 8 && leb (s - 8) c && ltb c (s - 8 + 8))) || (leb (s - 8) r && ltb r (s - 8 + 8) && leb 0 c && ltb c 8))
-    || list_any (is_in_rectangle r c) (beside s))
-corner-parts s r c l m n = grind (arith, nat_tests)
-
--- these rectangles are inside the symbol
-pub beside-within : (n s : ℕ) → n ≡ s → 21 ≤ n → All (IsWithin s) (beside n)
-beside-within n s e l zero d h = record { rows = omega arith; bottom = omega arith; columns = omega arith; right = omega arith }
-beside-within n s e l (suc zero) d h = record { rows = omega arith; bottom = omega arith; columns = omega arith; right = omega arith }
-beside-within n s e l (suc (suc zero)) d h = record { rows = omega arith; bottom = omega arith; columns = omega arith; right = omega arith }
-beside-within n s e l (suc (suc (suc zero))) d h = record { rows = omega arith; bottom = omega arith; columns = omega arith; right = omega arith }
-beside-within n s e l (suc (suc (suc (suc k)))) d h = absurd (omega arith)

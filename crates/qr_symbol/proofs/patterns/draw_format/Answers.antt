@@ -1,34 +1,31 @@
-use Rattle.std.proofs.Common.{◌≡◌, ◌∙◌, ap, subst, ℕ, arith}
+use Rattle.std.proofs.Common.{◌≡◌, ℕ, ◌∙◌, ap}
 use Rattle.qr_layout.specs.Version.{side_of}
-use Rattle.qr_matrix.specs.Grid.{Grid, painted}
-use Rattle.qr_symbol.proofs.lemmas.drawing.DrawingLemmas.{painted-square}
-use Rattle.qr_symbol.proofs.lemmas.patterns.FormatDrawingLemmas.{FormatDone, format-start, format-step, format-end}
+use Rattle.qr_layout.specs.Role.{role_of}
+use Rattle.qr_matrix.specs.Grid.{Grid, colour}
+use Rattle.qr_matrix.proofs.Facts.{square-same, colour-square}
+use Rattle.qr_symbol.specs.Steps.Patterns.{format_bits_or, format_or}
+use Rattle.qr_symbol.proofs.lemmas.drawing.DrawingLemmas.{square-is}
+use Rattle.qr_symbol.proofs.lemmas.patterns.FormatDrawingLemmas.{three-parts}
 use Rattle.qr_symbol.proofs.patterns.draw_format.Goals as goal
 
-pub loop-bit-init : goal.loop-bit-init
-loop-bit-init c = record {
-  square = c.requires;
-  done = format-start c.args.v c.args.format c.args.matrix.now;
-}
+pub draw_format_bits-requires-2-clause-square : goal.draw_format_bits-requires-2-clause-square
+draw_format_bits-requires-2-clause-square c =
+    square-is (side_of c.args.v) (λ r k. format_bits_or 0 6 c.args.format (role_of c.args.v r k) (colour c.args.matrix.now r k)) c.draw_format_bits.new.matrix c.draw_format_bits.ensures
 
-pub loop-bit-preserved : goal.loop-bit-preserved
-loop-bit-preserved c =
-    let i = c.loop-bit.invariant in
-    let g = c.loop-bit.matrix in
-    let a = c.format_place-first in
-    let b = c.second_format_place-second in
-    let d = c.is_bit_set-dark.result in
-    let s : g.side ≡ side_of c.args.v = ap (λ (h : Grid). h.side) i.square in
-    let e = c.set-in-loop-bit.ensures ∙ ap (λ (h : Grid). painted h b.result.row b.result.col d) c.set.ensures in
-    let now = format-step c.args.v c.args.format c.loop-bit.bit c.args.matrix.now g a.result b.result d (omega arith) (omega arith) (omega arith) s
-    a.ensures.place (omega arith) (omega arith) b.ensures.place (omega arith) (omega arith) c.is_bit_set-dark.ensures i.done in
-    record {
-      square = rw e (painted-square (side_of c.args.v) (painted g a.result.row a.result.col d) b.result.row b.result.col d s);
-      done = rw e now;
-    }
+pub draw_format_bits-requires-3-clause-square : goal.draw_format_bits-requires-3-clause-square
+draw_format_bits-requires-3-clause-square c =
+    square-is (side_of c.args.v) (λ r k. format_bits_or 6 9 c.args.format (role_of c.args.v r k) (colour c.draw_format_bits.new.matrix r k)) c.draw_format_bits-2.new.matrix c.draw_format_bits-2.ensures
 
 pub returns : goal.returns
 returns c =
-    let i = c.loop-bit.invariant in
-    let n : c.loop-bit.bit ≡ 15 = omega arith in
-    format-end c.args.v c.args.format c.args.matrix.now c.loop-bit.matrix i.square (subst (λ (z : ℕ). FormatDone c.args.v c.args.format z c.args.matrix.now c.loop-bit.matrix) n i.done)
+    let v = c.args.v in
+    let s = side_of v in
+    let g0 = c.args.matrix.now in
+    let g1 = c.draw_format_bits.new.matrix in
+    let g2 = c.draw_format_bits-2.new.matrix in
+    let part = λ (first end : ℕ) (g : Grid) (r k : ℕ). format_bits_or first end c.args.format (role_of v r k) (colour g r k) in
+    c.draw_format_bits-3.ensures ∙ square-same s (part 9 15 g2) (λ r k. format_or c.args.format (role_of v r k) (colour g0 r k)) (λ r k l m.
+    let e1 : colour g1 r k ≡ part 0 6 g0 r k = ap (λ (z : Grid). colour z r k) c.draw_format_bits.ensures ∙ colour-square s (part 0 6 g0) r k l m in
+    let e2 : colour g2 r k ≡ part 6 9 g1 r k = ap (λ (z : Grid). colour z r k) c.draw_format_bits-2.ensures ∙ colour-square s (part 6 9 g1) r k l m in
+    ap (format_bits_or 9 15 c.args.format (role_of v r k)) (e2 ∙ ap (format_bits_or 6 9 c.args.format (role_of v r k)) e1)
+    ∙ three-parts v c.args.format r k (colour g0 r k))

@@ -1,10 +1,10 @@
 use Rattle.qr_layout.specs.Version.{side_of}
 use Rattle.qr_matrix.specs.Grid.{IsSquare}
 use Rattle.qr_symbol.proofs.lemmas.patterns.FormatDrawingLemmas.{FormatDone}
-use Rattle.qr_symbol.proofs.patterns.draw_format.Given as goal
+use Rattle.qr_symbol.proofs.patterns.draw_format_bits.Given as goal
 
 abbrev pub invariant-loop-bit : goal.invariant-loop-bit
 invariant-loop-bit l = record {
   square : IsSquare (side_of l.v) l.matrix;
-  done : FormatDone l.v l.format l.bit l.fn.matrix l.matrix;
+  done : FormatDone l.v l.format l.first l.bit l.fn.matrix l.matrix;
 }

@@ -1,0 +1,34 @@
+use Rattle.std.proofs.Common.{◌≡◌, ◌∙◌, ap, subst, ℕ, arith}
+use Rattle.qr_layout.specs.Version.{side_of}
+use Rattle.qr_matrix.specs.Grid.{Grid, painted}
+use Rattle.qr_symbol.proofs.lemmas.drawing.DrawingLemmas.{painted-square}
+use Rattle.qr_symbol.proofs.lemmas.patterns.FormatDrawingLemmas.{FormatDone, format-start, format-step, format-end}
+use Rattle.qr_symbol.proofs.patterns.draw_format_bits.Goals as goal
+
+pub loop-bit-init : goal.loop-bit-init
+loop-bit-init c = record {
+  square = c.requires.square;
+  done = format-start c.args.v c.args.format c.args.first c.args.matrix.now;
+}
+
+pub loop-bit-preserved : goal.loop-bit-preserved
+loop-bit-preserved c =
+    let i = c.loop-bit.invariant in
+    let g = c.loop-bit.matrix in
+    let a = c.format_place-one in
+    let b = c.second_format_place-other in
+    let d = c.is_bit_set-dark.result in
+    let s : g.side ≡ side_of c.args.v = ap (λ (h : Grid). h.side) i.square in
+    let e = c.set-in-loop-bit.ensures ∙ ap (λ (h : Grid). painted h b.result.row b.result.col d) c.set.ensures in
+    let now = format-step c.args.v c.args.format c.args.first c.loop-bit.bit c.args.matrix.now g a.result b.result d (omega arith) (omega arith) (omega arith) (omega arith) s
+    a.ensures.place (omega arith) (omega arith) b.ensures.place (omega arith) (omega arith) c.is_bit_set-dark.ensures i.done in
+    record {
+      square = rw e (painted-square (side_of c.args.v) (painted g a.result.row a.result.col d) b.result.row b.result.col d s);
+      done = rw e now;
+    }
+
+pub returns : goal.returns
+returns c =
+    let i = c.loop-bit.invariant in
+    let n : c.loop-bit.bit ≡ c.args.end = omega arith in
+    format-end c.args.v c.args.format c.args.first c.args.end c.args.matrix.now c.loop-bit.matrix i.square (subst (λ (z : ℕ). FormatDone c.args.v c.args.format c.args.first z c.args.matrix.now c.loop-bit.matrix) n i.done)
