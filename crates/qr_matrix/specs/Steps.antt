@@ -1,8 +1,8 @@
 -- Defines what single steps of the code do with bit rows, with runs of modules of one colour, and with tiles of 64 by
 -- 64 modules. Apart from the model of `BitRow`, only proofs and contracts of private functions use these definitions.
-use Rattle.std.specs.Prelude.{◌≡◌, ℕ, ◌+◌, ◌-◌, ◌*◌, ◌%◌, ◌^◌, ◌<◌, ◌==◌, ◌&&◌, not, true, false, Bool, List, Option, None, Some, length, slice_index, nat_lt, if◌then◌else◌}
+use Rattle.std.specs.Prelude.{◌≡◌, ℕ, ◌+◌, ◌-◌, ◌*◌, ◌%◌, ◌^◌, ◌<◌, ◌==◌, ◌&&◌, ◌||◌, not, true, false, Bool, List, Option, None, Some, length, slice_index, nat_lt, if◌then◌else◌}
 use Rattle.qr_matrix.specs.Penalty.{count_below}
-use Rattle.qr_matrix.specs.Runs.{begins_five, begins_long_run}
+use Rattle.qr_matrix.specs.Runs.{begins_five}
 use Rattle.qr_matrix.specs.BitRow.{has, has_bit}
 
 -- `AreWords words` holds if the list `words` contains exactly three numbers, each of at most 64 bits
@@ -20,11 +20,16 @@ TakesFirst old None new = (new ≡ old) × ((c : ℕ) → c < 192 → has old c 
 TakesFirst old (Some p) new =
     (p < 192) × (has old p ≡ true) × ((c : ℕ) → c < p → has old c ≡ false) × ((c : ℕ) → has new c ≡ (has old c && not (c == p)))
 
+-- `is_charged s line c` is true if module `c` of `line`, a row or column of `s` modules, adds a point to the cost of the
+-- runs. This is so if five modules of one colour begin at module `c`, at the module before it, or at the second module
+-- before it. So a run of five or more modules costs a point for each of its modules but the last two
+unfoldable pub is_charged : ℕ → (ℕ → Bool) → ℕ → Bool
+is_charged s line c = (begins_five s line c || (nat_lt 0 c && begins_five s line (c - 1))) || (nat_lt 1 c && begins_five s line (c - 2))
+
 -- `row_share s dark r` is what the modules of row `r` add to the cost of the runs in all columns. The symbol has `s`
--- rows and columns, and `dark row col` is the colour of a module. A module at which five modules of one colour begin
--- downwards adds 1 point, and 2 points more if it is the first module of its run
+-- rows and columns, and `dark row col` is the colour of a module
 unfoldable pub row_share : ℕ → (ℕ → ℕ → Bool) → ℕ → ℕ
-row_share s dark r = count_below s (λ c. begins_five s (λ i. dark i c) r) + 2 * count_below s (λ c. begins_long_run s (λ i. dark i c) r)
+row_share s dark r = count_below s (λ c. is_charged s (λ i. dark i c) r)
 
 -- `bit_in words r c` is true if bit `c` of the word with index `r` in the list `words` is 1
 unfoldable pub bit_in : List ℕ → ℕ → ℕ → Bool

@@ -207,17 +207,14 @@ impl Matrix {
         self.set_bit_row(row, plain.bit_row(index) ^ inverted);
     }
 
-    // Sets the colours of row `row` from column `left` up to, but not including, column `right`. The modules become
-    // dark if `dark` is true, and light otherwise.
-    fn fill_row(&mut self, row: u8, left: u8, right: u8, dark: bool)
+    // Sets the colours of the columns of row `row` whose bits are set in `columns`. These modules become dark if `dark`
+    // is true, and light otherwise. No bit of a column outside the square may be set.
+    fn fill_row(&mut self, row: u8, columns: BitRow, dark: bool)
         requires row_in { row < self.old.side }
-        requires in_order { left ≤ right }
-        requires right_in { right ≤ self.old.side }
-        ensures { self.new ≡ with_row self.old row
-            (λ c. if nat_le left c && nat_lt c right then dark else colour self.old row c) }
+        requires past { (c : ℕ) → self.old.side ≤ c → has columns c ≡ false }
+        ensures { self.new ≡ with_row self.old row (λ c. if has columns c then dark else colour self.old row c) }
     {
         let bits = self.bit_row(usize::from(row));
-        let columns = BitRow::below(right).and_not(BitRow::below(left));
         if dark {
             self.set_bit_row(row, bits | columns);
         } else {
@@ -238,8 +235,9 @@ impl Matrix {
         // This line helps the prover only: it repeats that a `Matrix` has at most 177 modules on a side. The prover
         // needs this bound if the rectangle has no rows.
         prove!(self.side <= 177);
+        let columns = BitRow::below(right).and_not(BitRow::below(left));
         for row in top..bottom {
-            self.fill_row(row, left, right, dark);
+            self.fill_row(row, columns, dark);
         }
     }
 

@@ -1,5 +1,7 @@
 -- Bit operations on a bit row compute the tests of a row.
 pub mod RowLemmas
+-- The modules that cost a point for a run are as many as the points that the runs cost.
+pub mod ChargeLemmas
 -- Bit operations on neighbouring rows compute the tests of all columns at once.
 pub mod ColumnLemmas
 -- The cost of the maximal runs of a row or column is the cost that is counted module by module.

@@ -142,28 +142,23 @@ with_row-same g row f h e = square-same g.side (λ r c. cond (eqb r row) (f c) (
 among : (left right c : ℕ) → (ltb c right && not (ltb c left)) ≡ (leb left c && ltb c right)
 among left right c = grind (arith, nat_tests)
 
--- if bit d is set where p is set or the column is from `left` to before `right`, then d is p with these columns dark
-pub filled-dark : (left right c : ℕ) (d p x a b : Bool) → d ≡ (p || x) → x ≡ (a && not b) → a ≡ ltb c right → b ≡ ltb c left → d ≡ cond (leb left c && ltb c right) true p
-filled-dark left right c d p x a b e f ea eb =
-    e ∙ (ap (λ z. p || z) (f ∙ (ap (λ z. z && not b) ea ∙ (ap (λ z. ltb c right && not z) eb ∙ among left right c))) ∙ told p (leb left c && ltb c right))
-  where
-    told : (p t : Bool) → (p || t) ≡ cond t true p
-    told true true = refl
-    told true false = refl
-    told false true = refl
-    told false false = refl
+-- the columns from `left` to before `right` are those before `right` that are not before `left`
+pub columns-are : (left right c : ℕ) (x a b : Bool) → x ≡ (a && not b) → a ≡ ltb c right → b ≡ ltb c left → x ≡ (leb left c && ltb c right)
+columns-are left right c x a b f ea eb = f ∙ (ap (λ z. z && not b) ea ∙ (ap (λ z. ltb c right && not z) eb ∙ among left right c))
 
--- if bit d is set where p is set and the column is not from `left` to before `right`, then d is p with these columns
--- light
-pub filled-light : (left right c : ℕ) (d p x a b : Bool) → d ≡ (p && not x) → x ≡ (a && not b) → a ≡ ltb c right → b ≡ ltb c left → d ≡ cond (leb left c && ltb c right) false p
-filled-light left right c d p x a b e f ea eb =
-    e ∙ (ap (λ z. p && not z) (f ∙ (ap (λ z. z && not b) ea ∙ (ap (λ z. ltb c right && not z) eb ∙ among left right c))) ∙ told p (leb left c && ltb c right))
-  where
-    told : (p t : Bool) → (p && not t) ≡ cond t false p
-    told true true = refl
-    told true false = refl
-    told false true = refl
-    told false false = refl
+-- bit p with the bit t added is dark where t is set
+pub filled-dark : (p t : Bool) → (p || t) ≡ cond t true p
+filled-dark true true = refl
+filled-dark true false = refl
+filled-dark false true = refl
+filled-dark false false = refl
+
+-- bit p without the bit t is light where t is set
+pub filled-light : (p t : Bool) → (p && not t) ≡ cond t false p
+filled-light true true = refl
+filled-light true false = refl
+filled-light false true = refl
+filled-light false false = refl
 
 -- the grid that a matrix is seen as is the square of its own colours
 pub view-square : (s : ℕ) (rows : List (List ℕ)) (g : Grid) → square s (dark_in rows) ≡ g → g ≡ square g.side (colour g)

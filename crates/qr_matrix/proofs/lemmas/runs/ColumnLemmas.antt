@@ -1,14 +1,15 @@
 -- Bit operations on neighbouring rows compute the tests of all columns at once.
-use Rattle.std.proofs.Common.{◌≡◌, ℕ, ◌+◌, ◌-◌, ◌*◌, ◌<◌, ◌≤◌, List, [], ◌∷◌, eqb, ltb, Bool, true, false, not, ◌&&◌, cond, refl, sym, ap, ◌∙◌, inl, inr, arith}
+use Rattle.std.proofs.Common.{◌≡◌, ℕ, ◌+◌, ◌-◌, ◌<◌, ◌≤◌, List, [], ◌∷◌, eqb, ltb, Bool, true, false, not, ◌&&◌, ◌||◌, cond, refl, sym, ap, ◌∙◌, inl, inr, arith}
 use Rattle.std.proofs.lemmas.Bool.{cases_lt}
 use Rattle.std.proofs.lemmas.Bool.Decides.{nat_tests}
 use Rattle.std.proofs.lemmas.Nat.Bits.{bit_at-zero}
 use Rattle.qr_matrix.specs.BitRow.{has, has_bit, bit_row_number}
-use Rattle.qr_matrix.specs.Steps.{size_of, row_share}
+use Rattle.qr_matrix.specs.Steps.{is_charged, row_share, size_of}
 use Rattle.qr_matrix.specs.Penalty.{count_below, is_same, sum_below}
-use Rattle.qr_matrix.specs.Runs.{joins, begins_five, begins_long_run, place_cost}
-use Rattle.qr_matrix.proofs.lemmas.bit_row.SumLemmas.{count_below-same, count_below-cut, sum_below-swap, sum_below-add, sum_below-scale}
+use Rattle.qr_matrix.specs.Runs.{joins, begins_five, place_cost}
+use Rattle.qr_matrix.proofs.lemmas.bit_row.SumLemmas.{count_below-same, count_below-cut, sum_below-same, sum_below-swap}
 use Rattle.qr_matrix.proofs.lemmas.runs.RowLemmas.{joins-past}
+use Rattle.qr_matrix.proofs.lemmas.runs.ChargeLemmas.{charged-cost}
 use Rattle.qr_matrix.proofs.lemmas.bit_row.BoolLemmas.{and-false, not-not}
 
 -- the bit row of zeros has no bit set
@@ -52,18 +53,13 @@ five-down-bit s line c r x y z p q m n ex ey ez ep eq em en =
     let e = guarded-five (ltb c s) (joins s line r) (joins s line (r + 1)) (joins s line (r + 2)) (joins s line (r + 3)) in
     cc
 
--- the guard u of two tests is the same as the guard u of them together
-guarded-run : (u f j t : Bool) → ((u && f) && not (t && (u && j))) ≡ (u && (f && not (t && j)))
-guarded-run true f j t = refl
-guarded-run false f j t = refl
-
--- if bit x is set where five equal places begin and the place above them is not joined to the first, then x is set
--- exactly where column c is below s and a long run of it begins in row r
-run-down-bit : (s : ℕ) (line : ℕ → Bool) (c r : ℕ) (x f j : Bool) → x ≡ (f && not j) → f ≡ (ltb c s && begins_five s line r) → j ≡ (ltb 0 r && (ltb c s && joins s line (r - 1))) → x ≡ (ltb c s && begins_long_run s line r)
-unfolding begins_long_run
-run-down-bit s line c r x f j ex ef ej =
-    let e = guarded-run (ltb c s) (begins_five s line r) (joins s line (r - 1)) (ltb 0 r) in
-    cc
+-- the guard u of three tests, of which the last two have the guards t and w too, is the guard of their disjunction
+guarded-three : (u t w f g h : Bool) → (((u && f) || (t && (u && g))) || (w && (u && h))) ≡ (u && ((f || (t && g)) || (w && h)))
+guarded-three true t w f g h = refl
+guarded-three false true true f g h = refl
+guarded-three false true false f g h = refl
+guarded-three false false true f g h = refl
+guarded-three false false false f g h = refl
 
 -- as many numbers below 192 pass the test t as numbers below s pass the test p, if t is p guarded by the test that a
 -- number is below s
@@ -78,26 +74,23 @@ pub guarded-size : (s : ℕ) (words : List ℕ) (p : ℕ → Bool) → s ≤ 192
 unfolding size_of
 guarded-size s words p l h = guarded-count s (has words) p l h
 
--- the number n that is counted on the bits of a row is this row's share of the cost of the runs of all columns
-pub share-of : (s : ℕ) (dark : ℕ → ℕ → Bool) (r n : ℕ) (f a : List ℕ) → s ≤ 192 → ((c : ℕ) → has f c ≡ (ltb c s && begins_five s (λ i. dark i c) r)) → ((c : ℕ) → has a c ≡ (ltb 0 r && (ltb c s && joins s (λ i. dark i c) (r - 1)))) → n ≡ size_of f + 2 * count_below 192 (λ c. has f c && not (has a c)) → n ≡ row_share s dark r
-unfolding row_share
-share-of s dark r n f a l hf ha e =
-    let p = guarded-size s f (λ c. begins_five s (λ i. dark i c) r) l hf in
-    let q = guarded-count s (λ c. has f c && not (has a c)) (λ c. begins_long_run s (λ i. dark i c) r) l (λ c. run-down-bit s (λ i. dark i c) c r (has f c && not (has a c)) (has f c) (has a c) refl (hf c) (ha c)) in
-    omega arith
-
--- two counts have the same weighted sum whether they are summed row by row or column by column
-shares-swap : (s : ℕ) (f g : ℕ → ℕ → ℕ) → sum_below s (λ r. sum_below s (f r) + 2 * sum_below s (g r)) ≡ sum_below s (λ c. sum_below s (λ r. f r c) + 2 * sum_below s (λ r. g r c))
-shares-swap s f g =
-    let a = sum_below-add s (λ r. sum_below s (f r)) (λ r. 2 * sum_below s (g r)) in
-    let b = sum_below-scale 2 s (λ r. sum_below s (g r)) in
-    let d = sum_below-swap s s f in
-    let e = sum_below-swap s s g in
-    let h = sum_below-add s (λ c. sum_below s (λ r. f r c)) (λ c. 2 * sum_below s (λ r. g r c)) in
-    let i = sum_below-scale 2 s (λ c. sum_below s (λ r. g r c)) in
-    omega arith
+-- the number of bits of the bit row t is the share of row r in the cost of the runs of all columns, if a bit of t is set
+-- where five modules of one colour begin in row r or in one of the two rows above it
+pub share-of : (s : ℕ) (dark : ℕ → ℕ → Bool) (r : ℕ) (t f a b : List ℕ) → s ≤ 192 → ((c : ℕ) → has t c ≡ ((has f c || has a c) || has b c))
+    → ((c : ℕ) → has f c ≡ (ltb c s && begins_five s (λ i. dark i c) r)) → ((c : ℕ) → has a c ≡ (ltb 0 r && (ltb c s && begins_five s (λ i. dark i c) (r - 1))))
+    → ((c : ℕ) → has b c ≡ (ltb 1 r && (ltb c s && begins_five s (λ i. dark i c) (r - 2)))) → size_of t ≡ row_share s dark r
+unfolding row_share is_charged
+share-of s dark r t f a b l ht hf ha hb = guarded-size s t (λ c. is_charged s (λ i. dark i c) r) l (λ c.
+    let e = guarded-three (ltb c s) (ltb 0 r) (ltb 1 r) (begins_five s (λ i. dark i c) r) (begins_five s (λ i. dark i c) (r - 1)) (begins_five s (λ i. dark i c) (r - 2)) in
+    let x = ht c in
+    let y = hf c in
+    let z = ha c in
+    let w = hb c in
+    cc)
 
 -- the shares of all rows sum to the costs of all columns
 pub shares-are-columns : (s : ℕ) (dark : ℕ → ℕ → Bool) → sum_below s (row_share s dark) ≡ sum_below s (λ c. place_cost s (λ r. dark r c))
-unfolding row_share place_cost
-shares-are-columns s dark = shares-swap s (λ r c. cond (begins_five s (λ i. dark i c) r) 1 0) (λ r c. cond (begins_long_run s (λ i. dark i c) r) 1 0)
+unfolding row_share
+shares-are-columns s dark =
+    sum_below-swap s s (λ r c. cond (is_charged s (λ i. dark i c) r) 1 0)
+    ∙ sum_below-same s (λ c. count_below s (is_charged s (λ i. dark i c))) (λ c. place_cost s (λ r. dark r c)) (λ c _. charged-cost s (λ r. dark r c))

@@ -1,13 +1,13 @@
-use Rattle.std.proofs.Common.{◌≡◌, ℕ, ◌+◌, ◌-◌, ◌*◌, ◌≤◌, Bool, true, ◌&&◌, ltb, arith, ap, sym, ◌∙◌, refl}
+use Rattle.std.proofs.Common.{◌≡◌, ℕ, ◌+◌, ◌-◌, ◌*◌, ◌≤◌, Bool, true, ◌&&◌, ◌||◌, ltb, arith, ap, sym, ◌∙◌, refl}
 use Rattle.qr_matrix.specs.Grid.{colour}
 use Rattle.qr_matrix.specs.BitRow.{has}
 use Rattle.qr_matrix.specs.Penalty.{count_below, is_square_of_two, over_lines, run_cost, square_count, sum_below}
-use Rattle.qr_matrix.specs.Runs.{joins, place_cost}
+use Rattle.qr_matrix.specs.Runs.{begins_five, joins, place_cost}
 use Rattle.qr_matrix.specs.Steps.{row_share}
 use Rattle.std.proofs.lemmas.Bool.Decides.{nat_tests}
 use Rattle.std.proofs.Math.Nat.{mul-suc}
 use Rattle.qr_matrix.proofs.lemmas.bit_row.SumLemmas.{sum_below-more, sum_below-same}
-use Rattle.qr_matrix.proofs.lemmas.runs.RowLemmas.{row_cost}
+use Rattle.qr_matrix.proofs.lemmas.runs.ChargeLemmas.{row_cost}
 use Rattle.qr_matrix.proofs.lemmas.runs.RunLemmas.{runs-by-places}
 use Rattle.qr_matrix.proofs.lemmas.squares.SquareLemmas.{square-bit, squares-row}
 use Rattle.qr_matrix.proofs.lemmas.runs.ColumnLemmas.{has-nothing, five-down-bit, share-of, shares-are-columns}
@@ -22,6 +22,7 @@ loop-row-init c = record {
   squares = refl;
   squares_small = omega arith;
   above = λ k. has-nothing k;
+  second_above = λ k. has-nothing k;
   first = c.joined_in_column-first.ensures;
   second = c.joined_in_column-second.ensures;
   third = c.joined_in_column-third.ensures;
@@ -38,8 +39,8 @@ small a b m r h k = let e = mul-suc m r in omega arith
 pub loop-row-preserved : goal.loop-row-preserved
 loop-row-preserved c =
     let few = fits c.args.matrix.now.side c.args.words c.requires.most c.requires.three in
-    let rows_small = small c.loop-row.rows c.fives_cost-rows.result 576 c.loop-row.row c.loop-row.invariant.rows_small c.fives_cost-rows.ensures.bound in
-    let columns_small = small c.loop-row.columns c.fives_cost-columns.result 576 c.loop-row.row c.loop-row.invariant.columns_small c.fives_cost-columns.ensures.bound in
+    let rows_small = small c.loop-row.rows c.count-rows.result 192 c.loop-row.row c.loop-row.invariant.rows_small c.count-rows.ensures.bound in
+    let columns_small = small c.loop-row.columns c.count-columns.result 192 c.loop-row.row c.loop-row.invariant.columns_small c.count-columns.ensures.bound in
     let squares_small = small c.loop-row.squares c.count-squares.result 192 c.loop-row.row c.loop-row.invariant.squares_small c.count-squares.ensures.bound in
     let s = c.args.matrix.now.side in
     let d = colour c.args.matrix.now in
@@ -47,17 +48,23 @@ loop-row-preserved c =
     let r = c.loop-row.row in
     let later : (a b k : ℕ) (x : Bool) → a ≡ b → x ≡ (ltb k s && joins s (λ i. d i k) a) → x ≡ (ltb k s && joins s (λ i. d i k) b) = λ a b k x e h. h ∙ ap (λ z. ltb k s && joins s (λ i. d i k) z) e in
     let square : (k : ℕ) → has c.squares_at.result k ≡ is_square_of_two s d r k = λ k. square-bit s d r k (has c.squares_at.result k) (has c.joined-joins.result k) (has c.loop-row.first k) (has c.loop-row.first (k + 1)) (c.squares_at.ensures k) (c.joined-joins.ensures k) (i.first k) (i.first (k + 1)) in
+    let five : (k : ℕ) → has c.bitand-fives.result k ≡ (ltb k s && begins_five s (λ i. d i k) r) = λ k. five-down-bit s (λ i. d i k) k r (has c.bitand-fives.result k) (has c.bitand.result k) (has c.bitand-in-loop-row.result k) (has c.loop-row.first k) (has c.loop-row.second k) (has c.loop-row.third k) (has c.joined_in_column-fourth.result k) (c.bitand-fives.ensures k) (c.bitand.ensures k) (c.bitand-in-loop-row.ensures k) (i.first k) (i.second k) (i.third k) (c.joined_in_column-fourth.ensures k) in
+    let three : (k : ℕ) → has c.bitor-in-loop-row.result k ≡ ((has c.bitand-fives.result k || has c.loop-row.above k) || has c.loop-row.second_above k) = λ k. let e = c.bitor-in-loop-row.ensures k in let f = c.bitor.ensures k in cc in
     record {
-      rows = sum_below-more r _ _ _ (λ r. place_cost s (d r)) i.rows (row_cost s c.fives_cost-rows.result (d r) c.joined-joins.result c.fours.result c.shifted_right.result few c.joined-joins.ensures c.fours.ensures c.shifted_right.ensures c.fives_cost-rows.ensures.value) refl;
+      rows = sum_below-more r _ _ _ (λ r. place_cost s (d r)) i.rows (c.count-rows.ensures.value ∙ row_cost s (d r) c.joined-joins.result c.fours.result c.charged.result few c.joined-joins.ensures c.fours.ensures c.charged.ensures) refl;
       rows_small = rows_small;
-      columns = sum_below-more r _ _ _ (row_share s d) i.columns (share-of s d r c.fives_cost-columns.result c.bitand-fives.result c.loop-row.above few (λ k. five-down-bit s (λ i. d i k) k r (has c.bitand-fives.result k) (has c.bitand.result k) (has c.bitand-in-loop-row.result k) (has c.loop-row.first k) (has c.loop-row.second k) (has c.loop-row.third k) (has c.joined_in_column-fourth.result k) (c.bitand-fives.ensures k) (c.bitand.ensures k) (c.bitand-in-loop-row.ensures k) (i.first k) (i.second k) (i.third k) (c.joined_in_column-fourth.ensures k)) i.above c.fives_cost-columns.ensures.value) refl;
+      columns = sum_below-more r _ _ _ (row_share s d) i.columns (c.count-columns.ensures.value ∙ share-of s d r c.bitor-in-loop-row.result c.bitand-fives.result c.loop-row.above c.loop-row.second_above few three five i.above i.second_above) refl;
       columns_small = columns_small;
       squares = sum_below-more r _ _ _ (λ r. count_below s (is_square_of_two s d r)) i.squares (c.count-squares.ensures.value ∙ squares-row s d r c.squares_at.result few square) refl;
       squares_small = squares_small;
       above = λ k.
           let t : ltb 0 (r + 1) ≡ true = grind (arith, nat_tests) in
-          let e : r ≡ r + 1 - 1 = omega arith in
-          later r (r + 1 - 1) k (has c.loop-row.first k) e (i.first k) ∙ sym (ap (λ z. z && (ltb k s && joins s (λ i. d i k) (r + 1 - 1))) t);
+          let e : r + 1 - 1 ≡ r = omega arith in
+          five k ∙ sym (λ i. t i && (ltb k s && begins_five s (λ i. d i k) (e i)));
+      second_above = λ k.
+          let t : ltb 1 (r + 1) ≡ ltb 0 r = grind (arith, nat_tests) in
+          let e : r + 1 - 2 ≡ r - 1 = omega arith in
+          c.loop-row.invariant.above k ∙ sym (λ i. t i && (ltb k s && begins_five s (λ i. d i k) (e i)));
       first = i.second;
       second = λ k. later (r + 2) (r + 1 + 1) k (has c.loop-row.third k) (omega arith) (i.third k);
       third = λ k. later (r + 3) (r + 1 + 2) k (has c.joined_in_column-fourth.result k) (omega arith) (c.joined_in_column-fourth.ensures k);
