@@ -4,7 +4,7 @@ pub use Rattle.qr_layout.proofs.lemmas.blocks.BlockLemmas.{blocks-sound, every, 
 pub use Rattle.qr_layout.proofs.lemmas.order.ListLemmas.{All-of-Mem, All-rec, Mem, Mem-at, Mem-of-Contains, Rises, Rises-of-pairs, one_rising}
 pub use Rattle.qr_layout.proofs.lemmas.order.OrderLemmas.{number-at, only_order, order-has, order-length, order-mem, order-small}
 pub use Rattle.qr_layout.proofs.lemmas.region.RegionLemmas.{col-in, row-in}
-pub use Rattle.qr_layout.proofs.lemmas.role.RolePlaceLemmas.{dark-module, format-first, format-only, format-second, off-role, region-role, role-region, version-only}
+pub use Rattle.qr_layout.proofs.lemmas.role.RolePlaceLemmas.{dark-module, format-first, format-only, format-second, off-role, region-role, role-region, version-first, version-second}
 pub use Rattle.qr_layout.proofs.lemmas.role.RoleSymmetryLemmas.{role-symmetric}
 pub use Rattle.qr_layout.proofs.lemmas.strips.StripLemmas.{Inside}
 pub use Rattle.qr_layout.proofs.lemmas.region.SymmetryLemmas.{region-symmetric}

@@ -17,7 +17,7 @@ ghost use Rattle.qr_symbol.specs.Steps.Patterns.{fixed_colour, format_bits_or, f
 ghost use Rattle.qr_symbol.specs.Steps.Drawing.{region_grid};
 
 use qr_layout::{
-    Module, Rectangle, Role, Version, alignment_centres, cell, fixed_rectangles, format_place,
+    Module, Rectangle, Version, alignment_centres, fixed_rectangles, format_place,
     second_format_place,
 };
 use qr_matrix::Matrix;
@@ -27,69 +27,6 @@ pub(crate) fn is_bit_set(word: u32, i: u8) -> bool
     ensures { result ≡ word_bit word i }
 {
     i < 32 && word >> i & 1 == 1
-}
-
-// Returns the colour of a module outside the encoding region, where `role` says what the module is for; `true` is dark.
-// The bits of the numbers `format` and `version` are the format information and the version information.
-#[tactic(auto, unfolding(crate::specs::Steps::Patterns::fixed_colour))]
-fn fixed_colour(format: u32, version: u32, role: Role) -> bool
-    ensures { result ≡ fixed_colour format version role }
-{
-    match role {
-        Role::Fixed(dark) => dark,
-        Role::FormatBit(i) => is_bit_set(format, i),
-        Role::VersionBit(i) => is_bit_set(version, i),
-        Role::Region => false,
-    }
-}
-
-// Returns the colour of the module in row `row` and column `col`, which must be outside the encoding region. The bits
-// of the number `format` are the format information.
-fn paint(v: Version, format: u32, row: u8, col: u8) -> bool
-    requires row_in { row < side_of v }
-    requires col_in { col < side_of v }
-    ensures { result ≡ paint_of v format row col }
-{
-    let version = v.version_word().unwrap_or(0);
-    fixed_colour(format, version, cell(v, row, col))
-}
-
-// Draws the modules of row `row`, from column `left` to the column before `right`, in the colours that `paint` returns.
-fn paint_row(matrix: &mut Matrix, v: Version, format: u32, row: u8, left: u8, right: u8)
-    requires square { IsSquare (side_of v) matrix.old }
-    requires row_in { row < side_of v }
-    requires in_order { left ≤ right }
-    requires right_in { right ≤ side_of v }
-    ensures { matrix.new ≡ square (side_of v) (λ r c. if r == row && nat_le left c && nat_lt c right
-        then paint_of v format r c else colour matrix.old r c) }
-{
-    for col in left..right {
-        matrix.set(row, col, paint(v, format, row, col));
-    }
-}
-
-// Draws the modules of a rectangle in the colours that `paint` returns.
-fn paint_rectangle(matrix: &mut Matrix, v: Version, format: u32, rectangle: Rectangle)
-    requires square { IsSquare (side_of v) matrix.old }
-    requires inside { IsWithin (side_of v) rectangle }
-    ensures { matrix.new ≡ square (side_of v) (λ r c. if is_in_rectangle r c rectangle
-        then paint_of v format r c else colour matrix.old r c) }
-{
-    for row in rectangle.top..rectangle.bottom {
-        paint_row(matrix, v, format, row, rectangle.left, rectangle.right);
-    }
-}
-
-// Draws the modules of all these rectangles in the colours that `paint` returns.
-fn paint_rectangles(matrix: &mut Matrix, v: Version, format: u32, rectangles: &[Rectangle])
-    requires square { IsSquare (side_of v) matrix.old }
-    requires inside { All (IsWithin (side_of v)) rectangles.now }
-    ensures { matrix.new ≡ square (side_of v) (λ r c. if list_any (is_in_rectangle r c) rectangles.now
-        then paint_of v format r c else colour matrix.old r c) }
-{
-    for rectangle in rectangles {
-        paint_rectangle(matrix, v, format, *rectangle);
-    }
 }
 
 // Makes the modules of all these rectangles light.
@@ -222,15 +159,25 @@ fn paint_timing(matrix: &mut Matrix, v: Version)
     }
 }
 
-// Draws the version information, which symbols have from version 7 on. The first five rectangles of `fixed_rectangles`
-// are skipped, since they are the three corners, row 6 and column 6.
-fn paint_version(matrix: &mut Matrix, v: Version, format: u32)
+// The number of bits of the version information.
+const VERSION_BITS: u8 = 18;
+
+// Draws the version information, which symbols have from version 7 on. Each bit is drawn beside the top right finder
+// pattern, and also with row and column exchanged, beside the bottom left finder pattern (ISO/IEC 18004:2015, 7.10).
+fn paint_version(matrix: &mut Matrix, v: Version)
     requires { IsSquare (side_of v) matrix.old }
-    ensures { matrix.new ≡ square (side_of v) (λ r c. if list_any (is_in_rectangle r c)
+    ensures { (format : ℕ) → matrix.new ≡ square (side_of v) (λ r c. if list_any (is_in_rectangle r c)
         (version_rectangles v (side_of v)) then paint_of v format r c else colour matrix.old r c) }
 {
-    let rectangles = fixed_rectangles(v);
-    paint_rectangles(matrix, v, format, &rectangles.as_slice()[5..]);
+    if let Some(word) = v.version_word() {
+        let left = v.side() - 11;
+        for bit in 0..VERSION_BITS {
+            let (row, col) = (bit / 3, left + bit % 3);
+            let dark = is_bit_set(word, bit);
+            matrix.set(row, col, dark);
+            matrix.set(col, row, dark);
+        }
+    }
 }
 
 // Makes all modules of the alignment patterns dark if `dark` is true, and light otherwise. `centres` contains the
@@ -288,7 +235,7 @@ pub(crate) fn draw_fixed(matrix: &mut Matrix, v: Version, format: u32)
     clear_rings(matrix, v, centres.as_slice());
     paint_corners(matrix, v, format);
     paint_timing(matrix, v);
-    paint_version(matrix, v, format);
+    paint_version(matrix, v);
 }
 
 // Makes each module of the encoding region dark and all other modules light. All modules of `matrix` must be light

@@ -8,3 +8,5 @@ pub mod FinderLemmas
 pub mod FormatDrawingLemmas
 -- The modules of row 8 and column 8 that are beside the finder patterns.
 pub mod CornerLemmas
+-- The version information, drawn bit by bit at its two places.
+pub mod VersionLemmas

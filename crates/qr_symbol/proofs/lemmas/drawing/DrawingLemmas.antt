@@ -10,11 +10,11 @@ use Rattle.qr_layout.specs.Format.{format_word_of, version_word_of}
 use Rattle.qr_layout.specs.Region.{is_in_region}
 use Rattle.qr_layout.specs.Role.{role_of}
 use Rattle.qr_layout.specs.Order.{IsOrder, in_region_of, number_of}
-use Rattle.qr_layout.proofs.Facts.{Mem, order-has, order-mem, order-small, number-at, row-in, col-in, region-role, role-region, version-only}
+use Rattle.qr_layout.proofs.Facts.{Mem, order-has, order-mem, order-small, number-at, row-in, col-in, region-role, role-region}
 use Rattle.qr_bits.specs.Bits.{codeword_bit}
 use Rattle.qr_matrix.specs.Grid.{Grid, square, colour, painted, IsSquare}
 use Rattle.qr_symbol.specs.Mask.{inverts, inverted}
-use Rattle.qr_symbol.specs.Symbol.{word_bit, colour_by, colour_of, grid_of}
+use Rattle.qr_symbol.specs.Symbol.{colour_by, colour_of, grid_of}
 use Rattle.qr_symbol.specs.Steps.Drawing.{placed_colour, placed_if, number_after, number_along, placed_along, masked_colour, masked_grid, region_grid, plain_grid}
 use Rattle.qr_symbol.specs.Steps.Patterns.{fixed_colour, format_or, paint_of, symmetric_format}
 use Rattle.qr_matrix.proofs.Facts.{same-place, square-same, colour-square, colour-painted-here, colour-painted-there}
@@ -86,17 +86,6 @@ square-is s f g e = rw e (square-again s f)
 -- a square with one place changed is a square
 pub painted-square : (s : ℕ) (g : Grid) (row col : ℕ) (d : Bool) → g.side ≡ s → IsSquare s (painted g row col d)
 painted-square s g row col d e = square-again g.side (λ r c. cond (nat_eq r row && nat_eq c col) d (colour g r c)) ∙ ap (λ (k : ℕ). square k (colour (painted g row col d))) e
-
--- the version word does not matter below version 7, since no module holds a bit of it
-pub word-of-version : (v format version r c : ℕ) → (7 ≤ v → version ≡ version_word_of v) → fixed_colour format version (role_of v r c) ≡ fixed_colour format (version_word_of v) (role_of v r c)
-unfolding fixed_colour
-word-of-version v format version r c h = by_role (role_of v r c) refl
-  where
-    by_role : (q : Role) → role_of v r c ≡ q → fixed_colour format version q ≡ fixed_colour format (version_word_of v) q
-    by_role (Fixed dark) e = refl
-    by_role (FormatBit i) e = refl
-    by_role (VersionBit i) e = ap (λ (z : ℕ). word_bit z i) (h (version-only v (at r c) i e).0)
-    by_role Region e = refl
 
 -- a version word, or 0 if the version has none
 pub word-or-none : (v word : ℕ) (o : Option ℕ) → SomeIff o (7 ≤ v) (version_word_of v) → word ≡ unwrap_or o 0 → 7 ≤ v → word ≡ version_word_of v

@@ -1,15 +1,11 @@
 -- Finder patterns as three squares, each inside the one before.
-use Rattle.std.proofs.Common.{◌≡◌, ℕ, zero, suc, ◌+◌, ◌-◌, ◌<◌, ◌≤◌, Bool, true, false, not, cond, eqb, ltb, leb, ◌&&◌, ◌||◌, List, [], ◌∷◌, refl, sym, ◌∙◌, inl, inr, arith}
+use Rattle.std.proofs.Common.{◌≡◌, ℕ, ◌+◌, ◌-◌, ◌<◌, ◌≤◌, Bool, true, false, not, cond, eqb, ltb, leb, ◌&&◌, refl, sym, ◌∙◌, inl, inr, arith}
 use Rattle.std.proofs.lemmas.Bool.{cases_lt}
 use Rattle.std.proofs.lemmas.Bool.Decides.{nat_tests}
-use Rattle.std.specs.List.{All, list_any}
 use Rattle.qr_layout.specs.declared.role.Role.TheVariants.{Fixed}
 use Rattle.qr_layout.specs.Version.{side_of}
 use Rattle.qr_layout.specs.Region.{ring_of}
 use Rattle.qr_layout.specs.Role.{finder_ring, pattern_colour, role_of}
-use Rattle.qr_layout.specs.declared.rectangles.Rectangle.{Rectangle}
-use Rattle.qr_layout.specs.Rectangles.{corner_rectangles, is_in_rectangle}
-use Rattle.qr_layout.specs.Steps.Rectangles.{IsWithin}
 use Rattle.qr_symbol.specs.Steps.Patterns.{paint_of}
 use Rattle.qr_symbol.proofs.lemmas.patterns.TimingLemmas.{paint-fixed}
 

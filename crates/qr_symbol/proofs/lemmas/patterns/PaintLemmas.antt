@@ -76,24 +76,6 @@ over-item s p f h xs i d g g' l e k = over-twice s (λ r c. list_any (λ x. p x 
 abbrev pub no_rectangle : Rectangle
 no_rectangle = record { top = 0; bottom = 0; left = 0; right = 0 }
 
--- ---- rows and rectangles, place by place
-
--- the places of a row, with one more column
-pub row-more : (row left col r c : ℕ) → left ≤ col → (eqb r row && leb left c && ltb c (col + 1)) ≡ ((eqb r row && leb left c && ltb c col) || (eqb r row && eqb c col))
-row-more row left col r c l = grind (arith, nat_tests)
-
--- a row without columns has no place
-pub row-none : (row left r c : ℕ) → (eqb r row && leb left c && ltb c left) ≡ false
-row-none row left r c = grind (arith, nat_tests)
-
--- the places of a rectangle, with one more row
-pub rows-more : (top row left right r c : ℕ) → top ≤ row → (leb top r && ltb r (row + 1) && leb left c && ltb c right) ≡ ((leb top r && ltb r row && leb left c && ltb c right) || (eqb r row && leb left c && ltb c right))
-rows-more top row left right r c l = grind (arith, nat_tests)
-
--- a rectangle without rows has no place
-pub rows-none : (top left right r c : ℕ) → (leb top r && ltb r top && leb left c && ltb c right) ≡ false
-rows-none top left right r c = grind (arith, nat_tests)
-
 -- ---- the ring round a centre
 
 -- the four sides of the ring

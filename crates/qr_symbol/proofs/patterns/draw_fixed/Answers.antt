@@ -67,7 +67,7 @@ returns c =
     let g2 = c.clear_rings.new.matrix in
     let g3 = c.paint_corners.new.matrix in
     let g4 = c.paint_timing.new.matrix in
-    c.paint_version.ensures ∙ square-same s (λ r k. cond (version v r k) (p r k) (colour g4 r k)) (λ r k. cond (is_in_region v r k) (colour g0 r k) (p r k)) (λ r k l m.
+    c.paint_version.ensures c.args.format ∙ square-same s (λ r k. cond (version v r k) (p r k) (colour g4 r k)) (λ r k. cond (is_in_region v r k) (colour g0 r k) (p r k)) (λ r k l m.
     let e1 = over-colour s (is_alignment v) (λ _ _. true) (colour g0) g1 r k l m c.fill_alignment.ensures in
     let e2 = over-colour s (is_alignment_light v) (λ _ _. false) (colour g1) g2 r k l m c.clear_rings.ensures ∙ ap (λ z. cond (is_alignment_light v r k) false z) e1 in
     let e3 = over-colour s (corners v) p (colour g2) g3 r k l m c.paint_corners.ensures ∙ ap (λ z. cond (corners v r k) (p r k) z) e2 in

@@ -1,4 +1,4 @@
-use Rattle.std.proofs.Common.{◌≡◌, ℕ, ◌-◌, true, cond, eqb, ◌&&◌, ap, sym, ◌∙◌, refl, arith}
+use Rattle.std.proofs.Common.{ℕ, ◌-◌, true, cond, eqb, ◌&&◌, ap, sym, ◌∙◌, refl, arith}
 use Rattle.std.specs.List.{list_any}
 use Rattle.qr_layout.specs.Version.{side_of}
 use Rattle.qr_layout.specs.Rectangles.{is_in_rectangle, corner_rectangles}

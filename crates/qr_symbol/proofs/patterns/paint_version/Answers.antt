@@ -1,30 +1,55 @@
-use Rattle.std.proofs.Common.{◌≡◌, ℕ, ◌-◌, List, length, take, drop, ap, ◌∙◌, arith}
+use Rattle.std.proofs.Common.{◌≡◌, ℕ, ◌+◌, ◌-◌, ◌/◌, ◌%◌, eqb, ◌&&◌, ◌||◌, ap, ◌∙◌, refl, arith}
 use Rattle.std.specs.List.{list_any}
-use Rattle.std.proofs.lemmas.List.{take_all}
-use Rattle.std.proofs.lemmas.List.Elements.{All-drop, All-same, All-take}
-use Rattle.qr_layout.specs.declared.rectangles.Rectangle.{Rectangle}
 use Rattle.qr_layout.specs.Version.{side_of}
-use Rattle.qr_layout.specs.Rectangles.{is_in_rectangle, fixed_rectangles, version_rectangles}
-use Rattle.qr_layout.specs.Steps.Rectangles.{IsWithin}
-use Rattle.qr_layout.proofs.Facts.{fixed-within}
-use Rattle.qr_matrix.specs.Grid.{colour}
+use Rattle.qr_layout.specs.Format.{version_word_of}
+use Rattle.qr_layout.specs.Rectangles.{is_in_rectangle, version_rectangles}
+use Rattle.qr_matrix.specs.Grid.{Grid, colour, painted}
+use Rattle.qr_symbol.specs.Symbol.{word_bit}
 use Rattle.qr_symbol.specs.Steps.Patterns.{paint_of}
-use Rattle.qr_symbol.proofs.lemmas.patterns.PaintLemmas.{over-same}
+use Rattle.qr_symbol.proofs.lemmas.patterns.PaintLemmas.{over-none, over-place, over-same, over-twice}
+use Rattle.qr_symbol.proofs.lemmas.patterns.VersionLemmas.{version_drawn, version-all, version-here, version-more, version-none, version-there}
 use Rattle.qr_symbol.proofs.patterns.paint_version.Goals as goal
 
--- after the first five rectangles come those of the version information
-after-five : (v : ℕ) (bs : List Rectangle) → bs ≡ fixed_rectangles v → take (length bs - 5) (drop 5 bs) ≡ version_rectangles v (side_of v)
-after-five v bs e = rw e (take_all _ (version_rectangles v (side_of v)) (omega arith))
+pub loop-bit-init : goal.loop-bit-init
+loop-bit-init c =
+    let s = side_of c.args.v in
+    let side = ap (λ (g : Grid). g.side) c.requires in
+    record {
+      side = side;
+      painted = λ f. over-none s (version_drawn s 0) (paint_of c.args.v f) c.args.matrix.now c.requires (λ r k _ _. version-none s r k);
+    }
 
-pub paint_rectangles-requires-clause-inside : goal.paint_rectangles-requires-clause-inside
-paint_rectangles-requires-clause-inside c =
-    let bs = c.as_slice.result.now in
-    let within = All-same (IsWithin (side_of c.args.v)) bs (fixed_rectangles c.args.v) (c.as_slice.ensures.value ∙ c.fixed_rectangles-rectangles.ensures) (fixed-within c.args.v (omega arith) (omega arith)) in
-    All-take (IsWithin (side_of c.args.v)) (length bs - 5) (drop 5 bs) (All-drop (IsWithin (side_of c.args.v)) 5 bs within)
-
-pub returns : goal.returns
-returns c =
+pub loop-bit-preserved : goal.loop-bit-preserved
+loop-bit-preserved c =
     let v = c.args.v in
-    let bs = c.as_slice.result.now in
-    over-same (side_of v) (λ r k. list_any (is_in_rectangle r k) (take (length bs - 5) (drop 5 bs))) (λ r k. list_any (is_in_rectangle r k) (version_rectangles v (side_of v))) (paint_of v c.args.format) (colour c.args.matrix.now) c.paint_rectangles.new.matrix c.paint_rectangles.ensures
-    (λ r k _ _. ap (list_any (is_in_rectangle r k)) (after-five v bs (c.as_slice.ensures.value ∙ c.fixed_rectangles-rectangles.ensures)))
+    let s = side_of v in
+    let n = c.loop-bit.bit in
+    let i = c.loop-bit.invariant in
+    let h = colour c.args.matrix.now in
+    let g = c.loop-bit.matrix in
+    let g1 = c.set.new.self in
+    let g2 = c.set-in-loop-bit.new.self in
+    let d = c.is_bit_set-dark.result in
+    let e : c.side-left.result ≡ s = c.side-left.ensures.value in
+    let bit : d ≡ word_bit (version_word_of v) n = c.is_bit_set-dark.ensures ∙ ap (λ (z : ℕ). word_bit z n) c.in-Some.ensures.1 in
+    let here = λ (r k : ℕ). eqb r (n / 3) && eqb k (s - 11 + n % 3) in
+    let there = λ (r k : ℕ). eqb r (s - 11 + n % 3) && eqb k (n / 3) in
+    let both = λ (r k : ℕ). version_drawn s n r k || here r k in
+    let set1 = c.set.ensures ∙ ap (λ (z : ℕ). painted g (n / 3) (z - 11 + n % 3) d) e in
+    let set2 = c.set-in-loop-bit.ensures ∙ ap (λ (z : ℕ). painted g1 (z - 11 + n % 3) (n / 3) d) e in
+    let first = λ (f : ℕ). over-twice s (version_drawn s n) here both (paint_of v f) h g g1 (i.painted f)
+    (over-place s (paint_of v f) g g1 (n / 3) (s - 11 + n % 3) d i.side (bit ∙ version-here v f n (omega arith) (omega arith) (omega arith)) set1) (λ _ _ _ _. refl) in
+    record {
+      side = ap (λ (g : Grid). g.side) set2 ∙ (ap (λ (g : Grid). g.side) set1 ∙ i.side);
+      painted = λ f. over-twice s both there (version_drawn s (n + 1)) (paint_of v f) h g1 g2 (first f)
+          (over-place s (paint_of v f) g1 g2 (s - 11 + n % 3) (n / 3) d (ap (λ (g : Grid). g.side) (first f)) (bit ∙ version-there v f n (omega arith) (omega arith) (omega arith)) set2)
+          (λ r k _ _. version-more s n r k (omega arith));
+    }
+
+pub returns-after-loop-bit : goal.returns-after-loop-bit
+returns-after-loop-bit c = λ f.
+    let v = c.args.v in
+    let s = side_of v in
+    let e : c.loop-bit.bit ≡ 18 = omega arith in
+    over-same s (version_drawn s c.loop-bit.bit) (λ r k. list_any (is_in_rectangle r k) (version_rectangles v s)) (paint_of v f) (colour c.args.matrix.now) c.loop-bit.matrix (c.loop-bit.invariant.painted f)
+    (λ r k _ _. ap (λ z. version_drawn s z r k) e ∙ version-all v s r k (omega arith) (omega arith))

@@ -1,0 +1,48 @@
+-- The version information, drawn bit by bit at its two places.
+use Rattle.std.proofs.Common.{◌≡◌, ℕ, ◌+◌, ◌-◌, ◌*◌, ◌/◌, ◌%◌, ◌<◌, ◌≤◌, Bool, false, eqb, ltb, leb, ◌&&◌, ◌||◌, [], ◌∷◌, sym, ap, arith}
+use Rattle.std.proofs.lemmas.Bool.Decides.{nat_tests}
+use Rattle.std.specs.List.{list_any}
+use Rattle.qr_layout.specs.declared.role.Role.TheVariants.{VersionBit}
+use Rattle.qr_layout.specs.Version.{side_of}
+use Rattle.qr_layout.specs.Format.{version_word_of}
+use Rattle.qr_layout.specs.Rectangles.{is_in_rectangle, version_rectangles}
+use Rattle.qr_layout.specs.Role.{role_of}
+use Rattle.qr_layout.proofs.Facts.{version-first, version-second}
+use Rattle.qr_symbol.specs.Symbol.{word_bit}
+use Rattle.qr_symbol.specs.Steps.Patterns.{fixed_colour, paint_of}
+
+-- the places of the first n bits beside the top right finder pattern
+abbrev part : ℕ → ℕ → ℕ → ℕ → Bool
+part s n r c = leb (s - 11) c && ltb c (s - 8) && ltb (3 * r + (c + 11 - s)) n
+
+-- the places of the first n bits, at both of their places
+abbrev pub version_drawn : ℕ → ℕ → ℕ → ℕ → Bool
+version_drawn s n r c = part s n r c || part s n c r
+
+-- no place has one of the first 0 bits
+pub version-none : (s r c : ℕ) → version_drawn s 0 r c ≡ false
+version-none s r c = grind (arith, nat_tests)
+
+-- one more bit is at one more place beside each finder pattern
+pub version-more : (s n r c : ℕ) → 21 ≤ s → version_drawn s (n + 1) r c ≡ ((version_drawn s n r c || (eqb r (n / 3) && eqb c (s - 11 + n % 3))) || (eqb r (s - 11 + n % 3) && eqb c (n / 3)))
+version-more s n r c h = grind (arith, nat_tests)
+
+-- all eighteen bits fill the two blocks of version information
+pub version-all : (v s r c : ℕ) → 7 ≤ v → 21 ≤ s → version_drawn s 18 r c ≡ list_any (is_in_rectangle r c) (version_rectangles v s)
+version-all v s r c h k = let t : ltb v 7 ≡ false = grind (arith, nat_tests) in rw t (blocks s r c k)
+  where
+    blocks : (s r c : ℕ) → 21 ≤ s → version_drawn s 18 r c
+        ≡ list_any (is_in_rectangle r c) (record { top = 0; bottom = 6; left = s - 11; right = s - 8 } ∷ record { top = s - 11; bottom = s - 8; left = 0; right = 6 } ∷ [])
+    blocks s r c k = grind (arith, nat_tests)
+
+-- a module with a bit of the version information is painted with this bit
+bit-colour : (v r c format i : ℕ) → role_of v r c ≡ VersionBit i → paint_of v format r c ≡ word_bit (version_word_of v) i
+unfolding fixed_colour
+bit-colour v r c format i e = ap (fixed_colour format (version_word_of v)) e
+
+-- the colour of bit i at its two places
+pub version-here : (v format i : ℕ) → 7 ≤ v → v ≤ 40 → i < 18 → word_bit (version_word_of v) i ≡ paint_of v format (i / 3) (side_of v - 11 + i % 3)
+version-here v format i h k l = sym (bit-colour v (i / 3) (side_of v - 11 + i % 3) format i (version-first v i h k l))
+
+pub version-there : (v format i : ℕ) → 7 ≤ v → v ≤ 40 → i < 18 → word_bit (version_word_of v) i ≡ paint_of v format (side_of v - 11 + i % 3) (i / 3)
+version-there v format i h k l = sym (bit-colour v (side_of v - 11 + i % 3) (i / 3) format i (version-second v i h k l))
