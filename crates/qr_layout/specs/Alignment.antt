@@ -18,14 +18,14 @@ centre_table =
 unfoldable pub centres_of : ℕ → List ℕ
 centres_of v = slice_index_or centre_table (v - 1) []
 
--- `is_corner_pair s a b` holds if row a and column b, in which alignment patterns have centres, meet in a corner with a
--- finder pattern. The symbol has s modules on a side. No alignment pattern has its centre in such a corner (ISO/IEC
--- 18004:2015, 6.3.6)
+-- `is_corner_pair s a b` holds if the place in row a and column b is in a corner with a finder pattern, in a symbol
+-- with s modules on a side. Row a and column b contain centres of alignment patterns, but no centre is in such a corner
+-- (ISO/IEC 18004:2015, 6.3.6)
 abbrev pub is_corner_pair : ℕ → ℕ → ℕ → Bool
 is_corner_pair s a b = (a == 6 && b == 6) || (a == 6 && b == s - 7) || (a == s - 7 && b == 6)
 
--- `alignment_places s cs` lists the centres of the alignment patterns of a symbol with s modules on a side. A centre is
--- at each place where a row and a column of the list cs meet, except in the three corners with a finder pattern
--- (ISO/IEC 18004:2015, 6.3.6)
+-- `alignment_places s cs` lists the centres of the alignment patterns of a symbol with s modules on a side. The list cs
+-- contains the rows of centres, which are also the columns of centres. A centre is at each place whose row and column
+-- are in cs, but not in the three corners with a finder pattern (ISO/IEC 18004:2015, 6.3.6)
 abbrev pub alignment_places : ℕ → List ℕ → List Module
 alignment_places s cs = flat_map (λ a. flat_map (λ b. if is_corner_pair s a b then [] else record { row = a; col = b } ∷ []) cs) cs

@@ -5,9 +5,9 @@ use Rattle.std.specs.Int.{bit_at}
 use Rattle.qr_layout.specs.declared.level.Level.{Level}
 use Rattle.qr_layout.specs.declared.level.Level.TheVariants.{L, M, Q, H}
 
--- `remainder_of n divisor k x` is the remainder of the number x, which has n + k bits, by `divisor`, which has degree
--- n. The numbers are read as polynomials whose coefficients are bits, and the remainder is computed by long division
--- (ISO/IEC 18004:2015, Annexes C and D)
+-- `remainder_of n divisor k x` is the remainder that is left if the number x is divided by `divisor`. The number x has
+-- at most n + k bits, and `divisor` has degree n. Both numbers are read as polynomials whose coefficients are bits, and
+-- the remainder is computed by long division (ISO/IEC 18004:2015, Annexes C and D)
 unfoldable pub remainder_of : ℕ → ℕ → ℕ → ℕ → ℕ
 remainder_of n divisor zero x = x
 remainder_of n divisor (suc k) x = remainder_of n divisor k (bit_xor x (bit_at x (n + k) * (divisor * 2 ^ k)))
@@ -47,9 +47,10 @@ abbrev pub sum_of_shifts : ℕ → List ℕ → ℕ
 sum_of_shifts divisor [] = 0
 sum_of_shifts divisor (k ∷ ks) = bit_xor (divisor * 2 ^ k) (sum_of_shifts divisor ks)
 
--- `IsWordRemainder n divisor x r` holds if `divisor` has degree n and r is the remainder of x by `divisor`, as
--- polynomials whose coefficients are bits. This means that r has at most n bits, and that the exclusive or of x and r
--- is also the exclusive or of some shifted copies of `divisor` (ISO/IEC 18004:2015, Annexes C and D)
+-- `IsWordRemainder n divisor x r` holds if `divisor` has degree n and if dividing x by `divisor` leaves the remainder
+-- r. The numbers are read as polynomials whose coefficients are bits. The number r must have at most n bits, and the
+-- exclusive or of x and r must be the exclusive or of some shifted copies of `divisor` (ISO/IEC 18004:2015, Annexes C
+-- and D)
 pub record IsWordRemainder (n divisor x r : ℕ) : Type 0 where
   pub monic : (2 ^ n ≤ divisor) × (divisor < 2 ^ (n + 1))
   pub small : r < 2 ^ n

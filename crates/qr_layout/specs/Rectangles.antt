@@ -1,4 +1,5 @@
--- Rectangles that cover the parts of a symbol outside the encoding region, except for the alignment patterns.
+-- Rectangles that cover the parts of a symbol outside the encoding region. The alignment patterns are not among these
+-- parts.
 use Rattle.std.specs.Prelude.{ℕ, ◌-◌, Bool, ◌&&◌, nat_lt, nat_le, if◌then◌else◌, List, [], ◌∷◌, ◌++◌}
 use Rattle.qr_layout.specs.declared.rectangles.Rectangle.{Rectangle}
 use Rattle.qr_layout.specs.Version.{side_of}

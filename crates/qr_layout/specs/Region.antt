@@ -28,8 +28,8 @@ is_version_block s r c = nat_lt r 6 && (nat_le (s - 11) c && nat_lt c (s - 8))
 abbrev pub is_version_information : ℕ → ℕ → ℕ → Bool
 is_version_information v r c = nat_le 7 v && (is_version_block (side_of v) r c || is_version_block (side_of v) c r)
 
--- `ring_of a b r c` is the number of the square ring, around the place (a, b), that contains the place (r, c). Ring 0
--- is the place (a, b) itself [own]
+-- `ring_of a b r c` is the number of the ring around the place (a, b) that contains the place (r, c). The rings are
+-- squares and are numbered outward; ring 0 is the place (a, b) itself [own]
 abbrev pub ring_of : ℕ → ℕ → ℕ → ℕ → ℕ
 ring_of a b r c = max (abs_diff a r) (abs_diff b c)
 
