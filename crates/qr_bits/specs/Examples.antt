@@ -46,10 +46,10 @@ middle = record { position = 1; last = 2; parity = 0x48 }
 abbrev pub middle_data : List ℕ
 middle_data = 0x31 ∷ 0x24 ∷ 0x84 ∷ 0x03 ∷ 0x46 ∷ 0x47 ∷ 0x48 ∷ 0x00 ∷ 0xEC ∷ []
 
--- `unreadable` is a list of rows. Each row is a list of codewords that cannot be parsed in version 1, and the fault of
--- the parse. In the first six rows, a number is too large: 1000 for three digits, 100 for two digits, 10 for one digit,
--- 2025 for two characters, 45 for one character, and a kanji value with the low byte BD (hexadecimal). In the next
--- three rows, the codewords end within the data of a segment, within a character count indicator, and within a
+-- `unreadable` is a list of rows. Each row contains a list of codewords that cannot be parsed in version 1, and the
+-- fault of the parse. In the first six rows, a number is too large: 1000 for three digits, 100 for two digits, 10 for
+-- one digit, 2025 for two characters, 45 for one character, and a kanji value with the low byte BD (hexadecimal). In
+-- the next three rows, the codewords end within the data of a segment, within a character count indicator, and within a
 -- structured append header. In the last two rows, a mode indicator belongs to none of the four modes, and a second
 -- header follows the first [own].
 abbrev pub unreadable : List (List ℕ × ParseFault)

@@ -42,8 +42,8 @@ padded n stream =
 
 -- `IsData v l xs segs h cw` holds if `cw` is the list of the data codewords of a symbol of version `v` and level `l`.
 -- The symbol contains the bytes `xs` in the segments `segs`, after the structured append header `h`, if there is one.
--- The items of `cw` are bytes, and their bits are the padded bit stream. There is no such `cw` if no bit stream
--- satisfies `IsStream`, or if the bit stream is longer than the capacity of the symbol (ISO/IEC 18004:2015, 7.4.10).
+-- The items of `cw` are bytes, and their bits are the padded bit stream. There is such a list only if some bit stream
+-- satisfies `IsStream`, and is not longer than the capacity of the symbol (ISO/IEC 18004:2015, 7.4.10).
 pub record IsData (v : ℕ) (l : Level) (xs : List ℕ) (segs : List Segment) (h : Option Header) (cw : List ℕ) : Type 0 where
   pub stream : List Bool
   pub is_stream : IsStream v xs segs h stream

@@ -1,5 +1,5 @@
--- Defines how many bits segments take, and which segments are chosen for an input. The segments are determined by an
--- assignment, which is a mode for each byte of the input.
+-- Defines how many bits segments take, and which segments are chosen for an input. An assignment, which is a mode for
+-- each byte of the input, determines the segments.
 use Rattle.std.specs.Prelude.{◌≡◌, ℕ, ◌+◌, ◌/◌, ◌<◌, ◌≤◌, ◌⊎◌, if◌then◌else◌, ◌==◌, nat_le, List, [], ◌∷◌, length, take, All, IsTrue}
 use Rattle.std.specs.List.{list_all, sum_by}
 use Rattle.qr_bits.specs.declared.modes.Mode.{Mode}
@@ -39,15 +39,15 @@ abbrev pub prepend_mode : Mode → List Segment → List Segment
 prepend_mode m [] = record { mode = m; len = 1 } ∷ []
 prepend_mode m (s ∷ ss) = if rank m == rank s.mode then record { mode = m; len = 1 + s.len } ∷ ss else record { mode = m; len = 1 } ∷ s ∷ ss
 
--- `runs_of ms` is the list of the segments of an assignment. The list `ms` contains the mode of each byte, and each
--- maximal run of equal modes is one segment [own]
+-- `runs_of ms` is the list of the segments of an assignment. The list `ms` contains the mode of each byte, and
+-- neighbouring bytes with equal modes form one segment [own]
 unfoldable pub runs_of : List Mode → List Segment
 runs_of [] = []
 runs_of (m ∷ ms) = prepend_mode m (runs_of ms)
 
 -- `IsAssignment r xs ms` holds if the list `ms`, with a mode for each of the bytes `xs`, is a valid assignment. The
--- assignment is valid if the rule `r` allows all its modes, and the bytes of each maximal run of equal modes can be
--- written in the mode of the run [own].
+-- rule `r` must allow all modes of the list. Neighbouring bytes with equal modes form one segment, and the mode of each
+-- segment must be able to write its bytes [own].
 abbrev pub IsAssignment : Rule → List ℕ → List Mode → Type 0
 IsAssignment r xs ms = IsTrue (list_all (may_use r) ms) × Covers xs (runs_of ms)
 
@@ -68,13 +68,13 @@ pub record IsBestAssignment (v : ℕ) (r : Rule) (xs : List ℕ) (ms : List Mode
   pub first : (ks : List Mode) → IsAssignment r xs ks → bits v (runs_of ks) ≡ bits v (runs_of ms) → IsNotAfter ms ks
 
 -- `IsLeastSegmentation v r xs segs` holds if `segs` are the segments of the best assignment of modes to the bytes `xs`.
--- `IsBestAssignment` defines the best assignment for the version `v` and the rule `r`. Each maximal run of equal modes
--- in the best assignment is a segment [own]
+-- `IsBestAssignment` defines the best assignment for the version `v` and the rule `r`. Neighbouring bytes to which the
+-- best assignment gives equal modes form one segment [own]
 abbrev pub IsLeastSegmentation : ℕ → Rule → List ℕ → List Segment → Type 0
 IsLeastSegmentation v r xs segs = (ms : List Mode) × IsBestAssignment v r xs ms × (segs ≡ runs_of ms)
 
 -- `HasFit v r xs n` holds if some valid assignment of modes to the bytes `xs` takes at most `n` bits in a symbol of
--- version `v`. The rule `r` says which modes a valid assignment may use [own]
+-- version `v`. A valid assignment uses only modes that the rule `r` allows [own]
 abbrev pub HasFit : ℕ → Rule → List ℕ → ℕ → Type 0
 HasFit v r xs n = (ms : List Mode) × IsAssignment r xs ms × (bits v (runs_of ms) ≤ n)
 

@@ -33,8 +33,8 @@ kanji_bits [] = []
 kanji_bits (a ∷ []) = []
 kanji_bits (a ∷ b ∷ xs) = field 13 (kanji_value a b) ++ kanji_bits xs
 
--- `payload m xs` is the list of the data bits of a segment with the bytes `xs` in the mode `m`, without the mode
--- indicator and the character count indicator (ISO/IEC 18004:2015, 7.4.3 to 7.4.6)
+-- `payload m xs` is the list of the data bits of a segment with the bytes `xs` in the mode `m`. The mode indicator and
+-- the character count indicator are not data bits (ISO/IEC 18004:2015, 7.4.3 to 7.4.6)
 unfoldable pub payload : Mode → List ℕ → List Bool
 payload Numeric xs = digit_bits xs
 payload Alphanumeric xs = character_bits xs

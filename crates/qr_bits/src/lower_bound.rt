@@ -28,7 +28,7 @@ fn least_sixths(byte: u8) -> u32
 ///
 /// # Notes
 ///
-/// Makes one pass over the input.
+/// The function reads each byte of the input once.
 pub fn least_bits(input: &[u8]) -> u32
     requires { length input.now ≤ INPUT_MAX }
     ensures value { result ≡ least_bits input.now }

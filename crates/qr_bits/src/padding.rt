@@ -26,7 +26,7 @@ pub(crate) fn capacity(version: Version, level: Level) -> u64
     ensures last { version ≤ 40 }
     ensures least { 72 ≤ result }
 {
-    // This call serves only the proof: its contract states that the version is from 1 to 40.
+    // This call is here only for the proof: its contract states that the version is from 1 to 40.
     let _ = version.number();
     8 * u64::from(version.data_codewords(level))
 }
