@@ -88,7 +88,7 @@ fn modes_of(numbers: &PerState<u32>) -> u32
 // table, and the numbers that represent the choices. The flag `digit` is true if the byte may be written in numeric
 // mode, and `character` is true if it may be written in alphanumeric mode. The flag `pair` is true if the byte may be
 // the first byte of a kanji pair. For each state after the byte, `rest` contains the number that represents the best
-// choice for the bytes after it. This number is four times the number of bits of the choice, plus the rank of its mode.
+// choice for the later bytes. This number is four times the number of bits of the choice, plus the rank of its mode.
 #[inline(always)]
 fn choices(
     first_choices: &FirstChoices,
@@ -139,7 +139,7 @@ fn choices(
 /// Finds the best choice of a mode for `byte`, for each state before the byte. Returns the chosen modes as a row of the
 /// table, and the numbers that represent the choices. The flag `pair` is true if the byte may be the first byte of a
 /// kanji pair. After the first byte of a kanji pair, only kanji mode is possible, and the second byte adds no bits. For
-/// each state after the byte, `rest` contains the number that represents the best choice for the bytes after it.
+/// each state after the byte, `rest` contains the number that represents the best choice for the later bytes.
 #[tactic(auto, unfolding(crate::specs::Steps::RunState::may_begin))]
 #[inline(always)]
 pub(crate) fn best_choices(

@@ -88,15 +88,15 @@ dark_count s dark = sum_below s (λ r. count_below s (dark r))
 unfoldable pub dark_cost : ℕ → ℕ → ℕ
 dark_cost s dark = 10 * (((20 * dark - 10 * (s * s)) + (10 * (s * s) - 20 * dark)) / (s * s))
 
--- `over_lines s dark f` is the sum of the numbers `f line` for each row and each column `line` of a symbol. The symbol
--- has `s` rows and columns, and `dark r c` is the colour of a module [own]
+-- `over_lines s dark f` is the sum of the numbers that the function `f` yields for all rows and all columns of a
+-- symbol. The symbol has `s` rows and columns, and `dark r c` is the colour of a module [own]
 unfoldable pub over_lines : ℕ → (ℕ → ℕ → Bool) → ((ℕ → Bool) → ℕ) → ℕ
 over_lines s dark f = sum_below s (λ r. f (dark r)) + sum_below s (λ c. f (λ r. dark r c))
 
 -- `penalty_of s dark` is the penalty of a symbol of `s` rows and columns, where `dark r c` is the colour of a module.
 -- The penalty is the sum of four costs. The runs of one colour have the cost `run_cost`, and the share of dark modules
 -- has the cost `dark_cost`. Each square of two by two modules of one colour costs 3 points. Each window costs 40
--- points: eleven modules with the ratio 1:1:3:1:1 before or after four light modules (ISO/IEC 18004:2015, 7.8.3.1,
--- Table 11)
+-- points. A window is eleven modules: the ratio 1:1:3:1:1 before or after four light modules (ISO/IEC 18004:2015,
+-- 7.8.3.1, Table 11)
 unfoldable pub penalty_of : ℕ → (ℕ → ℕ → Bool) → ℕ
 penalty_of s dark = over_lines s dark (run_cost s) + 3 * square_count s dark + 40 * over_lines s dark (window_count s) + dark_cost s (dark_count s dark)

@@ -1,5 +1,6 @@
 -- Defines what single steps of the code do with bit rows, with runs of modules of one colour, and with tiles of 64 by
--- 64 modules. Apart from the model of `BitRow`, only proofs and contracts of private functions use these definitions.
+-- 64 modules. Only proofs, contracts of private functions and the model of `BitRow` use these definitions. The model is
+-- the value of a `BitRow` in contracts.
 use Rattle.std.specs.Prelude.{◌≡◌, ℕ, ◌+◌, ◌-◌, ◌*◌, ◌%◌, ◌^◌, ◌<◌, ◌==◌, ◌&&◌, not, true, false, Bool, List, Option, None, Some, length, slice_index, nat_lt, if◌then◌else◌}
 use Rattle.qr_matrix.specs.Penalty.{count_below}
 use Rattle.qr_matrix.specs.Runs.{begins_five, begins_long_run}
@@ -21,8 +22,8 @@ TakesFirst old (Some p) new =
     (p < 192) × (has old p ≡ true) × ((c : ℕ) → c < p → has old c ≡ false) × ((c : ℕ) → has new c ≡ (has old c && not (c == p)))
 
 -- `row_share s dark r` is what the modules of row `r` add to the cost of the runs in all columns. The symbol has `s`
--- rows and columns, and `dark row col` is the colour of a module. A module at which five modules of one colour begin
--- downwards adds 1 point, and 2 points more if it is the first module of its run
+-- rows and columns, and `dark row col` is the colour of a module. A module of this row adds 1 point if five modules of
+-- one colour begin at it, counted downwards. If the module is also the first module of its run, it adds 2 points more
 unfoldable pub row_share : ℕ → (ℕ → ℕ → Bool) → ℕ → ℕ
 row_share s dark r = count_below s (λ c. begins_five s (λ i. dark i c) r) + 2 * count_below s (λ c. begins_long_run s (λ i. dark i c) r)
 
@@ -30,9 +31,9 @@ row_share s dark r = count_below s (λ c. begins_five s (λ i. dark i c) r) + 2 
 unfoldable pub bit_in : List ℕ → ℕ → ℕ → Bool
 bit_in words r c = has_bit (slice_index words r) c
 
--- `exchanged s f r c` is the bit in row `r` and column `c` after parts of a square of bits were exchanged, where `f row
--- col` is a bit before the exchange. The square is divided into parts of `s` by `s` bits. In each group of two by two
--- parts, the upper right part and the lower left part are exchanged
+-- `exchanged s f r c` is the bit in row `r` and column `c` of a square of bits after some parts of the square were
+-- exchanged. Before the exchange, the bit in this row and column was `f r c`. The square is divided into parts of `s` by `s` bits. In each
+-- group of two by two parts, the upper right part and the lower left part are exchanged
 unfoldable pub exchanged : ℕ → (ℕ → ℕ → Bool) → ℕ → ℕ → Bool
 exchanged s f r c =
     if nat_lt (r % (2 * s)) s

@@ -14,9 +14,9 @@ use crate::matrix::Matrix;
 use crate::runs::runs_and_squares;
 use crate::windows::window_count;
 
-/// For these example squares, the definition of the penalty yields the points that were counted by hand from Table 11.
-/// Some squares contain the ratio 1:1:3:1:1 of a finder pattern, at the beginning of a row or later in a row or a
-/// column. There the definition finds the ratio before four light modules and after four light modules.
+/// For the example squares of the contract, the definition of the penalty yields the points that were counted by hand
+/// from Table 11. Some squares contain the ratio 1:1:3:1:1 of a finder pattern, at the beginning of a row or later in a
+/// row or a column. The definition finds this ratio both before and after four light modules.
 #[tactic(auto, unfolding(crate::specs::Penalty::penalty_of, crate::specs::Penalty::over_lines, crate::specs::Penalty::run_cost, crate::specs::Penalty::is_run, crate::specs::Penalty::window_count, crate::specs::Penalty::is_window, crate::specs::Penalty::square_count, crate::specs::Penalty::is_square_of_two, crate::specs::Penalty::dark_count, crate::specs::Penalty::dark_cost))]
 pub fn penalties_compute()
     ensures one { penalty_of 1 all_light ≡ 100 }
@@ -29,7 +29,7 @@ pub fn penalties_compute()
 {}
 
 /// The cost of the runs of a row or column can be counted module by module. Each module at which five modules of one
-/// colour begin costs 1 point, and 2 points more if it is the first module of its run.
+/// colour begin costs 1 point. If this module is the first module of its run, it costs 2 points more.
 pub fn runs_cost_by_places()
     ensures { (side : ℕ) (line : ℕ → Bool) → run_cost side line ≡ place_cost side line }
 {}

@@ -18,7 +18,8 @@ const WINDOW_POINTS: u32 = 40;
 // The points of Table 11 for each whole twentieth by which the share of dark modules differs from a half.
 const BALANCE_POINTS: u32 = 10;
 
-// Returns the number of dark modules of `matrix`. `words` is the number of words that the modules of a row fill.
+// Returns the number of dark modules of `matrix`. `words` is the number of words of 64 bits that the modules of a row
+// fill.
 #[inline(always)]
 fn dark_count(matrix: &Matrix, words: u8) -> u32
     requires least { 64 * (words - 1) < matrix.now.side }
@@ -48,7 +49,8 @@ fn balance_cost(modules: u32, dark: u32) -> u32
     BALANCE_POINTS * (excess / modules)
 }
 
-// Returns the penalty of the square of modules `m`. `words` is the number of words that the modules of a row fill.
+// Returns the penalty of the square of modules `m`. `words` is the number of words of 64 bits that the modules of a row
+// fill.
 #[inline(always)]
 fn penalty_in(m: &Matrix, words: u8) -> u32
     requires least { 64 * (words - 1) < m.now.side }

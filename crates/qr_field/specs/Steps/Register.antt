@@ -35,8 +35,8 @@ pub record HasMultiples (g : List ℕ) (shift bound : ℕ) (rows : List Register
   pub many : length rows ≡ 16
   pub each : (f : ℕ) → f < bound → value_of (slice_index_or rows f zero_register) ≡ packed (scaled (f * 2 ^ shift) g)
 
--- `IsHeld d n v` holds if the number v consists of the n error correction codewords of the data codewords d; the first
--- codeword is in the lowest eight bits
+-- `IsHeld d n v` holds if the number v consists of the n error correction codewords of the data codewords d. The first
+-- error correction codeword is in the lowest eight bits of v
 pub record IsHeld (d : List ℕ) (n v : ℕ) : Type 0 where
   pub items : List ℕ
   pub correction : IsCorrection d n items
