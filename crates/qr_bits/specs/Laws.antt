@@ -43,8 +43,8 @@ DataAreThere =
     (v : ℕ) (l : Level) (xs : List ℕ) (segs : List Segment) (h : Option Header) (stream : List Bool) → IsStream v xs segs h stream →
     length stream ≤ capacity_of v l → (cw : List ℕ) × IsData v l xs segs h cw
 
--- There is at most one list of data codewords for a version, a level, an optional header, segments, and the bytes of
--- these segments [own].
+-- Let a version, a level, an optional header, segments and the bytes of these segments be given. Then there is at most
+-- one list of data codewords [own].
 abbrev pub DataAreOne : Type 0
 DataAreOne =
     (v : ℕ) (l : Level) (xs : List ℕ) (segs : List Segment) (h : Option Header) (cw dw : List ℕ) →

@@ -74,9 +74,9 @@ in_twos test [] = true
 in_twos test (x ∷ []) = false
 in_twos test (x ∷ y ∷ xs) = test x y && in_twos test xs
 
--- `kanji_value high low` is the value of the kanji pair with the bytes `high` and `low`: the number that kanji mode
--- writes in 13 bits. The pair is read as a number of 16 bits. If this number is at most 9FFC, 8140 is subtracted from
--- it, and otherwise C140 is subtracted. The value is C0 times the high byte of the difference, plus the low byte of the
+-- `kanji_value high low` is the value of the kanji pair with the bytes `high` and `low`. Kanji mode writes this number
+-- in 13 bits. The pair is read as a number of 16 bits. If this number is at most 9FFC, 8140 is subtracted from it, and
+-- otherwise C140 is subtracted. The value is C0 times the high byte of the difference, plus the low byte of the
 -- difference. The numbers 8140, 9FFC, C140 and C0 are hexadecimal (ISO/IEC 18004:2015, 7.4.6)
 unfoldable pub kanji_value : ℕ → ℕ → ℕ
 kanji_value high low =

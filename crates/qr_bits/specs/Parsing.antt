@@ -66,13 +66,13 @@ characters_of (suc (suc n)) bits =
     let pair = value (take 11 bits) in
     if nat_lt pair 2025 then (characters_of n (drop 11 bits) >>= λ cs. Ok (character (pair / 45) ∷ character (pair % 45) ∷ cs)) else Err BadValue
 
--- `bytes_of n bits` is the list of the `n` bytes that are read from the beginning of `bits` in byte mode, each byte
--- from 8 bits (ISO/IEC 18004:2015, 7.4.5)
+-- `bytes_of n bits` is the list of the `n` bytes that are read from the beginning of `bits` in byte mode. Each byte is
+-- read from 8 bits (ISO/IEC 18004:2015, 7.4.5)
 unfoldable pub bytes_of : ℕ → List Bool → List ℕ
 bytes_of zero bits = []
 bytes_of (suc n) bits = value (take 8 bits) ∷ bytes_of n (drop 8 bits)
 
--- `kanji_pair n` is the kanji pair that has the value `n`, as a number of 16 bits. The value is divided by C0: the
+-- `kanji_pair n` is the kanji pair that has the value `n`, as a number of 16 bits. The value is divided by C0. The
 -- quotient is the high byte of a number of 16 bits, and the remainder is the low byte of this number. The kanji pair is
 -- this number plus 8140 if the high byte is at most 1E, and plus C140 otherwise. The numbers C0, 8140, 1E and C140 are
 -- hexadecimal (ISO/IEC 18004:2015, 7.4.6)
@@ -108,8 +108,8 @@ mode_of n =
     (if n == indicator Byte then Ok Byte else
     (if n == indicator Kanji then Ok Kanji else Err BadMode)))
 
--- `ends bits` holds if no further segment follows. The list `bits` contains the bits that are not read yet: there are
--- fewer than four such bits, or the first four are the terminator (ISO/IEC 18004:2015, 7.4.9)
+-- `ends bits` holds if no further segment follows. The list `bits` contains the bits that are not read yet. There are
+-- fewer than four such bits, or the first four of these bits are the terminator (ISO/IEC 18004:2015, 7.4.9)
 unfoldable pub ends : List Bool → Bool
 ends bits = nat_lt (length bits) 4 || value (take 4 bits) == terminator
 
@@ -125,9 +125,9 @@ unfoldable pub payload_at : Mode → ℕ → List Bool → Result (List ℕ × L
 payload_at m n bits =
     if nat_lt (length bits) (payload_bits m (byte_count m n)) then Err Cut else (values_of m n bits >>= λ xs. Ok (xs, drop (payload_bits m (byte_count m n)) bits))
 
--- `segment_at v bits` reads a segment from the beginning of `bits`, in a symbol of version `v`: its mode indicator, its
--- character count indicator and its data. The result is the segment, its bytes, and the bits after the segment (ISO/IEC
--- 18004:2015, 7.4.1)
+-- `segment_at v bits` reads a segment from the beginning of `bits`, in a symbol of version `v`. A segment consists of a
+-- mode indicator, a character count indicator and data. The result is the segment, its bytes, and the bits after the
+-- segment (ISO/IEC 18004:2015, 7.4.1)
 unfoldable pub segment_at : ℕ → List Bool → Result (Segment × List ℕ × List Bool) ParseFault
 segment_at v bits =
     mode_of (value (take 4 bits)) >>= λ m.
@@ -176,8 +176,8 @@ pub record Content : Type 0 where
   pub bytes : List ℕ
 
 -- `parse v bits` reads the content of a symbol of version `v` from `bits`, the list of the bits of its data codewords.
--- The result is the content or a fault. An optional structured append header is read first. The segments are read after
--- it, until the terminator comes or fewer than four bits remain (ISO/IEC 18004:2015, 7.4.1, 8.1, 12)
+-- The result is the content or a fault. An optional structured append header is read first. Then the segments are read,
+-- until the terminator comes or fewer than four bits remain (ISO/IEC 18004:2015, 7.4.1, 8.1, 12)
 unfoldable pub parse : ℕ → List Bool → Result Content ParseFault
 parse v bits =
     first_header bits >>= λ h.

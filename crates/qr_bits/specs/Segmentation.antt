@@ -9,8 +9,8 @@ use Rattle.qr_bits.specs.declared.segment.Segment.{Segment}
 use Rattle.qr_bits.specs.Modes.{count_width, is_digit, payload_bits, may_use}
 use Rattle.qr_bits.specs.Stream.{Suits}
 
--- `segment_bits v s` is the number of bits of the segment `s` in a symbol of version `v`: the bits of its mode
--- indicator, its character count indicator and its data (ISO/IEC 18004:2015, 7.4.1)
+-- `segment_bits v s` is the number of bits of the segment `s` in a symbol of version `v`. This number includes the mode
+-- indicator, the character count indicator and the data (ISO/IEC 18004:2015, 7.4.1)
 abbrev pub segment_bits : ℕ → Segment → ℕ
 segment_bits v s = 4 + count_width v s.mode + payload_bits s.mode s.len
 
@@ -20,8 +20,9 @@ abbrev pub bits : ℕ → List Segment → ℕ
 bits v [] = 0
 bits v (s ∷ ss) = segment_bits v s + bits v ss
 
--- `Covers xs segs` holds if the segments `segs` cover the bytes `xs`: no segment is empty, the lengths of the segments
--- add up to the length of `xs`, and the bytes of each segment can be written in the mode of the segment [own]
+-- `Covers xs segs` holds if the segments `segs` cover the bytes `xs`. No segment may be empty, and the lengths of the
+-- segments must add up to the length of `xs`. The mode of each segment must be able to write the bytes of the segment
+-- [own]
 unfoldable pub Covers : List ℕ → List Segment → Type 0
 Covers xs segs = All (λ s. 0 < s.len) segs × Suits xs segs
 
@@ -61,7 +62,8 @@ IsNotAfter (m ∷ ms) (k ∷ ks) = (rank m < rank k) ⊎ ((m ≡ k) × IsNotAfte
 
 -- `IsBestAssignment v r xs ms` holds if `ms` is the best of all valid assignments of modes to the bytes `xs` under the
 -- rule `r`. The best assignment takes the fewest bits in a symbol of version `v`. If several valid assignments take the
--- fewest bits, the best is the first of these in the lexicographic order by the ranks of the modes [own].
+-- fewest bits, the best is the first of these assignments in lexicographic order. The ranks of the modes determine this
+-- order [own].
 pub record IsBestAssignment (v : ℕ) (r : Rule) (xs : List ℕ) (ms : List Mode) : Type 0 where
   pub assignment : IsAssignment r xs ms
   pub least : (ks : List Mode) → IsAssignment r xs ks → bits v (runs_of ms) ≤ bits v (runs_of ks)
@@ -93,8 +95,8 @@ unfoldable pub least_bits : List ℕ → ℕ
 least_bits xs = sum_by least_sixths xs / 6
 
 -- `IsLongestFit v r xs room n` holds if the first `n` bytes of `xs` are the longest prefix of `xs` that fits in `room`
--- bits. A prefix fits if some valid assignment of modes to its bytes, under the rule `r`, takes at most `room` bits in
--- a symbol of version `v` [own].
+-- bits. A prefix fits if some valid assignment of modes to its bytes takes at most `room` bits in a symbol of version
+-- `v`. The rule `r` determines which modes a valid assignment may use [own].
 pub record IsLongestFit (v : ℕ) (r : Rule) (xs : List ℕ) (room n : ℕ) : Type 0 where
   pub inside : n ≤ length xs
   pub fits : HasFit v r (take n xs) room

@@ -54,9 +54,9 @@ unfoldable pub segments_stream : ℕ → List ℕ → List Segment → List Bool
 segments_stream v xs [] = []
 segments_stream v xs (s ∷ ss) = segment_stream v s.mode (take s.len xs) ++ segments_stream v (drop s.len xs) ss
 
--- `Suits xs segs` holds if the lengths of the segments `segs` add up to the length of the bytes `xs`, and the bytes of
--- each segment can be written in the mode of the segment. The first segment has the first bytes of `xs`, and each later
--- segment has the bytes that follow. Segments may be empty [own]
+-- `Suits xs segs` holds if the lengths of the segments `segs` add up to the length of the bytes `xs`. In addition, the
+-- mode of each segment must be able to write the bytes of the segment. The first segment has the first bytes of `xs`,
+-- and each later segment has the bytes that follow. Segments may be empty [own]
 unfoldable pub Suits : List ℕ → List Segment → Type 0
 Suits xs [] = xs ≡ []
 Suits xs (s ∷ ss) = (s.len ≤ length xs) × IsTrue (suits s.mode (take s.len xs)) × Suits (drop s.len xs) ss

@@ -96,7 +96,8 @@ fn push_whole(whole: &mut Vec<u8>, bits: u32, width: u8) -> Result<u8, AllocErro
 }
 
 // Joins the bits of `rest`, a number of `width` bits, and the bits of `bytes`. Cuts the joined bits into bytes, and
-// appends these bytes to `whole`. The last `width` bits do not fill a byte; the function returns them as a number.
+// appends these bytes to `whole`. The last `width` bits do not fill a byte, and the function returns these bits as a
+// number.
 fn push_bytes(whole: &mut Vec<u8>, width: u8, mut rest: u8, bytes: &[u8]) -> Result<u8, AllocError>
     requires few { width < 8 }
     requires rest { rest < 2 ^ width }

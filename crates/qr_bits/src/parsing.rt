@@ -148,7 +148,7 @@ fn segment(
     Ok(Segment { mode, len })
 }
 
-// Reads the mode indicator and the character count indicator of a segment, and checks that the codewords contain all
+// Reads the mode indicator and the character count indicator of a segment. Then checks that the codewords contain all
 // bits of the segment's data. The function does not allocate, so its fault is never `Memory`.
 #[tactic(auto, unfolding(crate::specs::Parsing::segment_at, crate::specs::Parsing::leading_number, crate::specs::Parsing::payload_at))]
 fn segment_head(reader: &mut BitReader, version: Version) -> Result<(Mode, u16), ParseFault>

@@ -16,9 +16,9 @@ pub struct Segment {
     pub len: usize,
 }
 
-/// Returns whether the segments `segs` cover the whole `input`. There are three conditions: no segment is empty, the
-/// lengths of the segments add up to the length of the input, and the bytes of each segment can be written in the mode
-/// of the segment.
+/// Returns whether the segments `segs` cover the whole `input`. No segment may be empty, and the lengths of the
+/// segments must add up to the length of the input. The mode of each segment must be able to write the bytes of the
+/// segment.
 pub fn covers(input: &[u8], segs: &[Segment]) -> bool
     ensures { IsTrue result ↔ Covers input.now segs.now }
 {

@@ -3,13 +3,13 @@
 //!
 //! In a given version, the number of bits that the remaining bytes add depends only on their modes and on the
 //! `RunState` before these bytes. This state contains the mode of the byte before, and the number of bytes so far in
-//! the group of this byte (three digits, two characters or a kanji pair). For each state and each mode of the next
-//! byte, there is a sum: the number of bits that the byte adds, plus the fewest bits that all later bytes then add. The
-//! best mode for the state is the mode with the least sum.
+//! the group of this byte. A group is three digits, two characters or a kanji pair. For each state and each mode of the
+//! next byte, the code adds two numbers: the number of bits that the byte adds, and the fewest bits that all later
+//! bytes then add. The best mode for the state is the mode with the least sum.
 //!
 //! One number represents a choice of a mode: four times the number of bits of the choice, plus the rank of the mode. So
-//! the best choice has the least number: it has the fewest bits, and the lowest rank among the choices with equally
-//! many bits. A row of the table contains the best modes of one byte, in two bits for each state.
+//! the best choice has the least number. This choice takes the fewest bits, and has the lowest rank among the choices
+//! that take equally many bits. A row of the table contains the best modes of one byte, in two bits for each state.
 
 ghost use Rattle.std.specs.Prelude.{◌≡◌, ◌+◌, ◌*◌, ◌/◌, ◌%◌, ◌<◌, ◌≤◌, ℕ, Bool, true, false, length, reverse, IfOk, vec_len};
 ghost use Rattle.qr_bits.specs.declared.modes.Mode.{Mode};
@@ -58,10 +58,10 @@ fn may_begin(rule: Rule, byte: u8, mode: Mode) -> bool
     }
 }
 
-// Returns the number that represents the choice of a mode for a byte: four times the number of bits of the choice, plus
-// the rank of the mode. If `may` is false, the mode may not be used, and the result is `NO_CHOICE`. `first` is the
-// number of the choice if only the bits of the byte are counted. `rest` is the number of the best choice for the bytes
-// after the byte.
+// Returns the number that represents the choice of a mode for a byte. This number is four times the number of bits of
+// the choice, plus the rank of the mode. If `may` is false, the mode may not be used, and the result is `NO_CHOICE`.
+// `first` is the number of the choice if only the bits of the byte are counted. `rest` is the number of the best choice
+// for the bytes after the byte.
 #[inline(always)]
 fn number_if(may: bool, first: u32, rest: u32) -> u32
     requires first { first ≤ 135 }
@@ -86,9 +86,10 @@ fn modes_of(numbers: &PerState<u32>) -> u32
 
 // Finds the best choice of a mode for a byte, for each state before the byte. Returns the chosen modes as a row of the
 // table, and the numbers that represent the choices. The flag `digit` is true if the byte may be written in numeric
-// mode, and `character` is true if it may be written in alphanumeric mode. The flag `pair` is true if the byte may be
-// the first byte of a kanji pair. For each state after the byte, `rest` contains the number that represents the best
-// choice for the later bytes. This number is four times the number of bits of the choice, plus the rank of its mode.
+// mode, and `character` is true if the byte may be written in alphanumeric mode. The flag `pair` is true if the byte
+// may be the first byte of a kanji pair. For each state after the byte, `rest` contains the number that represents the
+// best choice for the later bytes. This number is four times the number of bits of the choice, plus the rank of its
+// mode.
 #[inline(always)]
 fn choices(
     first_choices: &FirstChoices,

@@ -52,18 +52,19 @@ blocks_of v l = record {
 abbrev pub longest_of : Blocks → ℕ
 longest_of b = b.short_len + min b.long 1 + b.ec_len
 
--- `damage_of l` is a percentage for the error correction level l. In every version, half the number of error correction
--- codewords of a block, rounded down, is at least this percentage of the number of its codewords. If at most this
--- percentage of the codewords of a block is misread, the codewords that were read fit only one block [own]
+-- `damage_of l` is a percentage for the error correction level l. Let t be half the number of error correction
+-- codewords of a block, rounded down. In every version, t is at least this percentage of the number of codewords of the
+-- block. If at most this percentage of the codewords of a block is misread, the codewords that were read fit only one
+-- block [own]
 abbrev pub damage_of : Level → ℕ
 damage_of L = 9
 damage_of M = 17
 damage_of Q = 23
 damage_of H = 30
 
--- `AreWhole v l b` holds if the blocks with the sizes b together have all data codewords and all error correction
--- codewords of a symbol of version v at level l. At least one block is short, and each block has at least one data
--- codeword and from 1 to 30 error correction codewords (ISO/IEC 18004:2015, 7.5.1)
+-- `AreWhole v l b` holds if the blocks with the sizes b together have all codewords of a symbol of version v at level
+-- l. These are the data codewords and the error correction codewords. At least one block is short, and each block has
+-- at least one data codeword and from 1 to 30 error correction codewords (ISO/IEC 18004:2015, 7.5.1)
 pub record AreWhole (v : ℕ) (l : Level) (b : Blocks) : Type 0 where
   pub some : 1 ≤ b.short
   pub some_len : 1 ≤ b.short_len

@@ -25,24 +25,24 @@ level_bits H = 2
 abbrev pub five_bits : Level → ℕ → ℕ
 five_bits level mask = 8 * level_bits level + mask
 
--- `format_with five` is a number of 15 bits: the five bits `five`, followed by the ten bits of the remainder that Annex
--- C defines. All 15 bits are combined with the bits 101010000010010 by exclusive or (ISO/IEC 18004:2015, 7.9.1 and
--- Annex C)
+-- `format_with five` is a number of 15 bits. It consists of the five bits `five`, followed by the ten bits of the
+-- remainder that Annex C defines. All 15 bits are combined with the bits 101010000010010 by exclusive or (ISO/IEC
+-- 18004:2015, 7.9.1 and Annex C)
 abbrev pub format_with : ℕ → ℕ
 format_with five = bit_xor (five * 2 ^ 10 + remainder_of 10 0x537 5 (five * 2 ^ 10)) 0x5412
 
 -- `format_word_of level mask` is the format information for the error correction level `level` and the mask pattern
--- `mask`, a number from 0 to 7 (ISO/IEC 18004:2015, 7.9.1)
+-- `mask`. The mask pattern is a number from 0 to 7 (ISO/IEC 18004:2015, 7.9.1)
 unfoldable pub format_word_of : Level → ℕ → ℕ
 format_word_of level mask = format_with (five_bits level mask)
 
--- `version_word_of v` is the version information of version v: the six bits of the number v, followed by the twelve
--- bits of the remainder that Annex D defines (ISO/IEC 18004:2015, 7.10 and Annex D)
+-- `version_word_of v` is the version information of version v. It consists of the six bits of the number v, followed by
+-- the twelve bits of the remainder that Annex D defines (ISO/IEC 18004:2015, 7.10 and Annex D)
 unfoldable pub version_word_of : ℕ → ℕ
 version_word_of v = v * 2 ^ 12 + remainder_of 12 0x1F25 6 (v * 2 ^ 12)
 
--- `sum_of_shifts divisor ks` is the exclusive or of copies of `divisor`: for each number k in the list ks, a copy that
--- is shifted left by k bits [own]
+-- `sum_of_shifts divisor ks` is the exclusive or of copies of `divisor`. For each number k in the list ks, there is a
+-- copy that is shifted left by k bits [own]
 abbrev pub sum_of_shifts : ℕ → List ℕ → ℕ
 sum_of_shifts divisor [] = 0
 sum_of_shifts divisor (k ∷ ks) = bit_xor (divisor * 2 ^ k) (sum_of_shifts divisor ks)
@@ -57,9 +57,9 @@ pub record IsWordRemainder (n divisor x r : ℕ) : Type 0 where
   pub shifts : List ℕ
   pub multiple : bit_xor x r ≡ sum_of_shifts divisor shifts
 
--- `IsFormatWord five word` holds if `word` consists of the five bits `five` and the ten bits of a remainder, all
--- combined with the bits 101010000010010 by exclusive or. To compute the remainder, `five` is shifted left by ten bits
--- and divided by the polynomial x^10 + x^8 + x^5 + x^4 + x^2 + x + 1 (ISO/IEC 18004:2015, Annex C)
+-- `IsFormatWord five word` holds if `word` consists of the five bits `five` and the ten bits of a remainder. All 15
+-- bits are combined with the bits 101010000010010 by exclusive or. To compute the remainder, `five` is shifted left by
+-- ten bits and divided by the polynomial x^10 + x^8 + x^5 + x^4 + x^2 + x + 1 (ISO/IEC 18004:2015, Annex C)
 pub record IsFormatWord (five word : ℕ) : Type 0 where
   pub rest : ℕ
   pub remainder : IsWordRemainder 10 0x537 (five * 2 ^ 10) rest

@@ -46,7 +46,7 @@ printed_correction l v = 2 * slice_index_or (printed_errors l) (v - 1) 0 + slice
 
 -- `gap_between v k` is the distance between neighbouring rows that contain centres of alignment patterns. Version v has
 -- k such rows, and the first is row 6. Only the distance between the first two rows may be different. The distance is
--- the least even number that is enough: k - 1 such distances must reach from row 6 to the last of the k rows. In
+-- the least even number d for which d * (k - 1) is at least the distance from row 6 to the last of the k rows. In
 -- version 32 the distance is 26 instead (ISO/IEC 18004:2015, Annex E)
 abbrev pub gap_between : ℕ → ℕ → ℕ
 gap_between v k = if v == 32 then 26 else 2 * ((side_of v - 13 + 2 * (k - 1) - 1) / (2 * (k - 1)))
@@ -68,14 +68,15 @@ alignment_size k = if nat_lt k 2 then 0 else 25 * (k ^ 2 - 3) - 10 * (k - 2)
 abbrev pub version_size : ℕ → ℕ
 version_size v = if nat_lt v 7 then 0 else 36
 
--- `region_size v` is the number of modules of a symbol of version v outside four parts: the three corners, the timing
--- patterns between the corners, the alignment patterns and the version information (ISO/IEC 18004:2015, 6.3.7, 7.7.3)
+-- `region_size v` is the number of modules of a symbol of version v that are outside four parts. These parts are the
+-- three corners, the timing patterns between the corners, the alignment patterns and the version information (ISO/IEC
+-- 18004:2015, 6.3.7, 7.7.3)
 abbrev pub region_size : ℕ → ℕ
 region_size v =
     side_of v ^ 2 - 225 - 2 * (side_of v - 17) - alignment_size (length (centres_of v)) - version_size v
 
--- `always_dark` is the role of a module that is dark in every symbol of its version, and `always_light` is the role of
--- a module that is always light [own]
+-- `always_dark` is the role of a module that is dark in every symbol of its version. `always_light` is the role of a
+-- module that is light in every symbol of its version [own]
 abbrev always_dark : Role
 always_dark = Fixed true
 
@@ -94,8 +95,8 @@ column_8 = FormatBit 0 ∷ FormatBit 1 ∷ FormatBit 2 ∷ FormatBit 3 ∷ Forma
 abbrev pub row_6 : List Role
 row_6 = always_dark ∷ always_dark ∷ always_dark ∷ always_dark ∷ always_dark ∷ always_dark ∷ always_dark ∷ always_light ∷ always_dark ∷ always_light ∷ always_dark ∷ always_light ∷ always_dark ∷ always_light ∷ always_dark ∷ always_dark ∷ always_dark ∷ always_dark ∷ always_dark ∷ always_dark ∷ always_dark ∷ []
 
--- `finder_figure` lists, row by row, what the modules in the first eight rows and columns of version 1 contain: a
--- finder pattern and its separator (ISO/IEC 18004:2015, 6.3.3, 6.3.4)
+-- `finder_figure` lists, row by row, what the modules in the first eight rows and columns of version 1 contain. These
+-- modules are a finder pattern and its separator (ISO/IEC 18004:2015, 6.3.3, 6.3.4)
 abbrev pub finder_figure : List (List Role)
 finder_figure =
     (always_dark ∷ always_dark ∷ always_dark ∷ always_dark ∷ always_dark ∷ always_dark ∷ always_dark ∷ always_light ∷ [])
@@ -108,7 +109,8 @@ finder_figure =
     ∷ (always_light ∷ always_light ∷ always_light ∷ always_light ∷ always_light ∷ always_light ∷ always_light ∷ always_light ∷ []) ∷ []
 
 -- `alignment_figure` lists, row by row, what the modules in the rows 15 to 21 and columns 15 to 21 of version 2
--- contain: an alignment pattern, and around it the encoding region (ISO/IEC 18004:2015, 6.3.6)
+-- contain. These modules are an alignment pattern, and around it modules of the encoding region (ISO/IEC 18004:2015,
+-- 6.3.6)
 abbrev pub alignment_figure : List (List Role)
 alignment_figure =
     (Region ∷ Region ∷ Region ∷ Region ∷ Region ∷ Region ∷ Region ∷ [])

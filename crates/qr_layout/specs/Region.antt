@@ -7,9 +7,9 @@ use Rattle.qr_layout.specs.declared.region.Module.{Module}
 use Rattle.qr_layout.specs.Version.{side_of}
 use Rattle.qr_layout.specs.Alignment.{centres_of, alignment_places}
 
--- `is_corner s r c` holds if the place in row r and column c is in one of the three corners that have a finder pattern,
--- in a symbol with s modules on a side. Each corner contains the finder pattern, its separator and the format
--- information beside it. The bottom left corner also contains the dark module (ISO/IEC 18004:2015, 6.3.3, 6.3.4, 7.9)
+-- `is_corner s r c` holds if the place in row r and column c is in one of the three corners that have a finder pattern.
+-- The symbol has s modules on a side. Each corner contains the finder pattern, its separator and the format information
+-- beside it. The bottom left corner also contains the dark module (ISO/IEC 18004:2015, 6.3.3, 6.3.4, 7.9)
 abbrev pub is_corner : ℕ → ℕ → ℕ → Bool
 is_corner s r c = nat_le r 8 && (nat_le c 8 || nat_le (s - 8) c) || nat_le (s - 8) r && nat_le c 8
 

@@ -67,8 +67,8 @@ unfoldable pub format_bit_at : ℕ → ℕ → ℕ → Option ℕ
 format_bit_at s r c = find (λ i. is_at (first_place i) r c || is_at (second_place s i) r c) (range_with_len 0 15)
 
 -- `version_bit_at v r c` is the index of the bit of the version information that the module at (r, c) of version v
--- contains. The value is `None` if the module contains no such bit, which is always so below version 7 (ISO/IEC
--- 18004:2015, 7.10)
+-- contains. The value is `None` if the module contains no such bit. Below version 7, no module contains such a bit
+-- (ISO/IEC 18004:2015, 7.10)
 unfoldable pub version_bit_at : ℕ → ℕ → ℕ → Option ℕ
 version_bit_at v r c =
     if nat_lt v 7 then None else
@@ -79,8 +79,9 @@ version_bit_at v r c =
 abbrev pub is_dark_module : ℕ → ℕ → ℕ → Bool
 is_dark_module s r c = r == s - 8 && c == 8
 
--- `role_of v r c` is what the module at (r, c) of version v contains: a fixed colour, a bit of the format information,
--- or a bit of the version information. All other modules are in the encoding region (ISO/IEC 18004:2015, 6.3 and 7.7.2)
+-- `role_of v r c` is what the module at (r, c) of version v contains. This is a fixed colour, a bit of the format
+-- information, or a bit of the version information. All other modules are in the encoding region (ISO/IEC 18004:2015,
+-- 6.3 and 7.7.2)
 unfoldable pub role_of : ℕ → ℕ → ℕ → Role
 role_of v r c =
     option_map_or Fixed (pattern_colour v r c)

@@ -97,8 +97,8 @@ fn is_near(centre: u8, at: u8) -> bool
 }
 
 // Returns whether the place in row `a` and column `b` is in a corner with a finder pattern. Row `a` and column `b`
-// contain centres of alignment patterns, but no centre is in such a corner. `side` is the number of modules on a side
-// of the symbol.
+// contain centres of alignment patterns, but no alignment pattern has its centre in such a corner. `side` is the number
+// of modules on a side of the symbol.
 pub(crate) fn is_corner_pair(side: u8, a: u8, b: u8) -> bool
     requires { 21 ≤ side }
     ensures { result ≡ is_corner_pair side a b }

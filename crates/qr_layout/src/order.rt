@@ -83,8 +83,8 @@ impl Cursor {
     }
 }
 
-/// An iterator over the modules of the encoding region, in the order in which the bits of the codewords fill them. In
-/// contracts, the value of the iterator is the list of the modules that are still to come.
+/// An iterator over the modules of the encoding region, in the order in which the bits of the codewords fill this
+/// region. In contracts, the value of the iterator is the list of the modules that are still to come.
 ///
 /// # Notes
 ///

@@ -64,27 +64,27 @@ is_window s line c = nat_le (c + 11) s && (reads line c tail_window || reads lin
 unfoldable pub window_count : ℕ → (ℕ → Bool) → ℕ
 window_count s line = count_below s (is_window s line)
 
--- `is_square_of_two s dark r c` is true if the four modules in rows `r` and `r + 1` and columns `c` and `c + 1` are in
--- the symbol and have one colour. The symbol has `s` rows and columns, and `dark row col` is the colour of a module
--- (ISO/IEC 18004:2015, 7.8.3.1, Table 11, block of modules in same colour)
+-- `is_square_of_two s dark r c` is true if the four modules in rows `r` and `r + 1` and columns `c` and `c + 1` have
+-- one colour. All four modules must be in the symbol. The symbol has `s` rows and columns, and `dark row col` is the
+-- colour of a module (ISO/IEC 18004:2015, 7.8.3.1, Table 11, block of modules in same colour)
 unfoldable pub is_square_of_two : ℕ → (ℕ → ℕ → Bool) → ℕ → ℕ → Bool
 is_square_of_two s dark r c =
     nat_lt (r + 1) s && nat_lt (c + 1) s
     && is_same (dark r c) (dark r (c + 1)) && is_same (dark r c) (dark (r + 1) c) && is_same (dark r c) (dark (r + 1) (c + 1))
 
--- `square_count s dark` is the number of squares of two by two modules of one colour in a symbol of `s` rows and
--- columns, where `dark r c` is the colour of a module. Squares that overlap are each counted [own]
+-- `square_count s dark` is the number of squares of two by two modules of one colour in a symbol. The symbol has `s`
+-- rows and columns, and `dark r c` is the colour of a module. Squares that overlap are each counted [own]
 unfoldable pub square_count : ℕ → (ℕ → ℕ → Bool) → ℕ
 square_count s dark = sum_below s (λ r. count_below s (is_square_of_two s dark r))
 
--- `dark_count s dark` is the number of dark modules in a symbol of `s` rows and columns, where `dark r c` is the colour
--- of a module [own]
+-- `dark_count s dark` is the number of dark modules in a symbol. The symbol has `s` rows and columns, and `dark r c` is
+-- the colour of a module [own]
 unfoldable pub dark_count : ℕ → (ℕ → ℕ → Bool) → ℕ
 dark_count s dark = sum_below s (λ r. count_below s (dark r))
 
--- `dark_cost s dark` is the cost of the share of dark modules in a symbol of `s` rows and columns, where `dark` is the
--- number of dark modules. The cost is 10 points for each whole twentieth by which this share differs from a half
--- (ISO/IEC 18004:2015, 7.8.3.1, Table 11, proportion of dark modules)
+-- `dark_cost s dark` is the cost of the share of dark modules in a symbol. The symbol has `s` rows and columns, and
+-- `dark` dark modules. The cost is 10 points for each whole twentieth by which this share differs from a half (ISO/IEC
+-- 18004:2015, 7.8.3.1, Table 11, proportion of dark modules)
 unfoldable pub dark_cost : ℕ → ℕ → ℕ
 dark_cost s dark = 10 * (((20 * dark - 10 * (s * s)) + (10 * (s * s) - 20 * dark)) / (s * s))
 

@@ -1,4 +1,4 @@
--- Defines where a run of modules of one colour ends, where the colour changes, and what runs cost if this cost is
+-- Defines where a run of modules of one colour ends, and where the colour changes. Also defines the cost of runs,
 -- counted module by module. The parameter `line` is a row or a column of modules: `line c` is the colour of module `c`,
 -- and `true` is dark.
 use Rattle.std.specs.Prelude.{◌≡◌, ◌≢◌, ◌+◌, ◌-◌, ◌*◌, ◌<◌, ◌≤◌, ◌&&◌, not, ℕ, Bool, nat_lt}
@@ -19,18 +19,19 @@ pub record IsRunEnd (g : Grid) (row col end : ℕ) : Type 0 where
 unfoldable pub is_change : (ℕ → Bool) → ℕ → Bool
 is_change line c = not (is_same (line c) (nat_lt 0 c && line (c - 1)))
 
--- `joins s line c` is true if modules `c` and `c + 1` are both in `line`, a row or column of `s` modules, and have the
--- same colour [own]
+-- `joins s line c` is true if the modules `c` and `c + 1` have the same colour. Both modules must be in `line`, which
+-- is a row or column of `s` modules [own]
 unfoldable pub joins : ℕ → (ℕ → Bool) → ℕ → Bool
 joins s line c = nat_lt (c + 1) s && is_same (line c) (line (c + 1))
 
--- `begins_five s line c` is true if the five modules from index `c` on are all in `line`, a row or column of `s`
--- modules, and have one colour [own]
+-- `begins_five s line c` is true if the five modules from index `c` on have one colour. All five modules must be in
+-- `line`, which is a row or column of `s` modules [own]
 unfoldable pub begins_five : ℕ → (ℕ → Bool) → ℕ → Bool
 begins_five s line c = (joins s line c && joins s line (c + 1)) && (joins s line (c + 2) && joins s line (c + 3))
 
--- `begins_long_run s line c` is true if a run of five or more modules of one colour begins at index `c` of `line`, a
--- row or column of `s` modules. So the module before index `c` has the other colour, or `c` is 0 [own]
+-- `begins_long_run s line c` is true if a run of five or more modules of one colour begins at index `c` of `line`. The
+-- parameter `line` is a row or column of `s` modules. So the module before index `c` has the other colour, or `c` is 0
+-- [own]
 unfoldable pub begins_long_run : ℕ → (ℕ → Bool) → ℕ → Bool
 begins_long_run s line c = begins_five s line c && not (nat_lt 0 c && joins s line (c - 1))
 

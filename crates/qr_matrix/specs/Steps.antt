@@ -14,8 +14,8 @@ AreWords words = (length words ≡ 3) × (slice_index words 0 < 2 ^ 64) × (slic
 unfoldable pub size_of : List ℕ → ℕ
 size_of words = count_below 192 (has words)
 
--- `TakesFirst old p new` holds if `p` is the index of the first bit that is 1 in the bit row `old`, and `new` is `old`
--- with this bit set to 0. If no bit of `old` is 1, `p` is `None` and `new` is equal to `old`
+-- `TakesFirst old p new` holds if `p` is the index of the first bit that is 1 in the bit row `old`. The bit row `new`
+-- must be `old` with this bit set to 0. If no bit of `old` is 1, `p` is `None` and `new` is equal to `old`
 abbrev pub TakesFirst : List ℕ → Option ℕ → List ℕ → Type 0
 TakesFirst old None new = (new ≡ old) × ((c : ℕ) → c < 192 → has old c ≡ false)
 TakesFirst old (Some p) new =
@@ -32,8 +32,8 @@ unfoldable pub bit_in : List ℕ → ℕ → ℕ → Bool
 bit_in words r c = has_bit (slice_index words r) c
 
 -- `exchanged s f r c` is the bit in row `r` and column `c` of a square of bits after some parts of the square were
--- exchanged. Before the exchange, the bit in this row and column was `f r c`. The square is divided into parts of `s` by `s` bits. In each
--- group of two by two parts, the upper right part and the lower left part are exchanged
+-- exchanged. Before the exchange, the bit in this row and this column was `f r c`. The square is divided into parts of
+-- `s` by `s` bits. In each group of two by two parts, the upper right part and the lower left part are exchanged
 unfoldable pub exchanged : ℕ → (ℕ → ℕ → Bool) → ℕ → ℕ → Bool
 exchanged s f r c =
     if nat_lt (r % (2 * s)) s

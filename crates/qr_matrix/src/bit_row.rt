@@ -120,8 +120,8 @@ impl BitRow {
         self ^ (self & other)
     }
 
-    /// Returns this bit row moved by `steps` bits (from 1 to 63): bit `c` of the result is bit `c + steps` of this bit
-    /// row.
+    /// Returns this bit row moved by `steps` bits, where `steps` is from 1 to 63. Bit `c` of the result is bit `c +
+    /// steps` of this bit row.
     pub(crate) fn shifted_left(self, steps: u32) -> BitRow
         requires some { 0 < steps }
         requires few { steps < 64 }
@@ -136,7 +136,7 @@ impl BitRow {
         ])
     }
 
-    /// Returns this bit row moved by one bit: bit `c` of the result is bit `c - 1` of this bit row, and bit 0 is not
+    /// Returns this bit row moved by one bit. Bit `c` of the result is bit `c - 1` of this bit row, and bit 0 is not
     /// set.
     pub(crate) fn shifted_right(self) -> BitRow
         ensures { (c : ℕ) → c < 192 → has result c ≡ (nat_lt 0 c && has self (c - 1)) }

@@ -99,8 +99,8 @@ impl Matrix {
         later.first().min(side)
     }
 
-    // Returns a bit row (192 bits) in which bit `c` is set if the module in column `c` of row `row` has another colour
-    // than the module before it. Outside the square, the colour counts as light.
+    // Returns a bit row (192 bits) for row `row`. Bit `c` is set if the module in column `c` has another colour than
+    // the module before it. Outside the square, the colour counts as light.
     pub(crate) fn changes(&self, row: u8) -> BitRow
         requires { row < self.now.side }
         ensures changes { (c : ℕ) → c < 192 → has result c ≡ is_change (colour self.now row) c }
@@ -242,7 +242,7 @@ impl Matrix {
         }
     }
 
-    /// Sets this square to the transpose of `other`, which must have the same side: the module in row `r` and column
+    /// Sets this square to the transpose of `other`, which must have the same side. The module in row `r` and column
     /// `c` gets the colour that `other` has in row `c` and column `r`.
     pub fn set_transposed(&mut self, other: &Matrix)
         requires { other.now.side ≡ self.old.side }

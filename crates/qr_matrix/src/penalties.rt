@@ -65,10 +65,10 @@ fn penalty_in(m: &Matrix, words: u8) -> u32
         + balance_cost(modules, dark_count(m, words))
 }
 
-/// Returns the penalty of a square of modules, which is a sum of points (ISO/IEC 18004:2015, 7.8.3.1, Table 11). Points
-/// are given for runs of five or more modules of one colour, for squares of two by two modules of one colour, and for
-/// the share of dark modules. Points are also given for each window: eleven modules with the ratio 1:1:3:1:1 of a
-/// finder pattern before or after four light modules.
+/// Returns the penalty of a square of modules, which is a sum of points (ISO/IEC 18004:2015, 7.8.3.1, Table 11). Runs
+/// of five or more modules of one colour cost points, and so do squares of two by two modules of one colour, and the
+/// share of dark modules. Each window also costs points. A window is eleven modules: the ratio 1:1:3:1:1 of a finder
+/// pattern, before or after four light modules.
 pub fn penalty(m: &Matrix) -> u32
     ensures { result ≡ penalty_of m.now.side (colour m.now) }
 {

@@ -1,6 +1,6 @@
 -- Defines how many bits the next byte of an input adds in each mode. This number depends on the `RunState` before the
--- next byte. This state contains the mode of the byte before, and the number of bytes so far in the group of this byte
--- (three digits, two characters or a kanji pair).
+-- next byte. This state contains the mode of the byte before, and the number of bytes so far in the group of this byte.
+-- A group is three digits, two characters or a kanji pair.
 use Rattle.std.specs.Prelude.{◌≡◌, ℕ, ◌+◌, ◌*◌, ◌≤◌, Bool, true, false, ◌&&◌, ◌==◌, if◌then◌else◌, List, [], ◌∷◌, IsTrue}
 use Rattle.qr_bits.specs.declared.modes.Mode.{Mode}
 use Rattle.qr_bits.specs.declared.modes.Mode.TheVariants.{Numeric, Alphanumeric, Byte, Kanji}
@@ -22,7 +22,7 @@ state_after _ Byte = InBytes
 state_after HalfPair Kanji = WholePair
 state_after _ Kanji = HalfPair
 
--- `state_on p` is the state that follows the state `p` if the next byte has the mode of the byte before it. For
+-- `state_on p` is the state that follows the state `p` if the next byte has the same mode as the last byte. For
 -- `Start`, the result is the state after a byte in byte mode
 unfoldable pub state_on : RunState → RunState
 state_on Start = InBytes
@@ -63,7 +63,7 @@ begins_with_pair r test [] = false
 begins_with_pair r test (x ∷ []) = false
 begins_with_pair r test (x ∷ y ∷ xs) = may_use r Kanji && test x y
 
--- `may_begin r x pair m` holds if the byte `x` may have the mode `m` under the rule `r`, where `x` is not the second
+-- `may_begin r x pair m` holds if the byte `x` may have the mode `m` under the rule `r`. The byte `x` is not the second
 -- byte of a kanji pair. The flag `pair` is true if `x` may be the first byte of a kanji pair.
 unfoldable pub may_begin : Rule → ℕ → Bool → Mode → Bool
 may_begin r x pair Numeric = may_use r Numeric && is_digit x
@@ -98,10 +98,11 @@ unfoldable pub cost_of : ℕ → RunState → List Mode → ℕ
 cost_of v p [] = 0
 cost_of v p (m ∷ ms) = byte_cost v p m + cost_of v (state_after p m) ms
 
--- `IsBestRest v r test p xs ms n` holds if `ms` is the best of the assignments of modes to the remaining bytes `xs`
--- that are allowed after the state `p`. The best assignment adds the fewest bits, and `n` is the number of these bits.
--- If several assignments add `n` bits, the best is the first of these in the lexicographic order by the ranks of the
--- modes. The version is `v`, the rule is `r`, and two bytes are a kanji pair if they pass `test`.
+-- `IsBestRest v r test p xs ms n` holds if `ms` is the best assignment of modes to the remaining bytes `xs`. The
+-- assignment must be allowed after the state `p`. The best assignment adds the fewest bits, and `n` is the number of
+-- these bits. If several assignments add `n` bits, the best is the first of these assignments in the lexicographic
+-- order by the ranks of the modes. The version is `v`, the rule is `r`, and two bytes are a kanji pair if they pass
+-- `test`.
 pub record IsBestRest (v : ℕ) (r : Rule) (test : ℕ → ℕ → Bool) (p : RunState) (xs : List ℕ) (ms : List Mode) (n : ℕ) : Type 0 where
   pub is_allowed : IsTrue (allowed r test p xs ms)
   pub has_bits : cost_of v p ms ≡ n
@@ -119,9 +120,9 @@ pub record IsChoice (v : ℕ) (r : Rule) (p : RunState) (x : ℕ) (pair : Bool) 
   pub first : (k : Mode) → IsTrue (may_take r p x pair k) → byte_cost v p k + cost (state_after p k) ≡ n → rank m ≤ rank k
 
 -- `choice_number may bits m` represents the choice of the mode `m` for the next byte as one number. The number is four
--- times `bits` plus the rank of `m`, where `bits` is the number of bits that the byte and the bytes after it then add.
--- So the better of two choices has the smaller number. If `may` is false, the mode may not be used, and the number is
--- 2^32 - 1. For inputs of at most `INPUT_MAX` bytes, this is greater than the number of every choice.
+-- times `bits` plus the rank of `m`, where `bits` is the number of bits that this byte and all later bytes then add. So
+-- the better of two choices has the smaller number. If `may` is false, the mode may not be used, and the number is 2^32
+-- - 1. For inputs of at most `INPUT_MAX` bytes, this is greater than the number of every choice.
 abbrev pub choice_number : Bool → ℕ → Mode → ℕ
 choice_number may bits m = if may then 4 * bits + rank m else 4294967295
 

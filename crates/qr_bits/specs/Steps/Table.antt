@@ -1,4 +1,4 @@
--- Defines the table of best modes for an input. The table has a row for each byte; the row contains the best mode of
+-- Defines the table of best modes for an input. The table has a row for each byte. This row contains the best mode of
 -- the byte for each state (`RunState`) before the byte.
 use Rattle.std.specs.Prelude.{ℕ, ◌<◌, ◌/◌, ◌%◌, ◌^◌, Bool, List, [], ◌∷◌, IsTrue}
 use Rattle.qr_bits.specs.declared.modes.Mode.{Mode}
@@ -51,9 +51,9 @@ unfoldable pub mode_at : ℕ → RunState → Mode
 mode_at row p = ranked (row / 2 ^ shift_of p % 4)
 
 -- `IsRow v r x pair rest row numbers` holds if, for each state before the byte `x`, `row` contains the best mode of
--- `x`. For each of these states `p`, `bits_at numbers p` is the number of bits that `x` and the bytes after it then
--- add. For each state `q` after `x`, `bits_at rest q` is the number of bits that the bytes after `x` add. The version
--- is `v`, the rule is `r`, and the flag `pair` is true if `x` may be the first byte of a kanji pair.
+-- `x`. For each of these states `p`, `bits_at numbers p` is the number of bits that `x` and all later bytes then add.
+-- For each state `q` after `x`, `bits_at rest q` is the number of bits that the bytes after `x` add. The version is
+-- `v`, the rule is `r`, and the flag `pair` is true if `x` may be the first byte of a kanji pair.
 abbrev pub IsRow : ℕ → Rule → ℕ → Bool → PerState ℕ → ℕ → PerState ℕ → Type 0
 IsRow v r x pair rest row numbers = (p : RunState) → IsChoice v r p x pair (bits_at rest) (mode_at row p) (bits_at numbers p)
 

@@ -18,13 +18,13 @@ half_of at_left = if at_left then 1 else 0
 abbrev pub place_of : Cursor → Module
 place_of a = let right = (strip_at a.strips).right in record { row = a.row; col = if a.at_left then right - 1 else right }
 
--- `rank_of s a` is the number of rows of the strip that the walk visits before the row of the position a, in a symbol
--- with s modules on a side
+-- `rank_of s a` is the number of rows of a strip (two neighbouring columns) that the walk visits before the row of the
+-- position a. The symbol has s modules on a side
 abbrev pub rank_of : ℕ → Cursor → ℕ
 rank_of s a = if (strip_at a.strips).upward then s - 1 - a.row else a.row
 
--- `left_of s a` is the number of positions from the position a to the end of the walk, including a itself, in a symbol
--- with s modules on a side
+-- `left_of s a` is the number of positions that the walk still visits, including the position a itself. The symbol has
+-- s modules on a side
 unfoldable pub left_of : ℕ → Cursor → ℕ
 left_of s a = a.strips * (2 * s) - (2 * rank_of s a + half_of a.at_left)
 
