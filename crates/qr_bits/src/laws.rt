@@ -215,8 +215,8 @@ pub fn parse_fault_numbers(fault: ParseFault) -> u8
 }
 
 /// The definitions convert kanji pairs to values, and values to kanji pairs. The examples are the two kanji pairs that
-/// the standard encodes, and the greatest kanji pair (7.4.6). The definitions also decide whether some pairs of bytes
-/// in and outside the two ranges are kanji pairs.
+/// the standard encodes, and the greatest kanji pair (7.4.6). The definitions also decide whether some other pairs of
+/// bytes are kanji pairs. These pairs are in or outside the ranges 8140 to 9FFC and E040 to EBBF (hexadecimal).
 #[tactic(auto, unfolding(crate::specs::Modes::is_kanji_pair, crate::specs::Modes::kanji_value, crate::specs::Parsing::kanji_pair))]
 pub fn kanji_compute()
     ensures first { kanji_value 0x93 0x5F ≡ 0xD9F }

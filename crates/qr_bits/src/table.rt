@@ -114,7 +114,7 @@ fn choices(
     // In the states `Digit3`, `Character2`, `InBytes` and `WholePair`, the last group of bytes is complete. To continue
     // the segment then takes fewer bits than to begin a new segment of the same mode, and both choices lead to the same
     // `RunState`. So a new segment of the same mode is never the best choice. These states can therefore use `start`,
-    // which is the least number among the new segments of all modes.
+    // which is the least number of all choices that begin a new segment in any mode.
     let digit2 = number_if(digit, number(3, Mode::Numeric), rest.digit2);
     let digit3 = number_if(digit, number(3, Mode::Numeric), rest.digit3);
     let digit1 = number_if(digit, number(4, Mode::Numeric), rest.digit1);

@@ -32,8 +32,9 @@ is_run s line a k =
     && (a == 0 || not (is_same (line (a - 1)) (line a)))
     && (a + k == s || not (is_same (line (a + k)) (line a)))
 
--- `run_cost s line` is the cost of the runs of one colour in `line`, a row or column of `s` modules. Each maximal run
--- of `k` modules costs `k - 2` points if `k` is at least 5 (ISO/IEC 18004:2015, 7.8.3.1, Table 11)
+-- `run_cost s line` is the number of penalty points for the runs of one colour in `line`, a row or column of `s`
+-- modules. Each maximal run of `k` modules costs `k - 2` points if `k` is at least 5 (ISO/IEC 18004:2015, 7.8.3.1,
+-- Table 11)
 unfoldable pub run_cost : ℕ → (ℕ → Bool) → ℕ
 run_cost s line = sum_below s (λ a. sum_below (s + 1) (λ k. if nat_le 5 k && is_run s line a k then k - 2 else 0))
 
@@ -82,9 +83,9 @@ square_count s dark = sum_below s (λ r. count_below s (is_square_of_two s dark 
 unfoldable pub dark_count : ℕ → (ℕ → ℕ → Bool) → ℕ
 dark_count s dark = sum_below s (λ r. count_below s (dark r))
 
--- `dark_cost s dark` is the cost of the share of dark modules in a symbol. The symbol has `s` rows and columns, and
--- `dark` dark modules. The cost is 10 points for each whole twentieth by which this share differs from a half (ISO/IEC
--- 18004:2015, 7.8.3.1, Table 11, proportion of dark modules)
+-- `dark_cost s dark` is the number of penalty points for the share of dark modules in a symbol. The symbol has `s` rows
+-- and columns, and `dark` dark modules. There are 10 points for each whole twentieth by which this share differs from a
+-- half (ISO/IEC 18004:2015, 7.8.3.1, Table 11, proportion of dark modules)
 unfoldable pub dark_cost : ℕ → ℕ → ℕ
 dark_cost s dark = 10 * (((20 * dark - 10 * (s * s)) + (10 * (s * s) - 20 * dark)) / (s * s))
 

@@ -1,6 +1,6 @@
--- Defines where a run of modules of one colour ends, and where the colour changes. Also defines the cost of runs,
--- counted module by module. The parameter `line` is a row or a column of modules: `line c` is the colour of module `c`,
--- and `true` is dark.
+-- Defines where a run of modules of one colour ends, and where the colour changes. Also defines the penalty points for
+-- runs, counted module by module. The parameter `line` is a row or a column of modules: `line c` is the colour of
+-- module `c`, and `true` is dark.
 use Rattle.std.specs.Prelude.{◌≡◌, ◌≢◌, ◌+◌, ◌-◌, ◌*◌, ◌<◌, ◌≤◌, ◌&&◌, not, ℕ, Bool, nat_lt}
 use Rattle.qr_matrix.specs.Grid.{Grid, colour}
 use Rattle.qr_matrix.specs.Penalty.{is_same, count_below}
@@ -35,8 +35,9 @@ begins_five s line c = (joins s line c && joins s line (c + 1)) && (joins s line
 unfoldable pub begins_long_run : ℕ → (ℕ → Bool) → ℕ → Bool
 begins_long_run s line c = begins_five s line c && not (nat_lt 0 c && joins s line (c - 1))
 
--- `place_cost s line` is the cost of the runs of one colour in `line`, a row or column of `s` modules, counted module
--- by module. Each module at which five modules of one colour begin costs 1 point. If this module is the first module of
--- its run, it costs 2 points more. So a run of `5 + i` modules costs `3 + i` points [own]
+-- `place_cost s line` is the number of penalty points for the runs of one colour in `line`, a row or column of `s`
+-- modules. The points are counted module by module. Each module at which five modules of one colour begin costs 1
+-- point. If this module is the first module of its run, it costs 2 points more. So a run of `5 + i` modules costs `3 +
+-- i` points [own]
 unfoldable pub place_cost : ℕ → (ℕ → Bool) → ℕ
 place_cost s line = count_below s (begins_five s line) + 2 * count_below s (begins_long_run s line)

@@ -21,9 +21,10 @@ TakesFirst old None new = (new ≡ old) × ((c : ℕ) → c < 192 → has old c 
 TakesFirst old (Some p) new =
     (p < 192) × (has old p ≡ true) × ((c : ℕ) → c < p → has old c ≡ false) × ((c : ℕ) → has new c ≡ (has old c && not (c == p)))
 
--- `row_share s dark r` is what the modules of row `r` add to the cost of the runs in all columns. The symbol has `s`
--- rows and columns, and `dark row col` is the colour of a module. A module of this row adds 1 point if five modules of
--- one colour begin at it, counted downwards. If the module is also the first module of its run, it adds 2 points more
+-- `row_share s dark r` is the number of penalty points that the modules of row `r` add for the runs of one colour in
+-- all columns. The symbol has `s` rows and columns, and `dark row col` is the colour of a module. A module of this row
+-- adds 1 point if five modules of one colour begin at it, counted downwards. If the module is also the first module of
+-- its run, it adds 2 points more
 unfoldable pub row_share : ℕ → (ℕ → ℕ → Bool) → ℕ → ℕ
 row_share s dark r = count_below s (λ c. begins_five s (λ i. dark i c) r) + 2 * count_below s (λ c. begins_long_run s (λ i. dark i c) r)
 

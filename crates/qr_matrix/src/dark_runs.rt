@@ -1,4 +1,4 @@
-//! Finds the runs of dark modules in a row. The columns in which the colour changes are the ends of the runs.
+//! Finds the runs of dark modules in a row. A run begins and ends at columns in which the colour changes.
 
 ghost use Rattle.std.specs.Prelude.{◌≡◌, ℕ, ◌<◌, ◌-◌, false};
 ghost use Rattle.qr_matrix.specs.BitRow.{has};

@@ -35,8 +35,8 @@ fn dark_count(matrix: &Matrix, words: u8) -> u32
     total
 }
 
-// Returns the cost of the share of dark modules, where `dark` of `modules` modules are dark. The cost is 10 points for
-// each whole twentieth by which this share differs from a half.
+// Returns the penalty points for the share of dark modules, if `dark` of `modules` modules are dark. There are 10
+// points for each whole twentieth by which this share differs from a half.
 fn balance_cost(modules: u32, dark: u32) -> u32
     requires some { 0 < modules }
     requires most { modules ≤ 31329 }

@@ -13,9 +13,9 @@ ghost use Rattle.qr_matrix.specs.Steps.{bit_in, exchanged};
 use crate::matrix::Matrix;
 
 // Exchanges the right parts of the word `upper` with the left parts of the word `lower`, and returns both words. Each
-// word is divided into left and right parts in turn, which are `steps` columns wide; the part at column 0 is a left
-// part. `mask` contains the columns of the left parts. To exchange two parts, the function inverts the bits in which
-// the parts differ, in both words.
+// word is divided into parts of `steps` columns, which are left parts and right parts in turn. The part at column 0 is
+// a left part. `mask` contains the columns of the left parts. To exchange two parts, the function inverts the bits in
+// which the parts differ, in both words.
 #[inline(always)]
 fn exchange_words(upper: u64, lower: u64, steps: usize, mask: u64) -> (u64, u64)
     requires some { 1 ≤ steps }
