@@ -108,8 +108,9 @@ mode_of n =
     (if n == indicator Byte then Ok Byte else
     (if n == indicator Kanji then Ok Kanji else Err BadMode)))
 
--- `ends bits` holds if no further segment follows. The list `bits` contains the bits that are not read yet. There are
--- fewer than four such bits, or the first four of these bits are the terminator (ISO/IEC 18004:2015, 7.4.9)
+-- `ends bits` holds if no further segment follows. The list `bits` contains the bits that are not read yet. No segment
+-- follows if there are fewer than four such bits, or if the first four of these bits are the terminator (ISO/IEC
+-- 18004:2015, 7.4.9)
 unfoldable pub ends : List Bool → Bool
 ends bits = nat_lt (length bits) 4 || value (take 4 bits) == terminator
 

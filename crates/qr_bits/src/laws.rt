@@ -65,7 +65,7 @@ pub fn fitting_inputs_are_short()
 {}
 
 /// Segments that satisfy `IsLeastSegmentation` cover their input, as `Covers` defines it. These segments take the
-/// fewest bits: if some valid assignment of modes to the bytes of the input (`IsAssignment`) takes at most n bits, then
+/// fewest bits. If some valid assignment of modes to the bytes of the input (`IsAssignment`) takes at most n bits, then
 /// these segments have at most n bits, and conversely.
 pub fn least_segmentations_fit()
     ensures { LeastSegmentationsFit }

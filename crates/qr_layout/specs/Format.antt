@@ -48,9 +48,9 @@ sum_of_shifts divisor [] = 0
 sum_of_shifts divisor (k ∷ ks) = bit_xor (divisor * 2 ^ k) (sum_of_shifts divisor ks)
 
 -- `IsWordRemainder n divisor x r` holds if `divisor` has degree n and if dividing x by `divisor` leaves the remainder
--- r. The numbers are read as polynomials whose coefficients are bits. The number r must have at most n bits, and the
--- exclusive or of x and r must be the exclusive or of some shifted copies of `divisor` (ISO/IEC 18004:2015, Annexes C
--- and D)
+-- r. The numbers are read as polynomials whose coefficients are bits. The number r must have at most n bits. In
+-- addition, the exclusive or of x and r must be the exclusive or of some copies of `divisor` that are shifted left
+-- (ISO/IEC 18004:2015, Annexes C and D)
 pub record IsWordRemainder (n divisor x r : ℕ) : Type 0 where
   pub monic : (2 ^ n ≤ divisor) × (divisor < 2 ^ (n + 1))
   pub small : r < 2 ^ n

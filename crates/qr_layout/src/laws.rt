@@ -27,8 +27,8 @@ use crate::order::walk;
 use crate::region::Module;
 use crate::version::Version;
 
-/// For each version, at most one list of modules satisfies `IsOrder`: it contains the modules of the encoding region in
-/// the order in which they are filled.
+/// For each version, at most one list of modules satisfies `IsOrder`. Such a list contains the modules of the encoding
+/// region in the order in which they are filled.
 pub fn order_is_one(v: Version)
     ensures { (ms ns : List Module) → IsOrder v ms → IsOrder v ns → ms ≡ ns }
 {}
