@@ -1,5 +1,5 @@
--- Rectangles that cover the parts of a symbol outside the encoding region. The alignment patterns are not among these
--- parts.
+-- Rectangles that cover the parts of a symbol outside the encoding region. The alignment patterns have no rectangles in
+-- this file.
 use Rattle.std.specs.Prelude.{ℕ, ◌-◌, Bool, ◌&&◌, nat_lt, nat_le, if◌then◌else◌, List, [], ◌∷◌, ◌++◌}
 use Rattle.qr_layout.specs.declared.rectangles.Rectangle.{Rectangle}
 use Rattle.qr_layout.specs.Version.{side_of}
