@@ -10,8 +10,8 @@ abbrev pub capital : ℕ → ℕ
 capital b = if nat_le 97 b && nat_le b 122 then b - 32 else b
 
 -- `folded_around_pairs xs` is the list of the bytes `xs` with small letters replaced by capitals, except in kanji
--- pairs. A kanji pair is two bytes that kanji mode writes as one character. The bytes are read from the left: if the
--- next two bytes are a kanji pair, both are kept, and otherwise the next byte is replaced by its capital [own]
+-- pairs. A kanji pair is two bytes that kanji mode writes as one character. The bytes are read from the left. If the
+-- next two bytes are a kanji pair, both bytes are kept. Otherwise the next byte is replaced by its capital [own]
 unfoldable pub folded_around_pairs : List ℕ → List ℕ
 folded_around_pairs [] = []
 folded_around_pairs (x ∷ []) = capital x ∷ []

@@ -1,5 +1,4 @@
--- Defines the structured append header, with which each symbol of a series begins: its bits, and the parity that it
--- contains.
+-- Defines the bits and the parity of the structured append header. Each symbol of a series begins with such a header.
 use Rattle.std.specs.Prelude.{ℕ, ◌<◌, Bool, List, [], ◌++◌, Option, bit_xor, fold}
 use Rattle.std.specs.Option.{ForSome, option_map_or}
 use Rattle.qr_bits.specs.declared.header.Header.{Header}

@@ -15,9 +15,9 @@ use Rattle.qr_bits.specs.Padding.{capacity_of, IsData}
 use Rattle.qr_bits.specs.Header.{header_bits}
 use Rattle.qr_bits.specs.Parsing.{ends, parse}
 
--- A parse of bits returns an optional header, segments and bytes exactly if the bits begin with the bit stream of this
--- header, these segments and these bytes, and end there. The bits end there if fewer than four bits are left, or if the
--- terminator comes next (ISO/IEC 18004:2015, 7.4.1, 7.4.9, 8.1).
+-- A parse of bits returns an optional header, segments and bytes exactly under two conditions. The bits begin with the
+-- bit stream of this header, these segments and these bytes. After this bit stream, fewer than four bits are left, or
+-- the terminator comes next (ISO/IEC 18004:2015, 7.4.1, 7.4.9, 8.1).
 abbrev pub StreamsAreParsed : Type 0
 StreamsAreParsed =
     (v : ℕ) (bits : List Bool) (h : Option Header) (segs : List Segment) (xs : List ℕ) →
@@ -43,8 +43,8 @@ DataAreThere =
     (v : ℕ) (l : Level) (xs : List ℕ) (segs : List Segment) (h : Option Header) (stream : List Bool) → IsStream v xs segs h stream →
     length stream ≤ capacity_of v l → (cw : List ℕ) × IsData v l xs segs h cw
 
--- There is at most one list of data codewords for a version, a level, an optional header, segments, and the bytes of
--- these segments [own].
+-- Let a version, a level, an optional header, segments and the bytes of these segments be given. Then there is at most
+-- one list of data codewords [own].
 abbrev pub DataAreOne : Type 0
 DataAreOne =
     (v : ℕ) (l : Level) (xs : List ℕ) (segs : List Segment) (h : Option Header) (cw dw : List ℕ) →
@@ -57,8 +57,8 @@ DataFillTheSymbol =
     (v : ℕ) (l : Level) (xs : List ℕ) (segs : List Segment) (h : Option Header) (cw : List ℕ) → IsData v l xs segs h cw →
     length cw ≡ data_codewords_of v l
 
--- If the number of bits of segments is at most the capacity of a symbol, the character count of each segment fits its
--- character count indicator. The bytes of each segment must be bytes that its mode can write [own].
+-- Suppose that segments together have no more bits than the capacity of a symbol, and that the mode of each segment can
+-- write its bytes. Then the character count of each segment fits the width of its character count indicator [own].
 abbrev pub CountsFitWhereBitsFit : Type 0
 CountsFitWhereBitsFit =
     (v : ℕ) (l : Level) (xs : List ℕ) (segs : List Segment) → 1 ≤ v → v ≤ 40 → Suits xs segs →
@@ -70,8 +70,8 @@ abbrev pub FittingInputsAreShort : Type 0
 FittingInputsAreShort =
     (v : ℕ) (l : Level) (r : Rule) (xs : List ℕ) → 1 ≤ v → v ≤ 40 → HasFit v r xs (capacity_of v l) → length xs ≤ 7089
 
--- The segments that `IsLeastSegmentation` describes cover the bytes of the input, as `Covers` defines it. These
--- segments have at most n bits exactly if some valid assignment of modes to the bytes takes at most n bits [own].
+-- Segments that satisfy `IsLeastSegmentation` cover the bytes of the input, as `Covers` defines it. If some valid
+-- assignment of modes to the bytes takes at most n bits, then these segments have at most n bits, and conversely [own].
 abbrev pub LeastSegmentationsFit : Type 0
 LeastSegmentationsFit =
     (v : ℕ) (r : Rule) (xs : List ℕ) (segs : List Segment) → IsLeastSegmentation v r xs segs →

@@ -1,5 +1,5 @@
--- Defines the four modes of segments. Each mode has a mode indicator, a character count indicator, a set of bytes that
--- it can write, and a number of bits for these bytes.
+-- Defines the four modes of segments. Each mode has a mode indicator and a character count indicator. Each mode can
+-- write certain bytes, and writes them in a certain number of bits.
 use Rattle.std.specs.Prelude.{ℕ, ◌+◌, ◌*◌, ◌/◌, ◌%◌, Bool, true, false, ◌&&◌, ◌||◌, if◌then◌else◌, nat_le, ◌==◌, List, [], ◌∷◌, codes, ◌-◌}
 use Rattle.std.specs.List.{list_all, list_any, position_or_len}
 use Rattle.qr_bits.specs.declared.modes.Mode.{Mode}
@@ -43,8 +43,8 @@ byte_count _ n = n
 abbrev pub is_digit : ℕ → Bool
 is_digit b = nat_le 48 b && nat_le b 57
 
--- `characters` is the list of the 45 characters of alphanumeric mode, as ASCII codes in the order of the characters'
--- values (ISO/IEC 18004:2015, 7.4.4, Table 5)
+-- `characters` is the list of the 45 characters of alphanumeric mode, as ASCII codes. The characters are in the order
+-- of their values (ISO/IEC 18004:2015, 7.4.4, Table 5)
 unfoldable pub characters : List ℕ
 characters = codes "0123456789ABCDEFGHIJKLMNOPQRSTUVWXYZ $%*+-./:"
 
@@ -74,10 +74,10 @@ in_twos test [] = true
 in_twos test (x ∷ []) = false
 in_twos test (x ∷ y ∷ xs) = test x y && in_twos test xs
 
--- `kanji_value high low` is the value of the kanji pair with the bytes `high` and `low`: the number that kanji mode
--- writes in 13 bits. From the pair as a number of 16 bits, 8140 is subtracted if the pair is at most 9FFC, and C140
--- otherwise. The value is C0 times the high byte of the difference, plus the low byte of the difference. The numbers
--- 8140, 9FFC, C140 and C0 are hexadecimal (ISO/IEC 18004:2015, 7.4.6)
+-- `kanji_value high low` is the value of the kanji pair with the bytes `high` and `low`. Kanji mode writes this number
+-- in 13 bits. The pair is read as a number of 16 bits. If this number is at most 9FFC, 8140 is subtracted from it, and
+-- otherwise C140 is subtracted. The value is C0 times the high byte of the difference, plus the low byte of the
+-- difference. The numbers 8140, 9FFC, C140 and C0 are hexadecimal (ISO/IEC 18004:2015, 7.4.6)
 unfoldable pub kanji_value : ℕ → ℕ → ℕ
 kanji_value high low =
     let pair = 256 * high + low in
@@ -91,8 +91,8 @@ suits Alphanumeric xs = list_all is_alphanumeric xs
 suits Byte xs = true
 suits Kanji xs = in_twos is_kanji_pair xs
 
--- `payload_bits m n` is the number of bits of the data of a segment of `n` bytes in the mode `m`, without the mode
--- indicator and the character count indicator. In numeric mode, three digits take 10 bits. Two digits that remain at
+-- `payload_bits m n` is the number of data bits of a segment of `n` bytes in the mode `m`. The mode indicator and the
+-- character count indicator are not data bits. In numeric mode, three digits take 10 bits. Two digits that remain at
 -- the end take 7 bits, and one digit that remains takes 4 bits. In alphanumeric mode, two characters take 11 bits, and
 -- one character that remains at the end takes 6 bits. In byte mode, a byte takes 8 bits. In kanji mode, a kanji pair of
 -- two bytes takes 13 bits (ISO/IEC 18004:2015, 7.4.3 to 7.4.6). If a single byte remains at the end in kanji mode, this

@@ -1,4 +1,4 @@
--- Defines the data codewords of a symbol: they contain a bit stream, its terminator and the padding.
+-- Defines the data codewords of a symbol, which contain a bit stream, its terminator and the padding.
 use Rattle.std.specs.Prelude.{◌≡◌, ℕ, ◌*◌, ◌/◌, ◌%◌, ◌<◌, ◌≤◌, Bool, false, List, [], ◌∷◌, length, ◌-◌, ◌++◌, All, Option, zero, suc, min, replicate}
 use Rattle.qr_bits.specs.declared.segment.Segment.{Segment}
 use Rattle.qr_bits.specs.declared.header.Header.{Header}
@@ -12,8 +12,8 @@ use Rattle.qr_bits.specs.Stream.{IsStream}
 abbrev pub capacity_of : ℕ → Level → ℕ
 capacity_of v l = 8 * data_codewords_of v l
 
--- `room_of v l` is the number of bits that remain in the data codewords of a symbol of version `v` and level `l` after
--- a structured append header of 20 bits (ISO/IEC 18004:2015, 7.4.10, 8.1)
+-- `room_of v l` is the number of bits that remain for segments after a structured append header of 20 bits. The symbol
+-- has version `v` and level `l` (ISO/IEC 18004:2015, 7.4.10, 8.1)
 abbrev pub room_of : ℕ → Level → ℕ
 room_of v l = capacity_of v l - 20
 
@@ -33,8 +33,9 @@ pads zero = []
 pads (suc zero) = 0xEC ∷ []
 pads (suc (suc n)) = 0xEC ∷ 0x11 ∷ pads n
 
--- `padded n stream` is the list of the bits of `n` data codewords: the bit stream `stream` of at most 8n bits, its
--- terminator, zero bits up to the end of a codeword, and pad codewords (ISO/IEC 18004:2015, 7.4.9, 7.4.10)
+-- `padded n stream` is the list of the bits of `n` data codewords, where the bit stream `stream` has at most 8n bits.
+-- The bit stream is followed by its terminator, zero bits up to the end of a codeword, and pad codewords (ISO/IEC
+-- 18004:2015, 7.4.9, 7.4.10)
 unfoldable pub padded : ℕ → List Bool → List Bool
 padded n stream =
     let whole = filled (terminated (8 * n) stream) in
@@ -42,8 +43,8 @@ padded n stream =
 
 -- `IsData v l xs segs h cw` holds if `cw` is the list of the data codewords of a symbol of version `v` and level `l`.
 -- The symbol contains the bytes `xs` in the segments `segs`, after the structured append header `h`, if there is one.
--- The items of `cw` are bytes, and their bits are the padded bit stream. There is no such `cw` if no bit stream
--- satisfies `IsStream`, or if the bit stream is longer than the capacity of the symbol (ISO/IEC 18004:2015, 7.4.10).
+-- The items of `cw` are bytes, and their bits are the padded bit stream. There is such a list only if some bit stream
+-- satisfies `IsStream`, and is not longer than the capacity of the symbol (ISO/IEC 18004:2015, 7.4.10).
 pub record IsData (v : ℕ) (l : Level) (xs : List ℕ) (segs : List Segment) (h : Option Header) (cw : List ℕ) : Type 0 where
   pub stream : List Bool
   pub is_stream : IsStream v xs segs h stream

@@ -66,13 +66,13 @@ characters_of (suc (suc n)) bits =
     let pair = value (take 11 bits) in
     if nat_lt pair 2025 then (characters_of n (drop 11 bits) >>= λ cs. Ok (character (pair / 45) ∷ character (pair % 45) ∷ cs)) else Err BadValue
 
--- `bytes_of n bits` is the list of the `n` bytes that are read from the beginning of `bits` in byte mode, each byte
--- from 8 bits (ISO/IEC 18004:2015, 7.4.5)
+-- `bytes_of n bits` is the list of the `n` bytes that are read from the beginning of `bits` in byte mode. Each byte is
+-- read from 8 bits (ISO/IEC 18004:2015, 7.4.5)
 unfoldable pub bytes_of : ℕ → List Bool → List ℕ
 bytes_of zero bits = []
 bytes_of (suc n) bits = value (take 8 bits) ∷ bytes_of n (drop 8 bits)
 
--- `kanji_pair n` is the kanji pair that has the value `n`, as a number of 16 bits. The value is divided by C0: the
+-- `kanji_pair n` is the kanji pair that has the value `n`, as a number of 16 bits. The value is divided by C0. The
 -- quotient is the high byte of a number of 16 bits, and the remainder is the low byte of this number. The kanji pair is
 -- this number plus 8140 if the high byte is at most 1E, and plus C140 otherwise. The numbers C0, 8140, 1E and C140 are
 -- hexadecimal (ISO/IEC 18004:2015, 7.4.6)
@@ -82,8 +82,8 @@ kanji_pair n =
     if nat_le (n / 0xC0) 0x1E then rest + 0x8140 else rest + 0xC140
 
 -- `pairs_of n bits` is the list of the bytes of the `n` kanji pairs that are read from the beginning of `bits` in kanji
--- mode. The value of each pair is read from 13 bits. The result is the fault `BadValue` if the remainder of a value
--- divided by C0 is above BC (both numbers are hexadecimal) (ISO/IEC 18004:2015, 7.4.6)
+-- mode. The value of each pair is read from 13 bits. If a value, divided by C0, leaves a remainder above BC, the result
+-- is the fault `BadValue`. C0 and BC are hexadecimal (ISO/IEC 18004:2015, 7.4.6)
 unfoldable pub pairs_of : ℕ → List Bool → Result (List ℕ) ParseFault
 pairs_of zero bits = Ok []
 pairs_of (suc n) bits =
@@ -108,8 +108,9 @@ mode_of n =
     (if n == indicator Byte then Ok Byte else
     (if n == indicator Kanji then Ok Kanji else Err BadMode)))
 
--- `ends bits` holds if `bits`, the bits that are not read yet, begin with no segment: there are fewer than four bits,
--- or the first four bits are the terminator (ISO/IEC 18004:2015, 7.4.9)
+-- `ends bits` holds if no further segment follows. The list `bits` contains the bits that are not read yet. No segment
+-- follows if there are fewer than four such bits, or if the first four of these bits are the terminator (ISO/IEC
+-- 18004:2015, 7.4.9)
 unfoldable pub ends : List Bool → Bool
 ends bits = nat_lt (length bits) 4 || value (take 4 bits) == terminator
 
@@ -125,9 +126,9 @@ unfoldable pub payload_at : Mode → ℕ → List Bool → Result (List ℕ × L
 payload_at m n bits =
     if nat_lt (length bits) (payload_bits m (byte_count m n)) then Err Cut else (values_of m n bits >>= λ xs. Ok (xs, drop (payload_bits m (byte_count m n)) bits))
 
--- `segment_at v bits` reads a segment from the beginning of `bits`, in a symbol of version `v`: its mode indicator, its
--- character count indicator and its data. The result is the segment, its bytes, and the bits after the segment (ISO/IEC
--- 18004:2015, 7.4.1)
+-- `segment_at v bits` reads a segment from the beginning of `bits`, in a symbol of version `v`. A segment consists of a
+-- mode indicator, a character count indicator and data. The result is the segment, its bytes, and the bits after the
+-- segment (ISO/IEC 18004:2015, 7.4.1)
 unfoldable pub segment_at : ℕ → List Bool → Result (Segment × List ℕ × List Bool) ParseFault
 segment_at v bits =
     mode_of (value (take 4 bits)) >>= λ m.
@@ -149,8 +150,8 @@ segments_at (suc n) v bits =
 unfoldable pub segments_of : ℕ → List Bool → Result (List Segment × List ℕ) ParseFault
 segments_of v bits = segments_at (length bits) v bits
 
--- `begins_header bits` holds if the first four bits of `bits` are the mode indicator of structured append, with which a
--- structured append header begins (ISO/IEC 18004:2015, 8.1)
+-- `begins_header bits` holds if the first four bits of `bits` are the mode indicator of structured append. A structured
+-- append header begins with this mode indicator (ISO/IEC 18004:2015, 8.1)
 unfoldable pub begins_header : List Bool → Bool
 begins_header bits = nat_le 4 (length bits) && value (take 4 bits) == header_indicator
 
@@ -168,16 +169,16 @@ header_at bits =
 unfoldable pub first_header : List Bool → Result (Option Header × List Bool) ParseFault
 first_header bits = if begins_header bits then (header_at (drop 4 bits) >>= λ h. Ok (Some h.0, h.1)) else Ok (None, bits)
 
--- A `Content` is what data codewords are parsed as: an optional structured append header, the segments, and the bytes
--- of all segments [own]
+-- A `Content` is the result of a successful parse of data codewords: an optional structured append header, the
+-- segments, and the bytes of all segments [own]
 pub record Content : Type 0 where
   pub header : Option Header
   pub segments : List Segment
   pub bytes : List ℕ
 
--- `parse v bits` reads the content of data codewords of a symbol of version `v` from `bits`, the list of their bits.
--- The result is the content or a fault. An optional structured append header is read first. The segments are read after
--- it, until the terminator comes or fewer than four bits remain (ISO/IEC 18004:2015, 7.4.1, 8.1, 12)
+-- `parse v bits` reads the content of a symbol of version `v` from `bits`, the list of the bits of its data codewords.
+-- The result is the content or a fault. An optional structured append header is read first. Then the segments are read,
+-- until the terminator comes or fewer than four bits remain (ISO/IEC 18004:2015, 7.4.1, 8.1, 12)
 unfoldable pub parse : ℕ → List Bool → Result Content ParseFault
 parse v bits =
     first_header bits >>= λ h.

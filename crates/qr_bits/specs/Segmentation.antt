@@ -1,5 +1,5 @@
--- Defines how many bits segments take, and which segments are chosen for an input. The segments are determined by an
--- assignment, which is a mode for each byte of the input.
+-- Defines how many bits segments take, and which segments are chosen for an input. An assignment, which is a mode for
+-- each byte of the input, determines the segments.
 use Rattle.std.specs.Prelude.{◌≡◌, ℕ, ◌+◌, ◌/◌, ◌<◌, ◌≤◌, ◌⊎◌, if◌then◌else◌, ◌==◌, nat_le, List, [], ◌∷◌, length, take, All, IsTrue}
 use Rattle.std.specs.List.{list_all, sum_by}
 use Rattle.qr_bits.specs.declared.modes.Mode.{Mode}
@@ -9,8 +9,8 @@ use Rattle.qr_bits.specs.declared.segment.Segment.{Segment}
 use Rattle.qr_bits.specs.Modes.{count_width, is_digit, payload_bits, may_use}
 use Rattle.qr_bits.specs.Stream.{Suits}
 
--- `segment_bits v s` is the number of bits of the segment `s` in a symbol of version `v`: the bits of its mode
--- indicator, its character count indicator and its data (ISO/IEC 18004:2015, 7.4.1)
+-- `segment_bits v s` is the number of bits of the segment `s` in a symbol of version `v`. This number includes the mode
+-- indicator, the character count indicator and the data (ISO/IEC 18004:2015, 7.4.1)
 abbrev pub segment_bits : ℕ → Segment → ℕ
 segment_bits v s = 4 + count_width v s.mode + payload_bits s.mode s.len
 
@@ -20,8 +20,9 @@ abbrev pub bits : ℕ → List Segment → ℕ
 bits v [] = 0
 bits v (s ∷ ss) = segment_bits v s + bits v ss
 
--- `Covers xs segs` holds if the segments `segs` cover the bytes `xs`: no segment is empty, the lengths of the segments
--- add up to the length of `xs`, and the bytes of each segment can be written in the mode of the segment [own]
+-- `Covers xs segs` holds if the segments `segs` cover the bytes `xs`. No segment may be empty, and the lengths of the
+-- segments must add up to the length of `xs`. The mode of each segment must be able to write the bytes of the segment
+-- [own]
 unfoldable pub Covers : List ℕ → List Segment → Type 0
 Covers xs segs = All (λ s. 0 < s.len) segs × Suits xs segs
 
@@ -39,15 +40,15 @@ abbrev pub prepend_mode : Mode → List Segment → List Segment
 prepend_mode m [] = record { mode = m; len = 1 } ∷ []
 prepend_mode m (s ∷ ss) = if rank m == rank s.mode then record { mode = m; len = 1 + s.len } ∷ ss else record { mode = m; len = 1 } ∷ s ∷ ss
 
--- `runs_of ms` is the list of the segments of an assignment. The list `ms` contains the mode of each byte, and each
--- maximal run of equal modes is one segment [own]
+-- `runs_of ms` is the list of the segments of an assignment. The list `ms` contains the mode of each byte, and
+-- neighbouring bytes with equal modes form one segment [own]
 unfoldable pub runs_of : List Mode → List Segment
 runs_of [] = []
 runs_of (m ∷ ms) = prepend_mode m (runs_of ms)
 
 -- `IsAssignment r xs ms` holds if the list `ms`, with a mode for each of the bytes `xs`, is a valid assignment. The
--- assignment is valid if the rule `r` allows all its modes, and the bytes of each maximal run of equal modes can be
--- written in the mode of the run [own].
+-- rule `r` must allow all modes of the list. Neighbouring bytes with equal modes form one segment, and the mode of each
+-- segment must be able to write its bytes [own].
 abbrev pub IsAssignment : Rule → List ℕ → List Mode → Type 0
 IsAssignment r xs ms = IsTrue (list_all (may_use r) ms) × Covers xs (runs_of ms)
 
@@ -61,20 +62,21 @@ IsNotAfter (m ∷ ms) (k ∷ ks) = (rank m < rank k) ⊎ ((m ≡ k) × IsNotAfte
 
 -- `IsBestAssignment v r xs ms` holds if `ms` is the best of all valid assignments of modes to the bytes `xs` under the
 -- rule `r`. The best assignment takes the fewest bits in a symbol of version `v`. If several valid assignments take the
--- fewest bits, the best is the first of these in the lexicographic order by the ranks of the modes [own].
+-- fewest bits, the best is the first of these assignments in lexicographic order. The ranks of the modes determine this
+-- order [own].
 pub record IsBestAssignment (v : ℕ) (r : Rule) (xs : List ℕ) (ms : List Mode) : Type 0 where
   pub assignment : IsAssignment r xs ms
   pub least : (ks : List Mode) → IsAssignment r xs ks → bits v (runs_of ms) ≤ bits v (runs_of ks)
   pub first : (ks : List Mode) → IsAssignment r xs ks → bits v (runs_of ks) ≡ bits v (runs_of ms) → IsNotAfter ms ks
 
 -- `IsLeastSegmentation v r xs segs` holds if `segs` are the segments of the best assignment of modes to the bytes `xs`.
--- `IsBestAssignment` defines the best assignment for the version `v` and the rule `r`. Each maximal run of equal modes
--- in the best assignment is a segment [own]
+-- `IsBestAssignment` defines the best assignment for the version `v` and the rule `r`. Neighbouring bytes to which the
+-- best assignment gives equal modes form one segment [own]
 abbrev pub IsLeastSegmentation : ℕ → Rule → List ℕ → List Segment → Type 0
 IsLeastSegmentation v r xs segs = (ms : List Mode) × IsBestAssignment v r xs ms × (segs ≡ runs_of ms)
 
 -- `HasFit v r xs n` holds if some valid assignment of modes to the bytes `xs` takes at most `n` bits in a symbol of
--- version `v`. The rule `r` says which modes a valid assignment may use [own]
+-- version `v`. A valid assignment uses only modes that the rule `r` allows [own]
 abbrev pub HasFit : ℕ → Rule → List ℕ → ℕ → Type 0
 HasFit v r xs n = (ms : List Mode) × IsAssignment r xs ms × (bits v (runs_of ms) ≤ n)
 
@@ -93,8 +95,8 @@ unfoldable pub least_bits : List ℕ → ℕ
 least_bits xs = sum_by least_sixths xs / 6
 
 -- `IsLongestFit v r xs room n` holds if the first `n` bytes of `xs` are the longest prefix of `xs` that fits in `room`
--- bits. A prefix fits if some valid assignment of modes to its bytes, under the rule `r`, takes at most `room` bits in
--- a symbol of version `v` [own].
+-- bits. A prefix fits if some valid assignment of modes to its bytes takes at most `room` bits in a symbol of version
+-- `v`. The rule `r` determines which modes a valid assignment may use [own].
 pub record IsLongestFit (v : ℕ) (r : Rule) (xs : List ℕ) (room n : ℕ) : Type 0 where
   pub inside : n ≤ length xs
   pub fits : HasFit v r (take n xs) room

@@ -33,8 +33,8 @@ kanji_bits [] = []
 kanji_bits (a ∷ []) = []
 kanji_bits (a ∷ b ∷ xs) = field 13 (kanji_value a b) ++ kanji_bits xs
 
--- `payload m xs` is the list of the data bits of a segment with the bytes `xs` in the mode `m`, without the mode
--- indicator and the character count indicator (ISO/IEC 18004:2015, 7.4.3 to 7.4.6)
+-- `payload m xs` is the list of the data bits of a segment with the bytes `xs` in the mode `m`. The mode indicator and
+-- the character count indicator are not data bits (ISO/IEC 18004:2015, 7.4.3 to 7.4.6)
 unfoldable pub payload : Mode → List ℕ → List Bool
 payload Numeric xs = digit_bits xs
 payload Alphanumeric xs = character_bits xs
@@ -54,9 +54,9 @@ unfoldable pub segments_stream : ℕ → List ℕ → List Segment → List Bool
 segments_stream v xs [] = []
 segments_stream v xs (s ∷ ss) = segment_stream v s.mode (take s.len xs) ++ segments_stream v (drop s.len xs) ss
 
--- `Suits xs segs` holds if the lengths of the segments `segs` add up to the length of the bytes `xs`, and the bytes of
--- each segment can be written in the mode of the segment. The first segment has the first bytes of `xs`, and each later
--- segment has the bytes that follow. Segments may be empty [own]
+-- `Suits xs segs` holds if the lengths of the segments `segs` add up to the length of the bytes `xs`. In addition, the
+-- mode of each segment must be able to write the bytes of the segment. The first segment has the first bytes of `xs`,
+-- and each later segment has the bytes that follow. Segments may be empty [own]
 unfoldable pub Suits : List ℕ → List Segment → Type 0
 Suits xs [] = xs ≡ []
 Suits xs (s ∷ ss) = (s.len ≤ length xs) × IsTrue (suits s.mode (take s.len xs)) × Suits (drop s.len xs) ss

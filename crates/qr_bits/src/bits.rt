@@ -80,8 +80,8 @@ impl BitWriter {
     }
 }
 
-// Cuts `bits`, a number of `width` bits, into bytes from its highest bit on, and appends the whole bytes to `whole`.
-// Returns the number of bits that remain, which is less than eight.
+// Cuts the number `bits`, which has `width` bits, into bytes, beginning with its highest bit. Appends the whole bytes
+// to `whole`. Returns how many bits remain after the last whole byte, which is less than eight.
 fn push_whole(whole: &mut Vec<u8>, bits: u32, width: u8) -> Result<u8, AllocError>
     requires { width ≤ 23 }
     ensures few { IfOk result (λ left. left < 8) }
@@ -95,8 +95,9 @@ fn push_whole(whole: &mut Vec<u8>, bits: u32, width: u8) -> Result<u8, AllocErro
     Ok(left)
 }
 
-// Puts the bits of `rest`, a number of `width` bits, before the bits of `bytes`, and appends the whole bytes of all
-// these bits to `whole`. Returns the last `width` bits, which do not fill a byte, as a number.
+// Joins the bits of `rest`, a number of `width` bits, and the bits of `bytes`. Cuts the joined bits into bytes, and
+// appends these bytes to `whole`. The last `width` bits do not fill a byte, and the function returns these bits as a
+// number.
 fn push_bytes(whole: &mut Vec<u8>, width: u8, mut rest: u8, bytes: &[u8]) -> Result<u8, AllocError>
     requires few { width < 8 }
     requires rest { rest < 2 ^ width }
@@ -169,7 +170,8 @@ impl<'a> BitReader<'a> {
         number
     }
 
-    /// Returns whether no segment follows: fewer than four bits are left, or the next four bits are the terminator.
+    /// Returns whether no further segment follows. This is so if fewer than four bits are left, or if the next four
+    /// bits are the terminator.
     #[tactic(auto, unfolding(crate::specs::Parsing::ends))]
     pub(crate) fn ends(&self) -> bool
         ensures { result ≡ ends self.now }
@@ -177,8 +179,8 @@ impl<'a> BitReader<'a> {
         self.len() < 4 || self.indicator() == TERMINATOR
     }
 
-    /// Returns whether the next four bits are the mode indicator of structured append, with which a structured append
-    /// header begins.
+    /// Returns whether the next four bits are the mode indicator of structured append. A structured append header
+    /// begins with this mode indicator.
     #[tactic(auto, unfolding(crate::specs::Parsing::begins_header))]
     pub(crate) fn begins_header(&self) -> bool
         ensures { result ≡ begins_header self.now }

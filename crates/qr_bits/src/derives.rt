@@ -1,5 +1,5 @@
-//! Compares and clones values of the public types except `Parsed`. The operator `==` returns `true` exactly if its two
-//! operands are the same value, and a clone is the same value as its original.
+//! Compares and clones values of the public types of this crate, except for `Parsed`. The operator `==` returns `true`
+//! exactly if its two operands are the same value. A clone is the same value as its original.
 
 ghost use Rattle.std.specs.Prelude.{◌≡◌, ◌↔◌, IsTrue, IfOk};
 

@@ -27,8 +27,9 @@ pub use crate::derives::{
 use crate::fault::{BitFault, ParseFault};
 use crate::modes::INPUT_MAX;
 
-/// A parse succeeds exactly if the bits are a bit stream, followed by fewer than four bits, or by the terminator and
-/// any bits. The segments of the bit stream may be empty and may be chosen in any way.
+/// A parse succeeds exactly if the bits begin with a bit stream, and no further segment follows. No segment follows if
+/// fewer than four bits are left, or if the terminator comes next. The segments of the bit stream may be empty and may
+/// be chosen in any way.
 pub fn streams_are_parsed()
     ensures { StreamsAreParsed }
 {}
@@ -52,8 +53,8 @@ pub fn streams_have_their_bits()
     ensures { StreamsHaveTheirBits }
 {}
 
-/// If the number of bits of segments is at most the capacity of a symbol, the character count of each segment fits its
-/// character count indicator. The bytes of each segment must be bytes that its mode can write.
+/// Suppose that segments together have no more bits than the capacity of a symbol, and that the mode of each segment
+/// can write its bytes. Then the character count of each segment fits the width of its character count indicator.
 pub fn counts_fit_where_bits_fit()
     ensures { CountsFitWhereBitsFit }
 {}
@@ -63,9 +64,9 @@ pub fn fitting_inputs_are_short()
     ensures { FittingInputsAreShort }
 {}
 
-/// The segments that `IsLeastSegmentation` describes cover their input, as `Covers` defines it. For each number n,
-/// these segments have at most n bits exactly if some valid assignment of modes to the bytes of the input
-/// (`IsAssignment`) takes at most n bits.
+/// Segments that satisfy `IsLeastSegmentation` cover their input, as `Covers` defines it. These segments take the
+/// fewest bits. If some valid assignment of modes to the bytes of the input (`IsAssignment`) takes at most n bits, then
+/// these segments have at most n bits, and conversely.
 pub fn least_segmentations_fit()
     ensures { LeastSegmentationsFit }
 {}
@@ -81,7 +82,7 @@ pub fn foldings_keep_lengths()
     ensures { (r : Rule) (xs : List ℕ) → length (folded r xs) ≡ length xs }
 {}
 
-/// If the rule does not allow kanji mode, a contiguous part of an input needs no more bits than the input.
+/// If the rule does not allow kanji mode, a contiguous part of an input needs no more bits than the whole input.
 pub fn pieces_need_no_more()
     ensures { PiecesNeedNoMore }
 {}
@@ -122,11 +123,11 @@ pub fn payloads_compute()
         ≡ 36 ∷ 37 ∷ 38 ∷ 39 ∷ 40 ∷ 41 ∷ 42 ∷ 43 ∷ 44 ∷ [] }
 {}
 
-/// The definitions compute the data codewords of four symbols of version 1. Each of the first three symbols has one
-/// segment: of digits, of characters, or of kanji pairs. The fourth symbol is in a series, as the second of three
-/// symbols, and has a structured append header and one segment in byte mode. The examples show the mode indicators, the
-/// character counts, the order of the fields of a structured append header, the terminator and the pad codewords (7.4.1
-/// to 7.4.10, 8.1).
+/// The definitions compute the data codewords of four symbols of version 1. The first three symbols have one segment
+/// each: the first of digits, the second of alphanumeric characters, and the third of kanji pairs. The fourth symbol is
+/// the second of a series of three symbols, and has a structured append header and one segment in byte mode. The
+/// examples show the mode indicators, the character counts, the order of the fields of a structured append header, the
+/// terminator and the pad codewords (7.4.1 to 7.4.10, 8.1).
 #[tactic(auto, unfolding(crate::specs::Modes::characters, crate::specs::Modes::character_value, crate::specs::Modes::kanji_value, crate::specs::Stream::digit_bits, crate::specs::Stream::character_bits, crate::specs::Stream::kanji_bits, crate::specs::Stream::payload, crate::specs::Stream::segment_stream, crate::specs::Stream::segments_stream, crate::specs::Header::header_stream, crate::specs::Padding::padded, crate::specs::Padding::pads, crate::specs::Bits::field, crate::specs::Bits::bits_of))]
 pub fn streams_compute()
     ensures digits { padded 16 (segments_stream 1 (codes "01234567") (one Numeric 8)) ≡ bits_of eight_digits }
@@ -135,8 +136,8 @@ pub fn streams_compute()
     ensures series { padded 9 (header_stream (Some middle) ++ segments_stream 1 (codes "FGH") (one Byte 3)) ≡ bits_of middle_data }
 {}
 
-/// The definition `parse` computes the content of the second symbol in a series of three symbols. For each row of
-/// `unreadable`, a list of codewords that cannot be parsed, `parse` computes the fault that the row contains.
+/// The definition `parse` computes the content of the second symbol in a series of three symbols. Each row of
+/// `unreadable` contains codewords that cannot be parsed, and the fault that `parse` computes for these codewords.
 #[tactic(auto, unfolding(crate::specs::Parsing::parse, crate::specs::Parsing::first_header, crate::specs::Parsing::begins_header, crate::specs::Parsing::header_at, crate::specs::Parsing::segments_of, crate::specs::Parsing::segments_at, crate::specs::Parsing::segment_at, crate::specs::Parsing::leading_number, crate::specs::Parsing::payload_at, crate::specs::Parsing::values_of, crate::specs::Parsing::digits_of, crate::specs::Parsing::characters_of, crate::specs::Parsing::character, crate::specs::Parsing::bytes_of, crate::specs::Parsing::pairs_of, crate::specs::Parsing::kanji_pair, crate::specs::Parsing::mode_of, crate::specs::Parsing::ends, crate::specs::Modes::characters, crate::specs::Bits::field, crate::specs::Bits::bits_of))]
 pub fn parses_compute()
     ensures series { parse 1 (bits_of middle_data)
@@ -144,8 +145,8 @@ pub fn parses_compute()
     ensures faults { map (λ row. parse 1 (bits_of row.0)) unreadable ≡ map (λ row. Err row.1) unreadable }
 {}
 
-/// The number of bits that a symbol has for segments after a structured append header is its capacity less the number
-/// of bits of the header (8.1).
+/// A structured append header leaves fewer bits of a symbol for segments. The number `room_of` of these bits is the
+/// capacity of the symbol, less the number of bits of the header (8.1).
 pub fn headers_take_room()
     ensures { (v : ℕ) (l : Level) (h : Header) → room_of v l ≡ capacity_of v l - header_bits (Some h) }
 {}
@@ -213,9 +214,9 @@ pub fn parse_fault_numbers(fault: ParseFault) -> u8
     fault as u8
 }
 
-/// The definitions compute the values of the standard's two kanji examples and of the greatest kanji pair, and compute
-/// these pairs from their values (7.4.6). The definitions also decide which pairs of bytes in and outside the two
-/// ranges are kanji pairs.
+/// The definitions convert kanji pairs to values, and values to kanji pairs. The examples are the two kanji pairs that
+/// the standard encodes, and the greatest kanji pair (7.4.6). The definitions also decide whether some other pairs of
+/// bytes are kanji pairs. These pairs are in or outside the ranges 8140 to 9FFC and E040 to EBBF (hexadecimal).
 #[tactic(auto, unfolding(crate::specs::Modes::is_kanji_pair, crate::specs::Modes::kanji_value, crate::specs::Parsing::kanji_pair))]
 pub fn kanji_compute()
     ensures first { kanji_value 0x93 0x5F ≡ 0xD9F }

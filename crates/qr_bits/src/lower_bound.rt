@@ -21,14 +21,14 @@ fn least_sixths(byte: u8) -> u32
     }
 }
 
-/// Returns a lower bound on the number of bits that `input` takes, however it is split into segments. The bound is a
-/// sum over the bytes, rounded down: 10/3 bits for a digit, 11/2 bits for another byte up to `Z`, and 13/2 bits for a
-/// byte greater than `Z`. The bound does not include mode indicators and character count indicators (ISO/IEC
-/// 18004:2015, 7.4.3 to 7.4.6).
+/// Returns a lower bound on the number of bits that `input` takes, however it is split into segments. The bound adds
+/// 10/3 bits for each digit, 11/2 bits for each other byte up to `Z`, and 13/2 bits for each byte greater than `Z`. The
+/// sum is rounded down to whole bits. The bound does not include mode indicators and character count indicators
+/// (ISO/IEC 18004:2015, 7.4.3 to 7.4.6).
 ///
 /// # Notes
 ///
-/// Makes one pass over the input.
+/// The function reads each byte of the input once.
 pub fn least_bits(input: &[u8]) -> u32
     requires { length input.now ≤ INPUT_MAX }
     ensures value { result ≡ least_bits input.now }

@@ -1,5 +1,6 @@
-//! Describes the four modes of segments (ISO/IEC 18004:2015, 7.3 and 7.4.1 to 7.4.6). Each mode has a mode indicator, a
-//! width of its character count indicator, a set of bytes that it can write, and a number of bits for these bytes.
+//! Describes the four modes of segments (ISO/IEC 18004:2015, 7.3 and 7.4.1 to 7.4.6). Each mode has a mode indicator
+//! and a character count indicator of a certain width. Each mode can write certain bytes, and writes them in a certain
+//! number of bits.
 
 ghost use Rattle.std.specs.Prelude.{IsTrue, ◌<◌, ◌==◌, ◌^◌, ◌≡◌, ◌≤◌};
 ghost use Rattle.qr_bits.specs.Modes.{character_value, characters, character_count, count_width, in_twos, indicator, is_alphanumeric, is_digit, is_kanji_pair, kanji_value, byte_count, may_use, payload_bits, suits};
@@ -9,8 +10,8 @@ ghost use Rattle.qr_bits.specs.Parsing.{character, mode_of};
 use crate::fault::ParseFault;
 use qr_layout::Version;
 
-/// The greatest length of an input, in bytes: 16 times 7,089 bytes, and one byte more. A symbol contains at most 7,089
-/// bytes, so an input of this length does not fit in 16 symbols.
+/// The greatest length of an input, in bytes: 16 times 7,089, plus 1. A symbol contains at most 7,089 bytes, and a
+/// series has at most 16 symbols. So an input of this length does not fit in a series.
 pub const INPUT_MAX: usize = 113_425;
 
 /// The mode of a segment, which determines how the bytes of the segment are written as bits (7.3.3 to 7.3.6).
@@ -116,8 +117,8 @@ pub(crate) fn byte_count(mode: Mode, count: usize) -> usize
     }
 }
 
-// Returns the number of bits of the data of a segment of `len` bytes in `mode`, without the mode indicator and the
-// character count indicator (7.4.3 to 7.4.6).
+// Returns the number of data bits of a segment that has `len` bytes in `mode`. The mode indicator and the character
+// count indicator are not data bits (7.4.3 to 7.4.6).
 pub(crate) fn payload_bits(mode: Mode, len: usize) -> usize
     requires { len < 2 ^ 20 }
     ensures { result ≡ payload_bits mode len }

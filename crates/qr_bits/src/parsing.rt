@@ -53,7 +53,7 @@ impl Model for Parsed {
 }
 
 /// Parses data codewords up to the terminator, or until fewer than four bits are left. All further bits are ignored.
-/// Unless memory is refused, the parse succeeds exactly if the bits before this end are an optional structured append
+/// Apart from lack of memory, the parse succeeds exactly if the bits before this end are an optional structured append
 /// header, followed by segments. The segments may be chosen in any way and may be empty, and the padding may be any
 /// bits.
 ///
@@ -148,7 +148,7 @@ fn segment(
     Ok(Segment { mode, len })
 }
 
-// Reads the mode indicator and the character count indicator of a segment, and checks that the codewords contain all
+// Reads the mode indicator and the character count indicator of a segment. Then checks that the codewords contain all
 // bits of the segment's data. The function does not allocate, so its fault is never `Memory`.
 #[tactic(auto, unfolding(crate::specs::Parsing::segment_at, crate::specs::Parsing::leading_number, crate::specs::Parsing::payload_at))]
 fn segment_head(reader: &mut BitReader, version: Version) -> Result<(Mode, u16), ParseFault>
@@ -171,8 +171,8 @@ fn segment_head(reader: &mut BitReader, version: Version) -> Result<(Mode, u16),
     Ok((mode, count))
 }
 
-// Reads the data of a segment in `mode`, and appends its bytes to `out`. The bits that are not read yet must include
-// all bits of the data. `count` is the number of digits, characters, bytes or kanji pairs.
+// Reads the data of a segment in `mode`, and appends its bytes to `out`. All bits of the data must be among the bits
+// that are not read yet. `count` is the number of digits, characters, bytes or kanji pairs.
 #[tactic(auto, unfolding(crate::specs::Parsing::values_of))]
 fn values(
     reader: &mut BitReader,
@@ -226,7 +226,7 @@ fn digits(reader: &mut BitReader, count: usize, out: &mut Vec<u8>) -> Result<(),
     Ok(())
 }
 
-// Returns the last decimal digit of `number` as its ASCII byte.
+// Returns the last decimal digit of `number` as an ASCII byte.
 fn digit(number: u16) -> u8
     ensures { result ≡ 48 + number % 10 }
 {

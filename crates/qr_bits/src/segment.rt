@@ -16,8 +16,9 @@ pub struct Segment {
     pub len: usize,
 }
 
-/// Returns whether the segments `segs` cover the whole `input`. Segments cover an input if no segment is empty, their
-/// lengths add up to the length of the input, and the bytes of each segment can be written in its mode.
+/// Returns whether the segments `segs` cover the whole `input`. No segment may be empty, and the lengths of the
+/// segments must add up to the length of the input. The mode of each segment must be able to write the bytes of the
+/// segment.
 pub fn covers(input: &[u8], segs: &[Segment]) -> bool
     ensures { IsTrue result ↔ Covers input.now segs.now }
 {

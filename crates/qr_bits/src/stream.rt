@@ -86,8 +86,8 @@ fn put_payload(writer: &mut BitWriter, mode: Mode, bytes: &[u8]) -> Result<(), A
     }
 }
 
-// Writes `digits` in numeric mode. Three digits are written in ten bits; at the end, two remaining digits are written
-// in seven bits, or one remaining digit in four bits (7.4.3).
+// Writes `digits` in numeric mode. Three digits are written in ten bits. Two digits that remain at the end are written
+// in seven bits, and one digit that remains is written in four bits (7.4.3).
 #[tactic(auto, unfolding(crate::specs::Stream::digit_bits), using(crate::proofs::lemmas::stream::WritingLemmas::all_rest, std::proofs::lemmas::List::append_assoc))]
 fn put_digits(writer: &mut BitWriter, digits: &[u8]) -> Result<(), AllocError>
     requires { IsTrue (list_all is_digit digits.now) }

@@ -1,14 +1,15 @@
 //! Finds a mode for each byte of an input, so that the segments take the fewest bits. A table of the best modes is
 //! filled from the last byte to the first.
 //!
-//! In a given version, the number of bits that the remaining bytes add depends only on their modes and on the state
-//! before them, a `RunState`. For each state and each mode of the next byte, there is a sum: the bits that the byte
-//! adds, plus the fewest bits that the bytes after it then add. The best mode for the state is the mode with the least
-//! sum.
+//! In a given version, the number of bits that the remaining bytes add depends only on their modes and on the
+//! `RunState` before these bytes. This state contains the mode of the byte before, and the number of bytes so far in
+//! the group of this byte. A group is three digits, two characters or a kanji pair. For each state and each mode of the
+//! next byte, the code adds two numbers: the number of bits that the byte adds, and the fewest bits that all later
+//! bytes then add. The best mode for the state is the mode with the least sum.
 //!
 //! One number represents a choice of a mode: four times the number of bits of the choice, plus the rank of the mode. So
-//! the best choice has the least number: it has the fewest bits, and the lowest rank among the choices with equally
-//! many bits. A row of the table contains the best modes of one byte, in two bits for each state.
+//! the best choice has the least number. This choice takes the fewest bits, and has the lowest rank among the choices
+//! that take equally many bits. A row of the table contains the best modes of one byte, in two bits for each state.
 
 ghost use Rattle.std.specs.Prelude.{◌≡◌, ◌+◌, ◌*◌, ◌/◌, ◌%◌, ◌<◌, ◌≤◌, ℕ, Bool, true, false, length, reverse, IfOk, vec_len};
 ghost use Rattle.qr_bits.specs.declared.modes.Mode.{Mode};
@@ -57,10 +58,10 @@ fn may_begin(rule: Rule, byte: u8, mode: Mode) -> bool
     }
 }
 
-// Returns the number that represents the choice of a mode for a byte: four times the number of bits of the choice, plus
-// the rank of the mode. If `may` is false, the mode may not be used, and the result is `NO_CHOICE`. `first` is the
-// number of the choice if only the bits of the byte are counted. `rest` is the number of the best choice for the bytes
-// after the byte.
+// Returns the number that represents the choice of a mode for a byte. This number is four times the number of bits of
+// the choice, plus the rank of the mode. If `may` is false, the mode may not be used, and the result is `NO_CHOICE`.
+// `first` is the number of the choice if only the bits of the byte are counted. `rest` is the number of the best choice
+// for the bytes after the byte.
 #[inline(always)]
 fn number_if(may: bool, first: u32, rest: u32) -> u32
     requires first { first ≤ 135 }
@@ -84,10 +85,11 @@ fn modes_of(numbers: &PerState<u32>) -> u32
 }
 
 // Finds the best choice of a mode for a byte, for each state before the byte. Returns the chosen modes as a row of the
-// table, and the numbers that represent the choices. `digit` and `character` say whether the byte may be written in
-// numeric mode and in alphanumeric mode. `pair` says whether the byte may be the first byte of a kanji pair. For each
-// state after the byte, `rest` contains the number that represents the best choice for the bytes after it. This number
-// is four times the number of bits of the choice, plus the rank of its mode.
+// table, and the numbers that represent the choices. The flag `digit` is true if the byte may be written in numeric
+// mode, and `character` is true if the byte may be written in alphanumeric mode. The flag `pair` is true if the byte
+// may be the first byte of a kanji pair. For each state after the byte, `rest` contains the number that represents the
+// best choice for the later bytes. This number is four times the number of bits of the choice, plus the rank of its
+// mode.
 #[inline(always)]
 fn choices(
     first_choices: &FirstChoices,
@@ -110,9 +112,9 @@ fn choices(
     let no_characters = digits.min(others);
     let start = digits.min(no_digits);
     // In the states `Digit3`, `Character2`, `InBytes` and `WholePair`, the last group of bytes is complete. To continue
-    // the segment then takes fewer bits than to begin a new segment of the same mode, and both lead to the same
-    // `RunState`. So a new segment of the same mode is never the best choice, and these states can use `start`, the
-    // least number of all new segments, although it includes one of the same mode.
+    // the segment then takes fewer bits than to begin a new segment of the same mode, and both choices lead to the same
+    // `RunState`. So a new segment of the same mode is never the best choice. These states can therefore use `start`,
+    // which is the least number of all choices that begin a new segment in any mode.
     let digit2 = number_if(digit, number(3, Mode::Numeric), rest.digit2);
     let digit3 = number_if(digit, number(3, Mode::Numeric), rest.digit3);
     let digit1 = number_if(digit, number(4, Mode::Numeric), rest.digit1);
@@ -136,9 +138,9 @@ fn choices(
 }
 
 /// Finds the best choice of a mode for `byte`, for each state before the byte. Returns the chosen modes as a row of the
-/// table, and the numbers that represent the choices. `pair` says whether the byte may be the first byte of a kanji
-/// pair. After the first byte of a kanji pair, only kanji mode is possible, and the second byte adds no bits. For each
-/// state after the byte, `rest` contains the number that represents the best choice for the bytes after it.
+/// table, and the numbers that represent the choices. The flag `pair` is true if the byte may be the first byte of a
+/// kanji pair. After the first byte of a kanji pair, only kanji mode is possible, and the second byte adds no bits. For
+/// each state after the byte, `rest` contains the number that represents the best choice for the later bytes.
 #[tactic(auto, unfolding(crate::specs::Steps::RunState::may_begin))]
 #[inline(always)]
 pub(crate) fn best_choices(
@@ -201,7 +203,8 @@ pub(crate) fn best_modes(
     Ok(table)
 }
 
-// Returns the index of the lower of the two bits that contain the mode for `state` in a row of the table.
+// In a row of the table, two neighbouring bits contain the mode for `state`. Returns the index of the lower of these
+// two bits.
 #[inline(always)]
 fn shift_of(state: RunState) -> u32
     ensures value { result ≡ shift_of state }

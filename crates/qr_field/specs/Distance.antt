@@ -15,21 +15,23 @@ differences (x ∷ xs) [] = length (x ∷ xs)
 differences (x ∷ xs) (y ∷ ys) = difference x y + differences xs ys
 
 -- `BlocksLieApart` holds if two blocks with different data codewords always differ in at least n + 1 codewords. Both
--- blocks have the same number of data codewords, n error correction codewords, and at most 255 codewords in all [own]
+-- blocks have the same number of data codewords. Each block has n error correction codewords, and at most 255 codewords
+-- in all [own]
 abbrev pub BlocksLieApart : Type 0
 BlocksLieApart =
     (n : ℕ) (d e d' e' : List ℕ) → IsCorrection d n e → IsCorrection d' n e' → length d ≡ length d' →
     length d + n ≤ 255 → (d ≡ d' → ⊥) → n + 1 ≤ differences (d ++ e) (d' ++ e')
 
--- `erasures rs` is the number of codewords in the list rs that could not be read; such a codeword is `None` [own]
+-- `erasures rs` is the number of codewords in the list rs that could not be read. A codeword that could not be read is
+-- `None` in this list [own]
 abbrev pub erasures : List (Option ℕ) → ℕ
 erasures [] = 0
 erasures (None ∷ rs) = 1 + erasures rs
 erasures (Some x ∷ rs) = erasures rs
 
--- `errors rs ys` is the number of codewords of the block ys that were misread, which means that the list rs contains
--- another codeword at the same index. In rs, `None` is an unread codeword and does not count, but each index that
--- exists only in the longer list counts [own]
+-- `errors rs ys` is the number of codewords of the block ys that were misread. A codeword was misread if the list rs
+-- contains another codeword at the same index. An unread codeword, which is `None` in rs, does not count. Each index
+-- that exists only in the longer list counts [own]
 abbrev pub errors : List (Option ℕ) → List ℕ → ℕ
 errors [] ys = length ys
 errors (r ∷ rs) [] = length (r ∷ rs)
@@ -38,7 +40,7 @@ errors (Some x ∷ rs) (y ∷ ys) = difference x y + errors rs ys
 
 -- `ErasuresAreUnambiguous` holds if what was read of a damaged block always fits only one list of data codewords. The
 -- block has a known number of data codewords, n error correction codewords, and at most 255 codewords in all. In this
--- block k codewords are unread and at most t codewords are misread, where k + 2t is at most n (ISO/IEC 18004:2015,
+-- block, k codewords are unread and at most t codewords are misread. The sum k + 2t is at most n (ISO/IEC 18004:2015,
 -- 7.5.1)
 abbrev pub ErasuresAreUnambiguous : Type 0
 ErasuresAreUnambiguous =

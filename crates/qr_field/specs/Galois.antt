@@ -5,15 +5,15 @@ use Prim.Native.Nat.{zero, suc}
 use Rattle.std.specs.Int.{bit_at}
 
 -- `carryless w a b` is the product of the number a and the low w bits of the number b, as polynomials whose
--- coefficients are bits. The product is the exclusive or of the numbers a * 2^i for each i below w for which bit i of b
--- is 1 (ISO/IEC 18004:2015, 7.5.2)
+-- coefficients are bits. For each i below w, if bit i of b is 1, a * 2^i is a term of the product. The product is the
+-- exclusive or of these terms (ISO/IEC 18004:2015, 7.5.2)
 unfoldable pub carryless : ℕ → ℕ → ℕ → ℕ
 carryless zero a b = 0
 carryless (suc w) a b = bit_xor (bit_at b w * (a * 2 ^ w)) (carryless w a b)
 
--- `IsRemainder n divisor x r` holds if `divisor` is a polynomial of degree n, and r is the remainder of x by `divisor`.
--- The numbers are read as polynomials whose coefficients are bits. The remainder r has at most n bits, and the sum of x
--- and r is a multiple of `divisor` (ISO/IEC 18004:2015, 7.5.2)
+-- `IsRemainder n divisor x r` holds if `divisor` is a polynomial of degree n, and dividing x by `divisor` leaves the
+-- remainder r. The numbers are read as polynomials whose coefficients are bits. The remainder r has at most n bits, and
+-- the sum of x and r is a multiple of `divisor` (ISO/IEC 18004:2015, 7.5.2)
 pub record IsRemainder (n divisor x r : ℕ) : Type 0 where
   pub degree_least : 2 ^ n ≤ divisor
   pub degree_most : divisor < 2 ^ (n + 1)
@@ -32,13 +32,13 @@ prime_modulus = 0x11D
 abbrev pub IsProduct : ℕ → ℕ → ℕ → Type 0
 IsProduct a b p = IsRemainder 8 prime_modulus (carryless 8 a b) p
 
--- `remainder_of n divisor k x` is the remainder of the number x, which has at most n + k bits, by `divisor`, a
--- polynomial of degree n. The remainder is computed by long division in k steps
+-- `remainder_of n divisor k x` is the remainder that is left if the number x is divided by `divisor`. The number x has
+-- at most n + k bits, and `divisor` is a polynomial of degree n. The remainder is computed by long division in k steps
 unfoldable pub remainder_of : ℕ → ℕ → ℕ → ℕ → ℕ
 remainder_of n divisor zero x = x
 remainder_of n divisor (suc k) x = remainder_of n divisor k (bit_xor x (bit_at x (n + k) * (divisor * 2 ^ k)))
 
--- `product a b` is the product of the elements a and b in the field of 256 elements: the only byte p for which
+-- `product a b` is the product of the elements a and b in the field of 256 elements. It is the only byte p for which
 -- `IsProduct a b p` holds (ISO/IEC 18004:2015, 7.5.2)
 unfoldable pub product : ℕ → ℕ → ℕ
 product a b = remainder_of 8 prime_modulus 7 (carryless 8 a b)

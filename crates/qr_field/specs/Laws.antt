@@ -1,4 +1,5 @@
--- Example values. The laws compare these values with the values that other definitions yield.
+-- Defines examples of generator polynomials and of error correction codewords. The laws of this crate compare the
+-- examples with the values that the other definitions yield.
 use Rattle.std.specs.Prelude.{ℕ, List, [], ◌∷◌}
 
 -- `lengths_in_use` lists the numbers of error correction codewords that a block can have in the versions of QR Code

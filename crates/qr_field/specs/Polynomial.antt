@@ -11,7 +11,7 @@ use Rattle.qr_field.specs.Galois.{product}
 abbrev pub IsByte : ℕ → Type 0
 IsByte a = a < 256
 
--- `plus xs ys` is the sum of two lists of coefficients: coefficients with the same index, counted from the start of the
+-- `plus xs ys` is the sum of two lists of coefficients. Coefficients with the same index, counted from the start of the
 -- lists, are added. The shorter list is extended with zeros at its end [own]
 abbrev pub plus : List ℕ → List ℕ → List ℕ
 plus [] ys = ys
@@ -38,8 +38,8 @@ abbrev pub power : ℕ → ℕ
 power zero = 1
 power (suc i) = product 2 (power i)
 
--- `generator_of n` is the generator polynomial for n error correction codewords: the product of the polynomials x - 2^i
--- for each i from 0 to n - 1 (ISO/IEC 18004:2015, Annex A)
+-- `generator_of n` is the generator polynomial for n error correction codewords. It is the product of the polynomials x
+-- - 2^i for all numbers i below n (ISO/IEC 18004:2015, Annex A)
 abbrev pub generator_of : ℕ → List ℕ
 generator_of zero = 1 ∷ []
 generator_of (suc n) = times (generator_of n) (1 ∷ power n ∷ [])
@@ -52,8 +52,8 @@ pub record IsMultiple (g p : List ℕ) : Type 0 where
   pub whole : times quotient g ≡ p
 
 -- `IsCorrection d n e` holds if the list e contains the n error correction codewords of the data codewords d. This
--- means that e is a list of n bytes, and that the polynomial whose coefficients are d, followed by e, is a multiple of
--- the generator polynomial for n error correction codewords (ISO/IEC 18004:2015, 7.5.2)
+-- means that e is a list of n bytes with the following property. The polynomial whose coefficients are d, followed by
+-- e, is a multiple of the generator polynomial for n error correction codewords (ISO/IEC 18004:2015, 7.5.2)
 pub record IsCorrection (d : List ℕ) (n : ℕ) (e : List ℕ) : Type 0 where
   pub count : length e ≡ n
   pub bytes : All IsByte e

@@ -10,8 +10,8 @@ use crate::register::Register;
 use arrayvec::ArrayVec;
 use std::marker::Model;
 
-/// A generator polynomial for n error correction codewords, together with its multiples, which are computed once and
-/// used for many blocks. In contracts, the value of a `Divisor` is the number n.
+/// A generator polynomial for n error correction codewords, together with its multiples. The multiples are computed
+/// once and used for many blocks. In contracts, the value of a `Divisor` is the number n.
 #[derive(Drop)]
 pub struct Divisor {
     count: usize,
@@ -67,8 +67,8 @@ impl Divisor {
         }
     }
 
-    /// Returns the number of error correction codewords that this divisor computes for a block. The number is from 1 to
-    /// 30.
+    /// Returns the number of error correction codewords that this divisor computes for a block. This number is from 1
+    /// to 30.
     pub fn count(&self) -> usize
         ensures is { result ≡ self.now }
         ensures least { 1 ≤ result }
@@ -88,8 +88,7 @@ impl Divisor {
 
     /// Returns the error correction codewords of a block with the data codewords `message` (ISO/IEC 18004:2015, 7.5.2).
     /// The coefficients of the block's polynomial are the data codewords, followed by the error correction codewords.
-    /// The returned list is the only list of its length that makes this polynomial a multiple of the generator
-    /// polynomial.
+    /// No other list of the same length makes this polynomial a multiple of the generator polynomial.
     pub fn correction(&self, message: &[u8]) -> ArrayVec<u8, 30>
         ensures definition { IsCorrection message.now self.now result.items }
         ensures only { (e : List ℕ) → IsCorrection message.now self.now e → e ≡ result.items }

@@ -1,6 +1,6 @@
 //! Products and quotients in the field of 256 elements, in which the error correction codewords are computed (ISO/IEC
 //! 18004:2015, 7.5.2). Each element of the field is a byte. For the definition of a product, a byte is read as a
-//! polynomial whose coefficients are its bits. The sum of two elements is their exclusive or.
+//! polynomial whose coefficients are the bits of the byte. The sum of two elements is their exclusive or.
 
 ghost use Rattle.std.specs.Prelude.{◌≡◌, ◌≤◌, ℕ};
 ghost use Rattle.qr_field.specs.Galois.{IsProduct, product};

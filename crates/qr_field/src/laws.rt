@@ -39,8 +39,8 @@ pub fn products_compute()
     ensures zero { product 0 0xFF ≡ 0 }
 {}
 
-/// The definition `generator_of` yields the right coefficients of the generator polynomial of degree 7. For the
-/// versions of QR Code, the definition also yields every generator polynomial that Annex A prints. Annex A writes each
+/// The definition `generator_of` yields the right coefficients of the generator polynomial of degree 7. The definition
+/// also yields all generator polynomials that Annex A prints for the versions of QR Code. Annex A writes each
 /// coefficient as a power of 2.
 pub fn generators_compute()
     ensures seven { generator_of 7 ≡ 1 ∷ 0x7F ∷ 0x7A ∷ 0x9A ∷ 0xA4 ∷ 0x0B ∷ 0x44 ∷ 0x75 ∷ [] }
@@ -53,8 +53,8 @@ pub fn correction_computes()
     ensures { IsCorrection eight_digits 10 eight_digits_correction }
 {}
 
-/// Let two blocks have the same number of data codewords, n error correction codewords each, and at most 255 codewords
-/// each. If their data codewords differ, the two blocks differ in at least n + 1 codewords.
+/// Consider two blocks with the same number of data codewords. Each block has n error correction codewords, and at most
+/// 255 codewords in all. If the data codewords of the two blocks differ, the blocks differ in at least n + 1 codewords.
 pub fn blocks_lie_apart()
     ensures { BlocksLieApart }
 {}
@@ -76,9 +76,9 @@ pub fn damage_is_unambiguous()
 {}
 
 /// The definitions `erasures`, `errors` and `differences` yield the right number in one example each. In the first
-/// example, two of three codewords are unread. In the second example, two of four codewords are misread, and one of the
-/// two counts as misread because the block has only three codewords. In the third example, two lists differ in one
-/// codeword that both lists have, and in one codeword that only the longer list has.
+/// example, two of three codewords are unread. In the second example, two of four codewords count as misread: one
+/// differs from the codeword of the block, and one is beyond the three codewords of the block. In the third example,
+/// two lists differ in one codeword that both lists have, and in one codeword that only the longer list has.
 pub fn damage_computes()
     ensures erasures { erasures (None ∷ Some 7 ∷ None ∷ []) ≡ 2 }
     ensures errors { errors (Some 7 ∷ None ∷ Some 9 ∷ Some 4 ∷ []) (7 ∷ 8 ∷ 8 ∷ []) ≡ 2 }

@@ -31,14 +31,14 @@ correction_len_of v l = slice_index_or (correction_table l) (v - 1) 0
 unfoldable pub block_count_of : ℕ → Level → ℕ
 block_count_of v l = slice_index_or (block_table l) (v - 1) 0
 
--- `data_codewords_of v l` is the number of data codewords of a symbol of version v at level l. The data codewords are
--- all codewords except for the error correction codewords (ISO/IEC 18004:2015, 7.4.10, Table 7)
+-- `data_codewords_of v l` is the number of data codewords of a symbol of version v at level l. All codewords that are
+-- not error correction codewords are data codewords (ISO/IEC 18004:2015, 7.4.10, Table 7)
 unfoldable pub data_codewords_of : ℕ → Level → ℕ
 data_codewords_of v l = total_codewords_of v - block_count_of v l * correction_len_of v l
 
 -- `blocks_of v l` contains the sizes of the blocks of a symbol of version v at level l. The data codewords are divided
--- evenly among the blocks. If this is not possible, the long blocks at the end have one data codeword more (ISO/IEC
--- 18004:2015, 7.5.1, Table 9)
+-- evenly among the blocks. If the division leaves a remainder, the blocks at the end are long blocks, which have one
+-- data codeword more (ISO/IEC 18004:2015, 7.5.1, Table 9)
 abbrev pub blocks_of : ℕ → Level → Blocks
 blocks_of v l = record {
   short = block_count_of v l - data_codewords_of v l % block_count_of v l;
@@ -47,23 +47,24 @@ blocks_of v l = record {
   ec_len = correction_len_of v l;
 }
 
--- `longest_of b` is the number of codewords of the longest block, for data and for error correction together, if b
--- contains the sizes of the blocks (ISO/IEC 18004:2015, 7.5.1, Table 9)
+-- `longest_of b` is the number of codewords of the longest of the blocks with the sizes b. This number includes the
+-- data codewords and the error correction codewords (ISO/IEC 18004:2015, 7.5.1, Table 9)
 abbrev pub longest_of : Blocks → ℕ
 longest_of b = b.short_len + min b.long 1 + b.ec_len
 
--- `damage_of l` is a percentage for the error correction level l. In every version, half the number of error correction
--- codewords of a block, rounded down, is at least this percentage of the number of its codewords. If at most this
--- percentage of a block is misread, the codewords that were read fit one block only [own]
+-- `damage_of l` is a percentage for the error correction level l. Let t be half the number of error correction
+-- codewords of a block, rounded down. In every version, t is at least this percentage of the number of codewords of the
+-- block. If at most this percentage of the codewords of a block is misread, the codewords that were read fit only one
+-- block [own]
 abbrev pub damage_of : Level → ℕ
 damage_of L = 9
 damage_of M = 17
 damage_of Q = 23
 damage_of H = 30
 
--- `AreWhole v l b` holds if the blocks with the sizes b together have all data codewords and all error correction
--- codewords of a symbol of version v at level l. At least one block is short, and each block has at least one data
--- codeword and from 1 to 30 error correction codewords (ISO/IEC 18004:2015, 7.5.1)
+-- `AreWhole v l b` holds if the blocks with the sizes b together have all codewords of a symbol of version v at level
+-- l. These are the data codewords and the error correction codewords. At least one block is short, and each block has
+-- at least one data codeword and from 1 to 30 error correction codewords (ISO/IEC 18004:2015, 7.5.1)
 pub record AreWhole (v : ℕ) (l : Level) (b : Blocks) : Type 0 where
   pub some : 1 ≤ b.short
   pub some_len : 1 ≤ b.short_len

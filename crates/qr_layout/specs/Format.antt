@@ -5,9 +5,9 @@ use Rattle.std.specs.Int.{bit_at}
 use Rattle.qr_layout.specs.declared.level.Level.{Level}
 use Rattle.qr_layout.specs.declared.level.Level.TheVariants.{L, M, Q, H}
 
--- `remainder_of n divisor k x` is the remainder of the number x, which has n + k bits, by `divisor`, which has degree
--- n. The numbers are read as polynomials whose coefficients are bits, and the remainder is computed by long division
--- (ISO/IEC 18004:2015, Annexes C and D)
+-- `remainder_of n divisor k x` is the remainder that is left if the number x is divided by `divisor`. The number x has
+-- at most n + k bits, and `divisor` has degree n. Both numbers are read as polynomials whose coefficients are bits, and
+-- the remainder is computed by long division (ISO/IEC 18004:2015, Annexes C and D)
 unfoldable pub remainder_of : ℕ → ℕ → ℕ → ℕ → ℕ
 remainder_of n divisor zero x = x
 remainder_of n divisor (suc k) x = remainder_of n divisor k (bit_xor x (bit_at x (n + k) * (divisor * 2 ^ k)))
@@ -25,40 +25,41 @@ level_bits H = 2
 abbrev pub five_bits : Level → ℕ → ℕ
 five_bits level mask = 8 * level_bits level + mask
 
--- `format_with five` is a number of 15 bits: the five bits `five`, followed by the ten bits of the remainder that Annex
--- C defines. All 15 bits are combined with the bits 101010000010010 by exclusive or (ISO/IEC 18004:2015, 7.9.1 and
--- Annex C)
+-- `format_with five` is a number of 15 bits. It consists of the five bits `five`, followed by the ten bits of the
+-- remainder that Annex C defines. All 15 bits are combined with the bits 101010000010010 by exclusive or (ISO/IEC
+-- 18004:2015, 7.9.1 and Annex C)
 abbrev pub format_with : ℕ → ℕ
 format_with five = bit_xor (five * 2 ^ 10 + remainder_of 10 0x537 5 (five * 2 ^ 10)) 0x5412
 
 -- `format_word_of level mask` is the format information for the error correction level `level` and the mask pattern
--- `mask`, a number from 0 to 7 (ISO/IEC 18004:2015, 7.9.1)
+-- `mask`. The mask pattern is a number from 0 to 7 (ISO/IEC 18004:2015, 7.9.1)
 unfoldable pub format_word_of : Level → ℕ → ℕ
 format_word_of level mask = format_with (five_bits level mask)
 
--- `version_word_of v` is the version information of version v: the six bits of the number v, followed by the twelve
--- bits of the remainder that Annex D defines (ISO/IEC 18004:2015, 7.10 and Annex D)
+-- `version_word_of v` is the version information of version v. It consists of the six bits of the number v, followed by
+-- the twelve bits of the remainder that Annex D defines (ISO/IEC 18004:2015, 7.10 and Annex D)
 unfoldable pub version_word_of : ℕ → ℕ
 version_word_of v = v * 2 ^ 12 + remainder_of 12 0x1F25 6 (v * 2 ^ 12)
 
--- `sum_of_shifts divisor ks` is the exclusive or of copies of `divisor`: for each number k in the list ks, a copy that
--- is shifted left by k bits [own]
+-- `sum_of_shifts divisor ks` is the exclusive or of copies of `divisor`. For each number k in the list ks, there is a
+-- copy that is shifted left by k bits [own]
 abbrev pub sum_of_shifts : ℕ → List ℕ → ℕ
 sum_of_shifts divisor [] = 0
 sum_of_shifts divisor (k ∷ ks) = bit_xor (divisor * 2 ^ k) (sum_of_shifts divisor ks)
 
--- `IsWordRemainder n divisor x r` holds if `divisor` has degree n and r is the remainder of x by `divisor`, as
--- polynomials whose coefficients are bits. This means that r has at most n bits, and that the exclusive or of x and r
--- is also the exclusive or of some shifted copies of `divisor` (ISO/IEC 18004:2015, Annexes C and D)
+-- `IsWordRemainder n divisor x r` holds if `divisor` has degree n and if dividing x by `divisor` leaves the remainder
+-- r. The numbers are read as polynomials whose coefficients are bits. The number r must have at most n bits. In
+-- addition, the exclusive or of x and r must be the exclusive or of some copies of `divisor` that are shifted left
+-- (ISO/IEC 18004:2015, Annexes C and D)
 pub record IsWordRemainder (n divisor x r : ℕ) : Type 0 where
   pub monic : (2 ^ n ≤ divisor) × (divisor < 2 ^ (n + 1))
   pub small : r < 2 ^ n
   pub shifts : List ℕ
   pub multiple : bit_xor x r ≡ sum_of_shifts divisor shifts
 
--- `IsFormatWord five word` holds if `word` consists of the five bits `five` and the ten bits of a remainder, all
--- combined with the bits 101010000010010 by exclusive or. To compute the remainder, `five` is shifted left by ten bits
--- and divided by the polynomial x^10 + x^8 + x^5 + x^4 + x^2 + x + 1 (ISO/IEC 18004:2015, Annex C)
+-- `IsFormatWord five word` holds if `word` consists of the five bits `five` and the ten bits of a remainder. All 15
+-- bits are combined with the bits 101010000010010 by exclusive or. To compute the remainder, `five` is shifted left by
+-- ten bits and divided by the polynomial x^10 + x^8 + x^5 + x^4 + x^2 + x + 1 (ISO/IEC 18004:2015, Annex C)
 pub record IsFormatWord (five word : ℕ) : Type 0 where
   pub rest : ℕ
   pub remainder : IsWordRemainder 10 0x537 (five * 2 ^ 10) rest

@@ -1,5 +1,5 @@
--- Values that the standard prints, and values that follow from its rules. The laws compare the definitions with these
--- values.
+-- Values that the standard prints, and values that follow from the rules of the standard. The laws of this crate
+-- compare its definitions with these values.
 use Rattle.std.specs.Prelude.{ℕ, ◌+◌, ◌-◌, ◌*◌, ◌^◌, ◌/◌, ◌==◌, true, false, nat_lt, if◌then◌else◌, List, [], ◌∷◌, length, map}
 use Rattle.std.specs.List.{range_with_len, slice_index_or}
 use Rattle.qr_layout.specs.declared.level.Level.{Level}
@@ -21,8 +21,8 @@ printed_data M = 16 ∷ 28 ∷ 44 ∷ 64 ∷ 86 ∷ 108 ∷ 124 ∷ 154 ∷ 182 
 printed_data Q = 13 ∷ 22 ∷ 34 ∷ 48 ∷ 62 ∷ 76 ∷ 88 ∷ 110 ∷ 132 ∷ 154 ∷ 180 ∷ 206 ∷ 244 ∷ 261 ∷ 295 ∷ 325 ∷ 367 ∷ 397 ∷ 445 ∷ 485 ∷ 512 ∷ 568 ∷ 614 ∷ 664 ∷ 718 ∷ 754 ∷ 808 ∷ 871 ∷ 911 ∷ 985 ∷ 1033 ∷ 1115 ∷ 1171 ∷ 1231 ∷ 1286 ∷ 1354 ∷ 1426 ∷ 1502 ∷ 1582 ∷ 1666 ∷ []
 printed_data H = 9 ∷ 16 ∷ 26 ∷ 36 ∷ 46 ∷ 60 ∷ 66 ∷ 86 ∷ 100 ∷ 122 ∷ 140 ∷ 158 ∷ 180 ∷ 197 ∷ 223 ∷ 253 ∷ 283 ∷ 313 ∷ 341 ∷ 385 ∷ 406 ∷ 442 ∷ 464 ∷ 514 ∷ 538 ∷ 596 ∷ 628 ∷ 661 ∷ 701 ∷ 745 ∷ 793 ∷ 845 ∷ 901 ∷ 961 ∷ 986 ∷ 1054 ∷ 1096 ∷ 1142 ∷ 1222 ∷ 1276 ∷ []
 
--- `printed_errors l` lists the numbers of misread codewords of a block at level l that can be corrected, as the
--- standard prints them for the versions 1 to 40 (ISO/IEC 18004:2015, 7.5.1, Table 9)
+-- `printed_errors l` lists, for each of the versions 1 to 40, how many misread codewords of a block at level l can be
+-- corrected. The standard prints these numbers (ISO/IEC 18004:2015, 7.5.1, Table 9)
 abbrev pub printed_errors : Level → List ℕ
 printed_errors L = 2 ∷ 4 ∷ 7 ∷ 10 ∷ 13 ∷ 9 ∷ 10 ∷ 12 ∷ 15 ∷ 9 ∷ 10 ∷ 12 ∷ 13 ∷ 15 ∷ 11 ∷ 12 ∷ 14 ∷ 15 ∷ 14 ∷ 14 ∷ 14 ∷ 14 ∷ 15 ∷ 15 ∷ 13 ∷ 14 ∷ 15 ∷ 15 ∷ 15 ∷ 15 ∷ 15 ∷ 15 ∷ 15 ∷ 15 ∷ 15 ∷ 15 ∷ 15 ∷ 15 ∷ 15 ∷ 15 ∷ []
 printed_errors M = 4 ∷ 8 ∷ 13 ∷ 9 ∷ 12 ∷ 8 ∷ 9 ∷ 11 ∷ 11 ∷ 13 ∷ 15 ∷ 11 ∷ 11 ∷ 12 ∷ 12 ∷ 14 ∷ 14 ∷ 13 ∷ 13 ∷ 13 ∷ 13 ∷ 14 ∷ 14 ∷ 14 ∷ 14 ∷ 14 ∷ 14 ∷ 14 ∷ 14 ∷ 14 ∷ 14 ∷ 14 ∷ 14 ∷ 14 ∷ 14 ∷ 14 ∷ 14 ∷ 14 ∷ 14 ∷ 14 ∷ []
@@ -30,8 +30,8 @@ printed_errors Q = 6 ∷ 11 ∷ 9 ∷ 13 ∷ 9 ∷ 12 ∷ 9 ∷ 11 ∷ 10 ∷ 12
 printed_errors H = 8 ∷ 14 ∷ 11 ∷ 8 ∷ 11 ∷ 14 ∷ 13 ∷ 13 ∷ 12 ∷ 14 ∷ 12 ∷ 14 ∷ 11 ∷ 12 ∷ 12 ∷ 15 ∷ 14 ∷ 14 ∷ 13 ∷ 14 ∷ 15 ∷ 12 ∷ 15 ∷ 15 ∷ 15 ∷ 15 ∷ 15 ∷ 15 ∷ 15 ∷ 15 ∷ 15 ∷ 15 ∷ 15 ∷ 15 ∷ 15 ∷ 15 ∷ 15 ∷ 15 ∷ 15 ∷ 15 ∷ []
 
 -- `printed_protection l` lists the number of misdecode protection codewords of a block at level l, for the first
--- versions; in later versions the number is 0. These error correction codewords are not used to correct, so that fewer
--- damaged blocks are read as another message (ISO/IEC 18004:2015, 7.5.1, Table 9)
+-- versions. For the versions that are not in the list, the number is 0. These error correction codewords are not used
+-- for correction, so that fewer damaged blocks are wrongly read as another message (ISO/IEC 18004:2015, 7.5.1, Table 9)
 abbrev pub printed_protection : Level → List ℕ
 printed_protection L = 3 ∷ 2 ∷ 1 ∷ []
 printed_protection M = 2 ∷ []
@@ -39,27 +39,27 @@ printed_protection Q = 1 ∷ []
 printed_protection H = 1 ∷ []
 
 -- `printed_correction l v` is the number of error correction codewords of a block of version v at level l. The block
--- has two error correction codewords for each misread codeword that can be corrected, and in addition its misdecode
--- protection codewords (ISO/IEC 18004:2015, 7.5.1, Table 9)
+-- has two error correction codewords for each misread codeword that can be corrected. In addition, the block has its
+-- misdecode protection codewords (ISO/IEC 18004:2015, 7.5.1, Table 9)
 abbrev pub printed_correction : Level → ℕ → ℕ
 printed_correction l v = 2 * slice_index_or (printed_errors l) (v - 1) 0 + slice_index_or (printed_protection l) (v - 1) 0
 
--- `gap_between v k` is the distance between neighbouring rows of alignment pattern centres in version v, which has k
--- such rows. Only the first two rows may have another distance. The distance is the least even number for which k - 1
--- such distances are enough to reach from row 6 to the last of these rows. In version 32 the distance is 26 instead
--- (ISO/IEC 18004:2015, Annex E)
+-- `gap_between v k` is the distance between neighbouring rows that contain centres of alignment patterns. Version v has
+-- k such rows, and the first is row 6. Only the distance between the first two rows may be different. The distance is
+-- the least even number d for which d * (k - 1) is at least the distance from row 6 to the last of the k rows. In
+-- version 32 the distance is 26 instead (ISO/IEC 18004:2015, Annex E)
 abbrev pub gap_between : ℕ → ℕ → ℕ
 gap_between v k = if v == 32 then 26 else 2 * ((side_of v - 13 + 2 * (k - 1) - 1) / (2 * (k - 1)))
 
--- `spaced_centres v` lists the rows of the alignment pattern centres in version v, from version 2 on. The first row is
--- row 6, and the last row is the number of modules on a side less 7. All distances between neighbouring rows, except
--- for the first distance, are equal (ISO/IEC 18004:2015, Annex E)
+-- `spaced_centres v` lists the rows that contain centres of alignment patterns in version v, from version 2 on. The
+-- first row is row 6. The index of the last row is the number of modules on a side less 7. From the second row on, all
+-- distances between neighbouring rows are equal (ISO/IEC 18004:2015, Annex E)
 abbrev pub spaced_centres : ℕ → List ℕ
 spaced_centres v = 6 ∷ map (λ i. side_of v - 7 - gap_between v (v / 7 + 2) * (v / 7 - i)) (range_with_len 0 (v / 7 + 1))
 
--- `alignment_size k` is the number of modules of the alignment patterns outside the timing patterns, if there are k
--- rows of centres. Each alignment pattern has 25 such modules, or 20 if it lies across a timing pattern (ISO/IEC
--- 18004:2015, 6.3.5, 6.3.6)
+-- `alignment_size k` is the number of modules of alignment patterns that are outside the timing patterns, in a symbol
+-- with k rows of centres. Each alignment pattern has 25 such modules, or 20 if the pattern lies across a timing pattern
+-- (ISO/IEC 18004:2015, 6.3.5, 6.3.6)
 abbrev pub alignment_size : ℕ → ℕ
 alignment_size k = if nat_lt k 2 then 0 else 25 * (k ^ 2 - 3) - 10 * (k - 2)
 
@@ -68,14 +68,15 @@ alignment_size k = if nat_lt k 2 then 0 else 25 * (k ^ 2 - 3) - 10 * (k - 2)
 abbrev pub version_size : ℕ → ℕ
 version_size v = if nat_lt v 7 then 0 else 36
 
--- `region_size v` is the number of modules of a symbol of version v outside four parts: the three corners, the timing
--- patterns between the corners, the alignment patterns and the version information (ISO/IEC 18004:2015, 6.3.7, 7.7.3)
+-- `region_size v` is the number of modules of a symbol of version v that are outside four parts. These parts are the
+-- three corners, the timing patterns between the corners, the alignment patterns and the version information (ISO/IEC
+-- 18004:2015, 6.3.7, 7.7.3)
 abbrev pub region_size : ℕ → ℕ
 region_size v =
     side_of v ^ 2 - 225 - 2 * (side_of v - 17) - alignment_size (length (centres_of v)) - version_size v
 
--- `always_dark` is the role of a module that is dark in every symbol of its version, and `always_light` is the role of
--- a module that is always light [own]
+-- `always_dark` is the role of a module that is dark in every symbol of its version. `always_light` is the role of a
+-- module that is light in every symbol of its version [own]
 abbrev always_dark : Role
 always_dark = Fixed true
 
@@ -94,8 +95,8 @@ column_8 = FormatBit 0 ∷ FormatBit 1 ∷ FormatBit 2 ∷ FormatBit 3 ∷ Forma
 abbrev pub row_6 : List Role
 row_6 = always_dark ∷ always_dark ∷ always_dark ∷ always_dark ∷ always_dark ∷ always_dark ∷ always_dark ∷ always_light ∷ always_dark ∷ always_light ∷ always_dark ∷ always_light ∷ always_dark ∷ always_light ∷ always_dark ∷ always_dark ∷ always_dark ∷ always_dark ∷ always_dark ∷ always_dark ∷ always_dark ∷ []
 
--- `finder_figure` lists, row by row, what the modules in the first eight rows and columns of version 1 contain: a
--- finder pattern and its separator (ISO/IEC 18004:2015, 6.3.3, 6.3.4)
+-- `finder_figure` lists, row by row, what the modules in the first eight rows and columns of version 1 contain. These
+-- modules are a finder pattern and its separator (ISO/IEC 18004:2015, 6.3.3, 6.3.4)
 abbrev pub finder_figure : List (List Role)
 finder_figure =
     (always_dark ∷ always_dark ∷ always_dark ∷ always_dark ∷ always_dark ∷ always_dark ∷ always_dark ∷ always_light ∷ [])
@@ -108,7 +109,8 @@ finder_figure =
     ∷ (always_light ∷ always_light ∷ always_light ∷ always_light ∷ always_light ∷ always_light ∷ always_light ∷ always_light ∷ []) ∷ []
 
 -- `alignment_figure` lists, row by row, what the modules in the rows 15 to 21 and columns 15 to 21 of version 2
--- contain: an alignment pattern, and around it the encoding region (ISO/IEC 18004:2015, 6.3.6)
+-- contain. These modules are an alignment pattern, and around it modules of the encoding region (ISO/IEC 18004:2015,
+-- 6.3.6)
 abbrev pub alignment_figure : List (List Role)
 alignment_figure =
     (Region ∷ Region ∷ Region ∷ Region ∷ Region ∷ Region ∷ Region ∷ [])

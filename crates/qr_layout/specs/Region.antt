@@ -7,9 +7,9 @@ use Rattle.qr_layout.specs.declared.region.Module.{Module}
 use Rattle.qr_layout.specs.Version.{side_of}
 use Rattle.qr_layout.specs.Alignment.{centres_of, alignment_places}
 
--- `is_corner s r c` holds if the place in row r and column c is in one of the three corners that have a finder pattern,
--- in a symbol with s modules on a side. Each corner contains the finder pattern, its separator and the format
--- information beside it. The bottom left corner also contains the dark module (ISO/IEC 18004:2015, 6.3.3, 6.3.4, 7.9)
+-- `is_corner s r c` holds if the place in row r and column c is in one of the three corners that have a finder pattern.
+-- The symbol has s modules on a side. Each corner contains the finder pattern, its separator and the format information
+-- beside it. The bottom left corner also contains the dark module (ISO/IEC 18004:2015, 6.3.3, 6.3.4, 7.9)
 abbrev pub is_corner : ℕ → ℕ → ℕ → Bool
 is_corner s r c = nat_le r 8 && (nat_le c 8 || nat_le (s - 8) c) || nat_le (s - 8) r && nat_le c 8
 
@@ -28,8 +28,8 @@ is_version_block s r c = nat_lt r 6 && (nat_le (s - 11) c && nat_lt c (s - 8))
 abbrev pub is_version_information : ℕ → ℕ → ℕ → Bool
 is_version_information v r c = nat_le 7 v && (is_version_block (side_of v) r c || is_version_block (side_of v) c r)
 
--- `ring_of a b r c` is the number of the square ring, around the place (a, b), that contains the place (r, c). Ring 0
--- is the place (a, b) itself [own]
+-- `ring_of a b r c` is the number of the ring around the place (a, b) that contains the place (r, c). The rings are
+-- squares and are numbered outward; ring 0 is the place (a, b) itself [own]
 abbrev pub ring_of : ℕ → ℕ → ℕ → ℕ → ℕ
 ring_of a b r c = max (abs_diff a r) (abs_diff b c)
 

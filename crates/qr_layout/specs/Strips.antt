@@ -12,14 +12,13 @@ abbrev pub rows_from : ℕ → Strip → ℕ → ℕ → List Module
 rows_from s strip k zero = []
 rows_from s strip k (suc n) = record { row = if strip.upward then s - 1 - k else k; col = strip.right } ∷ rows_from s strip (k + 1) n
 
--- `both_of ms` contains each place of the list ms, followed by the place to the left of this place (ISO/IEC 18004:2015,
--- 7.7.3)
+-- `both_of ms` lists each place of the list ms, directly followed by the place to its left (ISO/IEC 18004:2015, 7.7.3)
 abbrev pub both_of : List Module → List Module
 both_of [] = []
 both_of (m ∷ ms) = m ∷ record { row = m.row; col = m.col - 1 } ∷ both_of ms
 
--- `places_of s xs` lists the places of the strips xs, one strip after the other, in a symbol with s modules on a side
--- (ISO/IEC 18004:2015, 7.7.3)
+-- `places_of s xs` lists the places of the strips xs, one strip after the other, in a symbol with s modules on a side.
+-- In each row of a strip, the right place comes first (ISO/IEC 18004:2015, 7.7.3)
 abbrev pub places_of : ℕ → List Strip → List Module
 places_of s [] = []
 places_of s (x ∷ xs) = both_of (rows_from s x 0 s) ++ places_of s xs
@@ -29,7 +28,8 @@ places_of s (x ∷ xs) = both_of (rows_from s x 0 s) ++ places_of s xs
 abbrev pub strip_at : ℕ → Strip
 strip_at p = record { right = (let c = 2 * p - 1 in if nat_lt c 6 then c else c + 1); upward = p % 2 == 0 }
 
--- `strips_to_come p` lists the p leftmost strips, from right to left (ISO/IEC 18004:2015, 7.7.3)
+-- `strips_to_come p` lists the p leftmost strips (pairs of neighbouring columns), from right to left (ISO/IEC
+-- 18004:2015, 7.7.3)
 abbrev pub strips_to_come : ℕ → List Strip
 strips_to_come zero = []
 strips_to_come (suc p) = strip_at (suc p) ∷ strips_to_come p

@@ -23,8 +23,8 @@ remainder_table =
 unfoldable pub total_codewords_of : ℕ → ℕ
 total_codewords_of v = slice_index_or total_table (v - 1) 0
 
--- `remainder_bits_of v` is the number of remainder bits of a symbol of version v: modules that are left over when the
--- codewords are placed (ISO/IEC 18004:2015, 7.1, Table 1)
+-- `remainder_bits_of v` is the number of remainder bits of a symbol of version v. Remainder bits are modules that are
+-- left over when the codewords are placed (ISO/IEC 18004:2015, 7.1, Table 1)
 unfoldable pub remainder_bits_of : ℕ → ℕ
 remainder_bits_of v = slice_index_or remainder_table (v - 1) 0
 

@@ -85,7 +85,7 @@ impl Version {
     }
 }
 
-// Returns whether the row or column `at` is at most two away from `centre`.
+// Returns whether the distance between `at` and `centre` is at most two. The two numbers are rows, or both are columns.
 fn is_near(centre: u8, at: u8) -> bool
     ensures { result ≡ (nat_le (centre - 2) at && nat_lt at (centre + 3)) }
 {
@@ -96,9 +96,9 @@ fn is_near(centre: u8, at: u8) -> bool
     }
 }
 
-// Returns whether row `a` and column `b`, in which alignment patterns have centres, meet in a corner with a finder
-// pattern. No alignment pattern has its centre in such a corner. `side` is the number of modules on a side of the
-// symbol.
+// Returns whether the place in row `a` and column `b` is in a corner with a finder pattern. Row `a` and column `b`
+// contain centres of alignment patterns, but no alignment pattern has its centre in such a corner. `side` is the number
+// of modules on a side of the symbol.
 pub(crate) fn is_corner_pair(side: u8, a: u8, b: u8) -> bool
     requires { 21 ≤ side }
     ensures { result ≡ is_corner_pair side a b }
@@ -120,7 +120,8 @@ fn is_beside(centres: &[u8], side: u8, a: u8, col: u8) -> bool
 }
 
 // Returns whether the module in row `row` and column `col` is in an alignment pattern. `centres` contains the rows of
-// all centres, which are also their columns, and `side` is the number of modules on a side of the symbol.
+// all centres, and the same numbers are the columns of the centres. `side` is the number of modules on a side of the
+// symbol.
 fn is_on_centre(centres: &[u8], side: u8, row: u8, col: u8) -> bool
     requires { 21 ≤ side }
     ensures { result ≡ list_any (λ a. nat_le (a - 2) row && nat_lt row (a + 3)
@@ -142,7 +143,7 @@ pub(crate) fn is_in_alignment(v: Version, row: u8, col: u8) -> bool
     is_on_centre(centres, side, row, col)
 }
 
-// Appends to `places` the centres of the alignment patterns in row `row`, from left to right. `centres` contains the
+// Appends the centres of the alignment patterns in row `row` to `places`, from left to right. `centres` contains the
 // columns of all centres, and `side` is the number of modules on a side of the symbol.
 fn push_centres(places: &mut ArrayVec<Module, 49>, centres: &[u8], side: u8, row: u8)
     requires side_in { 21 ≤ side }

@@ -48,8 +48,9 @@ static BLOCK_COUNTS: [[u8; 40]; 4] = [
     ],
 ];
 
-/// The sizes of the blocks of a symbol. The first `short` blocks have `short_len` data codewords each. The `long`
-/// blocks after them have one data codeword more each. Every block has `ec_len` error correction codewords.
+/// The sizes of the blocks of a symbol. The symbol has `short` short blocks, followed by `long` long blocks. A short
+/// block has `short_len` data codewords, and a long block has one data codeword more. Every block has `ec_len` error
+/// correction codewords.
 #[derive(Clone, Copy, Debug, PartialEq, Eq)]
 pub struct Blocks {
     pub short: u8,
@@ -83,8 +84,8 @@ impl Version {
         counts[usize::from(self.number() - 1)]
     }
 
-    /// Returns the number of data codewords of a symbol of this version at the error correction level `level`, from 9
-    /// to 2,956 (ISO/IEC 18004:2015, 7.4.10, Table 7).
+    /// Returns the number of data codewords of a symbol of this version at the error correction level `level` (ISO/IEC
+    /// 18004:2015, 7.4.10, Table 7). The least number is 9, and the greatest is 2,956.
     pub fn data_codewords(self, level: Level) -> u16
         ensures { result ≡ data_codewords_of self level }
     {

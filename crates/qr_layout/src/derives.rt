@@ -1,5 +1,6 @@
 //! Equality and clones of versions, levels, modules, roles, block sizes and strips. The operator `==` returns true
-//! exactly if its two operands are the same value. Unless memory is refused, the clone of a value is the same value.
+//! exactly if its two operands are the same value. The clone of a value is the same value, if cloning does not fail for
+//! lack of memory.
 
 ghost use Rattle.std.specs.Prelude.{◌≡◌, ◌↔◌, IsTrue, IfOk};
 

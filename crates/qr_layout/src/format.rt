@@ -39,8 +39,8 @@ pub fn format_word(level: Level, mask: u8) -> u16
 }
 
 impl Version {
-    /// Returns the 18 bits of version information of this version. Returns `None` below version 7, where symbols have
-    /// no version information.
+    /// Returns the 18 bits of version information of this version. Returns `None` for the versions 1 to 6, whose
+    /// symbols have no version information.
     pub fn version_word(self) -> Option<u32>
         ensures { SomeIff result (7 ≤ self) (version_word_of self) }
     {

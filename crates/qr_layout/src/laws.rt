@@ -1,5 +1,6 @@
 //! Laws about the layout of symbols, for every version, level and mask pattern. The contract of each function states a
-//! law. The functions that are defined here do nothing, except for `nth_place`, `first_version` and `default_module`.
+//! law. Only three functions of this file compute a value: `nth_place`, `first_version` and `default_module`. The
+//! others do nothing.
 
 ghost use Rattle.std.specs.Prelude.{◌≡◌, ◌<◌, ◌≤◌, ◌-◌, ◌*◌, ◌/◌, ◌⊎◌, ◌↔◌, ◌||◌, not, true, ℕ, List, ◌∷◌, ◌++◌, length, map, slice_get};
 ghost use Rattle.std.specs.List.{list_any, range_with_len};
@@ -26,13 +27,14 @@ use crate::order::walk;
 use crate::region::Module;
 use crate::version::Version;
 
-/// For each version, at most one list of modules is the order in which the encoding region is filled (`IsOrder`).
+/// For each version, at most one list of modules satisfies `IsOrder`. Such a list contains the modules of the encoding
+/// region in the order in which they are filled.
 pub fn order_is_one(v: Version)
     ensures { (ms ns : List Module) → IsOrder v ms → IsOrder v ns → ms ≡ ns }
 {}
 
-/// The order in which the encoding region is filled contains one module for each codeword bit and each remainder bit.
-/// The number of these modules is at most 29,648.
+/// A list that satisfies `IsOrder` contains one module for each bit of the codewords and one module for each remainder
+/// bit. The number of these modules is at most 29,648.
 pub fn order_is_full(v: Version)
     ensures count { (ms : List Module) → IsOrder v ms → length ms ≡ module_count_of v }
     ensures most { module_count_of v ≤ 29648 }
@@ -40,14 +42,14 @@ pub fn order_is_full(v: Version)
 
 /// The number of modules of the encoding region is the number of modules of the whole symbol, less the modules of four
 /// parts. These parts are the three corners (finder patterns, separators, format information and the dark module), the
-/// timing patterns, the alignment patterns and the version information. The codeword bits and remainder bits of the
-/// version need exactly this number of modules.
+/// timing patterns, the alignment patterns and the version information. The codewords and remainder bits of the version
+/// need exactly this number of modules, one for each bit.
 pub fn region_is_counted(v: Version)
     ensures region { places_passing (side_of v) (is_in_region v) ≡ region_size v }
     ensures filled { module_count_of v ≡ region_size v }
 {}
 
-/// A module of the symbol is in the encoding region exactly if it is outside the rectangles of `fixed_rectangles` and
+/// The encoding region consists of the modules of the symbol that are outside the rectangles of `fixed_rectangles` and
 /// outside the alignment patterns.
 #[tactic(auto, using(crate::proofs::lemmas::alignment::AlignmentLemmas::region_outside))]
 pub fn region_is_outside(v: Version)
@@ -60,15 +62,16 @@ pub fn region_is_symmetric(v: Version)
     ensures { (r c : ℕ) → is_in_region v r c ≡ is_in_region v c r }
 {}
 
-/// For each module of the encoding region, `number_of` is the number of modules that are filled before this module.
+/// For each module of the encoding region, `number_of` is the number of modules that come before this module in the
+/// order in which the region is filled.
 pub fn number_counts(v: Version)
     ensures { (front back : List Module) (m : Module) → IsOrder v (front ++ m ∷ back)
         → number_of v m ≡ length front }
 {}
 
 /// The definition `number_of` assigns numbers to the modules of the encoding region, from 0 on and without gaps. Each
-/// module has a number that is less than the number of modules of the encoding region. Each such number belongs to
-/// exactly one module.
+/// module has a number that is less than the number of modules of the encoding region. Conversely, each number that is
+/// less than the number of modules belongs to exactly one module.
 pub fn numbers_are_places(v: Version)
     ensures below { (m : Module) → InRegion v m → number_of v m < module_count_of v }
     ensures one_place { (m n : Module) → InRegion v m → InRegion v n
@@ -85,8 +88,8 @@ pub fn nth_place(v: Version, number: usize) -> Option<Module>
     walk(v).nth(number)
 }
 
-/// For the versions 2 to 40, the rows of the centres of the alignment patterns are the rows that the spacing rule of
-/// Annex E of the standard yields.
+/// Annex E of the standard has a rule for the distances between the centres of alignment patterns. For the versions 2
+/// to 40, `centres_of` contains the rows that this rule yields.
 #[tactic(auto, unfolding(crate::specs::Alignment::centres_of))]
 pub fn centres_are_spaced()
     ensures { map centres_of (range_with_len 2 39) ≡ map spaced_centres (range_with_len 2 39) }
@@ -102,8 +105,8 @@ pub fn data_codewords_compute()
 {}
 
 /// For all versions and levels, a block has two error correction codewords for each misread codeword that can be
-/// corrected, and in addition its misdecode protection codewords. Table 9 of the standard prints the number of such
-/// misread codewords and of misdecode protection codewords.
+/// corrected. In addition, the block has its misdecode protection codewords. Table 9 of the standard prints how many
+/// misread codewords can be corrected, and how many misdecode protection codewords there are.
 #[tactic(auto, unfolding(crate::specs::Blocks::correction_len_of))]
 pub fn correction_lens_compute()
     ensures l { map (λ v. correction_len_of v L) all_versions ≡ map (printed_correction L) all_versions }
@@ -126,8 +129,8 @@ pub fn blocks_are_short(v: Version, level: Level)
     ensures reached { longest_of (blocks_of 27 L) ≡ 153 }
 {}
 
-/// By the laws of `qr_field`, a damaged block is unambiguous if at most half as many codewords are misread as the block
-/// has error correction codewords. Half the number of error correction codewords, rounded down, is at least 9 % of the
+/// Let t be half the number of error correction codewords of a block, rounded down. By the laws of `qr_field`, the
+/// codewords that were read fit only one block if at most t codewords are misread. The number t is at least 9 % of the
 /// number of codewords of the block at level L, 17 % at M, 23 % at Q and 30 % at H.
 pub fn blocks_stand_damage(v: Version, level: Level)
     ensures { damage_of level * longest_of (blocks_of v level)
@@ -135,7 +138,7 @@ pub fn blocks_stand_damage(v: Version, level: Level)
 {}
 
 /// A symbol has at most 232 data codewords up to version 9, at most 1,370 up to version 26, and at most 2,956 in all
-/// versions. After version 9 and after version 26, some character count indicators become longer.
+/// versions. The versions 9 and 26 are limits because some character count indicators become longer after each of them.
 pub fn data_is_bounded(v: Version, level: Level)
     ensures small { v ≤ 9 → data_codewords_of v level ≤ 232 }
     ensures middle { v ≤ 26 → data_codewords_of v level ≤ 1370 }
@@ -155,8 +158,9 @@ pub fn version_words_are_remainders(v: Version)
     ensures { IsVersionWord v (version_word_of v) }
 {}
 
-/// The definitions `format_word_of` and `version_word_of` yield the right bits in six examples. Annexes C and D of the
-/// standard work out two of these examples, and the tables of these annexes contain the other four.
+/// In six examples, the definitions `format_word_of` and `version_word_of` yield the bits that the standard prints.
+/// Annexes C and D of the standard work out two of these examples, and the tables of these annexes contain the other
+/// four.
 #[tactic(auto, unfolding(crate::specs::Format::format_word_of, crate::specs::Format::version_word_of, crate::specs::Format::remainder_of))]
 pub fn words_compute()
     ensures l { format_word_of L 0 ≡ 0x77C4 }
@@ -216,8 +220,8 @@ pub fn dark_module_is_dark(v: Version)
     ensures { role_of v (side_of v - 8) 8 ≡ Fixed true }
 {}
 
-/// A module of the symbol is in the encoding region exactly if it has no fixed colour and contains no bit of the format
-/// or version information.
+/// The encoding region consists of the modules of the symbol that have no fixed colour and contain no bit of the format
+/// information or version information.
 pub fn region_is_the_rest(v: Version)
     ensures { (r c : ℕ) → r < side_of v → c < side_of v
         → (role_of v r c ≡ Region) ↔ (is_in_region v r c ≡ true) }

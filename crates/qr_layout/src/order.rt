@@ -1,7 +1,7 @@
-//! The walk visits the modules of the encoding region in the order in which the bits of the codewords fill them
-//! (ISO/IEC 18004:2015, 7.7.3). The walk goes through strips of two columns, from right to left. The walk goes upward
-//! in the first strip, downward in the second, and so on in turn. In each row of a strip, the right module comes first.
-//! No strip contains column 6, which contains a timing pattern.
+//! The order in which the bits of the codewords fill the modules of the encoding region (ISO/IEC 18004:2015, 7.7.3).
+//! The function `walk` returns an iterator that visits the modules in this order. This walk goes through strips of two
+//! columns, from right to left. The walk goes upward in the first strip, downward in the second, and so on in turn. In
+//! each row of a strip, the right module comes first. No strip contains column 6, which contains a timing pattern.
 
 ghost use Rattle.std.specs.Prelude.{◌≡◌, ◌<◌, ◌≤◌, ◌↔◌, IfSome, IsSome, List, length};
 ghost use Rattle.std.specs.Iterator.{YieldsFirst, item_count};
@@ -16,9 +16,9 @@ use crate::strips::{column_without_timing, strip_at};
 use crate::version::Version;
 use std::marker::Model;
 
-// A position of the walk over the modules of a symbol. `strips` is the number of the strip, counted from the left and
-// from 1; the number 0 means the end of the walk. `row` is a row of the symbol, and `at_left` is true if the position
-// is the left module of the strip in this row.
+// A position of the walk, which visits the modules of a symbol in the order in which they are filled. `strips` is the
+// number of a strip (two neighbouring columns), counted from the left and from 1. If `strips` is 0, the walk is at its
+// end. `row` is a row of the symbol, and `at_left` is true if the position is the left module of the strip in this row.
 #[derive(Clone, Copy)]
 struct Cursor {
     strips: u8,
@@ -38,8 +38,8 @@ impl Cursor {
         Module { row: self.row, col }
     }
 
-    // Returns the position that follows this position in a symbol of version `v`. The next strip begins in the row in
-    // which this strip ends.
+    // Returns the position that follows this position in a symbol of version `v`. If the strip ends at this position,
+    // the next strip begins in the same row.
     #[tactic(auto, unfolding(crate::specs::Steps::Order::next_of))]
     fn next(self, v: Version) -> Cursor
         requires strips_left { 0 < self.strips }
@@ -68,7 +68,8 @@ impl Cursor {
         }
     }
 
-    // Returns the position of the walk at the module `m`, if `m` is not in column 6.
+    // Returns the position at which the walk visits the module `m`, if `m` is not in column 6. The walk leaves out
+    // column 6.
     #[tactic(auto, unfolding(crate::specs::Steps::Order::cursor_at))]
     fn at(m: Module) -> Cursor
         ensures { result ≡ cursor_at m }
@@ -82,8 +83,8 @@ impl Cursor {
     }
 }
 
-/// An iterator over the modules of the encoding region, in the order in which the bits of the codewords fill them. In
-/// contracts, the value of the iterator is the list of the modules that are still to come.
+/// An iterator over the modules of the encoding region, in the order in which the bits of the codewords fill this
+/// region. In contracts, the value of the iterator is the list of the modules that are still to come.
 ///
 /// # Notes
 ///
@@ -126,8 +127,8 @@ impl Iterator for Steps {
     }
 }
 
-/// Returns exactly the modules of the encoding region of version `v`, each once, as an iterator. The modules are in the
-/// order in which they are filled, first with the bits of the codewords and then with the remainder bits.
+/// Returns an iterator over the modules of the encoding region of version `v`, each exactly once. The modules come in
+/// the order in which they are filled: first with the bits of the codewords, and then with the remainder bits.
 pub fn walk(v: Version) -> Steps
     ensures order { IsOrder v result }
     ensures count { length result ≡ module_count_of v }
@@ -142,8 +143,8 @@ pub fn walk(v: Version) -> Steps
     }
 }
 
-/// Returns exactly the modules that `walk` yields after the module `m`, or `None` if `m` is not in the encoding region
-/// of version `v`. The module `m` may be outside the symbol.
+/// Returns an iterator over exactly those modules that `walk` yields after the module `m`. Returns `None` if `m` is not
+/// in the encoding region of version `v`. The module `m` may be outside the symbol.
 pub fn walk_after(v: Version, m: Module) -> Option<Steps>
     ensures given { IsSome result ↔ InRegion v m }
     ensures rest { IfSome result (IsOrderAfter v m) }
@@ -159,8 +160,8 @@ pub fn walk_after(v: Version, m: Module) -> Option<Steps>
     })
 }
 
-/// Returns the number of modules of the encoding region of version `v`, from 208 to 29,648. This number is 8 times the
-/// number of codewords, plus the number of remainder bits.
+/// Returns the number of modules of the encoding region of version `v`. This number is 8 times the number of codewords,
+/// plus the number of remainder bits. The least number is 208, and the greatest is 29,648.
 pub fn region_len(v: Version) -> u32
     ensures count { result ≡ module_count_of v }
     ensures length { (ms : List Module) → IsOrder v ms → length ms ≡ result }

@@ -57,8 +57,8 @@ fn is_light_beside(centres: &[u8], side: u8, a: u8, row: u8, col: u8) -> bool
 }
 
 // Returns whether the module in row `row` and column `col` is on the light ring of an alignment pattern. `centres`
-// contains the rows of all centres, which are also their columns, and `side` is the number of modules on a side of the
-// symbol.
+// contains the rows of all centres, and the same numbers are the columns of the centres. `side` is the number of
+// modules on a side of the symbol.
 fn is_light_among(centres: &[u8], side: u8, row: u8, col: u8) -> bool
     requires { 21 ≤ side }
     ensures { result ≡ list_any (λ a. list_any (λ b. not (is_corner_pair side a b)
@@ -77,8 +77,8 @@ fn is_alignment_light(v: Version, row: u8, col: u8) -> bool
     is_light_among(centres, side, row, col)
 }
 
-// Returns the colour of the module in row `row` and column `col` if this module belongs to a finder pattern, separator,
-// timing pattern or alignment pattern; `true` is dark. Returns `None` for any other module.
+// Returns the colour of the module in row `row` and column `col`, where `true` is dark. The module must belong to a
+// finder pattern, separator, timing pattern or alignment pattern. For any other module, returns `None`.
 #[tactic(auto, unfolding(crate::specs::Role::pattern_colour))]
 fn pattern_colour(v: Version, row: u8, col: u8) -> Option<bool>
     ensures { result ≡ pattern_colour v row col }

@@ -22,7 +22,8 @@ pub struct Strip {
     pub upward: bool,
 }
 
-// Returns the strip with the number `number`. Strips are numbered from left to right, beginning with 1.
+// Returns the strip (two neighbouring columns) with the number `number`. Strips are numbered from left to right,
+// beginning with 1.
 #[inline(always)]
 pub(crate) fn strip_at(number: u8) -> Strip
     requires least { 0 < number }
@@ -44,8 +45,8 @@ pub(crate) fn column_without_timing(col: u8) -> u8
     if col < 6 { col } else { col - 1 }
 }
 
-/// An iterator over the strips of a symbol, from right to left. In contracts, the value of the iterator is the list of
-/// the strips that are still to come.
+/// An iterator over the strips of a symbol, from right to left. A strip is two neighbouring columns. In contracts, the
+/// value of the iterator is the list of the strips that are still to come.
 #[derive(Drop)]
 pub struct Strips {
     // The number of strips that are still to come. If the strips are numbered from left to right, beginning with 1,
@@ -82,8 +83,9 @@ impl Iterator for Strips {
     }
 }
 
-/// Returns all strips of a symbol of version `v`, from right to left. The bits of the codewords fill the symbol strip
-/// by strip in this order. In each strip, these bits fill only the modules that are in the encoding region.
+/// Returns all strips of a symbol of version `v`, from right to left. A strip is two neighbouring columns. The bits of
+/// the codewords fill the symbol strip by strip in this order. In each strip, these bits fill only the modules that are
+/// in the encoding region.
 pub fn all_strips(v: Version) -> Strips
     ensures order { IsOrder v (in_region_of v (places_of (side_of v) result)) }
     ensures inside { All (λ x. (1 ≤ x.right) × (x.right < side_of v)) result }

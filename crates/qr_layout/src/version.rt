@@ -53,8 +53,8 @@ impl Version {
         }
     }
 
-    /// Returns the version whose symbols have `side` modules on a side, or `None` if there is no such version. The
-    /// versions have 21, 25, 29 and so on up to 177 modules on a side.
+    /// Returns the version whose symbols have `side` modules on a side, or `None` if there is no such version. Symbols
+    /// have 21, 25, 29 and so on, up to 177 modules on a side.
     pub fn of_side(side: u8) -> Option<Version>
         ensures { MatchOption result
             ((v : ℕ) → 1 ≤ v → v ≤ 40 → side ≡ side_of v → ⊥)

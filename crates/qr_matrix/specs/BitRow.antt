@@ -1,10 +1,10 @@
--- Defines bit rows, which are rows of 192 bits stored in three words, and squares of modules made of bit rows. Bit 0 is
--- the lowest bit of the first word.
+-- Defines bit rows, which are rows of 192 bits stored in three words of 64 bits. A square of modules is a list of bit
+-- rows, one for each row of modules. Bit 0 is the lowest bit of the first word.
 use Rattle.std.specs.Prelude.{ℕ, ◌+◌, ◌*◌, ◌^◌, Bool, ◌==◌, List, slice_index, slice_index_or, []}
 use Rattle.std.specs.Int.{bit_at}
 
--- `bit_row_number words` is the three words of a bit row as one number, in which the first word has the lowest 64 bits
--- [own]
+-- `bit_row_number words` is the number of 192 bits that the three words of a bit row form together. The first word
+-- contains the lowest 64 bits of this number [own]
 unfoldable pub bit_row_number : List ℕ → ℕ
 bit_row_number words = (slice_index words 2 * 2 ^ 64 + slice_index words 1) * 2 ^ 64 + slice_index words 0
 

@@ -1,5 +1,5 @@
--- Defines example squares of modules. The penalties of these squares were counted by hand, and a law compares them with
--- the definition of the penalty.
+-- Defines example squares of modules. The penalties of these squares were counted by hand, and a law compares these
+-- counts with the definition of the penalty.
 use Rattle.std.specs.Prelude.{ℕ, ◌+◌, ◌%◌, ◌&&◌, ◌||◌, ◌==◌, nat_le, Bool, true, false}
 
 -- `all_dark r c` is the colour of the module in row `r` and column `c` of a square in which every module is dark [own]
@@ -16,17 +16,17 @@ all_light r c = false
 abbrev pub chequered : ℕ → ℕ → Bool
 chequered r c = (r + c) % 2 == 0
 
--- `ratio_from k c` is the colour of module `c` of a row or column with one pattern in it: the dark and light modules of
--- the ratio 1:1:3:1:1, from module `k` on. All other modules are light [own]
+-- `ratio_from k c` is the colour of module `c` of a row or column. From module `k` on, the modules have the colours of
+-- the ratio 1:1:3:1:1. All other modules are light [own]
 abbrev pub ratio_from : ℕ → ℕ → Bool
 ratio_from k c = c == k || (nat_le (k + 2) c && nat_le c (k + 4)) || c == k + 6
 
--- `ratio_in_a_row k r c` is the colour of the module in row `r` and column `c` of a square with one pattern in row 0:
--- the ratio 1:1:3:1:1, from column `k` on. All other modules are light [own]
+-- `ratio_in_a_row k r c` is the colour of the module in row `r` and column `c` of a square. In row 0, from column `k`
+-- on, the modules have the colours of the ratio 1:1:3:1:1. All other modules are light [own]
 abbrev pub ratio_in_a_row : ℕ → ℕ → ℕ → Bool
 ratio_in_a_row k r c = r == 0 && ratio_from k c
 
--- `ratio_in_a_column k r c` is the colour of the module in row `r` and column `c` of a square with one pattern in
--- column 10: the ratio 1:1:3:1:1, from row `k` on. All other modules are light [own]
+-- `ratio_in_a_column k r c` is the colour of the module in row `r` and column `c` of a square. In column 10, from row
+-- `k` on, the modules have the colours of the ratio 1:1:3:1:1. All other modules are light [own]
 abbrev pub ratio_in_a_column : ℕ → ℕ → ℕ → Bool
 ratio_in_a_column k r c = c == 10 && ratio_from k r

@@ -32,8 +32,9 @@ is_run s line a k =
     && (a == 0 || not (is_same (line (a - 1)) (line a)))
     && (a + k == s || not (is_same (line (a + k)) (line a)))
 
--- `run_cost s line` is the cost of the runs of one colour in `line`, a row or column of `s` modules. Each maximal run
--- of `k` modules costs `k - 2` points if `k` is at least 5 (ISO/IEC 18004:2015, 7.8.3.1, Table 11)
+-- `run_cost s line` is the number of penalty points for the runs of one colour in `line`, a row or column of `s`
+-- modules. Each maximal run of `k` modules costs `k - 2` points if `k` is at least 5 (ISO/IEC 18004:2015, 7.8.3.1,
+-- Table 11)
 unfoldable pub run_cost : ℕ → (ℕ → Bool) → ℕ
 run_cost s line = sum_below s (λ a. sum_below (s + 1) (λ k. if nat_le 5 k && is_run s line a k then k - 2 else 0))
 
@@ -64,39 +65,39 @@ is_window s line c = nat_le (c + 11) s && (reads line c tail_window || reads lin
 unfoldable pub window_count : ℕ → (ℕ → Bool) → ℕ
 window_count s line = count_below s (is_window s line)
 
--- `is_square_of_two s dark r c` is true if the four modules in rows `r` and `r + 1` and columns `c` and `c + 1` are in
--- the symbol and have one colour. The symbol has `s` rows and columns, and `dark row col` is the colour of a module
--- (ISO/IEC 18004:2015, 7.8.3.1, Table 11, block of modules in same colour)
+-- `is_square_of_two s dark r c` is true if the four modules in rows `r` and `r + 1` and columns `c` and `c + 1` have
+-- one colour. All four modules must be in the symbol. The symbol has `s` rows and columns, and `dark row col` is the
+-- colour of a module (ISO/IEC 18004:2015, 7.8.3.1, Table 11, block of modules in same colour)
 unfoldable pub is_square_of_two : ℕ → (ℕ → ℕ → Bool) → ℕ → ℕ → Bool
 is_square_of_two s dark r c =
     nat_lt (r + 1) s && nat_lt (c + 1) s
     && is_same (dark r c) (dark r (c + 1)) && is_same (dark r c) (dark (r + 1) c) && is_same (dark r c) (dark (r + 1) (c + 1))
 
--- `square_count s dark` is the number of squares of two by two modules of one colour in a symbol of `s` rows and
--- columns, where `dark r c` is the colour of a module. Squares that overlap are each counted [own]
+-- `square_count s dark` is the number of squares of two by two modules of one colour in a symbol. The symbol has `s`
+-- rows and columns, and `dark r c` is the colour of a module. Squares that overlap are each counted [own]
 unfoldable pub square_count : ℕ → (ℕ → ℕ → Bool) → ℕ
 square_count s dark = sum_below s (λ r. count_below s (is_square_of_two s dark r))
 
--- `dark_count s dark` is the number of dark modules in a symbol of `s` rows and columns, where `dark r c` is the colour
--- of a module [own]
+-- `dark_count s dark` is the number of dark modules in a symbol. The symbol has `s` rows and columns, and `dark r c` is
+-- the colour of a module [own]
 unfoldable pub dark_count : ℕ → (ℕ → ℕ → Bool) → ℕ
 dark_count s dark = sum_below s (λ r. count_below s (dark r))
 
--- `dark_cost s dark` is the cost of the share of dark modules in a symbol of `s` rows and columns, where `dark` is the
--- number of dark modules. The cost is 10 points for each whole twentieth by which this share differs from a half
--- (ISO/IEC 18004:2015, 7.8.3.1, Table 11, proportion of dark modules)
+-- `dark_cost s dark` is the number of penalty points for the share of dark modules in a symbol. The symbol has `s` rows
+-- and columns, and `dark` dark modules. There are 10 points for each whole twentieth by which this share differs from a
+-- half (ISO/IEC 18004:2015, 7.8.3.1, Table 11, proportion of dark modules)
 unfoldable pub dark_cost : ℕ → ℕ → ℕ
 dark_cost s dark = 10 * (((20 * dark - 10 * (s * s)) + (10 * (s * s) - 20 * dark)) / (s * s))
 
--- `over_lines s dark f` is the sum of the numbers `f line` for each row and each column `line` of a symbol. The symbol
--- has `s` rows and columns, and `dark r c` is the colour of a module [own]
+-- `over_lines s dark f` is the sum of the numbers that the function `f` yields for all rows and all columns of a
+-- symbol. The symbol has `s` rows and columns, and `dark r c` is the colour of a module [own]
 unfoldable pub over_lines : ℕ → (ℕ → ℕ → Bool) → ((ℕ → Bool) → ℕ) → ℕ
 over_lines s dark f = sum_below s (λ r. f (dark r)) + sum_below s (λ c. f (λ r. dark r c))
 
 -- `penalty_of s dark` is the penalty of a symbol of `s` rows and columns, where `dark r c` is the colour of a module.
 -- The penalty is the sum of four costs. The runs of one colour have the cost `run_cost`, and the share of dark modules
 -- has the cost `dark_cost`. Each square of two by two modules of one colour costs 3 points. Each window costs 40
--- points: eleven modules with the ratio 1:1:3:1:1 before or after four light modules (ISO/IEC 18004:2015, 7.8.3.1,
--- Table 11)
+-- points. A window is eleven modules: the ratio 1:1:3:1:1 before or after four light modules (ISO/IEC 18004:2015,
+-- 7.8.3.1, Table 11)
 unfoldable pub penalty_of : ℕ → (ℕ → ℕ → Bool) → ℕ
 penalty_of s dark = over_lines s dark (run_cost s) + 3 * square_count s dark + 40 * over_lines s dark (window_count s) + dark_cost s (dark_count s dark)

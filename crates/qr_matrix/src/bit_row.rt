@@ -1,5 +1,5 @@
-//! Stores rows of 192 bits in three words of 64 bits. Each row of modules of a symbol is stored as such a bit row. Most
-//! contracts describe the result bit by bit.
+//! Defines bit rows: rows of 192 bits, each stored in three words of 64 bits. Each row of modules of a symbol is stored
+//! as a bit row. Most contracts of this file describe the result bit by bit.
 
 ghost use Rattle.std.specs.Prelude.{◌≡◌, ℕ, List, ◌+◌, ◌-◌, ◌*◌, ◌/◌, ◌%◌, ◌^◌, ◌<◌, ◌≤◌, ◌&&◌, ◌||◌, not, true, false, nat_le, nat_lt, ◌==◌, if◌then◌else◌};
 ghost use Rattle.qr_matrix.specs.Penalty.{is_same};
@@ -27,7 +27,7 @@ impl Model for BitRow {
     ghost inverse = { λ words. record { 0 = words } };
 }
 
-// `a & b` is the bit row of the bits that are set in both `a` and `b`.
+// In the bit row `a & b`, a bit is set if it is set in both `a` and `b`.
 impl BitAnd for BitRow {
     type Output = BitRow;
 
@@ -39,7 +39,7 @@ impl BitAnd for BitRow {
     }
 }
 
-// `a | b` is the bit row of the bits that are set in `a`, in `b`, or in both.
+// In the bit row `a | b`, a bit is set if it is set in `a`, in `b`, or in both.
 impl BitOr for BitRow {
     type Output = BitRow;
 
@@ -51,7 +51,7 @@ impl BitOr for BitRow {
     }
 }
 
-// `a ^ b` is the bit row of the bits that are set in exactly one of `a` and `b`.
+// In the bit row `a ^ b`, a bit is set if it is set in exactly one of `a` and `b`.
 impl BitXor for BitRow {
     type Output = BitRow;
 
@@ -82,8 +82,8 @@ impl BitRow {
         BitRow([u64::MAX, u64::MAX, low_bits(n - 128)])
     }
 
-    /// Returns the same bit row as `below(n)`, where `n` is from `64 * (words - 1)` to `64 * words`. If `words` is a
-    /// constant where this function is called, two of the three words of the result are constants too.
+    /// Returns the same bit row as `below(n)`, where `n` is from `64 * (words - 1)` to `64 * words`. If the caller
+    /// passes a constant as `words`, two of the three words of the result are constants too.
     #[inline(always)]
     pub(crate) fn below_in(n: u8, words: u8) -> BitRow
         requires least { 64 * (words - 1) ≤ n }
@@ -113,15 +113,15 @@ impl BitRow {
         ])
     }
 
-    /// Returns the bit row of the bits that are set in this bit row and not set in `other`.
+    /// Returns the bit row in which a bit is set if it is set in this bit row and not set in `other`.
     pub(crate) fn and_not(self, other: BitRow) -> BitRow
         ensures { (c : ℕ) → has result c ≡ (has self c && not (has other c)) }
     {
         self ^ (self & other)
     }
 
-    /// Returns this bit row moved by `steps` bits (from 1 to 63): bit `c` of the result is bit `c + steps` of this bit
-    /// row.
+    /// Returns this bit row moved by `steps` bits, where `steps` is from 1 to 63. Bit `c` of the result is bit `c +
+    /// steps` of this bit row.
     pub(crate) fn shifted_left(self, steps: u32) -> BitRow
         requires some { 0 < steps }
         requires few { steps < 64 }
@@ -136,7 +136,7 @@ impl BitRow {
         ])
     }
 
-    /// Returns this bit row moved by one bit: bit `c` of the result is bit `c - 1` of this bit row, and bit 0 is not
+    /// Returns this bit row moved by one bit. Bit `c` of the result is bit `c - 1` of this bit row, and bit 0 is not
     /// set.
     pub(crate) fn shifted_right(self) -> BitRow
         ensures { (c : ℕ) → c < 192 → has result c ≡ (nat_lt 0 c && has self (c - 1)) }
@@ -256,8 +256,8 @@ impl BitRow {
         self.0[number] = word;
     }
 
-    /// Sets those of the four bits from bit `place` on whose bit in `bits` is 1. The lowest bit of `bits` belongs to
-    /// bit `place`. All other bits of the bit row stay as they are. `place` is a multiple of four.
+    /// Sets some of the four bits from bit `place` on: bit `place + k` is set if bit `k` of `bits` is 1. All other bits
+    /// of the bit row stay as they are. `place` is a multiple of four.
     pub fn set_four(&mut self, place: u8, bits: u8)
         requires place_in { place < 192 }
         requires whole { place % 4 ≡ 0 }

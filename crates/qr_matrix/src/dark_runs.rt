@@ -1,4 +1,4 @@
-//! Finds the runs of dark modules of a row, by the columns in which the colour changes.
+//! Finds the runs of dark modules in a row. A run begins and ends at columns in which the colour changes.
 
 ghost use Rattle.std.specs.Prelude.{◌≡◌, ℕ, ◌<◌, ◌-◌, false};
 ghost use Rattle.qr_matrix.specs.BitRow.{has};
@@ -17,8 +17,8 @@ pub struct Run {
 /// are still to come.
 #[derive(Drop)]
 pub struct DarkRuns {
-    // The columns from `col` on in which the colour differs from the colour of the column before. For this, all columns
-    // before `col` count as light.
+    // In this bit row, a bit is set if its column is not before `col` and has another colour than the column before it.
+    // All columns before `col` count as light.
     changes: BitRow,
     col: u8,
     ghost later: { (c : ℕ) → c < col → has changes c ≡ false },

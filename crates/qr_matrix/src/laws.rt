@@ -1,7 +1,8 @@
 //! States laws of the penalty (ISO/IEC 18004:2015, 7.8.3.1, Table 11), and of the differences between two squares of
-//! modules. For the penalty, the code counts on words of 64 modules, and the definitions count on single modules. The
-//! laws state that both counts are equal for every square. The functions without a parameter do nothing: their
-//! contracts are the laws. The functions with a parameter return counts, and their contracts state what is counted.
+//! modules. For the penalty, the code counts 64 modules at a time (in words of 64 bits), and the definitions count
+//! module by module. The laws state that both counts are equal for every square. The functions without a parameter do
+//! nothing: their contracts are the laws. The functions with a parameter return counts, and their contracts state what
+//! is counted.
 
 ghost use Rattle.std.specs.Prelude.{◌≡◌, ◌↔◌, ◌<◌, ℕ, Bool};
 ghost use Rattle.qr_matrix.specs.Penalty.{over_lines, run_cost, square_count, window_count, penalty_of};
@@ -14,9 +15,9 @@ use crate::matrix::Matrix;
 use crate::runs::runs_and_squares;
 use crate::windows::window_count;
 
-/// For these example squares, the definition of the penalty yields the points that were counted by hand from Table 11.
-/// Some squares contain the ratio 1:1:3:1:1 of a finder pattern, at the beginning of a row or later in a row or a
-/// column. There the definition finds the ratio before four light modules and after four light modules.
+/// For the example squares of the contract, the definition of the penalty yields the points that were counted by hand
+/// from Table 11. Some squares contain the ratio 1:1:3:1:1 of a finder pattern, at the beginning of a row or later in a
+/// row or a column. The definition finds this ratio both before and after four light modules.
 #[tactic(auto, unfolding(crate::specs::Penalty::penalty_of, crate::specs::Penalty::over_lines, crate::specs::Penalty::run_cost, crate::specs::Penalty::is_run, crate::specs::Penalty::window_count, crate::specs::Penalty::is_window, crate::specs::Penalty::square_count, crate::specs::Penalty::is_square_of_two, crate::specs::Penalty::dark_count, crate::specs::Penalty::dark_cost))]
 pub fn penalties_compute()
     ensures one { penalty_of 1 all_light ≡ 100 }
@@ -28,21 +29,22 @@ pub fn penalties_compute()
     ensures inside { over_lines 75 (ratio_in_a_row 60) (window_count 75) ≡ 2 }
 {}
 
-/// The cost of the runs of a row or column can be counted module by module. Each module at which five modules of one
-/// colour begin costs 1 point, and 2 points more if it is the first module of its run.
+/// The runs of modules of one colour in a row or column cost penalty points. This cost can be counted module by module.
+/// Each module at which five modules of one colour begin costs 1 point. If this module is the first module of its run,
+/// it costs 2 points more.
 pub fn runs_cost_by_places()
     ensures { (side : ℕ) (line : ℕ → Bool) → run_cost side line ≡ place_cost side line }
 {}
 
-/// Returns the cost of the runs of all rows and columns, counted on words of 64 modules. The definition of the penalty
-/// yields the same cost, counted run by run.
+/// Returns the penalty points for the runs of one colour in all rows and columns, counted 64 modules at a time. The
+/// definition of the penalty yields the same number, counted run by run.
 pub fn runs_on_words(m: &Matrix) -> u32
     ensures { result ≡ over_lines m.now.side (colour m.now) (run_cost m.now.side) }
 {
     runs_and_squares(m, m.words()).0
 }
 
-/// Returns the number of squares of two by two modules of one colour, counted on words of 64 modules. The definition of
+/// Returns the number of squares of two by two modules of one colour, counted 64 modules at a time. The definition of
 /// the penalty yields the same number, counted module by module.
 pub fn squares_on_words(m: &Matrix) -> u32
     ensures { result ≡ square_count m.now.side (colour m.now) }
@@ -50,9 +52,9 @@ pub fn squares_on_words(m: &Matrix) -> u32
     runs_and_squares(m, m.words()).1
 }
 
-/// Returns the number of windows in all rows and columns, counted on words of 64 modules. A window is eleven modules:
-/// the ratio 1:1:3:1:1 of a finder pattern, before or after four light modules. The definition of the penalty yields
-/// the same number, counted module by module.
+/// Returns the number of windows in all rows and columns, counted 64 modules at a time. A window is eleven modules: the
+/// ratio 1:1:3:1:1 of a finder pattern, before or after four light modules. The definition of the penalty yields the
+/// same number, counted module by module.
 pub fn windows_on_words(m: &Matrix) -> u32
     ensures { result ≡ over_lines m.now.side (colour m.now) (window_count m.now.side) }
 {

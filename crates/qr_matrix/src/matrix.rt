@@ -34,8 +34,8 @@ impl Model for Matrix {
 }
 
 impl Matrix {
-    /// Returns a square of light modules with `side` modules on a side, from 1 to 177, or an error if memory is
-    /// refused.
+    /// Returns a square of light modules with `side` modules on a side. The number `side` is from 1 to 177. Returns an
+    /// error if memory is refused.
     pub fn new(alloc: Global, side: u8) -> Result<Matrix, AllocError>
         requires least { 1 ≤ side }
         requires most { side ≤ 177 }
@@ -99,8 +99,8 @@ impl Matrix {
         later.first().min(side)
     }
 
-    // Returns a bit row (192 bits) in which bit `c` is set if the module in column `c` of row `row` has another colour
-    // than the module before it. Outside the square, the colour counts as light.
+    // Returns a bit row (192 bits) for row `row`. Bit `c` is set if the module in column `c` has another colour than
+    // the module before it. Outside the square, the colour counts as light.
     pub(crate) fn changes(&self, row: u8) -> BitRow
         requires { row < self.now.side }
         ensures changes { (c : ℕ) → c < 192 → has result c ≡ is_change (colour self.now row) c }
@@ -132,7 +132,7 @@ impl Matrix {
         self.rows[row].word(number)
     }
 
-    // Returns the number of words that the modules of a row fill, where the last word may be filled only in part.
+    // Returns the number of words of 64 bits that the modules of a row fill. The last word may be filled only in part.
     pub(crate) fn words(&self) -> u8
         ensures least { 64 * (result - 1) < self.now.side }
         ensures most { self.now.side ≤ 64 * result }
@@ -141,9 +141,8 @@ impl Matrix {
         (self.side - 1) / 64 + 1
     }
 
-    // Returns row `row` as a bit row. `words` is the number of words that the modules of a row fill. If `words` is a
-    // constant where this function is called, the compiler can leave out all operations on the words that are not
-    // filled.
+    // Returns row `row` as a bit row. `words` is the number of words of 64 bits that the modules of a row fill. If the
+    // caller passes a constant as `words`, the compiler can leave out all operations on the words that are not filled.
     #[inline(always)]
     pub(crate) fn bit_row_in(&self, row: usize, words: u8) -> BitRow
         requires row_in { row < self.now.side }
@@ -191,8 +190,8 @@ impl Matrix {
 
     /// Sets the modules of row `row` to the colours that they have in `plain`, but inverts some of these colours. A
     /// module is inverted if it is dark in `within` and the bit of `pattern` for its column is 1. `pattern` has six
-    /// bits, which are repeated every six columns; the lowest bit is for column 0. All three squares must have the same
-    /// side.
+    /// bits, which are repeated every six columns; the lowest bit is for column 0. This square, `plain` and `within`
+    /// must have the same side.
     pub fn set_row_masked(&mut self, row: u8, plain: &Matrix, within: &Matrix, pattern: u8)
         requires row_in { row < self.old.side }
         requires plain_side { plain.now.side ≡ self.old.side }
@@ -224,7 +223,7 @@ impl Matrix {
 
     /// Sets the modules of a rectangle to one colour: dark if `dark` is true, and light otherwise. The rectangle has
     /// the rows from `top` up to, but not including, `bottom`, and the columns from `left` up to, but not including,
-    /// `right`, and must be inside the square.
+    /// `right`. It must be inside the square.
     pub fn fill(&mut self, top: u8, bottom: u8, left: u8, right: u8, dark: bool)
         requires rows_in_order { top ≤ bottom }
         requires bottom_in { bottom ≤ self.old.side }
@@ -232,7 +231,7 @@ impl Matrix {
         requires right_in { right ≤ self.old.side }
         ensures { self.new ≡ with_rectangle self.old top bottom left right dark }
     {
-        // This line helps the prover only: it repeats that a `Matrix` has at most 177 modules on a side. The prover
+        // This line only helps the prover: it repeats that a `Matrix` has at most 177 modules on a side. The prover
         // needs this bound if the rectangle has no rows.
         prove!(self.side <= 177);
         let columns = BitRow::below(right).and_not(BitRow::below(left));
@@ -241,7 +240,7 @@ impl Matrix {
         }
     }
 
-    /// Sets this square to the transpose of `other`, which must have the same side: the module in row `r` and column
+    /// Sets this square to the transpose of `other`, which must have the same side. The module in row `r` and column
     /// `c` gets the colour that `other` has in row `c` and column `r`.
     pub fn set_transposed(&mut self, other: &Matrix)
         requires { other.now.side ≡ self.old.side }

@@ -18,7 +18,8 @@ const WINDOW_POINTS: u32 = 40;
 // The points of Table 11 for each whole twentieth by which the share of dark modules differs from a half.
 const BALANCE_POINTS: u32 = 10;
 
-// Returns the number of dark modules of `matrix`. `words` is the number of words that the modules of a row fill.
+// Returns the number of dark modules of `matrix`. `words` is the number of words of 64 bits that the modules of a row
+// fill.
 #[inline(always)]
 fn dark_count(matrix: &Matrix, words: u8) -> u32
     requires least { 64 * (words - 1) < matrix.now.side }
@@ -34,8 +35,8 @@ fn dark_count(matrix: &Matrix, words: u8) -> u32
     total
 }
 
-// Returns the cost of the share of dark modules, where `dark` of `modules` modules are dark. The cost is 10 points for
-// each whole twentieth by which this share differs from a half.
+// Returns the penalty points for the share of dark modules, if `dark` of `modules` modules are dark. There are 10
+// points for each whole twentieth by which this share differs from a half.
 fn balance_cost(modules: u32, dark: u32) -> u32
     requires some { 0 < modules }
     requires most { modules ≤ 31329 }
@@ -48,7 +49,8 @@ fn balance_cost(modules: u32, dark: u32) -> u32
     BALANCE_POINTS * (excess / modules)
 }
 
-// Returns the penalty of the square of modules `m`. `words` is the number of words that the modules of a row fill.
+// Returns the penalty of the square of modules `m`. `words` is the number of words of 64 bits that the modules of a row
+// fill.
 #[inline(always)]
 fn penalty_in(m: &Matrix, words: u8) -> u32
     requires least { 64 * (words - 1) < m.now.side }
@@ -63,10 +65,10 @@ fn penalty_in(m: &Matrix, words: u8) -> u32
         + balance_cost(modules, dark_count(m, words))
 }
 
-/// Returns the penalty of a square of modules, which is a sum of points (ISO/IEC 18004:2015, 7.8.3.1, Table 11). Points
-/// are given for runs of five or more modules of one colour, for squares of two by two modules of one colour, and for
-/// the share of dark modules. Points are also given for each window: eleven modules with the ratio 1:1:3:1:1 of a
-/// finder pattern before or after four light modules.
+/// Returns the penalty of a square of modules, which is a sum of points (ISO/IEC 18004:2015, 7.8.3.1, Table 11). Runs
+/// of five or more modules of one colour cost points, and so do squares of two by two modules of one colour, and the
+/// share of dark modules. Each window also costs points. A window is eleven modules: the ratio 1:1:3:1:1 of a finder
+/// pattern, before or after four light modules.
 pub fn penalty(m: &Matrix) -> u32
     ensures { result ≡ penalty_of m.now.side (colour m.now) }
 {

@@ -1,5 +1,5 @@
 //! Transposes a square of modules: the module in row `r` and column `c` moves to row `c` and column `r`. The square is
-//! transposed in tiles of 64 by 64 modules. A tile is stored as one word in each of 64 rows.
+//! transposed in tiles of 64 by 64 modules. A tile is stored in 64 words of 64 bits, one word for each row of the tile.
 //!
 //! A tile is transposed in six stages. The first stage divides the tile into two by two parts of 32 by 32 bits, and
 //! exchanges the upper right part with the lower left part. The second stage does the same with each of these four
@@ -13,9 +13,9 @@ ghost use Rattle.qr_matrix.specs.Steps.{bit_in, exchanged};
 use crate::matrix::Matrix;
 
 // Exchanges the right parts of the word `upper` with the left parts of the word `lower`, and returns both words. Each
-// word is divided into left and right parts in turn, which are `steps` columns wide; the part at column 0 is a left
-// part. `mask` contains the columns of the left parts. To exchange two parts, the bits in which they differ are
-// inverted in both words.
+// word is divided into parts of `steps` columns, which are left parts and right parts in turn. The part at column 0 is
+// a left part. `mask` contains the columns of the left parts. To exchange two parts, the function inverts the bits in
+// which the parts differ, in both words.
 #[inline(always)]
 fn exchange_words(upper: u64, lower: u64, steps: usize, mask: u64) -> (u64, u64)
     requires some { 1 ≤ steps }
@@ -98,8 +98,8 @@ fn tile_of(matrix: &Matrix, band: usize, word: usize) -> [u64; 64]
 }
 
 // Sets the modules of one tile of `matrix` to the colours of `tile`. The tile has 64 rows and columns, and begins at
-// row `64 * band` and column `64 * word` of the square. Rows of the tile below the square are left out. Columns of the
-// tile beside the square must be light.
+// row `64 * band` and column `64 * word` of the square. Rows of the tile that lie below the square are left out.
+// Modules of the tile that lie to the right of the square must be light.
 fn set_tile(matrix: &mut Matrix, band: usize, word: usize, tile: &[u64; 64])
     requires whole { IsSquare matrix.old.side matrix.old }
     requires band_in { 64 * band ≤ matrix.old.side }
@@ -116,8 +116,9 @@ fn set_tile(matrix: &mut Matrix, band: usize, word: usize, tile: &[u64; 64])
     }
 }
 
-// Sets the modules of one tile of `matrix` to the colours that `other` has with rows and columns exchanged. The tile
-// has 64 rows and columns, and begins at row `64 * band` and column `64 * word` of the square.
+// Sets the modules of one tile of `matrix`: the module in row `r` and column `c` gets the colour that `other` has in
+// row `c` and column `r`. The tile has 64 rows and columns, and begins at row `64 * band` and column `64 * word` of the
+// square.
 fn set_transposed_tile(matrix: &mut Matrix, other: &Matrix, band: usize, word: usize)
     requires whole { IsSquare matrix.old.side matrix.old }
     requires sides { other.now.side ≡ matrix.old.side }
@@ -133,8 +134,8 @@ fn set_transposed_tile(matrix: &mut Matrix, other: &Matrix, band: usize, word: u
     set_tile(matrix, band, word, &tile);
 }
 
-/// Sets up to 64 rows of `matrix`, from row `64 * band` on, to the colours that `other` has with rows and columns
-/// exchanged.
+/// Sets up to 64 rows of `matrix`, from row `64 * band` on. The module in row `r` and column `c` gets the colour that
+/// `other` has in row `c` and column `r`.
 pub(crate) fn set_transposed_band(matrix: &mut Matrix, other: &Matrix, band: usize)
     requires whole { IsSquare matrix.old.side matrix.old }
     requires sides { other.now.side ≡ matrix.old.side }

@@ -1,5 +1,6 @@
--- Defines how many bits the next byte of an input adds in each mode. This number depends on the state after the bytes
--- before it, which is a `RunState`.
+-- Defines how many bits the next byte of an input adds in each mode. This number depends on the `RunState` before the
+-- next byte. This state contains the mode of the byte before, and the number of bytes so far in the group of this byte.
+-- A group is three digits, two characters or a kanji pair.
 use Rattle.std.specs.Prelude.{◌≡◌, ℕ, ◌+◌, ◌*◌, ◌≤◌, Bool, true, false, ◌&&◌, ◌==◌, if◌then◌else◌, List, [], ◌∷◌, IsTrue}
 use Rattle.qr_bits.specs.declared.modes.Mode.{Mode}
 use Rattle.qr_bits.specs.declared.modes.Mode.TheVariants.{Numeric, Alphanumeric, Byte, Kanji}
@@ -9,7 +10,8 @@ use Rattle.qr_bits.specs.declared.run_state.RunState.TheVariants.{Start, Digit1,
 use Rattle.qr_bits.specs.Modes.{count_width, is_digit, is_alphanumeric, may_use}
 use Rattle.qr_bits.specs.Segmentation.{rank, IsNotAfter}
 
--- `state_after p m` is the state after a byte with the mode `m`, if the state before this byte is `p`
+-- `state_after p m` is the state after a byte with the mode `m`, if the state before this byte is `p`. A state contains
+-- the mode of the last byte, and the number of bytes so far in the group of this byte
 unfoldable pub state_after : RunState → Mode → RunState
 state_after Digit1 Numeric = Digit2
 state_after Digit2 Numeric = Digit3
@@ -20,8 +22,8 @@ state_after _ Byte = InBytes
 state_after HalfPair Kanji = WholePair
 state_after _ Kanji = HalfPair
 
--- `state_on p` is the state that follows the state `p` if the next byte has the mode of the byte before it. For
--- `Start`, it is the state after a byte in byte mode
+-- `state_on p` is the state that follows the state `p` if the next byte has the same mode as the last byte. For
+-- `Start`, the result is the state after a byte in byte mode
 unfoldable pub state_on : RunState → RunState
 state_on Start = InBytes
 state_on Digit1 = Digit2
@@ -55,14 +57,14 @@ abbrev pub swapped : (ℕ → ℕ → Bool) → ℕ → ℕ → Bool
 swapped test x y = test y x
 
 -- `begins_with_pair r test xs` holds if the rule `r` allows kanji mode, and the first two bytes of `xs` pass `test`.
--- The test says whether two bytes are a kanji pair
+-- Two bytes are a kanji pair if they pass `test`
 unfoldable pub begins_with_pair : Rule → (ℕ → ℕ → Bool) → List ℕ → Bool
 begins_with_pair r test [] = false
 begins_with_pair r test (x ∷ []) = false
 begins_with_pair r test (x ∷ y ∷ xs) = may_use r Kanji && test x y
 
--- `may_begin r x pair m` holds if the byte `x` may have the mode `m` under the rule `r`, where `x` is not the second
--- byte of a kanji pair. The flag `pair` says whether `x` may be the first byte of a kanji pair.
+-- `may_begin r x pair m` holds if the byte `x` may have the mode `m` under the rule `r`. The byte `x` is not the second
+-- byte of a kanji pair. The flag `pair` is true if `x` may be the first byte of a kanji pair.
 unfoldable pub may_begin : Rule → ℕ → Bool → Mode → Bool
 may_begin r x pair Numeric = may_use r Numeric && is_digit x
 may_begin r x pair Alphanumeric = may_use r Alphanumeric && is_alphanumeric x
@@ -70,14 +72,14 @@ may_begin r x pair Byte = may_use r Byte
 may_begin r x pair Kanji = pair
 
 -- `may_take r p x pair m` holds if the byte `x` may have the mode `m` after the state `p`, under the rule `r`. The flag
--- `pair` says whether `x` may be the first byte of a kanji pair. After the first byte of a kanji pair, only kanji mode
--- is possible.
+-- `pair` is true if `x` may be the first byte of a kanji pair. After the first byte of a kanji pair, only kanji mode is
+-- possible.
 unfoldable pub may_take : Rule → RunState → ℕ → Bool → Mode → Bool
 may_take r HalfPair x pair m = rank m == rank Kanji
 may_take r _ x pair m = may_begin r x pair m
 
--- `may_end p` holds if an assignment of modes may end in the state `p`: its last byte is not the first byte of a kanji
--- pair
+-- `may_end p` holds if an assignment of modes may end in the state `p`. An assignment may end in every state except for
+-- the state after the first byte of a kanji pair
 unfoldable pub may_end : RunState → Bool
 may_end HalfPair = false
 may_end _ = true
@@ -96,10 +98,11 @@ unfoldable pub cost_of : ℕ → RunState → List Mode → ℕ
 cost_of v p [] = 0
 cost_of v p (m ∷ ms) = byte_cost v p m + cost_of v (state_after p m) ms
 
--- `IsBestRest v r test p xs ms n` holds if `ms` is the best of the assignments of modes to the remaining bytes `xs`
--- that are allowed after the state `p`. The best assignment adds the fewest bits, and `n` is their number. If several
--- assignments add `n` bits, the best is the first of these in the lexicographic order by the ranks of the modes. The
--- version is `v`, the rule is `r`, and two bytes are a kanji pair if they pass `test`.
+-- `IsBestRest v r test p xs ms n` holds if `ms` is the best assignment of modes to the remaining bytes `xs`. The
+-- assignment must be allowed after the state `p`. The best assignment adds the fewest bits, and `n` is the number of
+-- these bits. If several assignments add `n` bits, the best is the first of these assignments in the lexicographic
+-- order by the ranks of the modes. The version is `v`, the rule is `r`, and two bytes are a kanji pair if they pass
+-- `test`.
 pub record IsBestRest (v : ℕ) (r : Rule) (test : ℕ → ℕ → Bool) (p : RunState) (xs : List ℕ) (ms : List Mode) (n : ℕ) : Type 0 where
   pub is_allowed : IsTrue (allowed r test p xs ms)
   pub has_bits : cost_of v p ms ≡ n
@@ -109,7 +112,7 @@ pub record IsBestRest (v : ℕ) (r : Rule) (test : ℕ → ℕ → Bool) (p : Ru
 -- `IsChoice v r p x pair cost m n` holds if `m` is the best mode for the byte `x` after the state `p`. With this mode,
 -- `x` and the bytes after it add `n` bits, and every other allowed mode leads to `n` bits or more. If several allowed
 -- modes lead to `n` bits, `m` is the mode of the lowest rank. `cost q` is the number of bits that the bytes after `x`
--- add after the state `q`. The flag `pair` says whether `x` may be the first byte of a kanji pair.
+-- add after the state `q`. The flag `pair` is true if `x` may be the first byte of a kanji pair.
 pub record IsChoice (v : ℕ) (r : Rule) (p : RunState) (x : ℕ) (pair : Bool) (cost : RunState → ℕ) (m : Mode) (n : ℕ) : Type 0 where
   pub is_allowed : IsTrue (may_take r p x pair m)
   pub has_bits : n ≡ byte_cost v p m + cost (state_after p m)
@@ -117,9 +120,9 @@ pub record IsChoice (v : ℕ) (r : Rule) (p : RunState) (x : ℕ) (pair : Bool) 
   pub first : (k : Mode) → IsTrue (may_take r p x pair k) → byte_cost v p k + cost (state_after p k) ≡ n → rank m ≤ rank k
 
 -- `choice_number may bits m` represents the choice of the mode `m` for the next byte as one number. The number is four
--- times `bits` plus the rank of `m`, where `bits` is the number of bits that the byte and the bytes after it then add.
--- So the better of two choices has the smaller number. If `may` is false, the mode may not be used, and the number is
--- 2^32 - 1. For inputs of at most `INPUT_MAX` bytes, this is greater than the number of every choice.
+-- times `bits` plus the rank of `m`, where `bits` is the number of bits that this byte and all later bytes then add. So
+-- the better of two choices has the smaller number. If `may` is false, the mode may not be used, and the number is 2^32
+-- - 1. For inputs of at most `INPUT_MAX` bytes, this is greater than the number of every choice.
 abbrev pub choice_number : Bool → ℕ → Mode → ℕ
 choice_number may bits m = if may then 4 * bits + rank m else 4294967295
 

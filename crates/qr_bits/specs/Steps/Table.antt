@@ -1,4 +1,4 @@
--- Defines the table of best modes for an input. The table has a row for each byte; the row contains the best mode of
+-- Defines the table of best modes for an input. The table has a row for each byte. This row contains the best mode of
 -- the byte for each state (`RunState`) before the byte.
 use Rattle.std.specs.Prelude.{ℕ, ◌<◌, ◌/◌, ◌%◌, ◌^◌, Bool, List, [], ◌∷◌, IsTrue}
 use Rattle.qr_bits.specs.declared.modes.Mode.{Mode}
@@ -32,8 +32,9 @@ IsSmall n =
     (n.start < 40000000) × (n.digit1 < 40000000) × (n.digit2 < 40000000) × (n.digit3 < 40000000) × (n.character1 < 40000000)
     × (n.character2 < 40000000) × (n.in_bytes < 40000000) × (n.half_pair < 40000000) × (n.whole_pair < 40000000)
 
--- `shift_of p` is the index of the lower of the two bits that contain the mode for the state `p` in a row of the table.
--- A row is a number that has two such bits for each state, and the bit with the index 0 is the lowest bit
+-- In a row of the table, two neighbouring bits contain the mode for the state `p`, and `shift_of p` is the index of the
+-- lower of these bits. A row is a number that has two such bits for each state, and the bit with the index 0 is the
+-- lowest bit
 abbrev pub shift_of : RunState → ℕ
 shift_of Start = 0
 shift_of Digit1 = 2
@@ -50,9 +51,9 @@ unfoldable pub mode_at : ℕ → RunState → Mode
 mode_at row p = ranked (row / 2 ^ shift_of p % 4)
 
 -- `IsRow v r x pair rest row numbers` holds if, for each state before the byte `x`, `row` contains the best mode of
--- `x`. For each of these states `p`, `bits_at numbers p` is the number of bits that `x` and the bytes after it then
--- add. For each state `q` after `x`, `bits_at rest q` is the number of bits that the bytes after `x` add. The version
--- is `v`, the rule is `r`, and the flag `pair` says whether `x` may be the first byte of a kanji pair.
+-- `x`. For each of these states `p`, `bits_at numbers p` is the number of bits that `x` and all later bytes then add.
+-- For each state `q` after `x`, `bits_at rest q` is the number of bits that the bytes after `x` add. The version is
+-- `v`, the rule is `r`, and the flag `pair` is true if `x` may be the first byte of a kanji pair.
 abbrev pub IsRow : ℕ → Rule → ℕ → Bool → PerState ℕ → ℕ → PerState ℕ → Type 0
 IsRow v r x pair rest row numbers = (p : RunState) → IsChoice v r p x pair (bits_at rest) (mode_at row p) (bits_at numbers p)
 
@@ -62,8 +63,9 @@ unfoldable pub follow : RunState → List ℕ → List Mode
 follow p [] = []
 follow p (row ∷ rows) = mode_at row p ∷ follow (state_after p (mode_at row p)) rows
 
--- `IsBestTable v r test xs rows` holds if `rows` is a table of the best modes for the bytes `xs`. From each state in
--- which some assignment of modes to `xs` is allowed, `follow` reads the best of the allowed assignments from this
--- table. The version is `v`, the rule is `r`, and two bytes are a kanji pair if they pass `test`.
+-- `IsBestTable v r test xs rows` holds if `rows` is a table of the best modes for the bytes `xs`. Suppose that some
+-- assignment of modes to `xs` is allowed after a state. Then `follow`, beginning with this state, reads the best of the
+-- allowed assignments from the table. The version is `v`, the rule is `r`, and two bytes are a kanji pair if they pass
+-- `test`.
 abbrev pub IsBestTable : ℕ → Rule → (ℕ → ℕ → Bool) → List ℕ → List ℕ → Type 0
 IsBestTable v r test xs rows = (p : RunState) (ks : List Mode) → IsTrue (allowed r test p xs ks) → (n : ℕ) × IsBestRest v r test p xs (follow p rows) n

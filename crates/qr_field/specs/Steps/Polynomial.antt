@@ -9,7 +9,7 @@ abbrev pub carried : ℕ → List ℕ → ℕ → List ℕ
 carried c [] root = product c root ∷ []
 carried c (x ∷ q) root = bit_xor x (product c root) ∷ carried x q root
 
--- `value_at i p` is the value of the polynomial p at 2 to the power i; the list p begins with the coefficient of the
+-- `value_at i p` is the value of the polynomial p at 2 to the power i. The list p begins with the coefficient of the
 -- highest power of x
 abbrev pub value_at : ℕ → List ℕ → ℕ
 value_at i [] = 0

@@ -28,15 +28,15 @@ zero_register = record { low = 0; high = 0 }
 abbrev pub divisor_of : ℕ → List ℕ
 divisor_of n = drop 1 (generator_of n)
 
--- `HasMultiples g shift bound rows` holds if `rows` is a list of 16 registers, and each register with an index f below
--- `bound` contains a multiple of the coefficients g. In this multiple, each coefficient is multiplied in the field by
--- the element f * 2^shift
+-- `HasMultiples g shift bound rows` holds if `rows` is a list of 16 registers with multiples of the coefficients g.
+-- Each register with an index f below `bound` must contain such a multiple. In this multiple, each coefficient is
+-- multiplied in the field by the element f * 2^shift
 pub record HasMultiples (g : List ℕ) (shift bound : ℕ) (rows : List Register) : Type 0 where
   pub many : length rows ≡ 16
   pub each : (f : ℕ) → f < bound → value_of (slice_index_or rows f zero_register) ≡ packed (scaled (f * 2 ^ shift) g)
 
--- `IsHeld d n v` holds if the number v consists of the n error correction codewords of the data codewords d; the first
--- codeword is in the lowest eight bits
+-- `IsHeld d n v` holds if the number v consists of the n error correction codewords of the data codewords d. The first
+-- error correction codeword is in the lowest eight bits of v
 pub record IsHeld (d : List ℕ) (n v : ℕ) : Type 0 where
   pub items : List ℕ
   pub correction : IsCorrection d n items

@@ -14,23 +14,23 @@ use Rattle.qr_layout.specs.Strips.{strip_at}
 abbrev pub half_of : Bool → ℕ
 half_of at_left = if at_left then 1 else 0
 
--- `place_of a` is the module at the position a of the walk
+-- `place_of a` is the module that the walk visits at the position a
 abbrev pub place_of : Cursor → Module
 place_of a = let right = (strip_at a.strips).right in record { row = a.row; col = if a.at_left then right - 1 else right }
 
--- `rank_of s a` is the number of rows of the strip that the walk visits before the row of the position a, in a symbol
--- with s modules on a side
+-- `rank_of s a` is the number of rows of a strip (two neighbouring columns) that the walk visits before the row of the
+-- position a. The symbol has s modules on a side
 abbrev pub rank_of : ℕ → Cursor → ℕ
 rank_of s a = if (strip_at a.strips).upward then s - 1 - a.row else a.row
 
--- `left_of s a` is the number of positions from the position a to the end of the walk, including a itself, in a symbol
--- with s modules on a side
+-- `left_of s a` is the number of positions that the walk still visits, including the position a itself. The symbol has
+-- s modules on a side
 unfoldable pub left_of : ℕ → Cursor → ℕ
 left_of s a = a.strips * (2 * s) - (2 * rank_of s a + half_of a.at_left)
 
 -- `next_of s a` is the position that follows the position a in a symbol with s modules on a side. After the right
--- module of a row comes the left module, and after the left module the next row of the strip. After the last row of a
--- strip comes the next strip, which begins in the same row
+-- module of a row comes the left module of this row. After the left module comes the right module of the next row of
+-- the strip. After the last row of a strip comes the next strip, which begins in the same row
 unfoldable pub next_of : ℕ → Cursor → Cursor
 next_of s a =
     if a.at_left then
@@ -43,8 +43,8 @@ pub record IsCursor (v : ℕ) (a : Cursor) : Type 0 where
   pub strips_in : a.strips ≤ 8 + 2 * v
   pub row_in : a.row < side_of v
 
--- `places_within v n a` lists those modules at n positions of the walk of version v, from the position a on, that are
--- in the encoding region
+-- `places_within v n a` goes through n positions of the walk of version v, beginning with the position a. It lists
+-- those modules at these positions that are in the encoding region
 unfoldable pub places_within : ℕ → ℕ → Cursor → List Module
 places_within v zero a = []
 places_within v (suc n) a =

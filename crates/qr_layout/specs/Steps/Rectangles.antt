@@ -6,7 +6,8 @@ use Rattle.qr_layout.specs.Version.{side_of}
 use Rattle.qr_layout.specs.Alignment.{centres_of, alignment_places}
 use Rattle.qr_layout.specs.Rectangles.{fixed_rectangles}
 
--- `IsWithin s b` holds if the bounds of the rectangle b are in order, and inside a symbol with s modules on a side
+-- `IsWithin s b` holds if the rectangle b is inside a symbol with s modules on a side. The bound `top` must be at most
+-- `bottom`, and the bound `left` must be at most `right`
 pub record IsWithin (s : ℕ) (b : Rectangle) : Type 0 where
   pub rows : b.top ≤ b.bottom
   pub bottom : b.bottom ≤ s
@@ -26,7 +27,7 @@ abbrev pub square_round : Module → Rectangle
 square_round m = record { top = m.row - 2; bottom = m.row + 3; left = m.col - 2; right = m.col + 3 }
 
 -- `alignment_squares s cs` lists the alignment patterns of a symbol with s modules on a side, as rectangles. The list
--- cs contains the rows of the centres, which are also their columns (ISO/IEC 18004:2015, 6.3.6)
+-- cs contains the rows of the centres, and the same numbers are the columns of the centres (ISO/IEC 18004:2015, 6.3.6)
 abbrev pub alignment_squares : ℕ → List ℕ → List Rectangle
 alignment_squares s cs = map square_round (alignment_places s cs)
 
