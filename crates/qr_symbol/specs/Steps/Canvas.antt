@@ -1,4 +1,5 @@
--- This file defines the square of modules with which the drawing of every symbol of one version begins.
+-- This file defines the square of modules that is the same for all symbols of one version. Drawing a symbol begins with
+-- this square.
 use Rattle.std.specs.Prelude.{◌≡◌, ℕ, ◌<◌, false}
 use Rattle.qr_layout.specs.Version.{side_of}
 use Rattle.qr_layout.specs.Region.{is_in_region}
