@@ -1,15 +1,16 @@
-//! This crate is a library for C, and for all languages that can call C. The comments name the functions of the library
-//! calls. Two calls encode an input, as one symbol or as a series of symbols. Other calls read a symbol, correct the
-//! errors of a damaged symbol, and draw squares of modules as text or as SVG. Depending on the call, its result is the
-//! modules of a symbol, the bytes that were read or the text of a drawing. The call writes this result to a buffer of
-//! the caller. Numbers such as the version and the number of rows are written to a struct of the caller. A call keeps
-//! no memory after it returns, so the caller has nothing to free. The header `include/qrproved.h` declares the calls.
+//! This crate is a library for C, and for all languages that can call C. In the comments, a function of the library is
+//! named a call. Two calls encode an input, as one symbol or as a series of symbols. Other calls read a symbol, correct
+//! the errors of a damaged symbol, and draw squares of modules as text or as SVG. Depending on the call, its result is
+//! the modules of a symbol, the bytes that were read or the text of a drawing. The call writes this result to a buffer
+//! of the caller. Numbers such as the version and the number of rows are written to a struct of the caller. A call
+//! keeps no memory after it returns, so the caller has nothing to free. The header `include/qrproved.h` declares the
+//! calls.
 //!
 //! The caller must fulfil the conditions under 'What the caller owes' in `docs/LIBRARY.md`. Then the promises of a call
 //! are true. The bytes of a buffer after the last byte of the result are unchanged. If the status is not 0, the buffer
 //! and the struct are unchanged. If a buffer is too short, `qrproved_draw` changes only the number `written`. A call
 //! checks the causes of its statuses in a fixed order, and returns the status of the first cause that applies. If
-//! memory is refused, the call may return the status for this instead.
+//! memory is refused, the call may instead return the status for lack of memory.
 //!
 //! Some causes are found before any memory is asked for, so a call reports them even if memory is refused. These causes
 //! are: a number out of range, a number of rows that no version has, an empty input, and too few modules in a buffer
