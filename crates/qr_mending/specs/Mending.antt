@@ -56,9 +56,9 @@ IsOfNoUse copy v g = IsOfNoUseWithout None copy v g
 
 -- `HasFormatWithout unknown v g l mask` holds if the square `g` of modules, which has version `v`, has to be read with
 -- level `l` and mask `mask`. The format information of this level and mask differs from the first copy in `g` in at
--- most three modules. If the first copy is of no use for mending `g`, it may instead differ from the second copy in at
--- most three modules. If `unknown` contains a square, a module was not read if it is dark in this square
--- (ISO/IEC 18004:2015, 7.9.1, 12).
+-- most three modules. If the first copy is of no use for mending `g`, the format information must instead differ from
+-- the second copy in at most three modules. If `unknown` contains a square, a module was not read if it is dark in this
+-- square (ISO/IEC 18004:2015, 7.9.1, 12).
 abbrev pub HasFormatWithout : Option Grid → ℕ → Grid → Level → ℕ → Type 0
 HasFormatWithout unknown v g l mask = IsNearFormat First g l mask ⊎ (IsNearFormat Second g l mask × IsOfNoUseWithout unknown First v g)
 

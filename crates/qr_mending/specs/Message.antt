@@ -1,5 +1,5 @@
--- Defines what it means to mend the message of a damaged symbol, which is its data codewords. Each block of the symbol
--- is mended separately.
+-- Defines what it means to mend the message of a damaged symbol. The message of a symbol is its data codewords. Each
+-- block of the symbol is mended separately.
 use Rattle.std.specs.Prelude.{◌≡◌, ℕ, ◌-◌, ◌/◌, ◌==◌, if◌then◌else◌, ◌<◌, ◌≤◌, List, ◌++◌, drop, length, slice_index}
 use Rattle.qr_field.specs.Polynomial.{IsCorrection}
 use Rattle.qr_field.specs.Distance.{differences}

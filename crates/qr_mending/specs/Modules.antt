@@ -35,8 +35,8 @@ modules_of places k = take 8 (drop (8 * k) places)
 -- `g` and `h`. It counts the modules of the first `n` data codewords, or of the first `n` error correction codewords,
 -- of block `i`. `places` lists the modules of the encoding region in the order in which the bits of the codewords are
 -- placed in them. `positions` lists the positions of all data codewords, or of all error correction codewords, in
--- interleaved order. `first` is the index that the first of the codewords in `positions` has among all interleaved
--- codewords of the symbol (ISO/IEC 18004:2015, 7.6, 7.7.3).
+-- interleaved order. The codeword at the first of these positions has the index `first` among all interleaved codewords
+-- of the symbol (ISO/IEC 18004:2015, 7.6, 7.7.3).
 abbrev pub part_differences : Grid → Grid → List Module → List Position → (first i n : ℕ) → ℕ
 part_differences g h places positions first i zero = 0
 part_differences g h places positions first i (suc n) =

@@ -40,7 +40,7 @@ pub record IsDamagedSquare (damaged whole : Grid) : Type 0 where
   pub holds : IsMessage version level mask whole message
   pub form : IsDamagedForm damaged version level mask message changed
 
--- `AreDamagedSquares damaged whole` holds if the lists `damaged` and `whole` have the same length, and each square of
--- modules in `damaged` is a damaged form of the square with the same index in `whole` [own].
+-- `AreDamagedSquares damaged whole` holds if each square of modules in the list `damaged` is a damaged form of the
+-- square with the same index in the list `whole`. The two lists have the same length [own].
 unfoldable pub AreDamagedSquares : List Grid → List Grid → Type 0
 AreDamagedSquares damaged whole = AllZip IsDamagedSquare damaged whole

@@ -1,5 +1,5 @@
--- Defines what it means to mend the message, which is the data codewords, of a damaged symbol in which some modules
--- could not be read.
+-- Defines what it means to mend the message of a damaged symbol in which some modules could not be read. The message of
+-- a symbol is its data codewords.
 use Rattle.std.specs.Prelude.{◌≡◌, ℕ, ◌+◌, ◌-◌, ◌*◌, ◌<◌, ◌≤◌, ◌==◌, not, Bool, Option, None, Some, List, ◌++◌, map, take, drop, length, slice_index}
 use Rattle.std.specs.List.{All}
 use Rattle.qr_field.specs.Polynomial.{IsCorrection}

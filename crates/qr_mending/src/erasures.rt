@@ -83,9 +83,9 @@ fn count_misread(codewords: &[u8], erased: &[bool], mended: &[u8]) -> usize
 /// at its index. Other codewords may be misread. The values of erased codewords in `codewords` have no effect on the
 /// mended block. To correct an erased codeword, one error correction codeword is needed. To correct a misread codeword,
 /// two error correction codewords are needed. `divisor` determines the number of error correction codewords of the
-/// block. In total at most `spare` of them may be needed. In a symbol, `spare` is twice the number that `changed_max`
-/// returns. Returns the number of misread codewords, without the erased codewords. If there is no block for which
-/// `spare` error correction codewords are enough, returns `None` and leaves `codewords` unchanged
+/// block. In total at most `spare` of these error correction codewords may be needed. In a symbol, `spare` is twice the
+/// number that `changed_max` returns. Returns the number of misread codewords, without the erased codewords. If there
+/// is no block for which `spare` error correction codewords are enough, returns `None` and leaves `codewords` unchanged
 /// (ISO/IEC 18004:2015, 7.5.1 and Annex B).
 pub fn mend_with_erasures(
     divisor: &Divisor,

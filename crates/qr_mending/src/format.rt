@@ -18,7 +18,7 @@ use qr_matrix::Matrix;
 // The length of the format information in bits.
 const FORMAT_BITS: u8 = 15;
 
-// The largest number of wrong modules that a copy of the format information may have to be used. Any two different
+// If a copy of the format information has more wrong modules than this number, the copy is not used. Any two different
 // pairs of level and mask have format information that differs in at least seven bits. So a copy can be used for at
 // most one pair of level and mask.
 const FORMAT_ERRORS: u8 = 3;

@@ -32,9 +32,9 @@ pub(crate) struct MendedSquare {
 
 // Mends the symbol in `matrix` by means of one copy of its format information. The symbol is read with the level and
 // the mask whose format information differs from this copy in at most three modules. `marks` contains a mark for each
-// codeword, or is empty. A codeword is erased, which means known to be unreadable, if its mark is not 0. If `marks` is
-// empty, no codeword is erased. Returns `None` if no level and mask have format information that is so near to the
-// copy. Returns `None` also if some block has more erased and misread codewords than can be corrected.
+// codeword, or is empty. An erased codeword is known to be unreadable. A codeword is erased if its mark is not 0. If
+// `marks` is empty, no codeword is erased. Returns `None` if there is no such level and mask. Returns `None` also if
+// some block has more erased and misread codewords than can be corrected.
 fn mend_by(
     alloc: Global,
     version: Version,
@@ -68,9 +68,9 @@ fn mend_by(
 }
 
 // Mends the symbol in `matrix` by means of the first copy of its format information. If the symbol cannot be mended
-// with the first copy, the second copy is used. `marks` contains a mark for each codeword, or is empty. A codeword is
-// erased, which means known to be unreadable, if its mark is not 0. If `marks` is empty, no codeword is erased. Returns
-// `None` if the symbol can be mended with neither copy.
+// with the first copy, the second copy is used. `marks` contains a mark for each codeword, or is empty. An erased
+// codeword is known to be unreadable. A codeword is erased if its mark is not 0. If `marks` is empty, no codeword is
+// erased. Returns `None` if the symbol can be mended with neither copy.
 pub(crate) fn mend_by_either(
     alloc: Global,
     version: Version,

@@ -1,5 +1,5 @@
-//! Mends the message of a damaged symbol, which is its data codewords: corrects the wrong codewords of each block
-//! (ISO/IEC 18004:2015, 7.5.1 and 7.6).
+//! Mends the message of a damaged symbol: corrects the wrong codewords of each block. The message of a symbol is its
+//! data codewords (ISO/IEC 18004:2015, 7.5.1 and 7.6).
 
 ghost use Rattle.std.specs.Prelude.{◌≡◌, ℕ, ◌+◌, ◌*◌, ◌≤◌, ◌⊎◌, ◌++◌, List, length, Err, IfOk, IfErr};
 ghost use Rattle.qr_field.specs.Polynomial.{IsCorrection};
@@ -110,9 +110,9 @@ fn mend_parts(
     Ok(MendedMessage { message, changed })
 }
 
-// Returns the mended message of a damaged symbol, which is its data codewords in the order of the blocks. `codewords`
-// contains the interleaved codewords that were read from the symbol. In each block at most `t` of these codewords may
-// be wrong.
+// Returns the mended message of a damaged symbol. The message is the data codewords in the order of the blocks.
+// `codewords` contains the interleaved codewords that were read from the symbol. In each block at most `t` of these
+// codewords may be wrong.
 fn mend_blocks(
     alloc: Global,
     blocks: Blocks,

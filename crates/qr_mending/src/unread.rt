@@ -1,5 +1,5 @@
-//! Mends the message, which is the data codewords, of a damaged symbol in which some modules could not be read. A
-//! codeword is erased if one of its modules could not be read (ISO/IEC 18004:2015, 7.5.1, 7.6 and 7.7.3).
+//! Mends the message of a damaged symbol in which some modules could not be read. The message of a symbol is its data
+//! codewords. A codeword is erased if one of its modules could not be read (ISO/IEC 18004:2015, 7.5.1, 7.6 and 7.7.3).
 
 ghost use Rattle.std.specs.Prelude.{◌≡◌, ℕ, ◌+◌, ◌*◌, ◌<◌, ◌≤◌, ◌==◌, ◌⊎◌, ◌++◌, not, map, List, length, Err, IfOk, IfErr, IfSome, IfNone, Option};
 ghost use Rattle.qr_field.specs.Polynomial.{IsCorrection};
@@ -59,7 +59,7 @@ struct InBlocks {
 }
 
 // Undoes the interleaving of the codewords of a symbol, or of the marks of these codewords. `interleaved` contains the
-// codewords or the marks in interleaved order. They are returned in the order of the blocks.
+// codewords or the marks in interleaved order. Returns the codewords or the marks in the order of the blocks.
 fn in_blocks(alloc: Global, blocks: Blocks, interleaved: &[u8]) -> Result<InBlocks, AllocError>
     requires { length interleaved.now ≡ codeword_count (data_sizes blocks) + codeword_count (correction_sizes blocks) }
     ensures { IfOk result (λ b. AreInBlocks blocks interleaved.now b.data.items b.checks.items) }
@@ -179,9 +179,9 @@ fn mend_parts(
     Ok(MendedMessage { message, changed })
 }
 
-// Returns the mended message of a damaged symbol, which is its data codewords in the order of the blocks. `codewords`
-// contains the interleaved codewords that were read. `marks` contains the marks of these codewords in the same order. A
-// codeword is erased if its mark is not 0; any other codeword may be misread.
+// Returns the mended message of a damaged symbol. The message is the data codewords in the order of the blocks.
+// `codewords` contains the interleaved codewords that were read. `marks` contains the marks of these codewords in the
+// same order. A codeword is erased if its mark is not 0; any other codeword may be misread.
 fn mend_blocks(
     alloc: Global,
     blocks: Blocks,

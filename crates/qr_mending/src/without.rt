@@ -104,8 +104,8 @@ fn count_wrong_modules_without(
 /// codeword, half as much error correction is needed as to correct a misread codeword. In each block, the number of
 /// erased codewords plus twice the number of misread codewords may be at most twice `changed_max`. Here `changed_max`
 /// is the number of misread codewords that can be corrected in a block without erased codewords. The level and the mask
-/// are found as `mend_symbol` finds them: every module of the format information is used with its colour in `matrix`,
-/// even if it could not be read.
+/// are found as `mend_symbol` finds them. For this purpose, every module of the format information is used with its
+/// colour in `matrix`, even if the module could not be read.
 ///
 /// The field `Mended::changed` counts only the misread codewords. A module that could not be read counts as a wrong
 /// module, whatever colour it has in `matrix`. In all other respects, `mend_symbol_without` works like `mend_symbol`.

@@ -12,10 +12,10 @@ use Rattle.qr_symbol.specs.Reading.{IsMessage}
 abbrev pub blocks_in : ℕ → Level → ℕ
 blocks_in v l = block_count (data_sizes (blocks_of v l))
 
--- `held_block v l mask g d m i` is block i, counted from 0, of the codewords in the square of modules g: the data
--- codewords of the block, and then its error correction codewords. The square g has version v, level l and the mask
--- pattern `mask`, and the list d contains all data codewords in g. The parameter m is the proof that d contains the
--- data codewords in g (ISO/IEC 18004:2015, 7.5.1).
+-- `held_block v l mask g d m i` is block i, counted from 0, of the square of modules g. The block is the list of its
+-- data codewords, followed by its error correction codewords. The square g has version v, level l and the mask pattern
+-- `mask`, and the list d contains all data codewords in g. The parameter m is the proof that d contains the data
+-- codewords in g (ISO/IEC 18004:2015, 7.5.1).
 abbrev pub held_block : (v : ℕ) (l : Level) (mask : ℕ) (g : Grid) (d : List ℕ) → IsMessage v l mask g d → ℕ → List ℕ
 held_block v l mask g d m i = block_of (blocks_of v l) d i ++ slice_index_or m.interleaved.corrections i []
 

@@ -1,7 +1,6 @@
 -- This file defines the final sequence of codewords: the interleaved data codewords of all blocks, and then the
 -- interleaved error correction codewords of all blocks. Before the interleaving, the codewords of one block follow
--- those of the previous block. A value of the type `BlockSizes` contains the sizes of the blocks, which are their
--- numbers of codewords.
+-- those of the previous block. A value of the type `BlockSizes` determines how many codewords each block has.
 use Rattle.std.specs.Prelude.{◌≡◌, ℕ, ◌+◌, ◌-◌, ◌*◌, ◌<◌, ◌⊎◌, nat_lt, if◌then◌else◌, List, [], ◌++◌, map, take, drop, length, slice_index_or}
 use Rattle.std.specs.List.{All, AllPairs, Contains}
 use Rattle.qr_field.specs.Polynomial.{IsCorrection}

@@ -26,9 +26,10 @@ AreParts v l rule x [] = x ≡ []
 AreParts v l rule x (p ∷ ps) = (n : ℕ) × (0 < n) × IsLongestFit v rule x (room_of v l) n × (p ≡ take n x)
     × AreParts v l rule (drop n x) ps
 
--- `FitParts v l rule x parts` holds if the bytes x are the parts in the list `parts`, one after another, and each part
--- fits a symbol after a structured append header. Each symbol has version v and level l, and `rule` determines which
--- modes the segments may have. A part may be empty, and it may be shorter than the longest prefix that fits [own].
+-- `FitParts v l rule x parts` holds if the bytes x consist of the parts in the list `parts`, one after another. Each
+-- part must fit a symbol after a structured append header. Each symbol has version v and level l, and `rule` determines
+-- which modes the segments may have. A part may be empty, and it may be shorter than the longest prefix that fits
+-- [own].
 abbrev pub FitParts : ℕ → Level → Rule → List ℕ → List (List ℕ) → Type 0
 FitParts v l rule x parts = (x ≡ concat parts) × All (λ p. HasFit v rule p (room_of v l)) parts
 
@@ -88,9 +89,9 @@ abbrev pub IsSeries : ℕ → Level → Rule → List ℕ → List Symbol → Ty
 IsSeries v l rule x symbols = IsPlainSymbol v l rule x symbols ⊎ IsSplit v l rule x symbols
 
 -- `HasNoSeries v l rule x` holds if the bytes x have no series of symbols at version v and level l. The bytes do not
--- fit one symbol without a structured append header. The bytes are cut into parts, each of which is the longest prefix
--- of the remaining bytes that fits a symbol after a header. There are more than 16 such parts. If `rule` does not allow
--- kanji mode, every other cut into parts that fit has more than 16 parts too [own].
+-- fit one symbol without a structured append header. The bytes are cut into more than 16 parts if each part is the
+-- longest prefix of the remaining bytes that fits a symbol after a header. If `rule` does not allow kanji mode, every
+-- other cut into parts that fit has more than 16 parts too [own].
 pub record HasNoSeries (v : ℕ) (l : Level) (rule : Rule) (x : List ℕ) : Type 0 where
   pub too_long : FitsVersion v l rule x → ⊥
   pub too_many : (parts : List (List ℕ)) → AreParts v l rule x parts → 16 < length parts

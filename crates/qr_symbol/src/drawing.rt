@@ -175,8 +175,8 @@ fn with_light_region(columns: Columns, region: &Columns) -> Columns
 }
 
 // Draws the next of the eight bits `bits` in row `row` of a column, if the module there is in the encoding region.
-// Before the call, `taken` of the eight bits were drawn already. Returns the number of the eight bits that are drawn
-// after the call. In `region`, a bit is 1 if the module in its row of the column is in the encoding region.
+// Before the call, `taken` of the eight bits were drawn already. Returns how many of the eight bits are drawn when the
+// call ends. In `region`, a bit is 1 if the module in its row of the column is in the encoding region.
 fn draw_module(column: &mut BitRow, region: &BitRow, bits: u8, taken: u8, row: u8) -> u8
     requires row_in { row < 192 }
     requires taken { taken < 8 }

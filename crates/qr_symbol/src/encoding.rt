@@ -97,7 +97,8 @@ pub(crate) fn symbol_at(
 }
 
 // Returns the symbol that contains the optional structured append header `header` and then the bytes `input`, cut into
-// the segments `segments`. The symbol is drawn on `canvas`, and has the version and the level of the canvas.
+// the segments `segments`. The symbol is drawn on `canvas`, which contains the modules that are the same in all symbols
+// of its version. The symbol has the version and the level of the canvas.
 pub(crate) fn symbol_on(
     alloc: Global,
     canvas: &mut Canvas,

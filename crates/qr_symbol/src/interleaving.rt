@@ -14,7 +14,7 @@ use qr_layout::{Blocks, Level, Version};
 use std::alloc::{AllocError, Global};
 
 /// The sizes of the blocks into which a list of codewords is divided. The first `short` blocks contain `short_len`
-/// codewords each. The `long` blocks after them contain one codeword more each (ISO/IEC 18004:2015, 7.5.1).
+/// codewords each. Each of the `long` blocks after them contains one codeword more (ISO/IEC 18004:2015, 7.5.1).
 #[derive(Clone, Copy)]
 pub struct BlockSizes {
     /// The number of short blocks.
@@ -26,7 +26,7 @@ pub struct BlockSizes {
 }
 
 impl BlockSizes {
-    /// Returns the sizes of the blocks, counted in data codewords.
+    /// Returns the sizes of the blocks, when only their data codewords are counted.
     pub fn of_data(blocks: Blocks) -> BlockSizes
         ensures { result ≡ data_sizes blocks }
     {
@@ -37,8 +37,8 @@ impl BlockSizes {
         }
     }
 
-    /// Returns the sizes of the blocks, counted in error correction codewords. All blocks have the same number of error
-    /// correction codewords.
+    /// Returns the sizes of the blocks, when only their error correction codewords are counted. All blocks have the
+    /// same number of error correction codewords.
     pub fn of_corrections(blocks: Blocks) -> BlockSizes
         ensures { result ≡ correction_sizes blocks }
     {

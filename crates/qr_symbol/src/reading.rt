@@ -35,8 +35,8 @@ fn has_format(matrix: &Matrix, level: Level, mask: u8) -> bool
     true
 }
 
-// Returns the mask pattern to which the format information of `matrix` belongs together with the level `level`. Returns
-// `None` if the format information belongs to no mask pattern with this level.
+// If the format information of `matrix` belongs to the level `level` and some mask pattern, returns this mask pattern.
+// Otherwise returns `None`.
 fn mask_of(matrix: &Matrix, level: Level) -> Option<u8>
     requires { 21 ≤ matrix.now.side }
     ensures { MatchOption result

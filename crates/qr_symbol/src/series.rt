@@ -37,7 +37,8 @@ use std::alloc::Global;
 ///
 /// Returns `Empty` exactly if the input has no byte. Returns `TooMany` if the input has no series, since it would be
 /// cut into more than 16 parts. Returns `Memory` if an allocation is refused; then `TooMany` is not returned. If kanji
-/// mode is not allowed, `TooMany` also means that no other cut of the input has at most 16 parts that all fit.
+/// mode is not allowed, `TooMany` also means that every other cut of the input into parts that fit has more than 16
+/// parts.
 ///
 /// # Notes
 ///
@@ -191,7 +192,8 @@ fn part_symbols(
 }
 
 // Returns the symbol that contains the structured append header `header` and then the part `part` of the input. The
-// symbol is drawn on `canvas`, and has the version and the level of the canvas.
+// symbol is drawn on `canvas`, which contains the modules that are the same in all symbols of its version. The symbol
+// has the version and the level of the canvas.
 fn part_symbol(
     alloc: Global,
     canvas: &mut Canvas,

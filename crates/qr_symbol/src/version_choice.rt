@@ -1,9 +1,9 @@
 //! Finds the least version that an input fits. Also cuts the input into segments for this version
 //! (ISO/IEC 18004:2015, 7.1 and 7.4.1).
 //!
-//! The length of a segment in bits depends on the version only because the width of the character count indicator does.
-//! This width changes only after version 9 and after version 26. So there are three ranges of versions: 1 to 9, 10 to
-//! 26 and 27 to 40. An input is cut into segments at most once for each of these ranges.
+//! The length of a segment in bits depends on the version only because the character count indicator is wider in larger
+//! versions. The width of the indicator changes only after version 9 and after version 26. So there are three ranges of
+//! versions: 1 to 9, 10 to 26 and 27 to 40. An input is cut into segments at most once for each of these ranges.
 
 ghost use Rattle.std.specs.Prelude.{◌≡◌, ◌≤◌, ◌<◌, ℕ, length, IfOk, MatchOption};
 ghost use Rattle.qr_bits.specs.declared.modes.Rule.{Rule};
@@ -51,8 +51,8 @@ fn last_of_width(version: Version) -> u8
 }
 
 // Returns 1, 10 or 27, which are the first versions of the three ranges in which character count indicators are equally
-// wide. The input fits no version before the returned version. There are two ways to find out that the input fits no
-// version of a range: its length in bytes, and a lower bound on its length in bits. If only byte mode is allowed, the
+// wide. The input fits no version before the returned version. Two numbers may show that the input fits no version of a
+// range: the length of the input in bytes, and a lower bound on its length in bits. If only byte mode is allowed, the
 // lower bound is not computed, since that would save little time.
 fn first_for(input: &[u8], rule: Rule) -> u8
     requires { length input.now ≤ INPUT_MAX }

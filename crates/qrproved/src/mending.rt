@@ -181,8 +181,8 @@ fn mended_of(len: usize, mended: &Mended) -> QrprovedMended
 ///
 /// The struct also contains four numbers about the damage. `wrong_modules` is the number of modules in the whole square
 /// that are not known or differ from the symbol. `wrong_format_modules` is the number of wrong or unknown modules among
-/// the 30 modules of the format information. For `changed_most`, the corrected codewords of each block are counted,
-/// without the codewords that have a module that is not known; `changed_most` is the greatest of these numbers.
+/// the 30 modules of the format information. To compute `changed_most`, the corrected codewords of each block are
+/// counted. Codewords with a module that is not known are left out. `changed_most` is the greatest of these numbers.
 /// `changed_allowed` is the largest number of wrong codewords that can be corrected in a block.
 #[unsafe(no_mangle)]
 pub extern "C" fn qrproved_mend(

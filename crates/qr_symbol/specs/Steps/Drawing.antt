@@ -20,16 +20,16 @@ use Rattle.qr_symbol.specs.Steps.Patterns.{format_or, paint_of, symmetric_format
 use Rattle.qr_matrix.specs.Penalty.{penalty_of}
 
 -- `placed_colour v cw other r c` is the colour in row r and column c of a square of modules after the codewords cw were
--- placed. The square has the side of version v. A module in the encoding region has the colour of the codeword bit that
--- is placed there. Every other module has the colour `other r c`.
+-- placed. The square has as many rows as a symbol of version v. A module in the encoding region has the colour of the
+-- codeword bit that is placed there. Every other module has the colour `other r c`.
 unfoldable pub placed_colour : ℕ → List ℕ → (ℕ → ℕ → Bool) → ℕ → ℕ → Bool
 placed_colour v cw other r c =
     if is_in_region v r c then codeword_bit cw (number_of v (record { row = r; col = c })) else other r c
 
 -- `walked_colour v cw mask other r c` is the colour in row r and column c of a square of modules after the codewords cw
--- were placed under the mask pattern `mask`. The square has the side of version v. A module in the encoding region has
--- the colour of the codeword bit that is placed there, inverted if the mask pattern inverts this module. Every other
--- module has the colour `other r c`.
+-- were placed under the mask pattern `mask`. The square has as many rows as a symbol of version v. A module in the
+-- encoding region has the colour of the codeword bit that is placed there, inverted if the mask pattern inverts this
+-- module. Every other module has the colour `other r c`.
 unfoldable pub walked_colour : ℕ → List ℕ → ℕ → (ℕ → ℕ → Bool) → ℕ → ℕ → Bool
 walked_colour v cw mask other r c =
     if is_in_region v r c then inverted (inverts mask r c) (codeword_bit cw (number_of v (record { row = r; col = c }))) else other r c
@@ -91,16 +91,16 @@ with_columns g right x = with_row (with_row g right (has x.right)) (right - 1) (
 abbrev pub AreWithin : ℕ → Columns → Type 0
 AreWithin s x = (row : ℕ) → s ≤ row → (has x.right row ≡ false) × (has x.left row ≡ false)
 
--- `row_of s x rank` is the row of a symbol in which row `rank` of the strip x is. A strip is two neighbouring columns
--- that are filled together. The rows of a strip are counted from 0, in the direction in which the strip is filled. The
--- symbol has s rows.
+-- `row_of s x rank` is the row of the symbol that belongs to row `rank` of the strip x. A strip is two neighbouring
+-- columns that are filled together. The rows of a strip are counted from 0, in the direction in which the strip is
+-- filled. The symbol has s rows.
 abbrev pub row_of : ℕ → Strip → ℕ → ℕ
 row_of s x rank = if x.upward then s - 1 - rank else rank
 
--- `AreLight s x k region y` holds if, from row k of the strip x on, all modules of the encoding region in its columns y
--- are light. A strip is two neighbouring columns that are filled together. The rows of a strip are counted from 0, in
--- the direction in which the strip is filled. The symbol has s rows. In the columns `region`, a bit is 1 if the module
--- in its row is in the encoding region.
+-- `AreLight s x k region y` holds if, from row k of the strip x on, all modules of the strip in the encoding region are
+-- light. The columns y contain the colours of the strip. A strip is two neighbouring columns that are filled together.
+-- The rows of a strip are counted from 0, in the direction in which the strip is filled. The symbol has s rows. In the
+-- columns `region`, a bit is 1 if the module in its row is in the encoding region.
 abbrev pub AreLight : ℕ → Strip → ℕ → Columns → Columns → Type 0
 AreLight s x k region y = (rank : ℕ) → k ≤ rank → rank < s
     → ((has region.right (row_of s x rank) && has y.right (row_of s x rank)) ≡ false) × ((has region.left (row_of s x rank) && has y.left (row_of s x rank)) ≡ false)
@@ -139,7 +139,8 @@ abbrev pub region_grid : ℕ → Grid
 region_grid v = square (side_of v) (is_in_region v)
 
 -- `plain_grid v cw` is the square of modules of the symbol of version v that contains the codewords cw, before a mask
--- pattern is applied. Of the format information in this square, only bit 7 is dark.
+-- pattern is applied. Bit 7 of the format information in this square is dark, and the other bits of the format
+-- information are light.
 abbrev pub plain_grid : ℕ → List ℕ → Grid
 plain_grid v cw = square (side_of v) (placed_colour v cw (paint_of v symmetric_format))
 
