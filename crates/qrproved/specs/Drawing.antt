@@ -30,15 +30,15 @@ squares_of_bytes side (suc count) bytes = square_of_bytes side bytes ∷ squares
 abbrev pub drawing_of_bytes : (side count drawing margin : ℕ) → List ℕ → List ℕ
 drawing_of_bytes side count drawing margin bytes = drawn (drawing_of drawing) margin (squares_of_bytes side count bytes)
 
--- `HoldsText text before after len` holds if a buffer changed from `before` to `after` because `text` was written to
--- its first bytes. The other bytes are unchanged, and `len` is the length of `text` [own].
+-- `HoldsText text before after len` holds if writing `text` to the first bytes of a buffer changes the buffer from
+-- `before` to `after`. The other bytes are unchanged, and `len` is the length of `text` [own].
 pub record HoldsText (text before after : List ℕ) (len : ℕ) : Type 0 where
   pub room : length text ≤ length before
   pub holds : after ≡ text ++ drop (length text) before
   pub told : len ≡ length text
 
 -- `HasFewModules modules side count drawing margin` holds if the four numbers are in range, but the buffer `modules`
--- has too few bytes. It needs a byte for each module of `count` squares with `side` rows [own].
+-- has too few bytes. The buffer needs a byte for each module of `count` squares with `side` rows [own].
 pub record HasFewModules (modules : List ℕ) (side count drawing margin : ℕ) : Type 0 where
   pub settings : AreDrawingSettings side count drawing margin
   pub few : length modules < count * (side * side)

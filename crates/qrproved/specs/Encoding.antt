@@ -9,10 +9,10 @@ use Rattle.qrproved.specs.declared.encoding.QrprovedSymbol.{QrprovedSymbol}
 use Rattle.qrproved.specs.Settings.{AreSettings, level_of, rule_of}
 use Rattle.qrproved.specs.Modules.{HoldsSquares}
 
--- `IsWritten x version level rule before after s` holds if a buffer changed from `before` to `after` because the symbol
--- of the input `x` was written to its first bytes. The numbers `version`, `level` and `rule` are in range. The struct
--- `s` contains the version, the number of rows and the mask pattern of the symbol. If the symbol is read, the result is
--- the input [own].
+-- `IsWritten x version level rule before after s` holds if writing the symbol of the input `x` to the first bytes of a
+-- buffer changes the buffer from `before` to `after`. The numbers `version`, `level` and `rule` are in range. The
+-- struct `s` contains the version, the number of rows and the mask pattern of the symbol. If the symbol is read, the
+-- result is the input [own].
 pub record IsWritten (x : List ℕ) (version level rule : ℕ) (before after : List ℕ) (s : QrprovedSymbol) : Type 0 where
   pub settings : AreSettings version level rule
   pub square : Grid

@@ -6,9 +6,9 @@ use Rattle.qr_matrix.specs.Grid.{Grid, square, colour, light}
 abbrev pub byte_of : Bool → ℕ
 byte_of dark = if dark then 1 else 0
 
--- `HoldsSquares side squares before after` holds if a buffer changed from `before` to `after` because the modules of
--- `squares` were written to it. The buffer contains one square after the other, each row by row. Each square has `side`
--- rows. The bytes after the last module are unchanged [own].
+-- `HoldsSquares side squares before after` holds if writing the modules of `squares` to the first bytes of a buffer
+-- changes the buffer from `before` to `after`. The buffer contains one square after the other, each row by row. Each
+-- square has `side` rows. The bytes after the last module are unchanged [own].
 pub record HoldsSquares (side : ℕ) (squares : List Grid) (before after : List ℕ) : Type 0 where
   pub room : length squares * (side * side) ≤ length before
   pub long : length after ≡ length before

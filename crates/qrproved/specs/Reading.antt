@@ -20,8 +20,8 @@ TellsHeader None has_header position last parity = (has_header ≡ 0) × (positi
 TellsHeader (Some h) has_header position last parity = (has_header ≡ 1) × (position ≡ h.position) × (last ≡ h.last) × (parity ≡ h.parity)
 
 -- `IsGiven modules side before after c` holds if the square in `modules`, which has `side` rows, is read as some bytes.
--- A buffer changed from `before` to `after` because the bytes that were read were written to its first bytes. The
--- struct `c` contains the number of these bytes, the version and the structured append header [own].
+-- Writing the bytes that were read to the first bytes of a buffer changes the buffer from `before` to `after`. The
+-- struct `c` contains the number of the bytes that were read, the version and the structured append header [own].
 pub record IsGiven (modules : List ℕ) (side : ℕ) (before after : List ℕ) (c : QrprovedContent) : Type 0 where
   pub whole : side * side ≤ length modules
   pub content : Content

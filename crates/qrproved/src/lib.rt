@@ -6,16 +6,16 @@
 //! keeps no memory after it returns, so the caller has nothing to free. The header `include/qrproved.h` declares the
 //! calls.
 //!
-//! The caller must fulfil the conditions under 'What the caller owes' in `docs/LIBRARY.md`. Then the promises of a call
-//! are true. The bytes of a buffer after the last byte of the result are unchanged. If the status is not 0, the buffer
-//! and the struct are unchanged. If a buffer is too short, `qrproved_draw` changes only the number `written`. A call
-//! checks the causes of its statuses in a fixed order, and returns the status of the first cause that applies. If
-//! memory is refused, the call may instead return the status for lack of memory.
+//! The promises of a call hold if the caller fulfils the conditions under 'What the caller owes' in `docs/LIBRARY.md`.
+//! The bytes of a buffer after the last byte of the result are unchanged. If the status is not 0, the buffer and the
+//! struct are unchanged. If a buffer is too short, `qrproved_draw` changes only the number `written`. A call checks the
+//! causes of its statuses in a fixed order, and returns the status of the first cause that applies. If memory is
+//! refused, the call may instead return the status for lack of memory.
 //!
-//! Some causes are found before any memory is asked for, so a call reports them even if memory is refused. These causes
-//! are: a number out of range, a number of rows that no version has, an empty input, and too few modules in a buffer
-//! that is read. An input of more than 7,089 bytes is another such cause; for a series, the limit is 113,425 bytes. In
-//! a call of `qrproved_mend`, a byte of more than 2 is such a cause too.
+//! Some causes are found before any memory is requested, so a call reports these causes even if memory is refused.
+//! These causes are: a number out of range, a number of rows that no version has, an empty input, and too few modules
+//! in a buffer that is read. An input of more than 7,089 bytes is another such cause; for a series, the limit is
+//! 113,425 bytes. In a call of `qrproved_mend`, a byte of more than 2 is such a cause too.
 #![tactic(auto)]
 
 mod drawing;

@@ -30,9 +30,9 @@ use std::alloc::{AllocError, Global};
 pub struct QrprovedMended {
     /// The number of bytes that the symbol contains.
     pub len: usize,
-    /// The number of wrong modules in the whole square. A module is wrong if it is not known, or if its colour differs
-    /// from the undamaged symbol. So the number is 0 if the square is the undamaged symbol and all its modules are
-    /// known, and only then.
+    /// The number of wrong modules in the whole square. A module is wrong if it is not known, or if it does not have
+    /// the colour that it has in the undamaged symbol. So the number is 0 if the square is the undamaged symbol and all
+    /// its modules are known, and only then.
     pub wrong_modules: u32,
     /// The version, from 1 to 40.
     pub version: u8,
@@ -179,11 +179,11 @@ fn mended_of(len: usize, mended: &Mended) -> QrprovedMended
 /// On status 0 the modules in the buffer are a damaged form of a symbol. The call wrote the bytes and the header that
 /// this symbol contains, and the version, the level and the mask pattern of the symbol.
 ///
-/// The struct also contains four numbers about the damage. `wrong_modules` is the number of modules in the whole square
-/// that are not known or differ from the symbol. `wrong_format_modules` is the number of wrong or unknown modules among
-/// the 30 modules of the format information. To compute `changed_most`, the corrected codewords of each block are
-/// counted. Codewords with a module that is not known are left out. `changed_most` is the greatest of these numbers.
-/// `changed_allowed` is the largest number of wrong codewords that can be corrected in a block.
+/// The struct also contains four numbers about the damage. `wrong_modules` is the number of wrong or unknown modules in
+/// the whole square. `wrong_format_modules` is the number of wrong or unknown modules among the 30 modules of the
+/// format information. To compute `changed_most`, the corrected codewords of each block are counted. Codewords with a
+/// module that is not known are left out. `changed_most` is the greatest of these numbers. `changed_allowed` is the
+/// largest number of wrong codewords that can be corrected in a block.
 #[unsafe(no_mangle)]
 pub extern "C" fn qrproved_mend(
     alloc: Global,

@@ -27,7 +27,7 @@ pub struct QrprovedSeries {
 /// have the version `version`. The byte of a module is at index `number * side * side + row * side + column` of the
 /// buffer. Here `number` is the number of the module's symbol, counted from 0, and `side` is the number of rows of a
 /// symbol. If the input fits one symbol without a structured append header, the series is this one symbol. The numbers
-/// of levels and rules are those of `qrproved_encode`.
+/// of levels and rules are the same as in `qrproved_encode`.
 ///
 /// The causes of a refusal are checked in this order: a number out of range, an empty input, an input that needs more
 /// than 16 symbols, a buffer that is too short. Numbers out of range, an empty input and an input of more than 113,425

@@ -1,5 +1,5 @@
-//! Checks the numbers for the version, the level and the rule that a C program passes to a call. The rule determines
-//! which modes may be used. A C program can pass any number, and numbers out of range are refused.
+//! Checks the numbers that a C program passes for the version, the level and the rule. The rule determines which modes
+//! may be used. A C program can pass any number, and numbers out of range are refused.
 
 ghost use Rattle.std.specs.Prelude.{◌≡◌, ◌<◌, ◌≤◌, SomeIff};
 ghost use Rattle.qrproved.specs.Settings.{AreSettings, level_of, rule_of};
