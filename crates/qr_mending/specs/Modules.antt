@@ -32,20 +32,20 @@ abbrev pub modules_of : List Module → ℕ → List Module
 modules_of places k = take 8 (drop (8 * k) places)
 
 -- `part_differences g h places positions first i n` is a number of modules that have different colours in the squares
--- `g` and `h`. It counts the modules of the first `n` data codewords, or of the first `n` error correction codewords,
--- of block `i`. `places` lists the modules of the encoding region in the order in which the bits of the codewords are
--- placed in them. `positions` lists the positions of all data codewords, or of all error correction codewords, in
--- interleaved order. The codeword at the first of these positions has the index `first` among all interleaved codewords
--- of the symbol (ISO/IEC 18004:2015, 7.6, 7.7.3).
+-- `g` and `h`. Only the modules of the first `n` data codewords, or of the first `n` error correction codewords, of
+-- block `i` are counted. `places` lists the modules of the encoding region in the order in which the bits of the
+-- codewords are placed in them. `positions` lists the positions of all data codewords, or of all error correction
+-- codewords, in interleaved order. The codeword at the first of these positions has the index `first` among all
+-- interleaved codewords of the symbol (ISO/IEC 18004:2015, 7.6, 7.7.3).
 abbrev pub part_differences : Grid → Grid → List Module → List Position → (first i n : ℕ) → ℕ
 part_differences g h places positions first i zero = 0
 part_differences g h places positions first i (suc n) =
     module_differences g h (modules_of places (first + index_of (record { place = n; block = i }) positions))
     + part_differences g h places positions first i n
 
--- `DifferInFewModules v l g h` holds if the squares `g` and `h` of modules, both of version `v` and level `l`, differ
--- in few modules. In the first copy of the format information at most three modules differ. In each block, the number
--- of modules that differ is at most the number of codewords that can be corrected in a block
+-- `DifferInFewModules v l g h` holds if the squares `g` and `h` of modules differ in few modules. The two squares have
+-- version `v` and level `l`. In the first copy of the format information at most three modules differ. In each block,
+-- the number of modules that differ is at most the number of codewords that can be corrected in a block
 -- (ISO/IEC 18004:2015, 7.5.1, 7.9.1).
 pub record DifferInFewModules (v : ℕ) (l : Level) (g h : Grid) : Type 0 where
   pub format : bit_differences 15 (copy_bit First g) (copy_bit First h) ≤ 3

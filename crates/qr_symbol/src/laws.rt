@@ -54,8 +54,9 @@ pub fn masks_compute()
     ensures rows { map first_rows all_masks ≡ computed_rows }
 {}
 
-/// `build_masked` draws module by module, and `build` draws several modules at once, but both make the same symbol. If
-/// `build_masked` is called with the mask pattern that `build` has chosen, the two symbols have the same fields.
+/// `build_masked` draws module by module, and `build` draws several modules at once, but the two functions make the
+/// same symbol. If `build_masked` is called with the mask pattern that `build` has chosen, the two symbols have the
+/// same fields.
 pub fn plain_and_fast_symbols_are_one(
     alloc: Global,
     version: Version,
@@ -191,8 +192,8 @@ pub fn symbols_are_one()
     ensures { SymbolsAreOne }
 {}
 
-/// If the symbol of an input is read, the result is this input without a structured append header. The segments that
-/// are read are those with the fewest bits.
+/// If the symbol of an input is read, the result is this input without a structured append header. The result contains
+/// the segments with the fewest bits.
 pub fn symbols_are_read(smallest: Version)
     ensures { (x : List ℕ) (l : Level) (rule : Rule) (v mask : ℕ) (g : Grid)
         → (s : IsSymbol smallest l rule x v mask g)

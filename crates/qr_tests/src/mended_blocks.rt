@@ -47,8 +47,8 @@ fn block_of_eight_digits_damaged(rt: HostRuntime) {
 }
 
 // Replaces codewords in the block of `01234567`, as `unread` and `misread` list them, and corrects the block. The
-// codewords in `unread` are erased: the function that corrects the block is told that they could not be read. Returns
-// the number of misread codewords. Returns `None` if the block could not be corrected.
+// codewords in `unread` are passed as erased, which means that they could not be read. Returns the number of misread
+// codewords. Returns `None` if the block could not be corrected.
 fn mended_with_erasures(
     rt: &impl Abort,
     spare: usize,
