@@ -1,4 +1,4 @@
-//! Trials (test calls) of the functions that make, read or draw symbols and allocate memory. The trials use the symbol
+//! Trials (test calls) of the functions that make, read or mend symbols and allocate memory. The trials use the symbol
 //! of `HELLO WORLD` in version 1-M, and the series of `ABCDEFGH` in byte mode in version 1-H.
 
 use crate::answer::Answer;
