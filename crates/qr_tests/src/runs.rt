@@ -49,7 +49,8 @@ pub fn line_of(alloc: Global, words: &[&str]) -> Result<Vec<String>, AllocError>
 }
 
 /// Runs the command with the arguments `words` and with `input` as standard input. `devices` describes the faults of
-/// standard input, standard output and standard error. `devices` also contains how many bytes the two outputs can accept.
+/// standard input, standard output and standard error. `devices` also contains the numbers of bytes that the two
+/// outputs can accept.
 pub fn run_with(
     alloc: Global,
     words: &[&str],
