@@ -1,12 +1,12 @@
-//! The result of a trial, which is one call of a function that allocates memory.
+//! Defines the results of trials. A trial is one call of a function that allocates memory.
 
-/// The result of a call, compared with the expected result.
+/// Whether a call returned the expected result.
 #[derive(Clone, Copy)]
 pub enum Answer {
-    /// The call returned the value that it returns if no memory is refused.
+    /// The call returned the expected value: the value that it returns if no memory is refused.
     Ordinary,
-    /// The call failed because memory was refused. The text, which is printed, contains the error and says that the
-    /// arguments are unchanged.
+    /// The call failed because memory was refused. The text contains the error, and notes that the arguments are
+    /// unchanged. The text is printed.
     Memory(&'static str),
     /// The call returned another value, or failed with another error.
     Other,
@@ -15,8 +15,8 @@ pub enum Answer {
 }
 
 impl Answer {
-    /// Returns `Ordinary` if `is_worked` is true, which means that the call returned the expected value. Otherwise
-    /// returns `Other`.
+    /// Returns `Ordinary` if `is_worked` is true, and `Other` otherwise. The parameter `is_worked` is true if the call
+    /// returned the expected value.
     pub fn of(is_worked: bool) -> Answer {
         if is_worked {
             Answer::Ordinary
@@ -25,13 +25,13 @@ impl Answer {
         }
     }
 
-    /// Returns this answer if `is_same` is true, which means that the arguments of the call are unchanged. Otherwise
-    /// returns `Changed`.
+    /// Returns this result if `is_same` is true, and `Changed` otherwise. The parameter `is_same` is true if the
+    /// arguments of the call are unchanged.
     pub fn given(self, is_same: bool) -> Answer {
         if is_same { self } else { Answer::Changed }
     }
 
-    /// Returns the text that is printed for this answer.
+    /// Returns the text that is printed for this result.
     pub fn text(self) -> &'static str {
         match self {
             Answer::Ordinary => "as worked out, arguments unchanged",

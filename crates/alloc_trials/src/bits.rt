@@ -1,5 +1,5 @@
-//! Trials (test calls) of the functions of `qr_bits` that allocate memory. Most trials use the input `HELLO WORLD`, its
-//! one segment, and its data codewords in version 1-M.
+//! Trials (test calls) of the functions of `qr_bits` that allocate memory. Most trials use the input `HELLO WORLD`,
+//! which is one segment, and its data codewords in version 1-M.
 
 use crate::answer::Answer;
 use qr_bits::{

@@ -1,5 +1,5 @@
-//! Trials (test calls) of the functions of `qrencode_cli` that allocate memory. The runs of the command use a reader
-//! and writers in memory.
+//! Trials (test calls) of the functions of `qrencode_cli` that allocate memory. In these trials, the command reads its
+//! input from memory and writes its output to memory.
 
 use crate::answer::Answer;
 use qrencode_cli::{Faults, Trial, UsageFault, options, run};
@@ -8,7 +8,7 @@ use std::alloc::{AllocError, Global};
 // The line that the command writes to standard error if memory is refused.
 static OUT_OF_MEMORY: &str = "qrencode: out of memory\n";
 
-// Returns the command line that consists of the program's name and then `words`.
+// Returns a command line: the name of the program, and then the arguments `words`.
 fn line(alloc: Global, words: &[&str]) -> Result<Vec<String>, AllocError> {
     let mut list = Vec::new(alloc);
     list.push(String::from_str(alloc, "qrencode")?)?;
@@ -18,7 +18,7 @@ fn line(alloc: Global, words: &[&str]) -> Result<Vec<String>, AllocError> {
     Ok(list)
 }
 
-// Returns whether the texts of `list` after the program's name are equal to `words`.
+// Returns whether `list` contains the arguments `words` after the name of the program.
 fn are(list: &[String], words: &[&str]) -> bool {
     list.iter()
         .skip(1)
@@ -37,8 +37,9 @@ pub fn settings(alloc: Global) -> Result<Answer, AllocError> {
     Ok(answer.given(are(&list, &words)))
 }
 
-// Runs the command, and compares the run with the run that is expected if no memory is refused. The expected run ends
-// with the status `status`. Its standard output begins with `prefix`, and its standard error contains `part`.
+// Runs the command, and compares the results with those that are expected if no memory is refused. The expected exit
+// status is `status`. Standard output is expected to begin with `prefix`, and standard error is expected to contain
+// `part`.
 fn ran(
     alloc: Global,
     words: &[&str],

@@ -1,7 +1,7 @@
-//! A test program for the public functions that allocate memory. Its argument is the name of a trial, which is one call
-//! of such a function. The program runs this trial, and prints a line with the result. Without an argument, the program
-//! runs all trials. The script `tests/refused_growths` runs each trial many times, and in each run refuses another one
-//! of its requests for memory.
+//! A test program for the public functions that allocate memory. The program takes the name of a trial as its argument.
+//! A trial is one call of such a function. The program runs this trial, and prints a line with the result. Without an
+//! argument, the program runs all trials. The script `tests/refused_growths` runs each trial many times. In each run,
+//! the script refuses another request for memory.
 //!
 //! The arguments of the call are made before the call. After the call, the program checks that these arguments are
 //! unchanged.
@@ -17,7 +17,7 @@ use std::alloc::{AllocError, Global};
 use std::env;
 use std::process::ExitCode;
 
-// The names of the trials, in the order of the crates from the lowest to the highest.
+// The names of all trials. The trials of a crate come after the trials of the crates that it uses.
 static NAMES: [&str; 22] = [
     "Matrix::new",
     "segments",
@@ -43,8 +43,8 @@ static NAMES: [&str; 22] = [
     "run_kanji",
 ];
 
-// Runs the trial `name`, and returns its result. Returns an error if memory is refused while the arguments of the
-// trial's call are made.
+// Runs the trial `name`, and returns its result. Returns an error if memory is refused while the arguments of the call
+// are made.
 fn trial(alloc: Global, name: &str) -> Result<Answer, AllocError> {
     match name {
         "Matrix::new" => Ok(symbols::matrix(alloc)),

@@ -1,5 +1,5 @@
-//! Trials (test calls) of the functions on symbols that allocate memory. The trials use the symbol of `HELLO WORLD` in
-//! version 1-M, and the series of `ABCDEFGH` in byte mode in version 1-H.
+//! Trials (test calls) of the functions that make, read or mend symbols and allocate memory. The trials use the symbol
+//! of `HELLO WORLD` in version 1-M, and the series of `ABCDEFGH` in byte mode in version 1-H.
 
 use crate::answer::Answer;
 use crate::bits::{DATA, HELLO_WORLD};
@@ -42,7 +42,8 @@ fn are_equal(a: &Matrix, b: &Matrix) -> bool {
     true
 }
 
-// Returns whether the series `a` and `b` have the same number of symbols and, symbol by symbol, the same modules.
+// Returns whether the series `a` and `b` have the same number of symbols, and symbols with the same index have the same
+// modules.
 fn are_equal_series(a: &[Symbol], b: &[Symbol]) -> bool {
     a.len() == b.len()
         && a.iter()
@@ -50,7 +51,7 @@ fn are_equal_series(a: &[Symbol], b: &[Symbol]) -> bool {
             .all(|(x, y)| are_equal(&x.matrix, &y.matrix))
 }
 
-// Returns the symbol of `HELLO WORLD` in version 1-M, or an error if memory is refused.
+// Returns the symbol of `HELLO WORLD` in version 1-M. Returns an error if memory is refused.
 fn hello(alloc: Global) -> Result<Symbol, AllocError> {
     encode(alloc, &HELLO_WORLD, Level::M, Version::FIRST, Rule::Auto).map_err(|_| AllocError)
 }
@@ -184,8 +185,8 @@ pub fn mended_series(alloc: Global) -> Result<Answer, AllocError> {
     Ok(answer.given(are_equal(&squares[0], &same.matrix)))
 }
 
-// Returns the series of `ABCDEFGH` in byte mode in version 1-H, or an error if memory is refused. The series has two
-// symbols, with five letters and with three letters.
+// Returns the series of `ABCDEFGH` in byte mode in version 1-H. The series has two symbols: the first contains five
+// letters, and the second contains three letters. Returns an error if memory is refused.
 fn series(alloc: Global) -> Result<Vec<Symbol>, AllocError> {
     encode_series(alloc, &LETTERS, Version::FIRST, Level::H, Rule::BytesOnly).map_err(
         |_| AllocError,

@@ -1,4 +1,4 @@
--- The definition of a label: the symbol of a text, drawn with characters, and below it the text.
+-- Defines a label: a symbol that is drawn with characters, followed by the text that the symbol contains.
 use Rattle.std.specs.Prelude.{◌≡◌, ℕ, Bool, if◌then◌else◌, List, [], ◌∷◌, ◌++◌, map}
 use Rattle.std.specs.List.{flat_map, range_with_len}
 use Rattle.qr_layout.specs.declared.level.Level.{Level}
@@ -10,14 +10,14 @@ use Rattle.qr_symbol.specs.Encoding.{IsSymbol}
 abbrev pub character_of : Bool → ℕ
 character_of dark = if dark then 35 else 32
 
--- `line_of_row g row` is the line of text for the row `row` of the square of modules `g`: a character for each module,
--- and then a line feed [own].
+-- `line_of_row g row` is the line of text for row `row` of the square of modules `g`. The line consists of a character
+-- for each module, and then a line feed [own].
 abbrev pub line_of_row : Grid → ℕ → List ℕ
 line_of_row g row = map (λ col. character_of (colour g row col)) (range_with_len 0 g.side) ++ 10 ∷ []
 
 -- `IsLabel words level smallest text` holds if `text` is the label of `words`: a line for each row of modules of a
--- symbol, and then a line with `words`. The symbol contains `words`, has the level `level`, and has the least version
--- from `smallest` on that `words` fits [own].
+-- symbol, and then a line with `words`. The symbol contains `words`. It has the level `level` and the least version,
+-- from `smallest` on, that `words` fits [own].
 pub record IsLabel (words : List ℕ) (level : Level) (smallest : ℕ) (text : List ℕ) : Type 0 where
   pub version : ℕ
   pub mask : ℕ

@@ -1,6 +1,6 @@
-//! An example of a crate that uses `qr_symbol`. The crate makes labels. A label consists of the symbol of a text, drawn
-//! with characters, and below the symbol the text itself. The contract of `label` states what the label contains, down
-//! to the last character.
+//! An example of a crate that uses `qr_symbol`. The crate makes labels. A label is a symbol that is drawn with
+//! characters, followed by the text that the symbol contains. The contract of `label` determines every character of the
+//! label.
 #![tactic(auto)]
 
 ghost use Rattle.std.specs.Prelude.{◌≡◌, ◌≢◌, ◌<◌, ◌≤◌, ◌↔◌, ◌⊎◌, ◌++◌, [], length, Err, IfErr, IfOk, IsOk};
@@ -12,10 +12,10 @@ ghost use Rattle.example_label.specs.Label.{IsLabel, character_of, line_of_row};
 use qr_symbol::{EncodeFault, INPUT_MAX, Level, Matrix, Rule, Version, encode};
 use std::alloc::{AllocError, Global};
 
-/// Returns a label, which consists of the symbol of `words` and, below the symbol, a line with `words`. The symbol has
-/// a line of text for each row of modules, with `#` for a dark module and a space for a light one. The symbol has the
-/// level `level`, and the least version from `smallest` on that `words` fits. The label has no quiet zone, so the paper
-/// around the label has to be light.
+/// Returns a label, which consists of the symbol of `words` and, below the symbol, a line with `words`. The label
+/// contains a line of text for each row of modules, with `#` for a dark module and a space for a light module. The
+/// symbol has the level `level`, and the least version, from `smallest` on, that `words` fits. The label has no quiet
+/// zone, so the paper around the label has to be light.
 ///
 /// # Errors
 ///
@@ -58,7 +58,7 @@ fn push_line(text: &mut Vec<u8>, matrix: &Matrix, row: u8) -> Result<(), AllocEr
     Ok(())
 }
 
-// Returns the character for a module: `#` if the module is dark, and a space if it is light.
+// Returns `#` for a dark module, and a space for a light module.
 fn character_of(dark: bool) -> u8
     ensures { result ≡ character_of dark }
 {
@@ -70,8 +70,8 @@ mod tests {
     use super::*;
     use std::test::Fail;
 
-    // The label of `A` in version 1-L has 21 lines of 21 modules and the line `A`. Its first line begins with the seven
-    // dark modules of a finder pattern.
+    // The label of `A` in version 1-L has 21 lines for 21 rows of modules, and then the line `A`. The first line begins
+    // with the seven dark modules of a finder pattern.
     #[test]
     fn a_letter_at_1_l(rt: HostRuntime) -> Result<(), Fail> {
         let version = Version::new(1).ok_or("version 1")?;

@@ -24,15 +24,15 @@ abbrev pub bit_differences : ℕ → (ℕ → Bool) → (ℕ → Bool) → ℕ
 bit_differences zero p q = 0
 bit_differences (suc n) p q = bit_difference (p n) (q n) + bit_differences n p q
 
--- `copy_place copy s i` is the place, a row and a column, of bit `i` in a copy of the format information. The symbol
--- has `s` rows of `s` modules. The first copy is beside the top left finder pattern, and the second copy is beside the
--- other two finder patterns (ISO/IEC 18004:2015, 7.9.1).
+-- `copy_place copy s i` is the place, a row and a column, of bit `i` in the copy `copy` of the format information. The
+-- symbol has `s` rows of `s` modules. The first copy is beside the top left finder pattern, and the second copy is
+-- beside the other two finder patterns (ISO/IEC 18004:2015, 7.9.1).
 abbrev pub copy_place : FormatCopy → ℕ → ℕ → Module
 copy_place First s i = first_place i
 copy_place Second s i = second_place s i
 
--- `copy_bit copy g i` is bit `i` in a copy of the format information, read from the square `g` of modules. The bit is
--- true if its module is dark (ISO/IEC 18004:2015, 7.9.1).
+-- `copy_bit copy g i` is bit `i` in the copy `copy` of the format information, read from the square `g` of modules. The
+-- bit is true if its module is dark (ISO/IEC 18004:2015, 7.9.1).
 abbrev pub copy_bit : FormatCopy → Grid → ℕ → Bool
 copy_bit copy g i = colour g (copy_place copy g.side i).row (copy_place copy g.side i).col
 
@@ -50,13 +50,14 @@ wrong_bit false shown wanted = bit_difference shown wanted
 
 -- `wrong_bits_without unknown copy g l mask` is the number of wrong modules in one copy of the format information in
 -- the square `g` of modules. A module is wrong if it was not read, or if it does not have the colour that the format
--- information of level `l` and mask `mask` requires. The dark modules of `unknown` are those that were not read
+-- information of level `l` and mask `mask` requires. A module was not read if it is dark in `unknown`
 -- (ISO/IEC 18004:2015, 7.9.1).
 abbrev pub wrong_bits_without : Grid → FormatCopy → Grid → Level → ℕ → ℕ
 wrong_bits_without unknown copy g l mask = sum_below 15 (λ i. wrong_bit (copy_bit copy unknown i) (copy_bit copy g i) (word_bit (format_word_of l mask) i))
 
--- `IsNearFormat copy g l mask` holds if the format information of level `l` and mask `mask`, from 0 to 7, differs from
--- one copy in the square `g` of modules in at most three modules (ISO/IEC 18004:2015, 7.9.1, Annex C).
+-- `IsNearFormat copy g l mask` holds if level `l` and mask `mask` fit the copy `copy` of the format information in the
+-- square `g` of modules. Their format information differs from the copy in at most three modules. The number `mask` is
+-- at most 7 (ISO/IEC 18004:2015, 7.9.1, Annex C).
 pub record IsNearFormat (copy : FormatCopy) (g : Grid) (l : Level) (mask : ℕ) : Type 0 where
   pub in_range : mask < 8
   pub near : wrong_bits copy g l mask ≤ 3

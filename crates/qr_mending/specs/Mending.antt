@@ -1,7 +1,7 @@
--- Defines how a damaged symbol is read and its damage corrected. A definition with `Without` or `without` at the end of
--- its name is for symbols in which some modules may not have been read. The parameter `unknown` of such a definition is
--- an optional square of modules, whose dark modules are those that were not read. If there is a definition of the same
--- name without this ending, it is for symbols of which all modules were read.
+-- Defines how a damaged symbol is read and its damage corrected. If the name of a definition ends with `Without` or
+-- `without`, the definition is for symbols in which some modules may not have been read. The parameter `unknown` of
+-- such a definition is an optional square of modules. A module was not read if it is dark in this square. If there is a
+-- definition of the same name without this ending, it is for symbols whose modules were all read.
 use Rattle.std.specs.Prelude.{◌≡◌, ◌≢◌, ◌⊎◌, ℕ, ◌+◌, Option, None, Some, Result, Ok, Err, List}
 use Rattle.qr_layout.specs.declared.level.Level.{Level}
 use Rattle.qr_bits.specs.Bits.{bits_of}
@@ -23,9 +23,9 @@ use Rattle.qr_mending.specs.Unread.{IsMendedInWithout}
 
 -- `HoldsDamagedWithout unknown v l mask g message changed` holds if the square `g` of modules contains a damaged form
 -- of the data codewords `message`. The symbol has version `v`, level `l` and mask `mask`. If `unknown` contains a
--- square, the dark modules of this square are those that were not read. A codeword with a module that was not read is
--- erased. The list `changed` contains for each block the number of misread codewords. No block has more erased and
--- misread codewords than can be corrected (ISO/IEC 18004:2015, 7.5.1, 7.6, 7.7.3, 12).
+-- square, a module was not read if it is dark in this square. A codeword with a module that was not read is erased. The
+-- list `changed` contains for each block the number of misread codewords. No block has more erased and misread
+-- codewords than can be corrected (ISO/IEC 18004:2015, 7.5.1, 7.6, 7.7.3, 12).
 pub record HoldsDamagedWithout (unknown : Option Grid) (v : ℕ) (l : Level) (mask : ℕ) (g : Grid) (message changed : List ℕ) : Type 0 where
   pub codewords : List ℕ
   pub held : IsRead v mask g codewords
@@ -38,27 +38,27 @@ pub record HoldsDamagedWithout (unknown : Option Grid) (v : ℕ) (l : Level) (ma
 abbrev pub HoldsDamaged : ℕ → Level → ℕ → Grid → List ℕ → List ℕ → Type 0
 HoldsDamaged v l mask g message changed = HoldsDamagedWithout None v l mask g message changed
 
--- `IsOfNoUseWithout unknown copy v g` holds if one copy of the format information is of no use for mending the square
--- `g` of modules, which has version `v`. For each level and mask, one of two conditions is true. Either their format
--- information differs from the copy in more than three modules, or some block has more erased and misread codewords
--- than can be corrected. If `unknown` contains a square, the dark modules of this square are those that were not read.
+-- `IsOfNoUseWithout unknown copy v g` holds if the copy `copy` of the format information is of no use for mending the
+-- square `g` of modules, which has version `v`. For each level and mask, one of two conditions is true. Either their
+-- format information differs from the copy in more than three modules, or some block has more erased and misread
+-- codewords than can be corrected. If `unknown` contains a square, a module was not read if it is dark in this square.
 -- A codeword with a module that was not read is erased (ISO/IEC 18004:2015, 7.5.1, 7.9.1, 12).
 abbrev pub IsOfNoUseWithout : Option Grid → FormatCopy → ℕ → Grid → Type 0
 IsOfNoUseWithout unknown copy v g = (l : Level) (mask : ℕ) → IsNearFormat copy g l mask
     → (message changed : List ℕ) → HoldsDamagedWithout unknown v l mask g message changed → ⊥
 
--- `IsOfNoUse copy v g` holds if one copy of the format information is of no use for mending the square `g` of modules,
--- which has version `v`. For each level and mask, one of two conditions is true. Either their format information
--- differs from the copy in more than three modules, or some block has more wrong codewords than can be corrected
--- (ISO/IEC 18004:2015, 7.5.1, 7.9.1, 12).
+-- `IsOfNoUse copy v g` holds if the copy `copy` of the format information is of no use for mending the square `g` of
+-- modules, which has version `v`. For each level and mask, one of two conditions is true. Either their format
+-- information differs from the copy in more than three modules, or some block has more wrong codewords than can be
+-- corrected (ISO/IEC 18004:2015, 7.5.1, 7.9.1, 12).
 abbrev pub IsOfNoUse : FormatCopy → ℕ → Grid → Type 0
 IsOfNoUse copy v g = IsOfNoUseWithout None copy v g
 
 -- `HasFormatWithout unknown v g l mask` holds if the square `g` of modules, which has version `v`, has to be read with
--- level `l` and mask `mask`. The format information of this level and mask differs from one copy in `g` in at most
--- three modules. This copy is the first copy, or the second copy if the first copy is of no use for mending `g`. If
--- `unknown` contains a square, the dark modules of this square are those that were not read
--- (ISO/IEC 18004:2015, 7.9.1, 12).
+-- level `l` and mask `mask`. The format information of this level and mask differs from the first copy in `g` in at
+-- most three modules. If the first copy is of no use for mending `g`, the format information must instead differ from
+-- the second copy in at most three modules. If `unknown` contains a square, a module was not read if it is dark in this
+-- square (ISO/IEC 18004:2015, 7.9.1, 12).
 abbrev pub HasFormatWithout : Option Grid → ℕ → Grid → Level → ℕ → Type 0
 HasFormatWithout unknown v g l mask = IsNearFormat First g l mask ⊎ (IsNearFormat Second g l mask × IsOfNoUseWithout unknown First v g)
 
@@ -71,8 +71,8 @@ HasFormat v g l mask = HasFormatWithout None v g l mask
 
 -- `IsDamagedFormWithout unknown g v l mask message changed` holds if the square `g` of modules is a damaged form of the
 -- symbol with the data codewords `message`. The symbol has version `v`, level `l` and mask `mask`. The list `changed`
--- contains for each block the number of misread codewords. If `unknown` contains a square, the dark modules of this
--- square are those that were not read (ISO/IEC 18004:2015, 7.5.1, 7.9.1, 12).
+-- contains for each block the number of misread codewords. If `unknown` contains a square, a module was not read if it
+-- is dark in this square (ISO/IEC 18004:2015, 7.5.1, 7.9.1, 12).
 pub record IsDamagedFormWithout (unknown : Option Grid) (g : Grid) (v : ℕ) (l : Level) (mask : ℕ) (message changed : List ℕ) : Type 0 where
   pub sized : IsOfVersion g v
   pub format : HasFormatWithout unknown v g l mask
@@ -84,32 +84,33 @@ pub record IsDamagedFormWithout (unknown : Option Grid) (g : Grid) (v : ℕ) (l 
 abbrev pub IsDamagedForm : Grid → ℕ → Level → ℕ → List ℕ → List ℕ → Type 0
 IsDamagedForm g v l mask message changed = IsDamagedFormWithout None g v l mask message changed
 
--- `IsMendedAsWithout unknown g v l mask outcome changed` holds if the square `g` of modules is a damaged form of some
--- symbol, and parsing the data codewords of the symbol has the outcome `outcome`. The symbol has version `v`, level `l`
--- and mask `mask`. The list `changed` contains for each block the number of misread codewords. Erased codewords, which
--- have a module that was not read, are not counted (ISO/IEC 18004:2015, 12).
+-- `IsMendedAsWithout unknown g v l mask outcome changed` holds if two conditions are true. The square `g` of modules is
+-- a damaged form of some symbol, and parsing the data codewords of this symbol has the outcome `outcome`. The symbol
+-- has version `v`, level `l` and mask `mask`. The list `changed` contains for each block the number of misread
+-- codewords. Erased codewords are not counted; a codeword is erased if it has a module that was not read
+-- (ISO/IEC 18004:2015, 12).
 pub record IsMendedAsWithout (unknown : Option Grid) (g : Grid) (v : ℕ) (l : Level) (mask : ℕ) (outcome : Result Content ParseFault) (changed : List ℕ) : Type 0 where
   pub message : List ℕ
   pub form : IsDamagedFormWithout unknown g v l mask message changed
   pub parsed : parse v (bits_of message) ≡ outcome
 
 -- `IsMendedReadingWithout unknown g v l mask content changed` holds if the square `g` of modules is read as the content
--- `content` once its damage is corrected. The symbol has version `v`, level `l` and mask `mask`. The list `changed`
--- contains for each block the number of misread codewords. If `unknown` contains a square, the dark modules of this
--- square are those that were not read (ISO/IEC 18004:2015, 12).
+-- `content` after its damage is corrected. The symbol has version `v`, level `l` and mask `mask`. The list `changed`
+-- contains for each block the number of misread codewords. If `unknown` contains a square, a module was not read if it
+-- is dark in this square (ISO/IEC 18004:2015, 12).
 abbrev pub IsMendedReadingWithout : Option Grid → Grid → ℕ → Level → ℕ → Content → List ℕ → Type 0
 IsMendedReadingWithout unknown g v l mask content changed = IsMendedAsWithout unknown g v l mask (Ok content) changed
 
--- `IsMendedReading g v l mask content changed` holds if the square `g` of modules is read as the content `content` once
--- its damage is corrected. The symbol has version `v`, level `l` and mask `mask`. The list `changed` contains for each
--- block the number of changed codewords (ISO/IEC 18004:2015, 12).
+-- `IsMendedReading g v l mask content changed` holds if the square `g` of modules is read as the content `content`
+-- after its damage is corrected. The symbol has version `v`, level `l` and mask `mask`. The list `changed` contains for
+-- each block the number of changed codewords (ISO/IEC 18004:2015, 12).
 abbrev pub IsMendedReading : Grid → ℕ → Level → ℕ → Content → List ℕ → Type 0
 IsMendedReading g v l mask content changed = IsMendedReadingWithout None g v l mask content changed
 
 -- `wrong_format_modules_without unknown g l mask` is the number of wrong modules among the 30 modules of the two copies
 -- of the format information in the square `g`. A module is wrong if it was not read, or if it does not have the colour
--- that the format information of level `l` and mask `mask` requires. If `unknown` contains a square, the dark modules
--- of this square are those that were not read (ISO/IEC 18004:2015, 7.9.1).
+-- that the format information of level `l` and mask `mask` requires. If `unknown` contains a square, a module was not
+-- read if it is dark in this square (ISO/IEC 18004:2015, 7.9.1).
 abbrev pub wrong_format_modules_without : Option Grid → Grid → Level → ℕ → ℕ
 wrong_format_modules_without None g l mask = wrong_bits First g l mask + wrong_bits Second g l mask
 wrong_format_modules_without (Some unknown) g l mask = wrong_bits_without unknown First g l mask + wrong_bits_without unknown Second g l mask
@@ -120,14 +121,16 @@ wrong_format_modules_without (Some unknown) g l mask = wrong_bits_without unknow
 abbrev pub wrong_format_modules : Grid → Level → ℕ → ℕ
 wrong_format_modules g l mask = wrong_format_modules_without None g l mask
 
--- `wrong_count unknown g h` is the number of modules that were not read, or that have different colours in the squares
--- `g` and `h` of modules. The dark modules of `unknown` are those that were not read [own].
+-- `wrong_count unknown g h` is the number of wrong modules in the square `g` of modules, compared with the square `h`.
+-- A module is wrong if it was not read, or if it has different colours in `g` and `h`. A module was not read if it is
+-- dark in `unknown` [own].
 unfoldable pub wrong_count : Grid → Grid → Grid → ℕ
 wrong_count unknown g h = sum_below g.side (λ r. sum_below g.side (λ c. wrong_bit (colour unknown r c) (colour g r c) (colour h r c)))
 
--- `wrong_modules_without unknown g h` is the number of modules that were not read, or that have different colours in
--- the squares `g` and `h` of modules. If `unknown` contains a square, the dark modules of this square are those that
--- were not read. If `unknown` contains no square, all modules were read [own].
+-- `wrong_modules_without unknown g h` is the number of wrong modules in the square `g` of modules, compared with the
+-- square `h`. A module is wrong if it was not read, or if it has different colours in `g` and `h`. If `unknown`
+-- contains a square, a module was not read if it is dark in this square. If `unknown` contains no square, all modules
+-- were read [own].
 abbrev pub wrong_modules_without : Option Grid → Grid → Grid → ℕ
 wrong_modules_without None g h = difference_count g h
 wrong_modules_without (Some unknown) g h = wrong_count unknown g h
@@ -152,8 +155,8 @@ DiffersFromSymbol g v l mask message wrong = DiffersFromSymbolWithout None g v l
 -- `HasWrongModulesWithout unknown g v l mask changed wrong` holds if the square `g` of modules is a damaged form of a
 -- symbol, and `wrong` is the number of wrong modules in `g`. The symbol has version `v`, level `l` and mask `mask`. The
 -- list `changed` contains for each block the number of misread codewords. A module is wrong if it was not read, or if
--- it does not have the colour that it has in the symbol. So `wrong` is 0 exactly if all modules were read and each
--- module has the colour that it has in the symbol (ISO/IEC 18004:2015, 7.5.2, 7.6, 7.7, 7.8).
+-- it does not have the colour that it has in the symbol. So `wrong` is 0 if all modules were read and each module has
+-- the colour that it has in the symbol, and only then (ISO/IEC 18004:2015, 7.5.2, 7.6, 7.7, 7.8).
 pub record HasWrongModulesWithout (unknown : Option Grid) (g : Grid) (v : ℕ) (l : Level) (mask : ℕ) (changed : List ℕ) (wrong : ℕ) : Type 0 where
   pub message : List ℕ
   pub form : IsDamagedFormWithout unknown g v l mask message changed
@@ -161,15 +164,16 @@ pub record HasWrongModulesWithout (unknown : Option Grid) (g : Grid) (v : ℕ) (
 
 -- `HasWrongModules g v l mask changed wrong` holds if the square `g` of modules is a damaged form of a symbol and
 -- differs from this symbol in `wrong` modules. The symbol has version `v`, level `l` and mask `mask`. The list
--- `changed` contains for each block the number of changed codewords. So `wrong` is 0 exactly if the square is equal to
--- the symbol (ISO/IEC 18004:2015, 7.5.2, 7.6, 7.7, 7.8).
+-- `changed` contains for each block the number of changed codewords. So `wrong` is 0 if the square is equal to the
+-- symbol, and only then (ISO/IEC 18004:2015, 7.5.2, 7.6, 7.7, 7.8).
 abbrev pub HasWrongModules : Grid → ℕ → Level → ℕ → List ℕ → ℕ → Type 0
 HasWrongModules g v l mask changed wrong = HasWrongModulesWithout None g v l mask changed wrong
 
--- `IsBeyondMendingWithout unknown g` holds if the square `g` of modules, which has as many rows as some version, cannot
--- be mended. At least one level and mask have format information that differs from a copy in `g` in at most three
--- modules. But with each such level and mask, some block has more erased and misread codewords than can be corrected. A
--- codeword with a module that was not read is erased (ISO/IEC 18004:2015, 7.5.1, 7.9.1, 12).
+-- `IsBeyondMendingWithout unknown g` holds if the square `g` of modules cannot be mended, although its number of rows
+-- is that of a version. At least one pair of level and mask is near to a copy of the format information in `g`. This
+-- means that the format information of the pair differs from the copy in at most three modules. But with each pair that
+-- is near to a copy, some block has more erased and misread codewords than can be corrected. A codeword with a module
+-- that was not read is erased (ISO/IEC 18004:2015, 7.5.1, 7.9.1, 12).
 pub record IsBeyondMendingWithout (unknown : Option Grid) (g : Grid) : Type 0 where
   pub version : ℕ
   pub sized : IsOfVersion g version
@@ -180,11 +184,11 @@ pub record IsBeyondMendingWithout (unknown : Option Grid) (g : Grid) : Type 0 wh
   pub useless : (any : FormatCopy) → IsOfNoUseWithout unknown any version g
 
 -- `IsUnmendedWithout unknown g e` holds if mending the square `g` of modules may fail with the fault `e`. Some modules
--- of `g` may not have been read. The fault is `Side` if no version has as many rows as `g`. The fault is `Format` if a
--- version has as many rows, but the format information of each level and mask differs from both copies in more than
--- three modules. The fault is `Check` if more codewords are erased and misread than can be corrected. The fault is
--- `Segments` if the mended data codewords cannot be parsed. The fault `Memory` is possible for every square of modules,
--- and the fault `Series` is impossible (ISO/IEC 18004:2015, 12).
+-- of `g` may not have been read. The fault is `Side` if no version has as many rows as `g`. The fault is `Format` if
+-- some version has as many rows as `g`, but the format information of each level and mask differs from both copies in
+-- more than three modules. The fault is `Check` if more codewords are erased and misread than can be corrected. The
+-- fault is `Segments` if the mended data codewords cannot be parsed. The fault `Memory` is possible for every square of
+-- modules, and the fault `Series` is impossible (ISO/IEC 18004:2015, 12).
 abbrev pub IsUnmendedWithout : Option Grid → Grid → ReadFault → Type 0
 IsUnmendedWithout unknown g unread.Memory = Unit {0}
 IsUnmendedWithout unknown g unread.Side = (v : ℕ) → IsOfVersion g v → ⊥
@@ -194,9 +198,10 @@ IsUnmendedWithout unknown g (unread.Segments e) = (e ≢ unparsed.Memory) × (v 
 IsUnmendedWithout unknown g unread.Series = ⊥
 
 -- `IsUnmended g e` holds if mending the square `g` of modules may fail with the fault `e`. The fault is `Side` if no
--- version has as many rows as `g`. The fault is `Format` if a version has as many rows, but the format information of
--- each level and mask differs from both copies in more than three modules. The fault is `Check` if more codewords are
--- wrong than can be corrected. The fault is `Segments` if the mended data codewords cannot be parsed. The fault
--- `Memory` is possible for every square of modules, and the fault `Series` is impossible (ISO/IEC 18004:2015, 12).
+-- version has as many rows as `g`. The fault is `Format` if some version has as many rows as `g`, but the format
+-- information of each level and mask differs from both copies in more than three modules. The fault is `Check` if more
+-- codewords are wrong than can be corrected. The fault is `Segments` if the mended data codewords cannot be parsed. The
+-- fault `Memory` is possible for every square of modules, and the fault `Series` is impossible
+-- (ISO/IEC 18004:2015, 12).
 abbrev pub IsUnmended : Grid → ReadFault → Type 0
 IsUnmended g e = IsUnmendedWithout None g e

@@ -1,5 +1,5 @@
--- Defines what it means to mend the message of a damaged symbol, block by block. The message is the data codewords of
--- the symbol.
+-- Defines what it means to mend the message of a damaged symbol. The message of a symbol is its data codewords. Each
+-- block of the symbol is mended separately.
 use Rattle.std.specs.Prelude.{◌≡◌, ℕ, ◌-◌, ◌/◌, ◌==◌, if◌then◌else◌, ◌<◌, ◌≤◌, List, ◌++◌, drop, length, slice_index}
 use Rattle.qr_field.specs.Polynomial.{IsCorrection}
 use Rattle.qr_field.specs.Distance.{differences}
@@ -15,10 +15,11 @@ use Rattle.qr_symbol.specs.Interleaving.{block_count, start_of, codeword_count, 
 abbrev pub received : Blocks → List ℕ → List ℕ → ℕ → List ℕ
 received b d e i = part_of (data_sizes b) d i ++ part_of (correction_sizes b) e i
 
--- `IsMendedBlock b t d e message changed i` holds if block `i` of a damaged symbol can be mended to block `i` of the
--- data codewords `message` with its error correction codewords. The two blocks differ in exactly `changed` codewords,
--- and `changed` is at most `t`. `b` contains the sizes of the blocks. `d` lists the data codewords that were read, and
--- `e` lists the error correction codewords that were read (ISO/IEC 18004:2015, 7.5.1).
+-- `IsMendedBlock b t d e message changed i` holds if block `i` of a damaged symbol can be mended. The mended block is
+-- block `i` of the data codewords `message`, followed by its error correction codewords. The damaged block and the
+-- mended block differ in exactly `changed` codewords, and `changed` is at most `t`. `b` contains the sizes of the
+-- blocks. `d` lists the data codewords that were read, and `e` lists the error correction codewords that were read
+-- (ISO/IEC 18004:2015, 7.5.1).
 pub record IsMendedBlock (b : Blocks) (t : ℕ) (d e message : List ℕ) (changed i : ℕ) : Type 0 where
   pub correction : List ℕ
   pub corrects : IsCorrection (part_of (data_sizes b) message i) b.ec_len correction
@@ -45,8 +46,8 @@ pub record IsMendedMessage (b : Blocks) (t : ℕ) (cw message changed : List ℕ
   pub mended : AreMended b t codewords checks (block_count (data_sizes b)) message changed
 
 -- `protection_of v l` is the number of error correction codewords of a block that are kept unused in a symbol of
--- version `v` and level `l`. Keeping them unused makes it less likely that a damaged block is mended to a wrong block
--- (ISO/IEC 18004:2015, 7.5.1, Table 9).
+-- version `v` and level `l`. Unused error correction codewords make it less likely that a damaged block is mended to a
+-- wrong block (ISO/IEC 18004:2015, 7.5.1, Table 9).
 abbrev pub protection_of : ℕ → Level → ℕ
 protection_of v L = if v == 1 then 3 else (if v == 2 then 2 else (if v == 3 then 1 else 0))
 protection_of v M = if v == 1 then 2 else 0
@@ -54,8 +55,8 @@ protection_of v Q = if v == 1 then 1 else 0
 protection_of v H = if v == 1 then 1 else 0
 
 -- `tolerance_of v l` is the largest number of wrong codewords that can be corrected in a block of a symbol of version
--- `v` and level `l`. This number is half the number of error correction codewords that may be used
--- (ISO/IEC 18004:2015, 7.5.1, Table 9).
+-- `v` and level `l`. This number is half the number of error correction codewords of a block that may be used, rounded
+-- down (ISO/IEC 18004:2015, 7.5.1, Table 9).
 abbrev pub tolerance_of : ℕ → Level → ℕ
 tolerance_of v l = ((blocks_of v l).ec_len - protection_of v l) / 2
 

@@ -1,4 +1,5 @@
--- Defines the damage of a symbol as a number of modules, and not as a number of codewords.
+-- Defines what it means that few modules of a symbol are damaged. Other files of this directory count damaged
+-- codewords; this file counts damaged modules.
 use Rattle.std.specs.Prelude.{ℕ, ◌+◌, ◌*◌, ◌<◌, ◌≤◌, ◌==◌, ◌&&◌, if◌then◌else◌, List, [], ◌∷◌, take, drop}
 use Prim.Native.Nat.{zero, suc}
 use Rattle.qr_layout.specs.declared.level.Level.{Level}
@@ -25,25 +26,27 @@ index_of t [] = 0
 index_of t (u ∷ us) = if (t.place == u.place) && (t.block == u.block) then 0 else index_of t us + 1
 
 -- `modules_of places k` lists the eight modules that contain codeword `k` of the interleaved codewords of a symbol.
--- `places` lists all modules of the encoding region in the order in which the bits of the codewords fill them
--- (ISO/IEC 18004:2015, 7.7.3).
+-- `places` lists all modules of the encoding region, in the order in which the bits of the codewords are placed in
+-- these modules (ISO/IEC 18004:2015, 7.7.3).
 abbrev pub modules_of : List Module → ℕ → List Module
 modules_of places k = take 8 (drop (8 * k) places)
 
--- `part_differences g h places positions first i n` is the number of modules in the first `n` data or error correction
--- codewords of block `i` that have different colours in the squares `g` and `h`. `places` lists the modules of the
--- encoding region in the order in which codewords fill them. `positions` lists the positions of all data codewords, or
--- of all error correction codewords, in interleaved order. `first` is the index that the first of these codewords has
--- among all interleaved codewords of the symbol (ISO/IEC 18004:2015, 7.6, 7.7.3).
+-- `part_differences g h places positions first i n` is a number of modules that have different colours in the squares
+-- `g` and `h`. Only the modules of the first `n` data codewords, or of the first `n` error correction codewords, of
+-- block `i` are counted. `places` lists the modules of the encoding region in the order in which the bits of the
+-- codewords are placed in them. `positions` lists the positions of all data codewords, or of all error correction
+-- codewords, in interleaved order. The codeword at the first of these positions has the index `first` among all
+-- interleaved codewords of the symbol (ISO/IEC 18004:2015, 7.6, 7.7.3).
 abbrev pub part_differences : Grid → Grid → List Module → List Position → (first i n : ℕ) → ℕ
 part_differences g h places positions first i zero = 0
 part_differences g h places positions first i (suc n) =
     module_differences g h (modules_of places (first + index_of (record { place = n; block = i }) positions))
     + part_differences g h places positions first i n
 
--- `DifferInFewModules v l g h` holds if the squares `g` and `h` of modules, both of version `v` and level `l`, differ
--- in few modules. In the first copy of the format information at most three modules differ. In each block at most as
--- many modules differ as codewords can be corrected in a block (ISO/IEC 18004:2015, 7.5.1, 7.9.1).
+-- `DifferInFewModules v l g h` holds if the squares `g` and `h` of modules differ in few modules. The two squares have
+-- version `v` and level `l`. In the first copy of the format information at most three modules differ. In each block,
+-- the number of modules that differ is at most the number of codewords that can be corrected in a block
+-- (ISO/IEC 18004:2015, 7.5.1, 7.9.1).
 pub record DifferInFewModules (v : ℕ) (l : Level) (g h : Grid) : Type 0 where
   pub format : bit_differences 15 (copy_bit First g) (copy_bit First h) ≤ 3
   pub places : List Module

@@ -1,4 +1,5 @@
--- Defines how the damaged symbols of a series are read together: their bytes are joined in the order of the symbols.
+-- Defines how the damaged symbols of a series are read together. The damage of the symbols is corrected, and their
+-- bytes are joined in the order of the symbols.
 use Rattle.std.specs.Prelude.{ℕ, List}
 use Rattle.std.specs.List.{AllZip}
 use Rattle.qr_layout.specs.declared.level.Level.{Level}
@@ -9,13 +10,13 @@ use Rattle.qr_symbol.specs.Reading.{IsFormat, IsMessage, IsOfVersion}
 use Rattle.qr_symbol.specs.Joining.{IsJoinedBy, IsUnjoinedBy}
 use Rattle.qr_mending.specs.Mending.{IsDamagedForm, IsMendedReading, IsUnmended}
 
--- `IsMendedContent g content` holds if the square `g` of modules is read as the content `content` once its damage is
+-- `IsMendedContent g content` holds if the square `g` of modules is read as the content `content` after its damage is
 -- corrected. The symbol may have any version, level and mask, and any damage that can be corrected
 -- (ISO/IEC 18004:2015, 12).
 abbrev pub IsMendedContent : Grid → Content → Type 0
 IsMendedContent g content = (v : ℕ) × (l : Level) × (mask : ℕ) × (changed : List ℕ) × IsMendedReading g v l mask content changed
 
--- `IsMendedSeries squares bytes` holds if the damaged symbols `squares` are joined to the list `bytes` once their
+-- `IsMendedSeries squares bytes` holds if the damaged symbols `squares` are joined to the list `bytes` after their
 -- damage is corrected (ISO/IEC 18004:2015, 8.1 to 8.3, 12).
 abbrev pub IsMendedSeries : List Grid → List ℕ → Type 0
 IsMendedSeries squares bytes = IsJoinedBy IsMendedContent squares bytes
@@ -39,7 +40,7 @@ pub record IsDamagedSquare (damaged whole : Grid) : Type 0 where
   pub holds : IsMessage version level mask whole message
   pub form : IsDamagedForm damaged version level mask message changed
 
--- `AreDamagedSquares damaged whole` holds if the lists `damaged` and `whole` have the same length, and each square of
--- modules in `damaged` is a damaged form of the square with the same index in `whole` [own].
+-- `AreDamagedSquares damaged whole` holds if each square of modules in the list `damaged` is a damaged form of the
+-- square with the same index in the list `whole`. The two lists have the same length [own].
 unfoldable pub AreDamagedSquares : List Grid → List Grid → Type 0
 AreDamagedSquares damaged whole = AllZip IsDamagedSquare damaged whole

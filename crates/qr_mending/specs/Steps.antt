@@ -1,5 +1,5 @@
 -- Contains definitions that describe how the program computes its results. Only the contracts of private functions use
--- these definitions. A reader who judges the promises of public functions need not read these definitions.
+-- these definitions. To judge the promises of public functions, a reader need not read these definitions.
 pub mod Sums
 pub mod Polynomial
 pub mod Errors

@@ -11,8 +11,8 @@ use crate::sums::syndromes;
 use arrayvec::ArrayVec;
 use qr_field::Divisor;
 
-// Returns the block with `n` error correction codewords that differs from `damaged` in at most `t` codewords, if there
-// is such a block. Otherwise returns some other list, which is as long as `damaged`.
+// Looks for a block with `n` error correction codewords that differs from `damaged` in at most `t` codewords. Returns
+// this block if there is one. Otherwise returns some other list, which is as long as `damaged`.
 fn candidate(n: usize, t: usize, damaged: &[u8]) -> ArrayVec<u8, 255>
     requires most { n ≤ 30 }
     requires half { 2 * t ≤ n }
@@ -51,10 +51,10 @@ pub(crate) fn is_block(divisor: &Divisor, codewords: &[u8]) -> bool
     correction.as_slice() == &codewords[start..]
 }
 
-/// Mends a damaged block of at most 255 codewords: replaces `codewords` with the block that differs from it in at most
-/// `t` codewords. Twice `t` must be at most the number of error correction codewords, which `divisor` determines.
-/// Returns the number of codewords that were wrong. Returns `None` if every block differs from `codewords` in more than
-/// `t` codewords, and then leaves `codewords` unchanged (ISO/IEC 18004:2015, 7.5.1 and Annex B).
+/// Mends a damaged block of at most 255 codewords: replaces `codewords` with the block that differs from `codewords` in
+/// at most `t` codewords. Twice `t` must be at most the number of error correction codewords, which `divisor`
+/// determines. Returns the number of codewords that were wrong. If every block differs from `codewords` in more than
+/// `t` codewords, returns `None` and leaves `codewords` unchanged (ISO/IEC 18004:2015, 7.5.1 and Annex B).
 pub fn mend(divisor: &Divisor, t: usize, codewords: &mut [u8]) -> Option<usize>
     requires half { 2 * t ≤ divisor.now }
     requires least { divisor.now ≤ length codewords.old }

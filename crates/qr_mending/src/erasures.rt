@@ -20,10 +20,10 @@ use arrayvec::ArrayVec;
 use qr_field::Divisor;
 
 // Returns the modified syndromes of a damaged block. The errors of the codewords are the coefficients of the error
-// polynomial. `syndromes` contains the first values of the error polynomial at the powers of 2. For each m, the
+// polynomial. `syndromes` contains the values of the error polynomial at the first powers of 2. For each m, the
 // coefficient of x^m in the error polynomial is multiplied by the value of `polynomial` at 2^m. The modified syndromes
-// are the first values of the resulting polynomial at the powers of 2. The number of modified syndromes is the number
-// of syndromes less the degree of `polynomial`.
+// are the values of the resulting polynomial at the first powers of 2. The number of modified syndromes is the number
+// of syndromes, less the degree of `polynomial`.
 fn modified_syndromes(polynomial: &[u8], syndromes: &[u8]) -> ArrayVec<u8, 30>
     requires least { 1 ≤ length polynomial.now }
     requires long { length polynomial.now ≤ length syndromes.now + 1 }
@@ -39,9 +39,9 @@ fn modified_syndromes(polynomial: &[u8], syndromes: &[u8]) -> ArrayVec<u8, 30>
     modified
 }
 
-// Returns the block with `n` error correction codewords to which `damaged` can be mended, if there is such a block.
-// Otherwise returns some other list, which is as long as `damaged`. `erased` is true at the index of each erased
-// codeword, which means that the codeword is known to be unreadable. The number of erased codewords plus twice the
+// Looks for a block with `n` error correction codewords to which `damaged` can be mended. Returns this block if there
+// is one. Otherwise returns some other list, which is as long as `damaged`. `erased` is true at the index of each
+// erased codeword, which is a codeword that is known to be unreadable. The number of erased codewords plus twice the
 // number of misread codewords may be at most `spare`.
 fn candidate(n: usize, spare: usize, erased: &[bool], damaged: &[u8]) -> ArrayVec<u8, 255>
     requires most { n ≤ 30 }
@@ -62,8 +62,8 @@ fn candidate(n: usize, spare: usize, erased: &[bool], damaged: &[u8]) -> ArrayVe
     without_errors(all.as_slice(), first.as_slice(), damaged)
 }
 
-// Returns the number of misread codewords. A codeword is misread if it is not erased and differs from the codeword with
-// the same index in `mended`.
+// Returns the number of misread codewords in the block `codewords`. A codeword is misread if it is not erased and
+// differs from the codeword with the same index in `mended`.
 fn count_misread(codewords: &[u8], erased: &[bool], mended: &[u8]) -> usize
     requires marks { length erased.now ≡ length codewords.now }
     requires long { length mended.now ≡ length codewords.now }
@@ -79,13 +79,13 @@ fn count_misread(codewords: &[u8], erased: &[bool], mended: &[u8]) -> usize
     count
 }
 
-/// Mends a damaged block of at most 255 codewords. `erased` is true at the index of each codeword that could not be
-/// read; such a codeword is called erased. Other codewords may be misread. The values of erased codewords in
-/// `codewords` have no effect on the mended block. To correct an erased codeword, one error correction codeword is
-/// needed; to correct a misread codeword, two are needed. In total at most `spare` of the error correction codewords,
-/// whose number `divisor` determines, may be needed. In a symbol, `spare` is twice the number that `changed_max`
-/// returns. Returns the number of misread codewords, without the erased codewords. Returns `None` if there is no block
-/// for which `spare` error correction codewords are enough, and then leaves `codewords` unchanged
+/// Mends a damaged block of at most 255 codewords. A codeword that could not be read is called erased; `erased` is true
+/// at its index. Other codewords may be misread. The values of erased codewords in `codewords` have no effect on the
+/// mended block. To correct an erased codeword, one error correction codeword is needed. To correct a misread codeword,
+/// two error correction codewords are needed. `divisor` determines the number of error correction codewords of the
+/// block. In total at most `spare` of these error correction codewords may be needed. In a symbol, `spare` is twice the
+/// number that `changed_max` returns. Returns the number of misread codewords, without the erased codewords. If there
+/// is no block for which `spare` error correction codewords are enough, returns `None` and leaves `codewords` unchanged
 /// (ISO/IEC 18004:2015, 7.5.1 and Annex B).
 pub fn mend_with_erasures(
     divisor: &Divisor,

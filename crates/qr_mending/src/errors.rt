@@ -1,8 +1,8 @@
 //! Removes the errors of a damaged block. An error is the difference between a codeword as it was read and the correct
 //! codeword. The errors of all codewords are the coefficients of the error polynomial. The locator is a polynomial with
-//! a root for each wrong codeword. The syndromes are the first values of the error polynomial at the powers of 2. From
-//! the locator and the syndromes, the values at all other powers of 2 are computed. The values at all powers of 2
-//! determine the errors.
+//! a root for each wrong codeword. The syndromes are the values of the error polynomial at the first powers of 2. From
+//! the locator and the syndromes, this module computes the values of the error polynomial at all other powers of 2. The
+//! values at all powers of 2 determine the errors.
 
 ghost use Rattle.std.specs.Prelude.{◌≡◌, ℕ, ◌+◌, ◌<◌, ◌≤◌, List, length};
 ghost use Rattle.std.specs.List.{All};
@@ -17,8 +17,8 @@ use arrayvec::ArrayVec;
 use qr_field::power_of;
 
 // Returns the value of the error polynomial at 2 to the power n, where n is the length of `series`. `series` contains
-// the values of the error polynomial at the lower powers of 2. `syndromes` contains the values at the first powers of
-// 2, from 2 to the power 0 on. `locator` lists the coefficients of the locator polynomial; the leading coefficient,
+// the values of the error polynomial at 2 to the powers 0 to n - 1. `syndromes` contains the values at the first powers
+// of 2, from 2 to the power 0 on. `locator` lists the coefficients of the locator polynomial; the leading coefficient,
 // which is 1, comes last.
 fn next_value(locator: &[u8], syndromes: &[u8], series: &[u8]) -> u8
     requires least { 1 ≤ length locator.now }
@@ -35,7 +35,8 @@ fn next_value(locator: &[u8], syndromes: &[u8], series: &[u8]) -> u8
 }
 
 // Returns the values of the error polynomial at all 255 powers of 2, from 2 to the power 0 on. `syndromes` contains the
-// first of these values. `locator` lists the coefficients of the locator polynomial, which determines the other values.
+// first of these values. `locator` lists the coefficients of the locator polynomial. The locator polynomial determines
+// all values after the syndromes.
 fn values(locator: &[u8], syndromes: &[u8]) -> ArrayVec<u8, 255>
     requires least { 1 ≤ length locator.now }
     requires long { length locator.now ≤ length syndromes.now + 1 }
@@ -68,7 +69,7 @@ fn error(locator: &[u8], series: &[u8], place: u8) -> u8
 }
 
 // Returns the codewords of the damaged block `damaged` after their errors are removed. `locator` lists the coefficients
-// of the locator polynomial. `syndromes` contains the first values of the error polynomial at the powers of 2.
+// of the locator polynomial. `syndromes` contains the values of the error polynomial at the first powers of 2.
 pub(crate) fn without_errors(locator: &[u8], syndromes: &[u8], damaged: &[u8]) -> ArrayVec<u8, 255>
     requires least { 1 ≤ length locator.now }
     requires long { length locator.now ≤ length syndromes.now + 1 }

@@ -1,5 +1,5 @@
-//! Finds the level and the mask of a damaged symbol, which contains two copies of its format information. The format
-//! information of this level and mask differs from one of the copies in at most three modules
+//! Finds the level and the mask of a damaged symbol. The symbol contains two copies of its format information. The
+//! format information of the level and mask that are found differs from one of the copies in at most three modules
 //! (ISO/IEC 18004:2015, 7.9.1 and Annex C).
 
 ghost use Rattle.std.specs.Prelude.{◌≡◌, ℕ, ◌+◌, ◌<◌, ◌≤◌, Some, MatchOption};
@@ -15,12 +15,12 @@ ghost use Rattle.qr_mending.specs.Mending.{wrong_format_modules, wrong_format_mo
 use qr_layout::{Level, Module, Version, format_place, format_word, second_format_place};
 use qr_matrix::Matrix;
 
-// The number of bits of the format information.
+// The length of the format information in bits.
 const FORMAT_BITS: u8 = 15;
 
-// A copy of the format information is used if at most this number of its modules are wrong. Any two different pairs of
-// level and mask have format information that differs in at least seven bits. So a copy can be used for at most one
-// pair of level and mask.
+// If a copy of the format information has more wrong modules than this number, the copy is not used. Any two different
+// pairs of level and mask have format information that differs in at least seven bits. So a copy can be used for at
+// most one pair of level and mask.
 const FORMAT_ERRORS: u8 = 3;
 
 /// One of the two copies of the format information in a symbol.
@@ -33,7 +33,7 @@ pub(crate) enum FormatCopy {
 }
 
 impl FormatCopy {
-    // Returns the place, a row and a column, of bit `bit` in this copy of the format information.
+    // Returns the place of bit `bit` in this copy of the format information. The place is a row and a column.
     fn place(self, version: Version, bit: u8) -> Module
         requires { bit < 15 }
         ensures place { result ≡ copy_place self (side_of version) bit }
@@ -98,7 +98,7 @@ pub(crate) fn wrong_bit(is_unknown: bool, dark: bool, wanted: bool) -> u8
 
 // Returns the number of wrong modules in one copy of the format information in `matrix`. A module is wrong if it was
 // not read, or if it does not have the colour that its bit in `word` requires. A bit that is 1 requires a dark module.
-// The dark modules of `unknown` are those that were not read.
+// A module was not read if it is dark in `unknown`.
 fn wrong_bits_without(
     matrix: &Matrix,
     unknown: &Matrix,
@@ -124,7 +124,7 @@ fn wrong_bits_without(
 
 // Returns the number of wrong modules among the 30 modules of the two copies of the format information in `matrix`. A
 // module is wrong if it was not read, or if it does not have the colour that the format information of the level and
-// the mask requires. The dark modules of `unknown` are those that were not read.
+// the mask requires. A module was not read if it is dark in `unknown`.
 pub(crate) fn wrong_format_modules_without(
     matrix: &Matrix,
     unknown: &Matrix,
@@ -142,8 +142,8 @@ pub(crate) fn wrong_format_modules_without(
     first + wrong_bits_without(matrix, unknown, version, FormatCopy::Second, word)
 }
 
-// Returns the mask whose format information, together with `level`, differs from the copy in `matrix` in at most three
-// modules. Returns `None` if there is no such mask.
+// Returns the mask whose format information, together with the level `level`, differs from the copy `copy` in `matrix`
+// in at most three modules. Returns `None` if there is no such mask.
 fn near_mask_of(matrix: &Matrix, version: Version, copy: FormatCopy, level: Level) -> Option<u8>
     requires { matrix.now.side ≡ side_of version }
     ensures { MatchOption result
@@ -159,8 +159,8 @@ fn near_mask_of(matrix: &Matrix, version: Version, copy: FormatCopy, level: Leve
     None
 }
 
-// Returns the level and the mask whose format information differs from the copy in `matrix` in at most three modules.
-// There is at most one such pair of level and mask. Returns `None` if there is no such pair.
+// Returns the level and the mask whose format information differs from the copy `copy` in `matrix` in at most three
+// modules. There is at most one such pair of level and mask. Returns `None` if there is no such pair.
 pub(crate) fn near_format_of(
     matrix: &Matrix,
     version: Version,

@@ -1,7 +1,7 @@
 //! States laws about the mending of damaged blocks and symbols. A damaged block or symbol can be mended to at most one
-//! result. A symbol that can be mended and read is not refused, unless memory is refused. Most functions here do
-//! nothing: the contract of such a function is the law. Each of the other functions mends one or more symbols, and its
-//! contract is a law about the result.
+//! result. A symbol that can be mended and read is refused only for lack of memory. Most functions here do nothing: the
+//! contract of such a function is the law. Each of the other functions mends one or more symbols, and its contract is a
+//! law about the result.
 
 ghost use Rattle.std.specs.Prelude.{◌≡◌, ◌≢◌, ◌↔◌, ◌⊎◌, Err, ℕ, ◌*◌, ◌/◌, ◌≤◌, false, List, length, replicate, Option, None, Some, MatchResult};
 ghost use Rattle.std.specs.List.{All};
@@ -38,31 +38,31 @@ use qr_symbol::ReadFault;
 use std::alloc::Global;
 
 /// A damaged block of at most 255 codewords can be mended to at most one block. A block is a possible result if it
-/// differs from the damaged block in at most t codewords. Here 2t is at most the number of error correction codewords
-/// of the block.
+/// differs from the damaged block in at most t codewords. Twice the number t must be at most the number of error
+/// correction codewords of the block.
 pub fn mended_blocks_are_one()
     ensures { (n t : ℕ) (damaged b c : List ℕ) → length damaged ≤ 255 → 2 * t ≤ n
         → IsMended n t damaged b → IsMended n t damaged c → b ≡ c }
 {}
 
 /// A damaged block of at most 255 codewords, some of which may be erased, can be mended to at most one block. To
-/// correct an erased codeword, one error correction codeword is needed; to correct a misread codeword, two are needed.
-/// In total no more error correction codewords may be needed than the block has.
+/// correct an erased codeword, one error correction codeword is needed. To correct a misread codeword, two error
+/// correction codewords are needed. In total no more error correction codewords may be needed than the block has.
 pub fn blocks_mended_with_erasures_are_one()
     ensures { (n spare : ℕ) (read : List (Option ℕ)) (b c : List ℕ) → length read ≤ 255 → spare ≤ n
         → IsMendedWithErasures n spare read b → IsMendedWithErasures n spare read c → b ≡ c }
 {}
 
-/// If no codeword of a block is erased, the definition of mending with erasures and the definition of mending without
-/// erasures agree. With erasures, at most `spare` error correction codewords may be needed. Without erasures, at most
-/// `spare` / 2 codewords may be wrong.
+/// If no codeword of a block is erased, mending with erasures has the same results as mending without erasures. In
+/// mending with erasures, at most `spare` error correction codewords may be needed. In mending without erasures, at
+/// most `spare` / 2 codewords, rounded down, may be wrong.
 pub fn blocks_without_erasures_are_mended_alike()
     ensures { (n spare k : ℕ) (damaged mended : List ℕ)
         → IsMendedWithErasures n spare (read_of damaged (replicate k false)) mended ↔ IsMended n (spare / 2) damaged mended }
 {}
 
-/// For each copy of the format information in a symbol, at most one pair of level and mask is near to the copy. A pair
-/// is near to the copy if its format information differs from the copy in at most three modules.
+/// At most one pair of level and mask is near to a given copy of the format information in a symbol. A pair is near to
+/// the copy if its format information differs from the copy in at most three modules.
 pub fn near_format_is_one()
     ensures { (copy : FormatCopy) (g : Grid) (l k : Level) (m n : ℕ) → IsNearFormat copy g l m → IsNearFormat copy g k n
         → (l ≡ k) × (m ≡ n) }
@@ -82,14 +82,14 @@ pub fn tolerances_compute()
     ensures protection_more { protection_of 2 Level.L ≡ 2 × protection_of 3 Level.L ≡ 1 }
 {}
 
-/// The codewords that were read from a damaged symbol can be mended to at most one message. The message is the data
-/// codewords of the symbol. The number of changed codewords in each block is unique too.
+/// The codewords that were read from a damaged symbol can be mended to at most one message, which is the data codewords
+/// of the symbol. The number of changed codewords in each block is unique too.
 pub fn mended_messages_are_one(version: Version, level: Level)
     ensures { (cw m n x y : List ℕ) → IsMendedIn version level cw m x → IsMendedIn version level cw n y
         → (m ≡ n) × (x ≡ y) }
 {}
 
-/// Once its damage is mended, a damaged symbol is read as at most one content. The version, the level, the mask and the
+/// A damaged symbol is read as at most one content after its damage is mended. The version, the level, the mask and the
 /// number of changed codewords in each block are unique too. This law holds whether or not all modules of the symbol
 /// were read.
 pub fn mended_readings_are_one()
@@ -105,24 +105,24 @@ pub fn wrong_modules_are_one()
         → HasWrongModulesWithout unknown g v l m x a → HasWrongModulesWithout unknown g w k n y b → a ≡ b }
 {}
 
-/// If a square of modules is a damaged form of a symbol, the square has no wrong module exactly if it is equal to this
-/// symbol.
+/// If a square of modules is a damaged form of a symbol and has no wrong module, the square is equal to this symbol. If
+/// the square is equal to the symbol, it has no wrong module.
 pub fn sound_squares_are_symbols()
     ensures { (g : Grid) (v : ℕ) (l : Level) (mask : ℕ) (changed : List ℕ) (wrong : ℕ)
         → IsSquare g.side g → (w : HasWrongModules g v l mask changed wrong)
         → (wrong ≡ 0) ↔ (g ≡ grid_of v l mask w.differs.codewords) }
 {}
 
-/// If a square of modules can be read without mending, it is read as the same content with mending. In this case
-/// mending changes no codeword.
+/// If a square of modules can be read without mending, mending leads to the same content. In this case mending changes
+/// no codeword.
 pub fn readings_are_mended_readings()
     ensures { (g : Grid) (p : Content) → (h : IsReading g p)
         → IsMendedReading g h.version h.level h.mask p (replicate (blocks_in h.version h.level) 0) }
 {}
 
-/// The list of the numbers of changed codewords, one number for each block of a mended symbol, has at least one item.
-/// No item is greater than the number of codewords that can be corrected in a block. For every version and level, this
-/// number is from 2 to 15.
+/// For each block of a mended symbol, a list contains the number of changed codewords. This list has at least one item.
+/// No item is greater than the number of codewords that can be corrected in a block. For every version and level, the
+/// number of codewords that can be corrected is at least 2 and at most 15.
 pub fn changes_are_bounded()
     ensures some { (unknown : Option Grid) (g : Grid) (v : ℕ) (l : Level) (m : ℕ) (p : Content) (x : List ℕ)
         → IsMendedReadingWithout unknown g v l m p x → 1 ≤ length x }
@@ -137,15 +137,16 @@ pub fn mended_readings_are_not_refused()
         → IsMendedReadingWithout unknown g v l m p x → IsUnmendedWithout unknown g e → e ≡ ReadFault.Memory }
 {}
 
-/// Apart from lack of memory, there is at most one fault for which a damaged symbol is refused.
+/// There is at most one fault other than lack of memory for which a damaged symbol is refused.
 pub fn mending_refusals_are_one()
     ensures { (unknown : Option Grid) (g : Grid) (e f : ReadFault) → IsUnmendedWithout unknown g e
         → IsUnmendedWithout unknown g f
         → (e ≡ ReadFault.Memory) ⊎ (f ≡ ReadFault.Memory) ⊎ (e ≡ f) }
 {}
 
-/// If memory is not refused, `mend_symbol` returns a fault other than `Memory` exactly if `IsUnmended` holds for the
-/// damaged symbol and this fault. The definition `IsUnmended` lists the reasons for each fault.
+/// The definition `IsUnmended` lists the reasons for each fault. If `mend_symbol` returns a fault other than `Memory`,
+/// `IsUnmended` holds for the damaged symbol and this fault. If `IsUnmended` holds for the damaged symbol and such a
+/// fault, and memory is not refused, `mend_symbol` returns this fault.
 pub fn mendings_are_refused_exactly(alloc: Global, damaged: &Matrix) -> Result<Mended, ReadFault>
     ensures { (e : ReadFault) → e ≢ ReadFault.Memory
         → (result ≡ Err e) ↔ ((result ≢ Err ReadFault.Memory) × IsUnmended damaged.now e) }
@@ -153,9 +154,10 @@ pub fn mendings_are_refused_exactly(alloc: Global, damaged: &Matrix) -> Result<M
     mend_symbol(alloc, damaged)
 }
 
-/// If memory is not refused, `mend_symbol_without` returns a fault other than `Memory` exactly if `IsUnmendedWithout`
-/// holds for the damaged symbol and this fault. The definition `IsUnmendedWithout` lists the reasons for each fault.
-/// The dark modules of `unknown` are those that were not read.
+/// The definition `IsUnmendedWithout` lists the reasons for each fault. If `mend_symbol_without` returns a fault other
+/// than `Memory`, `IsUnmendedWithout` holds for the damaged symbol and this fault. If `IsUnmendedWithout` holds for the
+/// damaged symbol and such a fault, and memory is not refused, `mend_symbol_without` returns this fault. A module was
+/// not read if it is dark in `unknown`.
 pub fn mendings_without_are_refused_exactly(
     alloc: Global,
     damaged: &Matrix,
@@ -168,17 +170,17 @@ pub fn mendings_without_are_refused_exactly(
     mend_symbol_without(alloc, damaged, unknown)
 }
 
-/// Two symbols of the same version differ in many modules or codewords if their messages or their levels are different.
-/// Either each copy of the format information differs in at least seven modules, or some block differs in more than
-/// twice as many codewords as can be corrected in it.
+/// Two symbols of the same version differ in many modules or codewords if their data codewords or their levels are
+/// different. Either the symbols differ in at least seven modules of each copy of the format information, or they
+/// differ widely in some block. In this block, more than twice as many codewords differ as can be corrected in a block.
 pub fn symbols_lie_apart(version: Version)
     ensures { SymbolsLieApart version }
 {}
 
-/// If the symbol of an input is damaged, mending the symbol yields exactly this input, unless memory is refused.
-/// `damaged` may be any square of modules with as many rows as the symbol, under two conditions. The first condition is
-/// that in each block at most `changed_max` codewords are wrong. The second condition is that at most three modules of
-/// the first copy of the format information are wrong. If the symbol cannot be mended with the first copy, it is enough
+/// If the symbol of an input is damaged, mending the symbol yields exactly this input, or memory is refused. `damaged`
+/// may be any square of modules with as many rows as the symbol, under two conditions. The first condition is that in
+/// each block at most `changed_max` codewords are wrong. The second condition is that at most three modules of the
+/// first copy of the format information are wrong. If the symbol cannot be mended with the first copy, it is enough
 /// that at most three modules of the second copy are wrong. All other modules may have any colour. The result contains
 /// the exact numbers of changed codewords and of wrong modules.
 pub fn damaged_symbols_are_mended(alloc: Global, damaged: &Matrix) -> Result<Mended, ReadFault>
@@ -195,12 +197,12 @@ pub fn damaged_symbols_are_mended(alloc: Global, damaged: &Matrix) -> Result<Men
 }
 
 /// If the symbol of an input is damaged and some modules could not be read, mending the symbol yields exactly this
-/// input, unless memory is refused. `damaged` may be any square of modules with as many rows as the symbol, under two
-/// conditions. Any of its modules may be unread; these modules are dark in `unknown`. The first condition is that in
-/// each block the number of erased codewords, plus twice the number of misread codewords, is at most twice
-/// `changed_max`. The second condition is that in `damaged` at most three modules of the first copy of the format
-/// information have a wrong colour. If the symbol cannot be mended with the first copy, the same condition for the
-/// second copy is enough. The result contains the exact numbers of misread codewords and of wrong modules.
+/// input, or memory is refused. `damaged` may be any square of modules with as many rows as the symbol, under two
+/// conditions. A module that could not be read is dark in `unknown`. The first condition is that in each block the
+/// number of erased codewords, plus twice the number of misread codewords, is at most twice `changed_max`. The second
+/// condition is that in `damaged` at most three modules of the first copy of the format information have a wrong
+/// colour. If the symbol cannot be mended with the first copy, the same condition for the second copy is enough. The
+/// result contains the exact numbers of misread codewords and of wrong modules.
 pub fn damaged_symbols_without_modules_are_mended(
     alloc: Global,
     damaged: &Matrix,
@@ -221,10 +223,10 @@ pub fn damaged_symbols_without_modules_are_mended(
     mend_symbol_without(alloc, damaged, unknown)
 }
 
-/// If few modules of the symbol of an input are wrong, mending the symbol yields exactly this input, unless memory is
-/// refused. In each block at most `changed_max` modules may be wrong: as many as codewords can be corrected in a block.
-/// In the first copy of the format information at most three modules may be wrong. All other modules may have any
-/// colour.
+/// If few modules of the symbol of an input are wrong, mending the symbol yields exactly this input, or memory is
+/// refused. In each block at most `changed_max` modules may be wrong. `changed_max` is the number of codewords that can
+/// be corrected in a block. In the first copy of the format information at most three modules may be wrong. All other
+/// modules may have any colour.
 pub fn few_wrong_modules_are_mended(alloc: Global, damaged: &Matrix) -> Result<Mended, ReadFault>
     ensures { (smallest : ℕ) (l : Level) (rule : Rule) (x : List ℕ) (v mask : ℕ) (g : Grid) → 1 ≤ smallest
         → (s : IsSymbol smallest l rule x v mask g) → damaged.now.side ≡ g.side → DifferInFewModules v l damaged.now g
@@ -235,8 +237,9 @@ pub fn few_wrong_modules_are_mended(alloc: Global, damaged: &Matrix) -> Result<M
     mend_symbol(alloc, damaged)
 }
 
-/// If memory is not refused, `mend_series` returns a fault other than `Memory` exactly if `IsUnmendedSeries` holds for
-/// the damaged symbols and this fault. The definition `IsUnmendedSeries` lists the reasons for each fault.
+/// The definition `IsUnmendedSeries` lists the reasons for each fault. If `mend_series` returns a fault other than
+/// `Memory`, `IsUnmendedSeries` holds for the damaged symbols and this fault. If `IsUnmendedSeries` holds for the
+/// damaged symbols and such a fault, and memory is not refused, `mend_series` returns this fault.
 pub fn series_mendings_are_refused_exactly(
     alloc: Global,
     damaged: &[Matrix],
@@ -247,9 +250,9 @@ pub fn series_mendings_are_refused_exactly(
     mend_series(alloc, damaged)
 }
 
-/// If the symbols of a series for an input are damaged, mending the symbols yields exactly this input, unless memory is
-/// refused. Each symbol may have only as much damage as can be mended. The symbols may also be those of another
-/// encoder. Mending then yields the bytes to which the undamaged symbols are joined.
+/// If the symbols of a series for an input are damaged, mending the symbols yields exactly this input, or memory is
+/// refused. Each symbol may have only as much damage as can be mended. The law also holds for symbols that another
+/// encoder made. Mending then yields the bytes to which the undamaged symbols are joined.
 pub fn damaged_series_are_mended(alloc: Global, damaged: &[Matrix]) -> Result<Vec<u8>, ReadFault>
     ensures series { (v : ℕ) (l : Level) (rule : Rule) (x : List ℕ) (ss : List Symbol) → 1 ≤ v → v ≤ 40
         → IsSeries v l rule x ss → AreDamagedSquares damaged.now (squares_of ss)

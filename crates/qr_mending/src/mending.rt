@@ -19,8 +19,9 @@ use qr_matrix::{Matrix, differences};
 use qr_symbol::{ReadFault, draw_symbol, interleave, read_codewords};
 use std::alloc::{AllocError, Global};
 
-// The mended codewords of a damaged symbol. The symbol was read with the level `level` and the mask `mask`. `message`
-// contains the mended data codewords. `changed` contains for each block the number of its codewords that were misread.
+// The mended data codewords of a damaged symbol. The symbol was read with the level `level` and the mask `mask`.
+// `message` contains the mended data codewords. `changed` contains for each block the number of its codewords that were
+// misread.
 #[derive(Drop)]
 pub(crate) struct MendedSquare {
     pub level: Level,
@@ -29,10 +30,11 @@ pub(crate) struct MendedSquare {
     pub changed: Vec<usize>,
 }
 
-// Mends the symbol in `matrix` by means of one copy of its format information. The level and the mask are those whose
-// format information differs from this copy in at most three modules. A codeword is erased if its mark in `marks` is
-// not 0, which means that it is known to be unreadable. If `marks` is empty, no codeword is erased. Returns `None` if
-// there is no such level and mask, or if some block has more wrong codewords than can be corrected.
+// Mends the symbol in `matrix` by means of one copy of its format information. The symbol is read with the level and
+// the mask whose format information differs from this copy in at most three modules. `marks` contains a mark for each
+// codeword, or is empty. An erased codeword is known to be unreadable. A codeword is erased if its mark is not 0. If
+// `marks` is empty, no codeword is erased. Returns `None` if there is no such level and mask. Returns `None` also if
+// some block has more erased and misread codewords than can be corrected.
 fn mend_by(
     alloc: Global,
     version: Version,
@@ -66,9 +68,9 @@ fn mend_by(
 }
 
 // Mends the symbol in `matrix` by means of the first copy of its format information. If the symbol cannot be mended
-// with the first copy, the second copy is used. A codeword is erased if its mark in `marks` is not 0, which means that
-// it is known to be unreadable. If `marks` is empty, no codeword is erased. Returns `None` if the symbol can be mended
-// with neither copy.
+// with the first copy, the second copy is used. `marks` contains a mark for each codeword, or is empty. An erased
+// codeword is known to be unreadable. A codeword is erased if its mark is not 0. If `marks` is empty, no codeword is
+// erased. Returns `None` if the symbol can be mended with neither copy.
 pub(crate) fn mend_by_either(
     alloc: Global,
     version: Version,
@@ -90,8 +92,8 @@ pub(crate) fn mend_by_either(
     }
 }
 
-// Mends the symbol in `matrix`, of which all modules were read. Returns `None` if the symbol can be mended with neither
-// copy of its format information.
+// Mends the symbol in `matrix`. All modules of the symbol were read. Returns `None` if the symbol can be mended with
+// neither copy of its format information.
 fn mend_square(
     alloc: Global,
     version: Version,
@@ -107,8 +109,8 @@ fn mend_square(
     mend_by_either(alloc, version, matrix, &[])
 }
 
-// Draws the undamaged symbol whose data codewords are `message`, and returns the number of modules in which `matrix`
-// differs from this symbol.
+// Draws the undamaged symbol with the data codewords `message`. Returns the number of modules in which `matrix` differs
+// from this symbol.
 fn count_wrong_modules(
     alloc: Global,
     version: Version,
@@ -150,18 +152,19 @@ pub struct Mended {
 }
 
 /// Reads a damaged symbol and corrects its wrong codewords (ISO/IEC 18004:2015, 7.5.1, 7.9.1 and 12). The version
-/// follows from the number of rows of `matrix`. The level and the mask are those whose format information differs in at
-/// most three modules from the copy beside the top left finder pattern. If there is no such level and mask, or if some
-/// block cannot be mended with them, the other copy is used in the same way. In each block up to `changed_max` wrong
-/// codewords are corrected. The function patterns, the version information and the remainder bits have no effect on the
-/// content that is read. Wrong modules of these parts are counted in `Mended::wrong_modules`.
+/// follows from the number of rows of `matrix`. The level and the mask are found by means of the copy of the format
+/// information beside the top left finder pattern. Their format information differs from this copy in at most three
+/// modules. If there is no such level and mask, or if some block cannot be mended with them, the other copy is used in
+/// the same way. In each block up to `changed_max` wrong codewords are corrected. The function patterns, the version
+/// information and the remainder bits have no effect on the content that is read. Wrong modules of these parts are
+/// counted in `Mended::wrong_modules`.
 ///
 /// # Errors
 ///
-/// Returns `Side` if no version has as many rows as `matrix`. Returns `Format` if, for every level and mask, both
-/// copies of the format information have more than three wrong modules. Returns `Check` if some block has more wrong
-/// codewords than can be corrected, whichever copy is used. Returns `Segments` if the mended data codewords cannot be
-/// parsed. Returns `Memory` if memory is refused.
+/// Returns `Side` if no version has as many rows as `matrix`. Returns `Format` if the format information of every level
+/// and mask differs from both copies in more than three modules. Returns `Check` if, whichever copy is used, some block
+/// has more wrong codewords than can be corrected. Returns `Segments` if the mended data codewords cannot be parsed.
+/// Returns `Memory` if memory is refused.
 pub fn mend_symbol(alloc: Global, matrix: &Matrix) -> Result<Mended, ReadFault>
     ensures mended { MatchResult result
         (λ m. IsMendedReading matrix.now m.version m.level m.mask m.parsed m.changed.items) (IsUnmended matrix.now) }

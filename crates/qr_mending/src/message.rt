@@ -1,5 +1,5 @@
-//! Mends the message of a damaged symbol: corrects the wrong codewords of each block. The message is the data codewords
-//! of the symbol (ISO/IEC 18004:2015, 7.5.1 and 7.6).
+//! Mends the message of a damaged symbol: corrects the wrong codewords of each block. The message of a symbol is its
+//! data codewords (ISO/IEC 18004:2015, 7.5.1 and 7.6).
 
 ghost use Rattle.std.specs.Prelude.{◌≡◌, ℕ, ◌+◌, ◌*◌, ◌≤◌, ◌⊎◌, ◌++◌, List, length, Err, IfOk, IfErr};
 ghost use Rattle.qr_field.specs.Polynomial.{IsCorrection};
@@ -59,18 +59,18 @@ fn mend_block(
     })
 }
 
-// A mended message, which is the data codewords of a symbol. `message` contains the data codewords of all blocks, block
-// after block. `changed` contains for each block the number of codewords that were misread. Codewords that are known to
-// be unreadable are not counted.
+// A mended message, which is the data codewords of a symbol. `message` contains the data codewords of all blocks, in
+// the order of the blocks. `changed` contains for each block the number of codewords that were misread. Codewords that
+// are known to be unreadable are not counted.
 #[derive(Drop)]
 pub(crate) struct MendedMessage {
     pub message: Vec<u8>,
     pub changed: Vec<usize>,
 }
 
-// Mends all blocks of a symbol; in each block at most `t` codewords may be wrong. `codewords` contains the data
-// codewords that were read, block after block. `checks` contains the error correction codewords that were read, block
-// after block.
+// Mends all blocks of a symbol. In each block at most `t` codewords may be wrong. `codewords` contains the data
+// codewords that were read, and `checks` contains the error correction codewords that were read. In both lists, the
+// codewords of one block follow those of the previous block.
 fn mend_parts(
     alloc: Global,
     blocks: Blocks,
@@ -110,8 +110,9 @@ fn mend_parts(
     Ok(MendedMessage { message, changed })
 }
 
-// Returns the mended message of a damaged symbol: its data codewords, block after block. `codewords` contains the
-// interleaved codewords that were read from the symbol. In each block at most `t` of these codewords may be wrong.
+// Returns the mended message of a damaged symbol. The message is the data codewords in the order of the blocks.
+// `codewords` contains the interleaved codewords that were read from the symbol. In each block at most `t` of these
+// codewords may be wrong.
 fn mend_blocks(
     alloc: Global,
     blocks: Blocks,
@@ -136,8 +137,8 @@ fn mend_blocks(
 }
 
 // Returns the number of error correction codewords of a block that are kept unused
-// (ISO/IEC 18004:2015, 7.5.1, Table 9). Keeping them unused makes it less likely that a damaged block is mended to a
-// wrong block.
+// (ISO/IEC 18004:2015, 7.5.1, Table 9). Unused error correction codewords make it less likely that a damaged block is
+// mended to a wrong block.
 fn protection(version: Version, level: Level) -> u8
     ensures { result ≡ protection_of version level }
 {
@@ -149,8 +150,8 @@ fn protection(version: Version, level: Level) -> u8
     }
 }
 
-// Returns the number of error correction codewords of a block that may be used to correct wrong codewords, in a symbol
-// of this version and level.
+// In a symbol of this version and level, returns how many error correction codewords of a block may be used to correct
+// wrong codewords.
 pub(crate) fn spare(version: Version, level: Level) -> u8
     ensures { result ≡ spare_of version level }
 {
@@ -159,16 +160,18 @@ pub(crate) fn spare(version: Version, level: Level) -> u8
 }
 
 /// Returns the largest number of wrong codewords that can be corrected in each block of a symbol of this version and
-/// level (ISO/IEC 18004:2015, 7.5.1, Table 9). The returned number is from 2 to 15. The number is half the number of
-/// error correction codewords of a block; for some levels of versions 1 to 3 it is less than half.
+/// level (ISO/IEC 18004:2015, 7.5.1, Table 9). The returned number is at least 2 and at most 15. In general, it is half
+/// the number of error correction codewords of a block. For some levels of versions 1 to 3, it is less than half this
+/// number.
 pub fn changed_max(version: Version, level: Level) -> u8
     ensures { result ≡ tolerance_of version level }
 {
     spare(version, level) / 2
 }
 
-// Returns the mended message of a damaged symbol of this version and level: its data codewords, block after block.
-// `codewords` contains the interleaved codewords that were read from the symbol, and some of these may be wrong.
+// Returns the mended message of a damaged symbol of this version and level. The message is the data codewords in the
+// order of the blocks. `codewords` contains the interleaved codewords that were read from the symbol; some of these
+// codewords may be wrong.
 pub(crate) fn mend_message(
     alloc: Global,
     version: Version,

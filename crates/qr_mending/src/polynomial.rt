@@ -1,5 +1,5 @@
-//! Computes with polynomials over the field of 256 elements whose leading coefficient is 1. The leading coefficient is
-//! that of the highest power of x.
+//! Computes with polynomials over the field of 256 elements. The leading coefficient of each polynomial, which is the
+//! coefficient of the highest power of x, is 1.
 
 ghost use Rattle.std.specs.Prelude.{◌≡◌, ◌+◌, ◌<◌, ◌≤◌, ◌≢◌, length};
 ghost use Rattle.std.specs.List.{All};
@@ -9,9 +9,9 @@ ghost use Rattle.qr_mending.specs.Steps.Polynomial.{all_of, IsMonic, miss_of, Is
 use crate::sums::dot;
 use qr_field::{div, mul};
 
-// A polynomial over the field of 256 elements. The items of `terms` up to index `degree` are the coefficients; that of
-// the lowest power of x comes first. The coefficient at index `degree` is 1, except in the default value. The items of
-// `terms` after index `degree` are not used.
+// A polynomial over the field of 256 elements. The items of `terms` at the indices 0 to `degree`, both included, are
+// the coefficients; the coefficient of the lowest power of x comes first. The coefficient at index `degree` is 1,
+// except in the default value. The items of `terms` after index `degree` are not used.
 #[derive(Clone, Copy)]
 pub(crate) struct Polynomial {
     pub(crate) degree: usize,
@@ -39,7 +39,7 @@ impl Polynomial {
         Polynomial { degree, terms }
     }
 
-    // Returns all coefficients of the polynomial; that of the lowest power of x comes first.
+    // Returns all coefficients of the polynomial; the coefficient of the lowest power of x comes first.
     pub(crate) fn coefficients(&self) -> &[u8]
         requires { self.now.degree < 16 }
         ensures value { result.now ≡ all_of self.now }
@@ -49,8 +49,8 @@ impl Polynomial {
         &self.terms[..self.degree + 1]
     }
 
-    // Returns the sum of the products of each coefficient and the value in `window` with the same index. If this sum is
-    // 0, the polynomial solves the equation of `window`.
+    // Multiplies each coefficient by the value in `window` with the same index, and returns the sum of these products.
+    // If this sum is 0, the polynomial is said to solve the equation of `window`.
     pub(crate) fn miss(&self, window: &[u8]) -> u8
         requires fits { self.now.degree < 16 }
         requires long { self.now.degree < length window.now }
@@ -81,7 +81,8 @@ impl Polynomial {
     }
 
     // Returns the sum of this polynomial and a multiple of the polynomial `pivot`, which has a lower degree. The
-    // multiple is chosen so that `miss` returns 0 for the returned polynomial and `window`.
+    // multiple is chosen so that the returned polynomial solves the equation of `window`: `miss` returns 0 for this
+    // polynomial and `window`.
     pub(crate) fn relieved(&self, pivot: &Polynomial, window: &[u8]) -> Polynomial
         requires lower { pivot.now.degree < self.now.degree }
         requires fits { self.now.degree < 16 }

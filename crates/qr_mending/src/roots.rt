@@ -1,5 +1,5 @@
-//! Computes polynomials with a root for each erased codeword of a block. A codeword is erased if it is known to be
-//! unreadable.
+//! Computes polynomials with a root for each erased codeword of a block. An erased codeword is a codeword that is known
+//! to be unreadable.
 
 ghost use Rattle.std.specs.Prelude.{◌≡◌, ◌+◌, ◌<◌, ◌≤◌, length};
 ghost use Rattle.std.specs.List.{All, count_by};
@@ -17,8 +17,8 @@ pub(crate) fn count_erased(erased: &[bool]) -> usize
     erased.iter().filter(|place| **place).count()
 }
 
-// Returns the product of the polynomial `polynomial` and x + `root`. The coefficients of each polynomial are listed
-// from that of the lowest power of x on.
+// Returns the product of the polynomial `polynomial` and x + `root`. In each list of coefficients, the coefficient of
+// the lowest power of x comes first.
 fn with_root(polynomial: &[u8], root: u8) -> ArrayVec<u8, 31>
     requires { length polynomial.now < 31 }
     ensures { result.items ≡ times_root root 0 polynomial.now }

@@ -11,7 +11,7 @@ use qr_matrix::Matrix;
 use qr_symbol::{ReadFault, join};
 use std::alloc::Global;
 
-// Returns the content of each damaged symbol after its wrong codewords were corrected.
+// Corrects the wrong codewords of each damaged symbol, and returns the contents of the symbols.
 fn mend_all(alloc: Global, damaged: &[Matrix]) -> Result<Vec<Parsed>, ReadFault>
     ensures { MatchResult result (λ contents. AreReadBy IsMendedContent damaged.now contents.items)
         (IsUnmendedSeries damaged.now) }
@@ -25,18 +25,20 @@ fn mend_all(alloc: Global, damaged: &[Matrix]) -> Result<Vec<Parsed>, ReadFault>
 
 /// Reads damaged symbols, corrects their wrong codewords, and joins the bytes of the symbols in their order
 /// (ISO/IEC 18004:2015, 8 and 12). `damaged` must contain one symbol without a structured append header, or all symbols
-/// of a series in their order. In a series, the structured append header of each symbol must contain the position of
-/// the symbol, counted from 0. The header must also contain the number of symbols less 1 and the parity of all bytes.
+/// of a series in their order. In a series, the structured append header of each symbol must contain three numbers. The
+/// first number is the position of the symbol, counted from 0. The second number is the number of symbols, less 1. The
+/// third number is the parity of all bytes of the series.
 ///
 /// # Errors
 ///
-/// Returns the fault of the first symbol that cannot be mended, whatever the headers of the symbols contain. Returns
-/// `Series` if all symbols are mended, but they are neither one symbol without a header nor a whole series. Returns
-/// `Series` also if `damaged` is empty, and `Memory` if memory is refused.
+/// If some symbol cannot be mended, returns the fault of the first such symbol, whatever the headers of the symbols
+/// contain. Returns `Series` if all symbols are mended, but do not fit together. The symbols fit together if they are
+/// one symbol without a header or a whole series. Returns `Series` also if `damaged` is empty, and `Memory` if memory
+/// is refused.
 ///
 /// # Notes
 ///
-/// To learn how much damage a symbol has, call `mend_symbol`.
+/// To find out how much damage a symbol has, call `mend_symbol`.
 pub fn mend_series(alloc: Global, damaged: &[Matrix]) -> Result<Vec<u8>, ReadFault>
     ensures { MatchResult result (λ bytes. IsMendedSeries damaged.now bytes.items) (IsUnmendedSeries damaged.now) }
 {

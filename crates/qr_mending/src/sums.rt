@@ -24,8 +24,8 @@ pub(crate) fn dot(terms: &[u8], window: &[u8]) -> u8
     sum
 }
 
-// Returns the value at `x` of the polynomial whose coefficients are `terms`. The coefficient of the lowest power of x
-// comes first.
+// Returns the value of a polynomial at `x`. The coefficients of the polynomial are the items of `terms`; the
+// coefficient of the lowest power of x comes first.
 pub(crate) fn value(terms: &[u8], x: u8) -> u8
     ensures { result ≡ eval x terms.now }
 {
@@ -36,8 +36,8 @@ pub(crate) fn value(terms: &[u8], x: u8) -> u8
     value
 }
 
-// Returns the value at 2 to the power `exponent` of the polynomial whose coefficients are the codewords of `block`. The
-// coefficient of the highest power of x comes first.
+// Returns the value of a polynomial at 2 to the power `exponent`. The coefficients of the polynomial are the codewords
+// of `block`; the coefficient of the highest power of x comes first.
 fn syndrome(block: &[u8], exponent: u8) -> u8
     requires { exponent < 255 }
     ensures { result ≡ value_at exponent block.now }
@@ -51,8 +51,8 @@ fn syndrome(block: &[u8], exponent: u8) -> u8
 }
 
 // Returns the syndromes of a block: the values of a polynomial at the first `n` powers of 2, from 2 to the power 0 on.
-// The codewords of `block` are the coefficients of this polynomial; that of the highest power of x comes first. If the
-// block has `n` error correction codewords and no codeword is wrong, all syndromes are 0.
+// The codewords of `block` are the coefficients of this polynomial; the coefficient of the highest power of x comes
+// first. If the block has `n` error correction codewords and no codeword is wrong, all syndromes are 0.
 pub(crate) fn syndromes(block: &[u8], n: usize) -> ArrayVec<u8, 30>
     requires { n ≤ 30 }
     ensures count { array_vec_len result ≡ n }

@@ -1,5 +1,5 @@
-//! Mends the message of a damaged symbol in which some modules could not be read. The message is the data codewords of
-//! the symbol. A codeword is erased if one of its modules could not be read (ISO/IEC 18004:2015, 7.5.1, 7.6 and 7.7.3).
+//! Mends the message of a damaged symbol in which some modules could not be read. The message of a symbol is its data
+//! codewords. A codeword is erased if one of its modules could not be read (ISO/IEC 18004:2015, 7.5.1, 7.6 and 7.7.3).
 
 ghost use Rattle.std.specs.Prelude.{◌≡◌, ℕ, ◌+◌, ◌*◌, ◌<◌, ◌≤◌, ◌==◌, ◌⊎◌, ◌++◌, not, map, List, length, Err, IfOk, IfErr, IfSome, IfNone, Option};
 ghost use Rattle.qr_field.specs.Polynomial.{IsCorrection};
@@ -24,7 +24,7 @@ use std::alloc::{AllocError, Global};
 
 // Returns a mark for each codeword of a symbol. The mark of a codeword is a byte with one bit for each of the eight
 // modules of the codeword. The bit is 1 if the module is dark in `unknown`, which means that the module was not read.
-// So a mark is 0 exactly if all modules of the codeword were read.
+// So the mark of a codeword is 0 if all its modules were read, and only then.
 pub(crate) fn read_marks(
     alloc: Global,
     version: Version,
@@ -49,16 +49,17 @@ pub(crate) fn read_marks(
     Ok(marks)
 }
 
-// The codewords of a symbol, or the marks of these codewords, block after block. `data` contains the data codewords or
-// their marks. `checks` contains the error correction codewords or their marks.
+// The codewords of a symbol, or the marks of these codewords, in the order of the blocks. The mark of a codeword shows
+// which of its modules were not read. `data` contains the data codewords or their marks. `checks` contains the error
+// correction codewords or their marks.
 #[derive(Drop)]
 struct InBlocks {
     data: Vec<u8>,
     checks: Vec<u8>,
 }
 
-// Undoes the interleaving of the codewords of a symbol, or of the marks of these codewords. Returns the codewords or
-// the marks block after block.
+// Undoes the interleaving of the codewords of a symbol, or of the marks of these codewords. `interleaved` contains the
+// codewords or the marks in interleaved order. Returns the codewords or the marks in the order of the blocks.
 fn in_blocks(alloc: Global, blocks: Blocks, interleaved: &[u8]) -> Result<InBlocks, AllocError>
     requires { length interleaved.now ≡ codeword_count (data_sizes blocks) + codeword_count (correction_sizes blocks) }
     ensures { IfOk result (λ b. AreInBlocks blocks interleaved.now b.data.items b.checks.items) }
@@ -69,7 +70,7 @@ fn in_blocks(alloc: Global, blocks: Blocks, interleaved: &[u8]) -> Result<InBloc
 }
 
 // Returns the block with index `block`: its data codewords, followed by its error correction codewords. If `parts`
-// contains marks, the marks of these codewords are returned.
+// contains marks instead of codewords, returns the marks of the codewords of this block.
 fn block_of(
     alloc: Global,
     blocks: Blocks,
@@ -91,8 +92,8 @@ fn block_of(
     Ok(codewords)
 }
 
-// Returns for each mark in `marks` whether its codeword is erased. A codeword is erased if its mark is not 0, which
-// means that some module of the codeword was not read.
+// Returns for each mark in `marks` whether its codeword is erased. If a mark is not 0, some module of its codeword was
+// not read, and the codeword is erased.
 fn erased_of(alloc: Global, marks: &[u8]) -> Result<Vec<bool>, AllocError>
     ensures { IfOk result (λ erased. erased.items ≡ map (λ mark. not (mark == 0)) marks.now) }
 {
@@ -104,8 +105,9 @@ fn erased_of(alloc: Global, marks: &[u8]) -> Result<Vec<bool>, AllocError>
 }
 
 // Mends a damaged block in which some codewords are erased and other codewords may be misread. `erased` is true at the
-// index of each erased codeword. To correct an erased codeword, one error correction codeword is needed; to correct a
-// misread codeword, two are needed. Returns `None` if in total more than `spare` error correction codewords are needed.
+// index of each erased codeword. To correct an erased codeword, one error correction codeword is needed. To correct a
+// misread codeword, two error correction codewords are needed. Returns `None` if in total more than `spare` error
+// correction codewords are needed.
 fn mend_block(
     divisor: &Divisor,
     spare: usize,
@@ -136,9 +138,9 @@ fn mend_block(
     })
 }
 
-// Mends all blocks of a symbol; in each block at most `spare` error correction codewords may be needed. `received`
-// contains the codewords that were read, and `marks` contains the marks of these codewords. A codeword is erased if its
-// mark is not 0.
+// Mends all blocks of a symbol. In each block at most `spare` error correction codewords may be needed to correct the
+// damage. `received` contains the codewords that were read, and `marks` contains the marks of these codewords. A
+// codeword is erased if its mark is not 0.
 fn mend_parts(
     alloc: Global,
     blocks: Blocks,
@@ -177,9 +179,9 @@ fn mend_parts(
     Ok(MendedMessage { message, changed })
 }
 
-// Returns the mended message of a damaged symbol: its data codewords, block after block. `codewords` contains the
-// interleaved codewords that were read. `marks` contains the marks of these codewords in the same order. A codeword
-// whose mark is not 0 is erased, and any other codeword may be misread.
+// Returns the mended message of a damaged symbol. The message is the data codewords in the order of the blocks.
+// `codewords` contains the interleaved codewords that were read. `marks` contains the marks of these codewords in the
+// same order. A codeword is erased if its mark is not 0; any other codeword may be misread.
 fn mend_blocks(
     alloc: Global,
     blocks: Blocks,
@@ -203,9 +205,9 @@ fn mend_blocks(
     mend_parts(alloc, blocks, spare, &received, &unread)
 }
 
-// Returns the mended message of a damaged symbol of this version and level: its data codewords, block after block.
-// `codewords` contains the interleaved codewords that were read. `marks` contains the marks of these codewords in the
-// same order. A codeword whose mark is not 0 is erased, and any other codeword may be misread.
+// Returns the mended message of a damaged symbol of this version and level. The message is the data codewords in the
+// order of the blocks. `codewords` contains the interleaved codewords that were read. `marks` contains the marks of
+// these codewords in the same order. A codeword is erased if its mark is not 0; any other codeword may be misread.
 pub(crate) fn mend_message_without(
     alloc: Global,
     version: Version,
@@ -228,9 +230,10 @@ pub(crate) fn mend_message_without(
     mend_blocks(alloc, blocks, most, codewords, marks)
 }
 
-// Returns the mended message of a damaged symbol of this version and level: its data codewords, block after block.
-// `codewords` contains the interleaved codewords that were read, and some of these may be misread. A codeword is erased
-// if its mark in `marks` is not 0. If `marks` is empty, no codeword is erased.
+// Returns the mended message of a damaged symbol of this version and level. The message is the data codewords in the
+// order of the blocks. `codewords` contains the interleaved codewords that were read; some of these codewords may be
+// misread. `marks` contains the marks of these codewords, or is empty. A codeword is erased if its mark is not 0. If
+// `marks` is empty, no codeword is erased.
 pub(crate) fn mend_codewords(
     alloc: Global,
     version: Version,

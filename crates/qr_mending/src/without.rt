@@ -20,9 +20,9 @@ use qr_matrix::Matrix;
 use qr_symbol::{ReadFault, draw_symbol, interleave};
 use std::alloc::{AllocError, Global};
 
-// Mends the symbol in `matrix`, of which some modules were not read. The dark modules of `unknown` are those that were
-// not read. A codeword with such a module is erased. Returns `None` if the symbol can be mended with neither copy of
-// its format information.
+// Mends the symbol in `matrix`. Some modules of the symbol were not read; these modules are dark in `unknown`. A
+// codeword is erased if one of its modules was not read. Returns `None` if the symbol can be mended with neither copy
+// of its format information.
 fn mend_square_without(
     alloc: Global,
     version: Version,
@@ -43,7 +43,7 @@ fn mend_square_without(
 }
 
 // Returns the number of wrong modules in row `row` of `matrix`. A module is wrong if it was not read, or if it does not
-// have the colour that it has in `symbol`. The dark modules of `unknown` are those that were not read.
+// have the colour that it has in `symbol`. A module was not read if it is dark in `unknown`.
 fn wrong_in_row(unknown: &Matrix, matrix: &Matrix, symbol: &Matrix, row: u8) -> u32
     requires unknown_side { unknown.now.side ≡ matrix.now.side }
     requires side { symbol.now.side ≡ matrix.now.side }
@@ -62,7 +62,7 @@ fn wrong_in_row(unknown: &Matrix, matrix: &Matrix, symbol: &Matrix, row: u8) -> 
 }
 
 // Returns the number of wrong modules in `matrix`. A module is wrong if it was not read, or if it does not have the
-// colour that it has in `symbol`. The dark modules of `unknown` are those that were not read.
+// colour that it has in `symbol`. A module was not read if it is dark in `unknown`.
 fn count_wrong(unknown: &Matrix, matrix: &Matrix, symbol: &Matrix) -> u32
     requires unknown_side { unknown.now.side ≡ matrix.now.side }
     requires side { symbol.now.side ≡ matrix.now.side }
@@ -75,9 +75,9 @@ fn count_wrong(unknown: &Matrix, matrix: &Matrix, symbol: &Matrix) -> u32
     wrong
 }
 
-// Draws the undamaged symbol whose data codewords are `message`, and returns the number of wrong modules in `matrix`. A
-// module is wrong if it was not read, or if it does not have the colour that it has in the undamaged symbol. The dark
-// modules of `unknown` are those that were not read.
+// Draws the undamaged symbol with the data codewords `message`, and returns the number of wrong modules in `matrix`. A
+// module is wrong if it was not read, or if it does not have the colour that it has in the undamaged symbol. A module
+// was not read if it is dark in `unknown`.
 fn count_wrong_modules_without(
     alloc: Global,
     version: Version,
@@ -99,20 +99,21 @@ fn count_wrong_modules_without(
 }
 
 /// Reads a damaged symbol in which some modules could not be read, and corrects its wrong codewords
-/// (ISO/IEC 18004:2015, 7.5.1, 7.9.1 and 12). `unknown` has as many rows as `matrix`, and its dark modules are those
-/// that could not be read. A codeword with a module that could not be read is called erased. To correct an erased
+/// (ISO/IEC 18004:2015, 7.5.1, 7.9.1 and 12). `unknown` has as many rows as `matrix`. A module could not be read if it
+/// is dark in `unknown`. A codeword with a module that could not be read is called erased. To correct an erased
 /// codeword, half as much error correction is needed as to correct a misread codeword. In each block, the number of
 /// erased codewords plus twice the number of misread codewords may be at most twice `changed_max`. Here `changed_max`
-/// is the number of misread codewords that can be corrected in a block without erased codewords. To find the level and
-/// the mask, a module that could not be read is used with the colour that it has in `matrix`.
+/// is the number of misread codewords that can be corrected in a block without erased codewords. The level and the mask
+/// are found as `mend_symbol` finds them. For this purpose, every module of the format information is used with its
+/// colour in `matrix`, even if the module could not be read.
 ///
 /// The field `Mended::changed` counts only the misread codewords. A module that could not be read counts as a wrong
-/// module, whatever colour it has in `matrix`. In all other respects, this function works like `mend_symbol`.
+/// module, whatever colour it has in `matrix`. In all other respects, `mend_symbol_without` works like `mend_symbol`.
 ///
 /// # Errors
 ///
-/// Returns the same faults as `mend_symbol`. Returns `Check` if the erased and misread codewords of some block are more
-/// than can be corrected.
+/// Returns the same faults as `mend_symbol`. Returns `Check` if some block has more erased and misread codewords than
+/// can be corrected.
 pub fn mend_symbol_without(
     alloc: Global,
     matrix: &Matrix,

@@ -18,7 +18,7 @@ abbrev pub mask_penalty : ℕ → Level → List ℕ → ℕ → ℕ
 mask_penalty v l cw mask = penalty_of (side_of v) (colour (grid_of v l mask cw))
 
 -- `IsMask v l cw mask` holds if `mask`, from 0 to 7, is the mask pattern under which a symbol has the least penalty.
--- The symbol has version v and level l, and contains the codewords cw. If several mask patterns have equal least
--- penalties, `mask` is the one with the smallest number (ISO/IEC 18004:2015, 7.8.3; among equals [own]).
+-- The symbol has version v and level l, and contains the codewords cw. If several mask patterns have the least penalty,
+-- `mask` is the smallest of their numbers (ISO/IEC 18004:2015, 7.8.3; among equals [own]).
 abbrev pub IsMask : ℕ → Level → List ℕ → ℕ → Type 0
 IsMask v l cw mask = IsFirstLeast 8 (mask_penalty v l cw) mask

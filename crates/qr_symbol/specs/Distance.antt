@@ -1,4 +1,5 @@
--- This file states that symbols with different data codewords differ in many codewords of some block.
+-- This file defines laws about the distance between symbols: symbols with different data codewords differ in many
+-- codewords of some block.
 use Rattle.std.specs.Prelude.{◌≡◌, ℕ, ◌+◌, ◌*◌, ◌<◌, ◌≤◌, Option, List, [], ◌++◌, slice_index_or}
 use Rattle.qr_field.specs.Distance.{differences, erasures, errors}
 use Rattle.qr_layout.specs.declared.level.Level.{Level}
@@ -11,15 +12,16 @@ use Rattle.qr_symbol.specs.Reading.{IsMessage}
 abbrev pub blocks_in : ℕ → Level → ℕ
 blocks_in v l = block_count (data_sizes (blocks_of v l))
 
--- `held_block v l mask g d m i` is block i, counted from 0, of the codewords in the square of modules g: the data
--- codewords of the block, and then its error correction codewords. The list d contains all data codewords in g, which
--- has version v, level l and the mask pattern `mask`. m is the proof of this (ISO/IEC 18004:2015, 7.5.1).
+-- `held_block v l mask g d m i` is block i, counted from 0, of the square of modules g. The block is the list of its
+-- data codewords, followed by its error correction codewords. The square g has version v, level l and the mask pattern
+-- `mask`, and the list d contains all data codewords in g. The parameter m is the proof that d contains the data
+-- codewords in g (ISO/IEC 18004:2015, 7.5.1).
 abbrev pub held_block : (v : ℕ) (l : Level) (mask : ℕ) (g : Grid) (d : List ℕ) → IsMessage v l mask g d → ℕ → List ℕ
 held_block v l mask g d m i = block_of (blocks_of v l) d i ++ slice_index_or m.interleaved.corrections i []
 
 -- `MessagesLieApart v l` holds if any two squares of modules of version v and level l that contain different data
--- codewords are far apart. In at least one block, two such squares differ in more codewords than the block has error
--- correction codewords [own].
+-- codewords differ widely in some block. In this block, the number of codewords that differ is greater than the number
+-- of error correction codewords of the block [own].
 abbrev pub MessagesLieApart : ℕ → Level → Type 0
 MessagesLieApart v l =
     (mask mask' : ℕ) (g g' : Grid) (d d' : List ℕ) → (m : IsMessage v l mask g d) → (m' : IsMessage v l mask' g' d')
@@ -27,10 +29,10 @@ MessagesLieApart v l =
     × ((blocks_of v l).ec_len + 1 ≤ differences (held_block v l mask g d m i) (held_block v l mask' g' d' m' i))
 
 -- `DamagedMessagesAreOne v l` holds if the codewords that were read from a damaged symbol of version v and level l
--- belong to at most one message. A message is the list of the data codewords of a symbol. The damage to each block must
--- be limited: the number of erased codewords, plus twice the number of misread codewords, is at most the number of
--- error correction codewords. An erased codeword is known to be unreadable, and a misread codeword was read with
--- another value (ISO/IEC 18004:2015, 7.5.1).
+-- belong to at most one message. A message is the list of the data codewords of a symbol. An erased codeword is known
+-- to be unreadable, and a misread codeword was read with a wrong value. The damage to each block must be limited: the
+-- number of erased codewords, plus twice the number of misread codewords, is at most the number of error correction
+-- codewords of the block (ISO/IEC 18004:2015, 7.5.1).
 abbrev pub DamagedMessagesAreOne : ℕ → Level → Type 0
 DamagedMessagesAreOne v l =
     (mask mask' : ℕ) (g g' : Grid) (d d' : List ℕ) → (m : IsMessage v l mask g d) → (m' : IsMessage v l mask' g' d')

@@ -1,4 +1,4 @@
--- This file defines the symbol that an input is encoded as.
+-- This file defines which symbol belongs to an input.
 use Rattle.std.specs.Prelude.{◌≡◌, ℕ, List, Option, None}
 use Rattle.qr_layout.specs.declared.level.Level.{Level}
 use Rattle.qr_bits.specs.declared.modes.Rule.{Rule}
@@ -12,11 +12,11 @@ use Rattle.qr_symbol.specs.Interleaving.{IsInterleaved}
 use Rattle.qr_symbol.specs.Choice.{IsMask}
 use Rattle.qr_symbol.specs.VersionChoice.{IsVersion}
 
--- `IsSymbolAt v l rule x h mask g` holds if the square of modules g is the symbol that encodes the bytes x after the
--- optional structured append header h. The symbol has version v, level l and the mask pattern `mask`, under which its
--- penalty is least. The bytes are cut into the segments with the fewest bits, in modes that `rule` allows. The segments
--- are written as data codewords. The final sequence of codewords for these data codewords is placed in the encoding
--- region, and masked (ISO/IEC 18004:2015, 7.1, 8.1).
+-- `IsSymbolAt v l rule x h mask g` holds if the square of modules g is the symbol that contains the optional structured
+-- append header h and then encodes the bytes x. The symbol has version v, level l and the mask pattern `mask`, under
+-- which its penalty is least. The bytes are cut into the segments with the fewest bits, in modes that `rule` allows.
+-- The segments are written as data codewords. The final sequence of codewords for these data codewords is placed in the
+-- encoding region, and masked (ISO/IEC 18004:2015, 7.1, 8.1).
 pub record IsSymbolAt (v : ℕ) (l : Level) (rule : Rule) (x : List ℕ) (h : Option Header) (mask : ℕ) (g : Grid) : Type 0 where
   pub segments : List Segment
   pub chosen : IsLeastSegmentation v rule x segments
@@ -28,15 +28,15 @@ pub record IsSymbolAt (v : ℕ) (l : Level) (rule : Rule) (x : List ℕ) (h : Op
   pub drawn : g ≡ grid_of v l mask codewords
 
 -- `IsSymbol smallest l rule x v mask g` holds if the square of modules g is the symbol that encodes the bytes x at
--- level l, without a structured append header. The symbol has version v, which is the least version, from `smallest`
--- on, that the bytes fit. The mask pattern of the symbol is `mask`, and `rule` says which modes the segments may have
+-- level l, without a structured append header. The version v is the least version, from `smallest` on, that the bytes
+-- fit. The mask pattern of the symbol is `mask`, and `rule` determines which modes the segments may have
 -- (ISO/IEC 18004:2015, 7.1).
 pub record IsSymbol (smallest : ℕ) (l : Level) (rule : Rule) (x : List ℕ) (v mask : ℕ) (g : Grid) : Type 0 where
   pub version : IsVersion smallest l rule x v
   pub made : IsSymbolAt v l rule x None mask g
 
--- `SymbolsAreOne` holds if an input has at most one symbol for a level, a rule and a smallest version: any two such
--- symbols have the same version, mask pattern and modules. The rule says which modes the segments may have [own].
+-- `SymbolsAreOne` holds if, for a given level, rule and smallest version, an input has at most one symbol. Any two such
+-- symbols have the same version, mask pattern and modules. The rule determines which modes the segments may have [own].
 abbrev pub SymbolsAreOne : Type 0
 SymbolsAreOne = (x : List ℕ) (l : Level) (smallest : ℕ) (rule : Rule) (v w m n : ℕ) (g h : Grid)
     → IsSymbol smallest l rule x v m g → IsSymbol smallest l rule x w n h

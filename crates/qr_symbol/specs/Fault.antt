@@ -10,8 +10,8 @@ use Rattle.qr_symbol.specs.declared.fault.EncodeFault.TheVariants as fault
 use Rattle.qr_symbol.specs.declared.fault.ReadFault.{ReadFault}
 use Rattle.qr_symbol.specs.declared.fault.ReadFault.TheVariants as unread
 
--- `fault_of e` is the fault of encoding an input that has the same cause as e, a fault of writing bits in the crate
--- `qr_bits` [own].
+-- `fault_of e` is the fault of encoding an input that has the same cause as the fault e. The fault e is a fault of
+-- writing bits, which the crate `qr_bits` defines [own].
 abbrev pub fault_of : BitFault → EncodeFault
 fault_of bit.Memory = fault.Memory
 fault_of bit.TooLong = fault.TooLong
@@ -27,7 +27,7 @@ read_fault_number (unread.Segments why) = 5
 read_fault_number unread.Series = 6
 
 -- `unread_for e` is the fault of reading a symbol if parsing its data codewords failed with the fault e. The result is
--- `Memory` if e is lack of memory. Otherwise the result is `Segments`, with e inside [own].
+-- `Memory` if e is lack of memory. Otherwise the result is `Segments`, which contains e [own].
 abbrev pub unread_for : ParseFault → ReadFault
 unread_for unparsed.Memory = unread.Memory
 unread_for e = unread.Segments e

@@ -1,6 +1,6 @@
 -- This file defines the final sequence of codewords: the interleaved data codewords of all blocks, and then the
--- interleaved error correction codewords of all blocks. Before the interleaving, the codewords are listed block after
--- block. A value of the type `BlockSizes` says how many codewords each block has.
+-- interleaved error correction codewords of all blocks. Before the interleaving, the codewords of one block follow
+-- those of the previous block. A value of the type `BlockSizes` determines how many codewords each block has.
 use Rattle.std.specs.Prelude.{◌≡◌, ℕ, ◌+◌, ◌-◌, ◌*◌, ◌<◌, ◌⊎◌, nat_lt, if◌then◌else◌, List, [], ◌++◌, map, take, drop, length, slice_index_or}
 use Rattle.std.specs.List.{All, AllPairs, Contains}
 use Rattle.qr_field.specs.Polynomial.{IsCorrection}
@@ -9,7 +9,7 @@ use Rattle.qr_layout.specs.declared.level.Level.{Level}
 use Rattle.qr_layout.specs.Blocks.{blocks_of}
 use Rattle.qr_symbol.specs.declared.interleaving.BlockSizes.{BlockSizes}
 
--- `block_count c` is the number of all blocks, short and long; c contains the sizes of the blocks [own].
+-- `block_count c` is the number of short blocks and long blocks together; c contains the sizes of the blocks [own].
 abbrev pub block_count : BlockSizes → ℕ
 block_count c = c.short + c.long
 
@@ -27,18 +27,20 @@ start_of c i = c.short_len * i + (i - c.short)
 abbrev pub codeword_count : BlockSizes → ℕ
 codeword_count c = start_of c (block_count c)
 
--- `data_sizes b` contains the sizes of the blocks b, counted in data codewords (ISO/IEC 18004:2015, 7.5.1).
+-- `data_sizes b` contains the sizes of the blocks b, when only their data codewords are counted
+-- (ISO/IEC 18004:2015, 7.5.1).
 abbrev pub data_sizes : Blocks → BlockSizes
 data_sizes b = record { short = b.short; short_len = b.short_len; long = b.long }
 
--- `correction_sizes b` contains the sizes of the blocks b, counted in error correction codewords. All blocks of a
--- symbol have the same number of error correction codewords, so there are no long blocks here
+-- `correction_sizes b` contains the sizes of the blocks b, when only their error correction codewords are counted. All
+-- blocks of a symbol have the same number of error correction codewords, so there are no long blocks here
 -- (ISO/IEC 18004:2015, 7.5.1).
 abbrev pub correction_sizes : Blocks → BlockSizes
 correction_sizes b = record { short = b.short + b.long; short_len = b.ec_len; long = 0 }
 
--- A position says where a codeword is in the blocks of a symbol. `block` is the number of its block, and `place` is the
--- index of the codeword in this block. Both numbers are counted from 0 (ISO/IEC 18004:2015, 7.6).
+-- A position shows where a codeword is in the blocks of a symbol. `block` is the number of the block that contains the
+-- codeword, and `place` is the index of the codeword in this block. Blocks and indices are counted from 0
+-- (ISO/IEC 18004:2015, 7.6).
 pub record Position : Type 0 where
   pub place : ℕ
   pub block : ℕ
@@ -61,13 +63,13 @@ pub record IsPositionOrder (c : BlockSizes) (ts : List Position) : Type 0 where
   pub complete : (t : Position) → IsPosition c t → Contains ts t
   pub rising : AllPairs ComesBefore ts
 
--- `codeword_at c d t` is the codeword at position t. The list d contains the codewords block after block, in blocks
--- that have the sizes c [own].
+-- `codeword_at c d t` is the codeword at position t. The list d contains the codewords of all blocks, one block after
+-- the other, and the blocks have the sizes c [own].
 abbrev pub codeword_at : BlockSizes → List ℕ → Position → ℕ
 codeword_at c d t = slice_index_or d (start_of c t.block + t.place) 0
 
 -- `part_of c d i` is the list of the codewords in block i, counted from 0. The list d contains the codewords of all
--- blocks, block after block, and c contains the sizes of the blocks (ISO/IEC 18004:2015, 7.5.1).
+-- blocks, one block after the other, and c contains the sizes of the blocks (ISO/IEC 18004:2015, 7.5.1).
 abbrev pub part_of : BlockSizes → List ℕ → ℕ → List ℕ
 part_of c d i = take (block_len c i) (drop (start_of c i) d)
 
@@ -82,8 +84,8 @@ abbrev pub check_at : List (List ℕ) → Position → ℕ
 check_at corrections t = slice_index_or (slice_index_or corrections t.block []) t.place 0
 
 -- `IsFinalMessage b d cw` holds if cw is the final sequence of codewords for the data codewords d, which are divided
--- into the blocks b. First come the data codewords of all blocks, interleaved. Then come the error correction codewords
--- of all blocks, interleaved in the same way (ISO/IEC 18004:2015, 7.5.2, 7.6).
+-- into the blocks b. The sequence begins with the interleaved data codewords of all blocks. Then the error correction
+-- codewords of all blocks follow, interleaved in the same way (ISO/IEC 18004:2015, 7.5.2, 7.6).
 pub record IsFinalMessage (b : Blocks) (d cw : List ℕ) : Type 0 where
   pub data_positions : List Position
   pub data_order : IsPositionOrder (data_sizes b) data_positions
@@ -99,9 +101,10 @@ pub record IsFinalMessage (b : Blocks) (d cw : List ℕ) : Type 0 where
 abbrev pub IsInterleaved : ℕ → Level → List ℕ → List ℕ → Type 0
 IsInterleaved v l d cw = IsFinalMessage (blocks_of v l) d cw
 
--- `IsGathered c interleaved xs` holds if the list xs contains, block after block, the codewords with which the sequence
--- `interleaved` begins. The blocks have the sizes c. The sequence `interleaved` begins with the first codewords of all
--- blocks, then has the second codewords of all blocks, and so on (ISO/IEC 18004:2015, 7.6).
+-- `IsGathered c interleaved xs` holds if the list xs is the result of undoing the interleaving at the beginning of the
+-- list `interleaved`. The blocks have the sizes c. The list `interleaved` begins with the first codewords of all
+-- blocks, followed by the second codewords of all blocks, and so on. The list xs contains the same codewords, one block
+-- after the other (ISO/IEC 18004:2015, 7.6).
 pub record IsGathered (c : BlockSizes) (interleaved xs : List ℕ) : Type 0 where
   pub long : length xs ≡ codeword_count c
   pub positions : List Position

@@ -1,5 +1,5 @@
--- This file contains rows of the mask patterns that were worked out by hand. The laws compare the definition of the
--- mask patterns with these rows.
+-- This file contains rows of the mask patterns that were worked out by hand. A law compares the definition of the mask
+-- patterns with these rows.
 use Rattle.std.specs.Prelude.{ℕ, ◌-◌, Bool, List, [], ◌∷◌, map}
 use Rattle.std.specs.List.{range_with_len}
 use Rattle.qr_bits.specs.Bits.{value}
@@ -10,8 +10,8 @@ abbrev pub all_masks : List ℕ
 all_masks = range_with_len 0 8
 
 -- `first_rows mask` is the list of the rows 0 to 11 of the mask pattern `mask`, in the columns 0 to 5. Each row is a
--- number of six binary digits, and its highest digit is that of column 0. A digit is 1 if the mask pattern inverts the
--- module in its row and column [own].
+-- number of six binary digits; the highest digit is for column 0. A digit is 1 if the mask pattern inverts the module
+-- in its row and column [own].
 abbrev pub first_rows : ℕ → List ℕ
 first_rows mask = map (λ r. value (map (inverts mask r) (range_with_len 0 6))) (range_with_len 0 12)
 

@@ -1,4 +1,4 @@
--- This file defines the eight mask patterns: which modules each of them inverts.
+-- This file defines the eight mask patterns: which modules each mask pattern inverts.
 use Rattle.std.specs.Prelude.{ℕ, ◌+◌, ◌*◌, ◌/◌, ◌%◌, ◌==◌, Bool, if◌then◌else◌, not}
 
 -- `inverts mask r c` is true if the mask pattern `mask`, from 0 to 7, inverts the module in row r and column c. A mask

@@ -1,5 +1,5 @@
--- This file defines how a symbol is read. The definitions use the layout, the blocks and the order of modules that
--- belong to the version of the symbol. The definitions do not use `grid_of`, which defines how a symbol is drawn.
+-- This file defines how a symbol is read. The version of the symbol determines the layout, the blocks and the order of
+-- the modules. The definitions here do not use `grid_of`, which defines how a symbol is drawn.
 use Rattle.std.specs.Prelude.{◌≡◌, ◌≢◌, ℕ, ◌-◌, ◌*◌, ◌<◌, ◌≤◌, Bool, false, List, ◌++◌, map, take, length, replicate, Result, Ok, Err, None}
 use Rattle.std.specs.List.{All}
 use Rattle.qr_layout.specs.declared.level.Level.{Level}
@@ -28,9 +28,10 @@ use Rattle.qr_symbol.specs.Interleaving.{IsInterleaved}
 abbrev pub unmasked : ℕ → Grid → Module → Bool
 unmasked mask g m = inverted (inverts mask m.row m.col) (colour g m.row m.col)
 
--- `read_bits v mask g ms` is the list of all codeword bits in the square of modules g of version v. The bits are the
--- colours of the first modules of the list ms after the mask pattern `mask` was undone, one bit for each module. If ms
--- has fewer modules than there are codeword bits, the missing bits are 0 (ISO/IEC 18004:2015, 7.7.3, 12).
+-- `read_bits v mask g ms` is the list of all codeword bits in the square of modules g of version v. Each bit is the
+-- colour of one module of the list ms after the mask pattern `mask` was undone. Modules at the end of ms that contain
+-- no codeword bit are ignored. If ms has fewer modules than there are codeword bits, the missing bits are 0
+-- (ISO/IEC 18004:2015, 7.7.3, 12).
 abbrev pub read_bits : ℕ → ℕ → Grid → List Module → List Bool
 read_bits v mask g ms = map (unmasked mask g) (take (8 * total_codewords_of v) ms) ++ replicate (8 * total_codewords_of v - length ms) false
 
@@ -43,9 +44,9 @@ pub record IsRead (v mask : ℕ) (g : Grid) (cw : List ℕ) : Type 0 where
   pub order : IsOrder v places
   pub bits : bits_of cw ≡ read_bits v mask g places
 
--- `IsMessage v l mask g d` holds if d are the data codewords in the square of modules g, which has version v, level l
--- and the mask pattern `mask`. The encoding region of g must contain the final sequence of codewords for d
--- (ISO/IEC 18004:2015, 7.6, 12).
+-- `IsMessage v l mask g d` holds if the list d contains the data codewords in the square of modules g. The square has
+-- version v, level l and the mask pattern `mask`. The encoding region of g must contain the final sequence of codewords
+-- for d (ISO/IEC 18004:2015, 7.6, 12).
 pub record IsMessage (v : ℕ) (l : Level) (mask : ℕ) (g : Grid) (d : List ℕ) : Type 0 where
   pub codewords : List ℕ
   pub read : IsRead v mask g codewords
@@ -57,22 +58,23 @@ pub record IsMessage (v : ℕ) (l : Level) (mask : ℕ) (g : Grid) (d : List ℕ
 abbrev pub format_bit : Grid → ℕ → Bool
 format_bit g i = colour g (first_place i).row (first_place i).col
 
--- `IsFormat g l mask` holds if the square of modules g has the format information of the level l and the mask pattern
--- `mask`. Only the format information beside the top left finder pattern is read (ISO/IEC 18004:2015, 7.9.1, 12).
+-- `IsFormat g l mask` holds if the format information in the square of modules g belongs to the level l and the mask
+-- pattern `mask`. Only the format information beside the top left finder pattern is read
+-- (ISO/IEC 18004:2015, 7.9.1, 12).
 pub record IsFormat (g : Grid) (l : Level) (mask : ℕ) : Type 0 where
   pub in_range : mask < 8
   pub bits : (i : ℕ) → i < 15 → format_bit g i ≡ word_bit (format_word_of l mask) i
 
--- `IsOfVersion g v` holds if v is a version, from 1 to 40, and the square of modules g has the side of a symbol of
--- version v. The side is the number of modules in a row or a column (ISO/IEC 18004:2015, 6.3.2, 12).
+-- `IsOfVersion g v` holds if v is a version, from 1 to 40, and the square of modules g has as many rows as a symbol of
+-- version v (ISO/IEC 18004:2015, 6.3.2, 12).
 pub record IsOfVersion (g : Grid) (v : ℕ) : Type 0 where
   pub least : 1 ≤ v
   pub most : v ≤ 40
   pub side : g.side ≡ side_of v
 
--- `IsParsedAs g outcome` holds if the square of modules g can be read as far as its data codewords, and `outcome` is
--- the result of parsing them. The side of g, in modules, must be that of a version. The format information of g must be
--- that of a level and a mask pattern. The encoding region of g must contain the final sequence of codewords for the
+-- `IsParsedAs g outcome` holds if the data codewords of the square of modules g can be read, and `outcome` is the
+-- result of parsing these data codewords. Some version must have as many rows as g. The format information of g must
+-- belong to a level and a mask pattern. The encoding region of g must contain the final sequence of codewords for the
 -- data codewords (ISO/IEC 18004:2015, 12).
 pub record IsParsedAs (g : Grid) (outcome : Result Content ParseFault) : Type 0 where
   pub version : ℕ
@@ -90,18 +92,18 @@ abbrev pub IsReading : Grid → Content → Type 0
 IsReading g content = IsParsedAs g (Ok content)
 
 -- `IsReadBack v rule x g` holds if the square of modules g is read as the bytes x, without a structured append header.
--- The segments that are read must be those with the fewest bits at version v, in modes that `rule` allows
+-- The segments that are read must have the fewest bits possible at version v, in modes that `rule` allows
 -- (ISO/IEC 18004:2015, 12).
 abbrev pub IsReadBack : ℕ → Rule → List ℕ → Grid → Type 0
 IsReadBack v rule x g = (segments : List Segment) × IsLeastSegmentation v rule x segments
     × IsReading g (record { header = None; segments = segments; bytes = x })
 
--- `IsUnread g e` holds if the square of modules g is not read because of the fault e. The fault is `Side` if no version
--- has the side of g, in modules. The fault is `Format` if a version has this side, but the format information is that
--- of no level and mask pattern. The fault is `Check` if the side and the format information are valid, but the
--- codewords are not the final sequence for any data codewords. The fault is `Segments` if g contains data codewords,
--- but they cannot be parsed. The fault `Memory` is possible for every square, and the fault `Series` for no single
--- square (ISO/IEC 18004:2015, 12).
+-- `IsUnread g e` holds if reading the square of modules g may fail with the fault e. The fault is `Side` if no version
+-- has as many rows as g. The fault is `Format` if some version has as many rows as g, but the format information
+-- belongs to no level and mask pattern. The fault is `Check` if the number of rows and the format information are
+-- valid, but the codewords are not the final sequence for any data codewords. The fault is `Segments` if g contains
+-- data codewords that cannot be parsed. The fault `Memory` is possible for every square. The fault `Series` is not
+-- possible for a single square (ISO/IEC 18004:2015, 12).
 abbrev pub IsUnread : Grid → ReadFault → Type 0
 IsUnread g unread.Memory = Unit {0}
 IsUnread g unread.Side = (v : ℕ) → IsOfVersion g v → ⊥

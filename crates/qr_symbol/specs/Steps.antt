@@ -1,5 +1,6 @@
--- The definitions in these files describe single steps of how the program computes. Only the contracts of private
--- functions use these definitions, so a reader who judges the promises of public functions need not read them.
+-- The definitions in these files describe how the program computes its results, step by step. Only the contracts of
+-- private functions use these definitions. To judge the promises of public functions, a reader need not read these
+-- definitions.
 pub mod Patterns
 pub mod Drawing
 pub mod Canvas

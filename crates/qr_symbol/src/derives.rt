@@ -1,18 +1,18 @@
-//! The laws in this file are about `==` and `clone`, which are derived for the two types of faults.
+//! This file contains laws about `==` and `clone`, which are derived for the two types of faults.
 
 ghost use Rattle.std.specs.Prelude.{◌≡◌, ◌↔◌, IsTrue, IfOk};
 
 use crate::fault::{EncodeFault, ReadFault};
 use std::alloc::AllocError;
 
-/// Two faults of encoding compare as equal exactly if they are the same fault.
+/// The operator `==` returns whether two faults of encoding are the same fault.
 pub fn encode_faults_are_equal(a: EncodeFault, b: EncodeFault) -> bool
     ensures { IsTrue result ↔ (a ≡ b) }
 {
     a == b
 }
 
-/// Two faults of reading compare as equal exactly if they are the same fault.
+/// The operator `==` returns whether two faults of reading are the same fault.
 pub fn read_faults_are_equal(a: ReadFault, b: ReadFault) -> bool
     ensures { IsTrue result ↔ (a ≡ b) }
 {

@@ -1,6 +1,6 @@
-//! Draws the bits of the codewords into the encoding region, in the order of `qr_layout::walk` (ISO/IEC 18004:2015,
-//! 7.7.2 and 7.7.3). `draw_codewords` draws strip by strip, where a strip is two columns that are filled together.
-//! `draw_along_walk` draws module by module.
+//! Draws the bits of the codewords into the encoding region, in the order of `qr_layout::walk`
+//! (ISO/IEC 18004:2015, 7.7.2 and 7.7.3). The function `draw_codewords` draws strip by strip, where a strip is two
+//! neighbouring columns that are filled together. The function `draw_along_walk` draws module by module.
 
 ghost use Rattle.std.specs.Prelude.{◌≡◌, ℕ, List, ◌*◌, ◌%◌, ◌+◌, ◌-◌, ◌<◌, ◌≤◌, ◌==◌, ◌&&◌, if◌then◌else◌, not, false, length, slice_index};
 ghost use Rattle.qr_layout.specs.Version.{side_of};
@@ -23,8 +23,8 @@ fn codeword_at(codewords: &[u8], place: usize) -> u8
     codewords.get(place).copied().unwrap_or(0)
 }
 
-// Returns the eight codewords from index `place` on as one word of 64 bits. The first of these codewords is the highest
-// byte of the word.
+// Returns the eight codewords from index `place` on as one integer of 64 bits. The first of these codewords is the
+// highest byte of the integer.
 fn eight_codewords(codewords: &[u8], place: usize) -> u64
     requires { place + 8 ≤ length codewords.now }
     ensures { (k : ℕ) → k < 64 → has_bit result (63 - k) ≡ codeword_bit codewords.now (8 * place + k) }
@@ -36,8 +36,8 @@ fn eight_codewords(codewords: &[u8], place: usize) -> u64
     bits
 }
 
-// Returns the eight codewords from index `place` on as one word of 64 bits, as `eight_codewords` does. If there are
-// fewer than eight codewords, zeros follow the last codeword.
+// Returns the eight codewords from index `place` on as one integer of 64 bits, as `eight_codewords` does. If there are
+// fewer than eight codewords from this index on, zeros follow the last codeword.
 #[inline(never)]
 fn last_codewords(codewords: &[u8], place: usize) -> u64
     requires { place ≤ 5000 }
@@ -50,16 +50,17 @@ fn last_codewords(codewords: &[u8], place: usize) -> u64
     bits
 }
 
-// Eight codewords as one word of 64 bits; the first codeword is the highest byte of the word. The bits of all codewords
-// are numbered from 0, and `first` is the number of the highest bit of this word.
+// Eight codewords as one integer of 64 bits, `bits`. The first codeword is the highest byte of this integer. The bits
+// of all codewords are numbered from 0, and `first` is the number of the codeword bit that is the highest bit of
+// `bits`.
 #[derive(Clone, Copy)]
 struct CodewordBits {
     bits: u64,
     first: usize,
 }
 
-// Returns eight codewords as one word: the codeword that contains the bit with the number `number`, and the seven
-// codewords after it. The bits of all codewords are numbered from 0.
+// Returns eight codewords as one integer of 64 bits: the codeword that contains the bit with the number `number`, and
+// the seven codewords after this codeword. The bits of all codewords are numbered from 0.
 fn codeword_bits_at(codewords: &[u8], number: usize) -> CodewordBits
     requires { number ≤ 40000 }
     ensures bits { IsCodewordBits codewords.now result }
@@ -78,7 +79,7 @@ fn codeword_bits_at(codewords: &[u8], number: usize) -> CodewordBits
     }
 }
 
-// Returns eight bits of the word `next`, from the bit with the number `number` on. The bits of all codewords are
+// Returns eight of the codeword bits in `next`, from the bit with the number `number` on. The bits of all codewords are
 // numbered from 0. The first of the eight bits is the highest bit of the result.
 fn eight_bits(next: CodewordBits, number: usize) -> u8
     requires least { next.first ≤ number }
@@ -88,12 +89,13 @@ fn eight_bits(next: CodewordBits, number: usize) -> u8
     (next.bits >> (56 - (number - next.first)) & 255) as u8
 }
 
-// Two tables that divide eight codeword bits between the two columns of a strip, which are filled together. The index
-// of an entry is the eight bits. The bits fill four rows of the strip, and alternate between the right and the left
-// column. In each entry, the higher four bits are those of the right column: the first, third, fifth and seventh of the
-// eight bits. The lower four bits are those of the left column. In each half of an entry, the lowest bit is that of the
-// topmost of the four rows. The first table is for strips that are filled downward: there the first two of the eight
-// bits are in the topmost row. The second table is for strips that are filled upward.
+// Two tables that divide eight codeword bits between the two columns of a strip, which are filled together. The eight
+// bits are the index of an entry. They fill four rows of the strip, and alternate between the right and the left
+// column. In each entry, the higher four bits belong to the right column: they are the first, third, fifth and seventh
+// of the eight bits. The lower four bits belong to the left column. In each half of an entry, the lowest bit belongs to
+// the topmost of the four rows. The first table is for strips that are filled downward: there the first two of the
+// eight bits are in the topmost row. The second table is for strips that are filled upward: there the last two of the
+// eight bits are in the topmost row.
 static SPLITS: [[u8; 256]; 2] = [
     [
         0x00, 0x08, 0x80, 0x88, 0x04, 0x0C, 0x84, 0x8C, 0x40, 0x48, 0xC0, 0xC8, 0x44, 0x4C, 0xC4,
@@ -145,8 +147,8 @@ struct Columns {
     left: BitRow,
 }
 
-// Returns the two columns of a strip, which are filled together; `right` is the index of the right one. The square of
-// modules `across` is transposed: its rows are the columns of the symbol.
+// Returns the two columns of a strip, which are filled together; `right` is the index of the right column. The square
+// of modules `across` is transposed: its rows are the columns of the symbol.
 fn columns_of(across: &Matrix, right: u8) -> Columns
     requires left_in { 1 ≤ right }
     requires right_in { right < across.now.side }
@@ -160,8 +162,8 @@ fn columns_of(across: &Matrix, right: u8) -> Columns
     }
 }
 
-// Returns the columns `columns` of a strip with all modules of the encoding region light. In the columns `region`, a
-// bit is 1 if the module in its row is in the encoding region.
+// Returns the columns `columns` of a strip after all their modules in the encoding region were made light. In the
+// columns `region`, a bit is 1 if the module in its row is in the encoding region.
 fn with_light_region(columns: Columns, region: &Columns) -> Columns
     ensures right { (row : ℕ) → has result.right row ≡ (has columns.right row && not (has region.now.right row)) }
     ensures left { (row : ℕ) → has result.left row ≡ (has columns.left row && not (has region.now.left row)) }
@@ -173,8 +175,8 @@ fn with_light_region(columns: Columns, region: &Columns) -> Columns
 }
 
 // Draws the next of the eight bits `bits` in row `row` of a column, if the module there is in the encoding region.
-// Before the call, `taken` of the eight bits were drawn. Returns how many of the eight bits are drawn after the call.
-// In `region`, a bit is 1 if the module in its row of the column is in the encoding region.
+// Before the call, `taken` of the eight bits were drawn already. Returns how many of the eight bits are drawn when the
+// call ends. In `region`, a bit is 1 if the module in its row of the column is in the encoding region.
 fn draw_module(column: &mut BitRow, region: &BitRow, bits: u8, taken: u8, row: u8) -> u8
     requires row_in { row < 192 }
     requires taken { taken < 8 }
@@ -192,8 +194,8 @@ fn draw_module(column: &mut BitRow, region: &BitRow, bits: u8, taken: u8, row: u
 
 // Draws the first bits of `bits` in `count` rows of a strip (two columns that are filled together). Each module of
 // these rows that is in the encoding region gets the next bit. `passed` is the number of rows of the strip that come
-// before these rows. Returns the number of bits that were drawn. In a large symbol, `draw_four` draws most rows without
-// this function.
+// before these rows. Returns the number of bits that were drawn. In a large symbol, most rows are drawn by `draw_four`
+// without a call of this function.
 #[inline(never)]
 fn draw_rows(
     columns: &mut Columns,
@@ -231,7 +233,7 @@ fn draw_rows(
 // rows that is in the encoding region gets the next bit. `passed` is the number of rows of the strip that come before
 // these rows. Returns the number of bits that were drawn. In `both`, the bit of a row is 1 if both modules of the strip
 // in this row are in the encoding region. If all eight modules are in the encoding region, four modules of each column
-// are drawn at once. They are still light, so it is enough to set the bits that are 1.
+// are drawn at once. All eight modules are still light, so it is enough to make the modules dark whose bits are 1.
 #[inline(always)]
 fn draw_four(
     columns: &mut Columns,
@@ -272,8 +274,8 @@ fn draw_four(
 
 // Draws the bits of the codewords, from bit `first` on, in a strip (two columns that are filled together). Each module
 // of the strip that is in the encoding region gets the next bit. Returns the number of the next bit to be drawn. The
-// side of a symbol, in modules, is one more than a multiple of four. So the bottom row is drawn by itself, and the rows
-// above it are drawn in groups of four.
+// number of rows of a symbol is one more than a multiple of four. So the bottom row is drawn by itself, and the rows
+// above the bottom row are drawn in groups of four.
 #[inline(always)]
 fn draw_columns(
     columns: &mut Columns,
@@ -311,8 +313,8 @@ fn draw_columns(
 }
 
 // Draws the bits of the codewords, from bit `first` on, in a strip (two columns that are filled together). Each module
-// of the strip that is in the encoding region gets the next bit. Returns the number of the next bit to be drawn.
-// `draw_columns` is called in two places here, so that it is compiled once for each direction of a strip.
+// of the strip that is in the encoding region gets the next bit. Returns the number of the next bit to be drawn. The
+// code calls `draw_columns` twice, so that the compiler compiles it once for each direction in which a strip is filled.
 fn draw_strip(
     across: &mut Matrix,
     v: Version,
@@ -350,10 +352,10 @@ fn draw_strip(
     next
 }
 
-// Draws the codeword bits at the modules of the encoding region, strip by strip; a strip is two columns that are filled
-// together. The square `across` is transposed, which means that rows and columns are exchanged. So the two columns of a
-// strip are two rows of `across`. The two columns are also two rows of `region`, since the encoding region is the same
-// when rows and columns are exchanged.
+// Draws the codeword bits in the modules of the encoding region, strip by strip; a strip is two neighbouring columns
+// that are filled together. The square `across` is transposed, which means that rows and columns are exchanged. So the
+// two columns of a strip are two rows of `across`. The two columns are also two rows of `region`, since the encoding
+// region is the same when rows and columns are exchanged.
 pub(crate) fn draw_codewords(across: &mut Matrix, v: Version, region: &Matrix, codewords: &[u8])
     requires square { IsSquare (side_of v) across.old }
     requires region { region.now ≡ region_grid v }
@@ -367,8 +369,8 @@ pub(crate) fn draw_codewords(across: &mut Matrix, v: Version, region: &Matrix, c
     }
 }
 
-// Returns bit `number` of the codewords, where bit 0 is the highest bit of the first codeword. After the last codeword
-// every bit is 0, which is `false`.
+// Returns bit `number` of the codewords, where bit 0 is the highest bit of the first codeword. If there is no such bit,
+// returns `false`.
 fn bit_at(codewords: &[u8], number: usize) -> bool
     ensures { result ≡ codeword_bit codewords.now number }
 {
@@ -376,9 +378,9 @@ fn bit_at(codewords: &[u8], number: usize) -> bool
     is_bit_set(u32::from(codeword), 7 - (number % 8) as u8)
 }
 
-// Draws the codeword bits under the mask pattern `mask` at the modules of the encoding region, one module after the
-// other in the order of `walk`. The remainder bits are 0 before the mask pattern is applied, and the mask pattern
-// inverts them too.
+// Draws the codeword bits under the mask pattern `mask` in the modules of the encoding region, one module after the
+// other in the order of `walk`. The remainder bits are 0 before the mask pattern is applied. The mask pattern inverts
+// the remainder bits too.
 pub(crate) fn draw_along_walk(matrix: &mut Matrix, v: Version, codewords: &[u8], mask: u8)
     requires { IsSquare (side_of v) matrix.old }
     ensures { matrix.new ≡ square (side_of v) (walked_colour v codewords.now mask (colour matrix.old)) }

@@ -25,24 +25,25 @@ use std::alloc::Global;
 // The largest number of bytes that one symbol can contain: 7,089 digits in version 40 at level L (7.4.10, Table 7).
 pub(crate) const SYMBOL_BYTES_MAX: usize = 7089;
 
-/// Encodes the input as one symbol (ISO/IEC 18004:2015, 7.1), in the least version, from `smallest` on, that the input
-/// fits. `rule` says which modes the segments may have. The input is cut into the segments that take the fewest bits in
-/// these modes. The symbol contains the codewords that the standard requires for these segments, and has the mask
-/// pattern with the least penalty. If several mask patterns have the least penalty, the symbol has the one with the
-/// smallest number.
+/// Encodes the input as one symbol (ISO/IEC 18004:2015, 7.1). The symbol has the least version, from `smallest` on,
+/// that the input fits. `rule` determines which modes the segments may have. The input is cut into the segments that
+/// need the fewest bits in these modes. The symbol contains the codewords that the standard requires for these
+/// segments, and has the mask pattern with the least penalty. If several mask patterns have the least penalty, the one
+/// with the smallest number is chosen.
 ///
 /// If the modules of the symbol are read in the standard's order, unmasked, deinterleaved and parsed, the result is
 /// exactly the input, in the same segments.
 ///
 /// # Errors
 ///
-/// Returns `Empty` exactly if the input has no byte. Unless an allocation is refused, returns `TooLong` exactly if the
-/// input fits no version from `smallest` on. An input of more than 7,089 bytes fits no version; for such an input,
-/// `TooLong` is returned before any allocation. Returns `Memory` if an allocation is refused.
+/// Returns `Empty` exactly if the input has no byte. Returns `TooLong` if the input fits no version from `smallest` on.
+/// Returns `Memory` if an allocation is refused; then `TooLong` is not returned. An input of more than 7,089 bytes fits
+/// no version; for such an input, `TooLong` is returned before any allocation.
 ///
 /// # Notes
 ///
-/// Here the level comes before the version. In `encode_series` the version comes first.
+/// Among the parameters of `encode`, the level comes before the version. In `encode_series`, the version comes before
+/// the level.
 pub fn encode(
     alloc: Global,
     input: &[u8],
@@ -72,8 +73,8 @@ pub fn encode(
     symbol_at(alloc, input, &fit.segments, None, fit.version, level)
 }
 
-// Returns the symbol that contains the bytes `input` in these segments, after the optional structured append header
-// (7.1, 8.1).
+// Returns the symbol that contains the optional structured append header `header` and then the bytes `input`, cut into
+// the segments `segments` (7.1, 8.1).
 pub(crate) fn symbol_at(
     alloc: Global,
     input: &[u8],
@@ -95,8 +96,9 @@ pub(crate) fn symbol_at(
     symbol_on(alloc, &mut canvas, input, segments, header)
 }
 
-// Returns the symbol that contains the bytes `input` in these segments, after the optional structured append header.
-// The symbol is drawn on `canvas`, and has the version and the level of the canvas.
+// Returns the symbol that contains the optional structured append header `header` and then the bytes `input`, cut into
+// the segments `segments`. The symbol is drawn on `canvas`, which contains the modules that are the same in all symbols
+// of its version. The symbol has the version and the level of the canvas.
 pub(crate) fn symbol_on(
     alloc: Global,
     canvas: &mut Canvas,

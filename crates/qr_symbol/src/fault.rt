@@ -6,8 +6,8 @@ use qr_bits::{BitFault, ParseFault};
 use std::alloc::{AllocError, AllocFailed};
 use thiserror::Error;
 
-/// The reason why an input is not encoded. The causes before `Memory` are checked in the order of this list. Memory may
-/// be refused at any step after the check for `Empty`.
+/// The reason why an input is not encoded. The faults `Empty`, `TooLong` and `TooMany` are checked in this order.
+/// Memory may be refused at any step after the check for `Empty`.
 #[derive(Clone, Copy, Debug, PartialEq, Eq, Error)]
 pub enum EncodeFault {
     /// The input has no byte.
@@ -60,23 +60,24 @@ impl From<BitFault> for EncodeFault {
     }
 }
 
-/// The reason why symbols are not read. The causes from `Side` on are checked in the order of this list. `Memory` has
-/// no fixed place in this order.
+/// The reason why symbols are not read. The faults from `Side` to `Series` are checked in the order of this list.
+/// `Memory` has no fixed position in this order, since memory may be refused at several steps.
 #[derive(Clone, Copy, Debug, PartialEq, Eq, Error)]
 pub enum ReadFault {
     /// An allocation was refused.
     #[error("out of memory")]
     Memory,
-    /// No version has the side of the square that was read.
+    /// No version has as many rows as the square of modules that was read.
     #[error("no version has this side")]
     Side,
-    /// The format information beside the top left finder pattern is that of no level and mask pattern.
+    /// The format information beside the top left finder pattern belongs to no level and mask pattern.
     #[error("the format information is damaged")]
     Format,
     /// The error correction codewords of a block do not belong to its data codewords.
     #[error("a codeword is damaged")]
     Check,
-    /// The data codewords cannot be parsed. The parse fault inside is never `ParseFault::Memory`.
+    /// The data codewords cannot be parsed. The fault of parsing that this variant contains is never
+    /// `ParseFault::Memory`.
     #[error("the data codewords cannot be parsed: {0}")]
     Segments(ParseFault),
     /// The symbols are neither one symbol without a structured append header nor a whole series.

@@ -13,8 +13,8 @@ use qr_field::Divisor;
 use qr_layout::{Blocks, Level, Version};
 use std::alloc::{AllocError, Global};
 
-/// The sizes of the blocks into which a list of codewords is divided. First come `short` blocks of `short_len`
-/// codewords each. Then come `long` blocks, each with one codeword more than a short block (ISO/IEC 18004:2015, 7.5.1).
+/// The sizes of the blocks into which a list of codewords is divided. The first `short` blocks contain `short_len`
+/// codewords each. Each of the `long` blocks after them contains one codeword more (ISO/IEC 18004:2015, 7.5.1).
 #[derive(Clone, Copy)]
 pub struct BlockSizes {
     /// The number of short blocks.
@@ -26,7 +26,7 @@ pub struct BlockSizes {
 }
 
 impl BlockSizes {
-    /// Returns the sizes of the blocks, counted in data codewords.
+    /// Returns the sizes of the blocks, when only their data codewords are counted.
     pub fn of_data(blocks: Blocks) -> BlockSizes
         ensures { result ≡ data_sizes blocks }
     {
@@ -37,8 +37,8 @@ impl BlockSizes {
         }
     }
 
-    /// Returns the sizes of the blocks, counted in error correction codewords. All blocks have the same number of error
-    /// correction codewords.
+    /// Returns the sizes of the blocks, when only their error correction codewords are counted. All blocks have the
+    /// same number of error correction codewords.
     pub fn of_corrections(blocks: Blocks) -> BlockSizes
         ensures { result ≡ correction_sizes blocks }
     {
@@ -74,8 +74,8 @@ impl BlockSizes {
         usize::from(self.short_len) * block + block.saturating_sub(usize::from(self.short))
     }
 
-    /// Returns the codewords of block `block`, counted from 0. The slice `codewords` contains the codewords of all
-    /// blocks, block after block.
+    /// Returns the codewords of the block with index `block`. The slice `codewords` contains the codewords of all
+    /// blocks, one block after the other.
     pub fn part(self, codewords: &[u8], block: usize) -> &[u8]
         requires within { block < block_count self }
         requires whole { length codewords.now ≡ codeword_count self }
@@ -86,9 +86,10 @@ impl BlockSizes {
         &codewords[start..start + self.len(block)]
     }
 
-    /// Undoes the interleaving of `codewords`, and returns the codewords block after block. Interleaved codewords are
-    /// the first codeword of each block, then the second codeword of each block, and so on (ISO/IEC 18004:2015, 7.6).
-    /// If `codewords` contains more codewords than the blocks have, the additional codewords at the end are ignored.
+    /// Undoes the interleaving of `codewords`, and returns the codewords of all blocks, one block after the other. In
+    /// interleaved order, the first codeword of each block comes first, then the second codeword of each block, and so
+    /// on (ISO/IEC 18004:2015, 7.6). If `codewords` contains more codewords than the blocks have, the additional
+    /// codewords at the end are ignored.
     pub fn gather(self, alloc: Global, codewords: &[u8]) -> Result<Vec<u8>, AllocError>
         requires { codeword_count self ≤ length codewords.now }
         ensures { IfOk result (λ d. IsGathered self codewords.now d.items) }
@@ -100,7 +101,7 @@ impl BlockSizes {
 }
 
 // Appends the codewords of all blocks to `interleaved`: the first codeword of each block, then the second codeword of
-// each block, and so on.
+// each block, and so on. In `codewords`, the codewords of one block follow those of the previous block.
 fn interleave_into(
     interleaved: &mut Vec<u8>,
     sizes: BlockSizes,
@@ -123,7 +124,8 @@ fn interleave_into(
     Ok(())
 }
 
-// Returns the error correction codewords for the data codewords `message`, block after block.
+// Returns the error correction codewords of all blocks, one block after the other. `message` contains the data
+// codewords of all blocks.
 fn corrections(alloc: Global, blocks: Blocks, message: &[u8]) -> Result<Vec<u8>, AllocError>
     requires whole { length message.now ≡ codeword_count (data_sizes blocks) }
     requires least { 1 ≤ blocks.ec_len }
@@ -159,9 +161,9 @@ fn interleave_blocks(alloc: Global, blocks: Blocks, message: &[u8]) -> Result<Ve
     Ok(interleaved)
 }
 
-/// Returns the final sequence of codewords for the data codewords `message` (ISO/IEC 18004:2015, 7.5.2 and 7.6). First
-/// come the data codewords: the first data codeword of each block, then the second of each block, and so on. The error
-/// correction codewords follow in the same order.
+/// Returns the final sequence of codewords for the data codewords `message` (ISO/IEC 18004:2015, 7.5.2 and 7.6). The
+/// sequence begins with the data codewords: the first data codeword of each block, then the second data codeword of
+/// each block, and so on. The error correction codewords follow in the same order.
 pub fn interleave(
     alloc: Global,
     version: Version,
@@ -175,7 +177,7 @@ pub fn interleave(
     interleave_blocks(alloc, version.blocks(level), message)
 }
 
-// Undoes the interleaving of `codewords`: writes the codewords to `message`, block after block.
+// Undoes the interleaving of `codewords`: writes the codewords of all blocks to `message`, one block after the other.
 fn deinterleave_into(message: &mut Vec<u8>, sizes: BlockSizes, codewords: &[u8])
     requires room { length message.old.items ≡ codeword_count sizes }
     requires interleaved { codeword_count sizes ≤ length codewords.now }
@@ -221,9 +223,9 @@ fn deinterleave_blocks(
     }
 }
 
-/// Returns the data codewords of a final sequence of codewords (ISO/IEC 18004:2015, 7.6 and 12). Unless an allocation
-/// is refused, returns the fault `Check` exactly if the error correction codewords of some block do not belong to its
-/// data codewords.
+/// Returns the data codewords of a final sequence of codewords (ISO/IEC 18004:2015, 7.6 and 12). Returns the fault
+/// `Check` if the error correction codewords of some block do not belong to its data codewords. Returns `Memory` if an
+/// allocation is refused; then `Check` is not returned.
 pub fn deinterleave(
     alloc: Global,
     version: Version,

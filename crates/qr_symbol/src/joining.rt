@@ -11,7 +11,7 @@ use crate::symbol::Symbol;
 use qr_bits::{Parsed, parity};
 use std::alloc::{AllocError, Global};
 
-// Reads each symbol, and returns the contents in the order of the symbols.
+// Reads each symbol, and returns the contents of the symbols in their order.
 fn read_all(alloc: Global, symbols: &[Symbol]) -> Result<Vec<Parsed>, ReadFault>
     ensures { MatchResult result
         (λ contents. AreReadings (squares_of symbols.now) contents.items)
@@ -24,7 +24,7 @@ fn read_all(alloc: Global, symbols: &[Symbol]) -> Result<Vec<Parsed>, ReadFault>
     Ok(contents)
 }
 
-// Returns the bytes of all contents, one content after another.
+// Returns the bytes of all contents, in the order of the contents. A content is what one symbol is read as.
 fn joined_bytes(alloc: Global, contents: &[Parsed]) -> Result<Vec<u8>, AllocError>
     ensures { IfOk result (λ bytes. bytes.items ≡ bytes_of_all contents.now) }
 {
@@ -35,7 +35,8 @@ fn joined_bytes(alloc: Global, contents: &[Parsed]) -> Result<Vec<u8>, AllocErro
     Ok(bytes)
 }
 
-// Returns whether there is exactly one content, and this content has no structured append header.
+// Returns whether `contents` is one single content without a structured append header. A content is what one symbol is
+// read as.
 fn is_plain(contents: &[Parsed]) -> bool
     ensures { Decides result (IsPlain contents.now) }
 {
@@ -45,8 +46,8 @@ fn is_plain(contents: &[Parsed]) -> bool
     }
 }
 
-// Returns whether the content has a structured append header that contains `position`, the number of symbols less 1
-// (`last`), and `parity`.
+// Returns whether the content has a structured append header that contains the numbers `position`, `last` and `parity`.
+// The number `last` is the number of symbols, less 1.
 fn has_header(content: &Parsed, position: usize, last: usize, parity: u8) -> bool
     ensures { Decides result (content.now.header
         ≡ Some (record { position = position; last = last; parity = parity })) }
@@ -61,9 +62,9 @@ fn has_header(content: &Parsed, position: usize, last: usize, parity: u8) -> boo
     }
 }
 
-// Returns whether the contents are those of a whole series of symbols, in the order of the series. There must be at
-// least one content, and each content must have a structured append header. This header must contain the position of
-// the content, the number of contents less 1, and `parity` (8.1 to 8.3).
+// Returns whether `contents` contains the contents of a whole series of symbols, in the order of the series. There must
+// be at least one content, and each content must have a structured append header. The header must contain three
+// numbers: the position of the content, the number of contents less 1, and `parity` (8.1 to 8.3).
 fn are_in_series(contents: &[Parsed], parity: u8) -> bool
     ensures { Decides result ((0 < length contents.now)
         × HaveHeaders (length contents.now - 1) parity 0 contents.now) }
@@ -80,14 +81,16 @@ fn are_in_series(contents: &[Parsed], parity: u8) -> bool
     true
 }
 
-/// Joins the bytes of the contents of symbols, in their order (ISO/IEC 18004:2015, 8). The contents must be one content
-/// without a structured append header, or those of a whole series. In a series, the header of each content must contain
-/// its position, counted from 0, the number of symbols less 1, and the parity data of all bytes.
+/// Joins the bytes of the contents of symbols, in the order of `contents` (ISO/IEC 18004:2015, 8). The list `contents`
+/// must be one content without a structured append header, or the contents of a whole series. In a series, the
+/// structured append header of each content must contain three numbers. The first number is the position of the
+/// content, counted from 0. The second number is the number of symbols, less 1. The third number is the parity data of
+/// all bytes.
 ///
 /// # Errors
 ///
-/// Returns `Series` if the contents are neither one content without a structured append header nor those of a whole
-/// series. If there is no content, returns `Series` too. Returns `Memory` if an allocation is refused.
+/// Returns `Series` if the contents are neither one content without a structured append header nor the contents of a
+/// whole series. Returns `Series` also if there is no content. Returns `Memory` if an allocation is refused.
 pub fn join(alloc: Global, contents: &[Parsed]) -> Result<Vec<u8>, ReadFault>
     ensures { MatchResult result
         (λ bytes. BelongTogether contents.now × (bytes.items ≡ bytes_of_all contents.now))
@@ -102,16 +105,17 @@ pub fn join(alloc: Global, contents: &[Parsed]) -> Result<Vec<u8>, ReadFault>
     }
 }
 
-/// Reads the symbols and joins their bytes, in their order (ISO/IEC 18004:2015, 8). The symbols must be one symbol
-/// without a structured append header, or those of a whole series. In a series, the header of each symbol must contain
-/// its position, counted from 0, the number of symbols less 1, and the parity data of all bytes. Only the matrix of
-/// each symbol is read, not its other fields.
+/// Reads the symbols and joins their bytes, in the order of `symbols` (ISO/IEC 18004:2015, 8). The list `symbols` must
+/// be one symbol without a structured append header, or the symbols of a whole series. In a series, the structured
+/// append header of each symbol must contain three numbers. The first number is the position of the symbol, counted
+/// from 0. The second number is the number of symbols, less 1. The third number is the parity data of all bytes. Only
+/// the field `matrix` of each symbol is read, not its other fields.
 ///
 /// # Errors
 ///
 /// If some symbol cannot be read, returns the fault of the first such symbol. The structured append headers are checked
 /// only if all symbols can be read. Returns `Series` if all symbols can be read, but are neither one symbol without a
-/// structured append header nor a whole series. If there is no symbol, returns `Series` too. Returns `Memory` if an
+/// structured append header nor a whole series. Returns `Series` also if there is no symbol. Returns `Memory` if an
 /// allocation is refused.
 pub fn read_series(alloc: Global, symbols: &[Symbol]) -> Result<Vec<u8>, ReadFault>
     ensures { MatchResult result

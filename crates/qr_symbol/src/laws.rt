@@ -47,14 +47,16 @@ use qr_matrix::Matrix;
 use std::alloc::Global;
 
 /// Each mask pattern repeats every twelve rows and every six columns. The first twelve rows of each mask pattern, in
-/// the first six columns, are equal to rows that were worked out by hand from Table 10.
+/// the first six columns, were worked out by hand from Table 10. The definition of the mask patterns agrees with these
+/// rows.
 pub fn masks_compute()
     ensures repeated { (mask r c : ℕ) → mask < 8 → inverts mask r c ≡ inverts mask (r % 12) (c % 6) }
     ensures rows { map first_rows all_masks ≡ computed_rows }
 {}
 
-/// `build_masked` draws module by module, and `build` draws several modules at once, but both make the same symbol. If
-/// `build_masked` is called with the mask pattern that `build` chose, the two symbols are equal in all fields.
+/// `build_masked` draws module by module, and `build` draws several modules at once, but the two functions make the
+/// same symbol. If `build_masked` is called with the mask pattern that `build` has chosen, the two symbols have the
+/// same fields.
 pub fn plain_and_fast_symbols_are_one(
     alloc: Global,
     version: Version,
@@ -85,8 +87,8 @@ pub fn blocks_are_cut_exactly(version: Version, level: Level)
     ensures whole { codeword_count (data_sizes (blocks_of version level)) ≡ data_codewords_of version level }
 {}
 
-/// Data codewords have at most one final sequence of codewords, and this sequence has as many codewords as a symbol of
-/// the version. No other data codewords of the same version and level have the same final sequence.
+/// Data codewords have at most one final sequence of codewords. The final sequence has as many codewords as a symbol of
+/// the version. Different data codewords of the same version and level have different final sequences.
 pub fn interleaving_is_one(version: Version, level: Level)
     ensures interleaved { (d xs ys : List ℕ) → IsInterleaved version level d xs
         → IsInterleaved version level d ys → xs ≡ ys }
@@ -97,30 +99,31 @@ pub fn interleaving_is_one(version: Version, level: Level)
         → IsInterleaved version level d xs → IsInterleaved version level e xs → d ≡ e }
 {}
 
-/// Any two squares of modules of one version and level that contain different data codewords are far apart. In at least
-/// one block, two such squares differ in more codewords than the block has error correction codewords.
+/// If two squares of modules of the same version and level contain different data codewords, they differ widely in some
+/// block. In this block, the number of codewords that differ is greater than the number of error correction codewords
+/// of the block.
 pub fn messages_lie_apart(version: Version, level: Level)
     ensures { MessagesLieApart version level }
 {}
 
 /// The codewords that were read from a damaged symbol belong to at most one message, which is a list of data codewords.
-/// The damage to each block must be limited: the number of erased codewords, plus twice the number of misread
-/// codewords, is at most the number of error correction codewords. An erased codeword is known to be unreadable, and a
-/// misread codeword was read with another value.
+/// An erased codeword is known to be unreadable, and a misread codeword was read with a wrong value. The damage to each
+/// block must be limited: the number of erased codewords, plus twice the number of misread codewords, is at most the
+/// number of error correction codewords of the block.
 pub fn damaged_messages_are_one(version: Version, level: Level)
     ensures { DamagedMessagesAreOne version level }
 {}
 
-/// If a square of modules is drawn from codewords, and its codeword bits are then read, the result is the bits of the
-/// same codewords.
+/// If codewords are drawn as a square of modules, and the codeword bits of this square are then read, the result is the
+/// bits of the same codewords.
 pub fn squares_give_their_bits(version: Version)
     ensures { (l : Level) (mask : ℕ) (cw : List ℕ) (ms : List Module) → IsOrder version ms
         → length cw ≡ total_codewords_of version
         → read_bits version mask (grid_of version l mask cw) ms ≡ bits_of cw }
 {}
 
-/// Under each mask pattern, every square of modules that has the side of the version contains exactly one list of
-/// codewords. These codewords are the final sequence for at most one list of data codewords.
+/// Under each mask pattern, every square of modules contains exactly one list of codewords of the version. These
+/// codewords are the final sequence for at most one list of data codewords.
 pub fn reading_is_one(version: Version, level: Level)
     ensures some { (mask : ℕ) (g : Grid) → (cw : List ℕ) × IsRead version mask g cw }
     ensures codewords { (mask : ℕ) (g : Grid) (cw ds : List ℕ) → IsRead version mask g cw
@@ -129,7 +132,7 @@ pub fn reading_is_one(version: Version, level: Level)
         → IsMessage version level mask g e → d ≡ e }
 {}
 
-/// The format information of a square of modules is that of at most one level and mask pattern.
+/// The format information of a square of modules belongs to at most one level and mask pattern.
 pub fn format_is_one()
     ensures { (g : Grid) (l k : Level) (m n : ℕ) → IsFormat g l m → IsFormat g k n
         → (l ≡ k) × (m ≡ n) }
@@ -140,8 +143,8 @@ pub fn contents_are_one()
     ensures { (g : Grid) (p q : Content) → IsReading g p → IsReading g q → p ≡ q }
 {}
 
-/// If a square of modules is read as a content, it can be refused only for lack of memory. Apart from lack of memory, a
-/// square is refused for at most one fault.
+/// If a square of modules can be read as a content, it is refused only for lack of memory. There is at most one fault
+/// other than lack of memory for which a square is refused.
 pub fn refusals_are_one()
     ensures read { (g : Grid) (p : Content) (e : ReadFault) → IsReading g p → IsUnread g e
         → e ≡ ReadFault.Memory }
@@ -149,8 +152,9 @@ pub fn refusals_are_one()
         → (e ≡ ReadFault.Memory) ⊎ (f ≡ ReadFault.Memory) ⊎ (e ≡ f) }
 {}
 
-/// Unless an allocation is refused, `read_symbol` refuses a square of modules for a fault exactly if the square has
-/// this fault.
+/// The definition `IsUnread` lists the reasons for each fault. If `read_symbol` returns a fault other than `Memory`,
+/// `IsUnread` holds for the square of modules and this fault. If `IsUnread` holds for the square and such a fault, and
+/// no allocation is refused, `read_symbol` returns this fault.
 pub fn readings_are_refused_exactly(alloc: Global, matrix: &Matrix) -> Result<Parsed, ReadFault>
     ensures { (e : ReadFault) → e ≢ ReadFault.Memory
         → (result ≡ Err e) ↔ ((result ≢ Err ReadFault.Memory) × IsUnread matrix.now e) }
@@ -163,8 +167,8 @@ pub fn joinings_are_one()
     ensures { (gs : List Grid) (x y : List ℕ) → IsJoined gs x → IsJoined gs y → x ≡ y }
 {}
 
-/// If squares of modules are joined to bytes, they can be refused only for lack of memory. Apart from lack of memory, a
-/// list of squares is refused for at most one fault.
+/// If squares of modules can be read and joined, they are refused only for lack of memory. There is at most one fault
+/// other than lack of memory for which a list of squares is refused.
 pub fn joining_refusals_are_one()
     ensures joined { (gs : List Grid) (x : List ℕ) (e : ReadFault) → IsJoined gs x
         → IsUnjoined gs e → e ≡ ReadFault.Memory }
@@ -172,8 +176,9 @@ pub fn joining_refusals_are_one()
         → (e ≡ ReadFault.Memory) ⊎ (f ≡ ReadFault.Memory) ⊎ (e ≡ f) }
 {}
 
-/// Unless an allocation is refused, `read_series` refuses symbols for a fault exactly if the squares of modules of the
-/// symbols have this fault.
+/// The definition `IsUnjoined` lists the reasons for each fault. If `read_series` returns a fault other than `Memory`,
+/// `IsUnjoined` holds for the squares of modules of the symbols and this fault. If `IsUnjoined` holds for the squares
+/// and such a fault, and no allocation is refused, `read_series` returns this fault.
 pub fn joinings_are_refused_exactly(alloc: Global, symbols: &[Symbol]) -> Result<Vec<u8>, ReadFault>
     ensures { (e : ReadFault) → e ≢ ReadFault.Memory
         → (result ≡ Err e) ↔ ((result ≢ Err ReadFault.Memory) × IsUnjoined (squares_of symbols.now) e) }
@@ -181,27 +186,30 @@ pub fn joinings_are_refused_exactly(alloc: Global, symbols: &[Symbol]) -> Result
     read_series(alloc, symbols)
 }
 
-/// An input has at most one symbol for a level, a rule and a smallest version; the rule says which modes may be used.
+/// For a given level, rule and smallest version, an input has at most one symbol. The rule determines which modes may
+/// be used.
 pub fn symbols_are_one()
     ensures { SymbolsAreOne }
 {}
 
-/// The symbol of an input is read as this input, without a structured append header and in the segments with the fewest
-/// bits.
+/// If the symbol of an input is read, the result is this input without a structured append header. The result contains
+/// the segments with the fewest bits.
 pub fn symbols_are_read(smallest: Version)
     ensures { (x : List ℕ) (l : Level) (rule : Rule) (v mask : ℕ) (g : Grid)
         → (s : IsSymbol smallest l rule x v mask g)
         → IsReading g (record { header = None; segments = s.made.segments; bytes = x }) }
 {}
 
-/// An input has at most one series of symbols for a version, a level and a rule; the rule says which modes may be used.
+/// For a given version, level and rule, an input has at most one series of symbols. The rule determines which modes may
+/// be used.
 pub fn series_are_one()
     ensures { (x : List ℕ) (l : Level) (rule : Rule) (v : ℕ) (ss ts : List Symbol)
         → IsSeries v l rule x ss → IsSeries v l rule x ts → ss ≡ ts }
 {}
 
-/// Each part that an input is cut into fits a symbol after a structured append header. Without kanji mode, the input
-/// cannot be cut into fewer parts that fit, so the series of an input that is not empty is the shortest possible.
+/// Each part into which an input is cut fits a symbol after a structured append header. Without kanji mode, the input
+/// cannot be cut into fewer parts that fit. So without kanji mode, the series of a nonempty input is the shortest
+/// possible.
 pub fn series_are_shortest()
     ensures fit { (v : ℕ) (l : Level) (rule : Rule) (x : List ℕ) (parts : List (List ℕ))
         → AreParts v l rule x parts → FitParts v l rule x parts }
@@ -212,20 +220,19 @@ pub fn series_are_shortest()
         → IsSeries v l rule x ss → NeedsParts v l rule x (length ss) }
 {}
 
-/// Every input can be cut into parts for a series of symbols, since any symbol has room for one byte after a structured
-/// append header.
+/// Every input can be cut into parts for a series of symbols, since every symbol can contain a structured append header
+/// and at least one byte.
 pub fn parts_are_there(version: Version, level: Level)
     ensures { (rule : Rule) (x : List ℕ) → (parts : List (List ℕ)) × AreParts version level rule x parts }
 {}
 
-/// Each part that an input is cut into has at least five bytes, unless the part contains all remaining bytes.
+/// If an input is cut into parts, each part contains at least five bytes or all remaining bytes.
 pub fn parts_are_long(version: Version, level: Level)
     ensures { (rule : Rule) (x p : List ℕ) (ps : List (List ℕ))
         → AreParts version level rule x (p ∷ ps) → (5 ≤ length p) ⊎ (p ≡ x) }
 {}
 
-/// All symbols of a series have as many modules on each side as the version of the series requires. A series has at
-/// most 16 symbols.
+/// All symbols of a series have as many rows as a symbol of the version of the series. A series has at most 16 symbols.
 pub fn series_have_one_side(version: Version)
     ensures side { (x : List ℕ) (l : Level) (rule : Rule) (ss : List Symbol)
         → IsSeries version l rule x ss → All (λ g. g.side ≡ side_of version) (squares_of ss) }
@@ -239,8 +246,8 @@ pub fn series_are_joined(version: Version)
         → IsSeries version l rule x ss → IsJoined (squares_of ss) x }
 {}
 
-/// An input of `INPUT_MAX` bytes or more fits no version. The input has no series of symbols either, since it would
-/// need more than 16 symbols.
+/// An input of `INPUT_MAX` bytes or more fits no version. Such an input has no series of symbols either, since it would
+/// be cut into more than 16 parts.
 pub fn long_inputs_have_none(version: Version)
     ensures symbol { (x : List ℕ) (l : Level) (rule : Rule) → INPUT_MAX ≤ length x
         → HasNoVersion version l rule x }
@@ -266,7 +273,7 @@ pub fn ties_go_to_the_smallest()
         → mask_penalty v l cw other ≡ mask_penalty v l cw mask → mask ≤ other }
 {}
 
-/// No version larger than 40 is chosen for an input, and an input that fits version 40 is not refused as too long.
+/// The version that is chosen for an input is at most 40. An input that fits version 40 is not refused as too long.
 pub fn the_last_version_is_40(smallest: Version)
     ensures chosen { (l : Level) (rule : Rule) (x : List ℕ) (v : ℕ) → IsVersion smallest l rule x v → v ≤ 40 }
     ensures tried { (l : Level) (rule : Rule) (x : List ℕ) → HasNoVersion smallest l rule x

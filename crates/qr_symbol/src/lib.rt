@@ -13,8 +13,8 @@
 //! }
 //! ```
 //!
-//! The crate `example_label` contains such a function with a contract. A symbol that is to be scanned needs a quiet
-//! zone, which is a light margin of four modules on each side.
+//! The crate `example_label` contains a function that does this, together with its contract. A symbol that is to be
+//! scanned needs a quiet zone, which is a light margin of four modules on each side.
 #![tactic(auto)]
 
 mod canvas;

@@ -1,6 +1,6 @@
-//! Reads one symbol (ISO/IEC 18004:2015, 12). The number of modules on a side determines the version, and the format
-//! information contains the level and the mask pattern. Then the codewords are read and deinterleaved, and the data
-//! codewords are parsed as segments and their bytes.
+//! Reads one symbol (ISO/IEC 18004:2015, 12). The number of rows of the symbol determines its version. The format
+//! information contains the level and the mask pattern. Then the codewords are read and deinterleaved. In the end the
+//! data codewords are parsed: the results are the segments and the bytes of the segments.
 
 ghost use Rattle.std.specs.Prelude.{◌≡◌, ℕ, ◌<◌, ◌≤◌, Err, length, IfOk, MatchOption, MatchResult};
 ghost use Rattle.std.specs.Bool.{Decides};
@@ -18,7 +18,7 @@ use qr_layout::{Level, Version, format_place, format_word, walk};
 use qr_matrix::Matrix;
 use std::alloc::{AllocError, Global};
 
-// Returns whether the format information beside the top left finder pattern is that of the level `level` and the mask
+// Returns whether the format information beside the top left finder pattern belongs to the level `level` and the mask
 // pattern `mask`.
 fn has_format(matrix: &Matrix, level: Level, mask: u8) -> bool
     requires side { 21 ≤ matrix.now.side }
@@ -35,8 +35,8 @@ fn has_format(matrix: &Matrix, level: Level, mask: u8) -> bool
     true
 }
 
-// Returns the mask pattern of the format information, if the format information is that of the level `level` and some
-// mask pattern. Otherwise returns `None`.
+// If the format information of `matrix` belongs to the level `level` and some mask pattern, returns this mask pattern.
+// Otherwise returns `None`.
 fn mask_of(matrix: &Matrix, level: Level) -> Option<u8>
     requires { 21 ≤ matrix.now.side }
     ensures { MatchOption result
@@ -51,8 +51,8 @@ fn mask_of(matrix: &Matrix, level: Level) -> Option<u8>
     None
 }
 
-// Returns the level and the mask pattern of the format information, or `None` if the format information is that of no
-// level and mask pattern.
+// Returns the level and the mask pattern to which the format information of `matrix` belongs. Returns `None` if the
+// format information belongs to no level and mask pattern.
 fn format_of(matrix: &Matrix) -> Option<(Level, u8)>
     requires { 21 ≤ matrix.now.side }
     ensures { MatchOption result
@@ -95,23 +95,23 @@ pub fn read_codewords(
     Ok(codewords)
 }
 
-/// Reads a symbol, without any correction of errors (ISO/IEC 18004:2015, 12). The number of modules on a side
-/// determines the version. The level and the mask pattern are read only from the format information beside the top left
-/// finder pattern. The function patterns, the dark module, the second copy of the format information, the version
-/// information and the remainder bits are ignored.
+/// Reads a symbol, without any correction of errors (ISO/IEC 18004:2015, 12). The number of rows of `matrix` determines
+/// the version. The level and the mask pattern are read only from the format information beside the top left finder
+/// pattern. The function patterns, the dark module, the second copy of the format information, the version information
+/// and the remainder bits are ignored.
 ///
-/// Unless an allocation is refused, a square of modules is read exactly if four conditions hold. The side of the square
-/// is that of a version. The format information is that of a level and a mask pattern. The error correction codewords
-/// of each block belong to the data codewords of the block. The data codewords can be parsed; the segments in them may
-/// have any mode, kanji mode too.
+/// A square of modules is read if four conditions are true and no allocation is refused; no other square is read. The
+/// first condition is that some version has as many rows as the square. The second condition is that the format
+/// information belongs to a level and a mask pattern. The third condition is that the error correction codewords of
+/// each block belong to the data codewords of the block. The fourth condition is that the data codewords can be parsed;
+/// their segments may have any mode, even kanji mode.
 ///
 /// # Errors
 ///
-/// The causes are checked in the following order. Returns `Side` if the side of the square is that of no version.
-/// Returns `Format` if the format information is that of no level and mask pattern. Returns `Check` if the error
-/// correction codewords of some block do not belong to its data codewords. Returns `Segments` if the data codewords
-/// cannot be parsed. Returns `Memory` if an allocation is refused; `Side` and `Format` are returned before any
-/// allocation.
+/// The causes are checked in the following order. Returns `Side` if no version has as many rows as the square. Returns
+/// `Format` if the format information belongs to no level and mask pattern. Returns `Check` if the error correction
+/// codewords of some block do not belong to its data codewords. Returns `Segments` if the data codewords cannot be
+/// parsed. Returns `Memory` if an allocation is refused; `Side` and `Format` are returned before any allocation.
 pub fn read_symbol(alloc: Global, matrix: &Matrix) -> Result<Parsed, ReadFault>
     ensures read { MatchResult result (IsReading matrix.now) (IsUnread matrix.now) }
     ensures side { IsUnread matrix.now ReadFault.Side → result ≡ Err ReadFault.Side }

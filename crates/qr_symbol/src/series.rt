@@ -1,4 +1,4 @@
-//! Encodes an input as a series of symbols, by Structured Append (ISO/IEC 18004:2015, 8).
+//! Encodes an input as a series of symbols, which the standard calls Structured Append (ISO/IEC 18004:2015, 8).
 
 ghost use Rattle.std.specs.Prelude.{◌≡◌, ◌≢◌, ◌-◌, ◌<◌, ◌≤◌, ◌↔◌, ◌⊎◌, ℕ, false, List, [], length, None, Some, Err, IfOk, IfErr, MatchOption};
 ghost use Rattle.qr_bits.specs.declared.modes.Rule.{Rule};
@@ -23,25 +23,27 @@ use qr_layout::{Level, Version};
 use std::alloc::Global;
 
 /// Encodes the input as a series of symbols, all of the same version and level (ISO/IEC 18004:2015, 8). If the input
-/// fits one symbol without a structured append header, the series is that symbol. Otherwise the input is cut into
+/// fits one symbol without a structured append header, the series is this one symbol. Otherwise the input is cut into
 /// parts, and each part is encoded as a symbol with a structured append header. Each part is the longest prefix of the
-/// remaining input that fits a symbol after its header, even if some shorter prefix does not fit. `rule` says which
-/// modes the segments may have. Without kanji mode, the series is the shortest possible: the input cannot be cut into
-/// fewer parts that fit.
+/// remaining input that fits a symbol after the header, even if some shorter prefix does not fit. `rule` determines
+/// which modes the segments may have. Without kanji mode, the series is the shortest possible: the input cannot be cut
+/// into fewer parts that fit.
 ///
-/// A series has at most 16 symbols. Each structured append header contains the position of its symbol, the number of
-/// symbols less 1, and the parity data of the whole input. If the symbols are read and joined, the result is exactly
-/// the input.
+/// A series has at most 16 symbols. Each structured append header contains three numbers: the position of its symbol,
+/// the number of symbols less 1, and the parity data of the whole input. If the symbols are read and joined, the result
+/// is exactly the input.
 ///
 /// # Errors
 ///
-/// Returns `Empty` exactly if the input has no byte. Unless an allocation is refused, returns `TooMany` exactly if the
-/// input has no series, since it is cut into more than 16 parts. If kanji mode is not allowed, `TooMany` also means
-/// that in every cut into at most 16 parts, some part does not fit. Returns `Memory` if an allocation is refused.
+/// Returns `Empty` exactly if the input has no byte. Returns `TooMany` if the input has no series, since it would be
+/// cut into more than 16 parts. Returns `Memory` if an allocation is refused; then `TooMany` is not returned. If kanji
+/// mode is not allowed, `TooMany` also means that every other cut of the input into parts that fit has more than 16
+/// parts.
 ///
 /// # Notes
 ///
-/// Here the version comes before the level. In `encode` the level comes first.
+/// Among the parameters of `encode_series`, the version comes before the level. In `encode`, the level comes before the
+/// version.
 pub fn encode_series(
     alloc: Global,
     input: &[u8],
@@ -72,8 +74,8 @@ pub fn encode_series(
     part_symbols(alloc, input, lengths.as_slice(), version, level, rule)
 }
 
-// Returns the symbol of the input without a structured append header, or `None` if the input does not fit such a
-// symbol.
+// Returns the symbol that contains the input without a structured append header. Returns `None` if the input does not
+// fit such a symbol.
 fn plain_symbol(
     alloc: Global,
     input: &[u8],
@@ -98,7 +100,7 @@ fn plain_symbol(
     Ok(Some(symbol))
 }
 
-// Returns the lengths of the parts that the input is cut into. Each part is the longest prefix of the remaining input
+// Returns the lengths of the parts into which the input is cut. Each part is the longest prefix of the remaining input
 // that fits a symbol after a structured append header. Returns the fault `TooMany` if there are more than 16 parts.
 fn part_lengths(
     alloc: Global,
@@ -129,8 +131,9 @@ fn part_lengths(
     Ok(lengths)
 }
 
-// Returns the length of the longest prefix of `rest` that fits a symbol after a structured append header. Only the
-// first 7,089 bytes of `rest` are read, since no symbol can contain more bytes.
+// Returns the length of the longest prefix of `rest` that fits a symbol after a structured append header. `rest` is the
+// part of the input that is not yet encoded. Only the first 7,089 bytes of `rest` are read, since no symbol can contain
+// more bytes.
 fn prefix_len(
     alloc: Global,
     rest: &[u8],
@@ -149,9 +152,9 @@ fn prefix_len(
     Ok(longest_fit(alloc, prefix, version, level, rule)?)
 }
 
-// Cuts the input into parts of these lengths, and returns the symbols of the parts, each with its structured append
-// header (8.1 to 8.3). The symbols are drawn one after the other on the same `Canvas`, so the function patterns and the
-// encoding region are drawn only once.
+// Cuts the input into parts that have the lengths `lengths`, and returns a symbol for each part. Each symbol contains a
+// structured append header and then its part (8.1 to 8.3). The symbols are drawn one after the other on the same
+// `Canvas`. So the function patterns and the encoding region are drawn only once.
 fn part_symbols(
     alloc: Global,
     input: &[u8],
@@ -188,8 +191,9 @@ fn part_symbols(
     Ok(symbols)
 }
 
-// Returns the symbol that contains a part of the input after its structured append header. The symbol is drawn on
-// `canvas`, and has the version and the level of the canvas.
+// Returns the symbol that contains the structured append header `header` and then the part `part` of the input. The
+// symbol is drawn on `canvas`, which contains the modules that are the same in all symbols of its version. The symbol
+// has the version and the level of the canvas.
 fn part_symbol(
     alloc: Global,
     canvas: &mut Canvas,

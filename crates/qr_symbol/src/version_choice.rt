@@ -1,9 +1,9 @@
-//! Finds the least version that an input fits, and the segments of the input in this version (ISO/IEC 18004:2015, 7.1
-//! and 7.4.1).
+//! Finds the least version that an input fits. Also cuts the input into segments for this version
+//! (ISO/IEC 18004:2015, 7.1 and 7.4.1).
 //!
-//! The number of bits of a segment depends on the version only through the width of its character count indicator. This
-//! width changes only after version 9 and after version 26, so there are three ranges of versions. An input is cut into
-//! segments at most once for each of these ranges.
+//! The length of a segment in bits depends on the version only because the character count indicator is wider in larger
+//! versions. The width of the indicator changes only after version 9 and after version 26. So there are three ranges of
+//! versions: 1 to 9, 10 to 26 and 27 to 40. An input is cut into segments at most once for each of these ranges.
 
 ghost use Rattle.std.specs.Prelude.{◌≡◌, ◌≤◌, ◌<◌, ℕ, length, IfOk, MatchOption};
 ghost use Rattle.qr_bits.specs.declared.modes.Rule.{Rule};
@@ -19,14 +19,14 @@ use qr_bits::{BitFault, INPUT_MAX, Rule, Segment, bit_len, least_bits, segments}
 use qr_layout::{Level, Version};
 use std::alloc::Global;
 
-// The largest number of bits that the data codewords of a symbol up to version 9 have (7.4.10, Table 7).
+// The largest length, in bits, of the data codewords of a symbol of versions 1 to 9 (7.4.10, Table 7).
 const SMALL_BITS: u32 = 1856;
 
-// The largest number of bits that the data codewords of a symbol up to version 26 have (7.4.10, Table 7).
+// The largest length, in bits, of the data codewords of a symbol of versions 1 to 26 (7.4.10, Table 7).
 const MEDIUM_BITS: u32 = 10960;
 
-// An upper bound on the number of bytes that a symbol up to version 26 can contain. Digits take the fewest bits, and
-// three digits take ten bits (7.4.3).
+// An upper bound on the number of bytes that a symbol of versions 1 to 26 can contain. Digits need fewer bits than
+// other bytes, and three digits need ten bits (7.4.3).
 const MEDIUM_BYTES: usize = 3288;
 
 // A version that an input fits, and the segments of the input in this version.
@@ -50,10 +50,10 @@ fn last_of_width(version: Version) -> u8
     }
 }
 
-// Returns 1, 10 or 27: the first version of a range of versions in which character count indicators are equally wide.
-// The input fits no version before the returned version. A range is skipped only if the length of the input, or a lower
-// bound on its number of bits, shows that the input fits no version of the range. With byte mode alone, the lower bound
-// is not computed, since that would save little time.
+// Returns 1, 10 or 27, which are the first versions of the three ranges in which character count indicators are equally
+// wide. The input fits no version before the returned version. Two numbers may show that the input fits no version of a
+// range: the length of the input in bytes, and a lower bound on its length in bits. If only byte mode is allowed, the
+// lower bound is not computed, since that would save little time.
 fn first_for(input: &[u8], rule: Rule) -> u8
     requires { length input.now ≤ INPUT_MAX }
     ensures first { 1 ≤ result }
@@ -77,8 +77,8 @@ fn first_for(input: &[u8], rule: Rule) -> u8
     }
 }
 
-// Returns the least version, from `first` to `last`, in which the data codewords have at least `bits` bits at this
-// level. Returns `None` if there is no such version.
+// Looks at the versions from `first` to `last`, both included. Returns the least of these versions in which the data
+// codewords at level `level` have at least `bits` bits. Returns `None` if there is no such version.
 fn first_with_room(level: Level, first: Version, last: u8, bits: u64) -> Option<Version>
     requires { last ≤ 40 }
     ensures { MatchOption result
@@ -95,8 +95,8 @@ fn first_with_room(level: Level, first: Version, last: u8, bits: u64) -> Option<
     None
 }
 
-// Returns the least version, from `smallest` on, that the input fits, and the segments that take the fewest bits in
-// this version.
+// Returns the least version, from `smallest` on, that the input fits. Also returns the segments of the input that need
+// the fewest bits in this version.
 pub(crate) fn least_fit(
     alloc: Global,
     input: &[u8],

@@ -1,4 +1,4 @@
-//! Tests of data codewords, which are made from segments and are parsed again.
+//! Tests of data codewords: they are made from segments, and they are parsed.
 
 ghost use Rattle.std.specs.Prelude.{◌<◌, ◌≤◌, length};
 ghost use Rattle.std.specs.Option.{ForSome};
@@ -259,8 +259,8 @@ fn faults(rt: HostRuntime) -> Result<(), Fail> {
     Ok(())
 }
 
-// Parses all 65,536 pairs of codewords, and counts how many have a content and how many have each fault. Two codewords
-// are too short for the data of a segment, so the fault `BadValue` does not occur.
+// Parses all 65,536 pairs of codewords. Counts the pairs that are parsed without a fault, and for each fault the pairs
+// that have this fault. Two codewords are too short for the data of a segment, so the fault `BadValue` does not occur.
 #[test]
 fn all_pairs_of_codewords(rt: HostRuntime) -> Result<(), Fail> {
     let (mut read, mut cut, mut no_mode) = (0u32, 0u32, 0u32);

@@ -1,11 +1,11 @@
-//! Tests of `Counted`, which makes a device from a reader or a writer of the standard library. The device passes on
-//! each call, each flush and each error.
+//! Tests of `Counted`, which makes a device from a reader or a writer of the standard library. The device forwards each
+//! call and each flush to the reader or the writer, and returns its errors.
 
 use qrencode_cli::{Counted, Sink, Source, Trouble};
 use std::io::{self, ErrorKind, Read, Write};
 
-// A stream for these tests. Its first call is interrupted, its second call fails, and its later calls succeed. The
-// stream counts its calls and its flushes in variables of the test.
+// A reader and writer for these tests. The first call is interrupted, the second call fails, and all later calls
+// succeed. The calls and the flushes are counted in variables of the test.
 #[derive(Drop)]
 struct Rough<'a> {
     calls: &'a mut u8,
@@ -13,7 +13,7 @@ struct Rough<'a> {
 }
 
 impl Rough<'_> {
-    // Counts a call, and returns the error of the call, or `None` if the call succeeds.
+    // Counts a call. Returns the error with which the call fails, or `None` if the call succeeds.
     fn error(&mut self) -> Option<io::Error> {
         *self.calls = self.calls.saturating_add(1);
         match *self.calls {

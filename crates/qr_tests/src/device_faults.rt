@@ -5,8 +5,8 @@ use crate::runs::{DRAW, Devices, run_with};
 use qrencode_cli::Faults;
 use std::test::Fail;
 
-// The first 999 calls of each device are interrupted, and later calls read or write one byte each. The command tries
-// all interrupted calls again, and succeeds.
+// The first 999 calls of each device are interrupted, and each later call reads or writes one byte. The command repeats
+// each interrupted call, and succeeds.
 #[test]
 fn slow_devices_succeed(rt: HostRuntime) -> Result<(), Fail> {
     let slow = Faults {
@@ -28,7 +28,8 @@ fn slow_devices_succeed(rt: HostRuntime) -> Result<(), Fail> {
     Ok(())
 }
 
-// The 1,000th interruption of the reader is a read fault, and the 1,000th interruption of the writer is a write fault.
+// If the reader is interrupted 1,000 times, the command stops with a read fault. If the writer is interrupted 1,000
+// times, the command stops with a write fault.
 #[test]
 fn interrupted_too_often(rt: HostRuntime) -> Result<(), Fail> {
     let tired = Faults {
@@ -54,8 +55,9 @@ fn interrupted_too_often(rt: HostRuntime) -> Result<(), Fail> {
     Ok(())
 }
 
-// A reader that returns one byte in a call fails in three runs. The failing call is the first call, the second call, or
-// the third call, which would find the end of the input.
+// The command runs three times with a reader that returns one byte in a call. In the first run the first call of the
+// reader fails, in the second run the second call, and in the third run the third call. The third call would find the
+// end of the input.
 #[test]
 fn readers_fail_in_turn(rt: HostRuntime) -> Result<(), Fail> {
     for call in 0..3u64 {
@@ -79,9 +81,9 @@ fn readers_fail_in_turn(rt: HostRuntime) -> Result<(), Fail> {
     Ok(())
 }
 
-// A writer that accepts at most 100 bytes in a call fails, or accepts no byte, from a certain call on. This is call 0
-// in the first runs, call 1 in the next runs, and so on. In the last runs the drawing needs fewer calls, and so
-// succeeds.
+// The writer accepts at most 100 bytes in a call. From a certain call on, the writer fails or accepts no byte. In the
+// first runs this is call 0, in the next runs it is call 1, and so on. In the last runs the drawing needs so few calls
+// that no call fails, and the command succeeds.
 #[test]
 fn writers_fail_in_turn(rt: HostRuntime) -> Result<(), Fail> {
     let want = drawing(rt.alloc())?;

@@ -1,5 +1,5 @@
-//! Tests of the four types of drawing. The tests check some lines of the drawings, some runs of modules of one colour,
-//! the arguments that ask for a type of drawing, and writers that fail.
+//! Tests of the four types of drawing. The tests check some lines of the drawings, some groups of neighbouring modules
+//! of one colour, the arguments for a type of drawing, and writers that fail.
 
 ghost use Rattle.std.specs.Prelude.{◌≡◌, IfOk};
 
@@ -27,8 +27,8 @@ fn symbol(alloc: Global) -> Result<Symbol, Fail>
     Ok(build_masked(alloc, version, Level::M, &CODEWORDS, 0)?)
 }
 
-// Returns a writer that received the drawing of the symbol of `01234567`. The drawing has the type `kind` and the
-// margin `margin`.
+// Draws the symbol of `01234567` to a writer, and returns this writer. The drawing has the type `kind` and the margin
+// `margin`.
 fn one(alloc: Global, kind: Drawing, margin: u8) -> Result<Trial, Fail> {
     let symbols = [symbol(alloc)?];
     let mut out = Trial::writer(alloc, 8000, Faults::NONE)?;
@@ -151,8 +151,9 @@ fn svg_of_two_symbols(rt: HostRuntime) -> Result<(), Fail> {
     Ok(())
 }
 
-// The first row begins with the dark run of a finder pattern and a light run, and ends with the dark run of another
-// finder pattern. For each of these runs of modules of one colour, the test checks the column after its end.
+// A run is a group of neighbouring modules of one colour in a row. The first row begins with the dark run of a finder
+// pattern and then a light run. The row ends with the dark run of another finder pattern. For each of these runs, the
+// test checks the column after the end of the run.
 #[test]
 fn runs_of_the_first_row(rt: HostRuntime) -> Result<(), Fail> {
     let symbol = symbol(rt.alloc())?;
@@ -203,9 +204,9 @@ fn by_words(rt: HostRuntime) -> Result<(), Fail> {
     Ok(())
 }
 
-// A writer that accepts at most 100 bytes in a call fails from a certain call on. This is call 0 in the first run, call
-// 1 in the next run, and so on. The writer always received a prefix of the drawing. In the last run the drawing needs
-// fewer calls, and so succeeds.
+// The writer accepts at most 100 bytes in a call, and fails from a certain call on. In the first run this is call 0, in
+// the next run it is call 1, and so on. In each run, the bytes that the writer received are a prefix of the drawing. In
+// the last run the drawing needs so few calls that no call fails.
 #[test]
 fn writers_fail_in_turn(rt: HostRuntime) -> Result<(), Fail> {
     let symbols = [symbol(rt.alloc())?];

@@ -1,4 +1,4 @@
-//! Tests of the calls that make a symbol: from an input, or from codewords.
+//! Tests of the functions that make a symbol from an input or from codewords.
 
 use crate::samples::EIGHT_DIGITS;
 use qr_bits::{INPUT_MAX, Rule};
@@ -101,7 +101,8 @@ fn masks_of_least_penalty(rt: HostRuntime) -> Result<(), Fail> {
     Ok(())
 }
 
-// The rows of the symbol of `01234567` in version 1 and level M with mask pattern 0. In each row, a dark module is 1.
+// The rows of the symbol of `01234567` in version 1 and level M with mask pattern 0. In each row, a bit is 1 if its
+// module is dark.
 static ROWS: [u32; 21] = [
     0b111111100011101111111,
     0b100000101110001000001,
@@ -181,8 +182,9 @@ fn four_blocks_of_two_lengths(rt: HostRuntime) -> Result<(), Fail> {
     Ok(())
 }
 
-// Makes symbols by `build` and by `build_masked`, and compares their modules. Some of the versions have no remainder
-// bits, others have three, four or seven. The versions from 7 on have version information.
+// Makes each symbol with `build` and with `build_masked`, and compares the modules of the two symbols. Some of the
+// versions have no remainder bits; other versions have three, four or seven remainder bits. Version 7 and later
+// versions have version information.
 #[test]
 fn plain_and_fast_symbols(rt: HostRuntime) -> Result<(), Fail> {
     for number in [1, 2, 7, 14, 21, 40] {

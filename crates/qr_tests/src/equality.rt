@@ -1,5 +1,5 @@
-//! Tests of `==` and `clone`. Values are equal if all their fields are equal, and unequal if one field differs. A clone
-//! is equal to its value.
+//! Tests of `==` and `clone`. Two values are equal if all their fields are equal, and unequal if one field differs. The
+//! clone of a value is equal to the value.
 
 use qr_bits::{BitFault, Header, Mode, ParseFault, Rule, Segment};
 use qr_layout::{Level, Module, Role, Strip, Version};

@@ -83,7 +83,7 @@ fn texts_of_parse_faults(rt: HostRuntime) -> Result<(), Fail> {
     Ok(())
 }
 
-// The message of a fault is the text of the line that the command writes for it.
+// The test compares the messages of faults with the lines that the command writes for these faults.
 #[test]
 fn messages_are_the_texts_of_lines(rt: HostRuntime) -> Result<(), Fail> {
     let digits = vec![in rt.alloc(); b'7'; 7090]?;

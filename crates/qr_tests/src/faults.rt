@@ -1,4 +1,5 @@
-//! Tests of the faults of the arguments and of the input: the line and the status of each fault.
+//! Tests of the faults of the arguments and of the input. The tests check the line that the command writes for each
+//! fault, and its exit status.
 
 use crate::runs::{DRAW, Devices, run_with};
 use qrencode_cli::Faults;
@@ -58,7 +59,7 @@ fn of_words_and_input(rt: HostRuntime) -> Result<(), Fail> {
     Ok(())
 }
 
-// If `clap` refuses the arguments, the text of `clap` is written to standard error, and no input is read.
+// If the crate `clap` refuses the arguments, its text is written to standard error, and no input is read.
 #[test]
 fn faults_of_arguments(rt: HostRuntime) -> Result<(), Fail> {
     let rows = [
@@ -122,7 +123,7 @@ fn faults_of_arguments(rt: HostRuntime) -> Result<(), Fail> {
     Ok(())
 }
 
-// At each level, the longest input of digits that fits a symbol is drawn, and an input of one digit more is refused.
+// At each level, the longest input of digits that fits a symbol is drawn. An input with one more digit is refused.
 #[test]
 fn of_length(rt: HostRuntime) -> Result<(), Fail> {
     let digits = vec![in rt.alloc(); b'7'; 7090]?;
@@ -146,8 +147,8 @@ fn of_length(rt: HostRuntime) -> Result<(), Fail> {
     Ok(())
 }
 
-// At the lowest level, the longest inputs of capital letters and of small letters that fit a symbol are drawn. Inputs
-// of one letter more are refused.
+// At level L, the longest inputs of capital letters and of small letters that fit a symbol are drawn. Inputs with one
+// more letter are refused.
 #[test]
 fn of_length_in_other_modes(rt: HostRuntime) -> Result<(), Fail> {
     for (byte, most) in [(b'A', 4296usize), (b'a', 2953)] {
@@ -170,7 +171,7 @@ fn of_length_in_other_modes(rt: HostRuntime) -> Result<(), Fail> {
     Ok(())
 }
 
-// A long input is read up to `INPUT_MAX` bytes and no further.
+// From a long input, only the first `INPUT_MAX` bytes are read.
 #[test]
 fn of_a_long_input(rt: HostRuntime) -> Result<(), Fail> {
     let input = vec![in rt.alloc(); b'0'; 200_000]?;
@@ -187,7 +188,7 @@ fn of_a_long_input(rt: HostRuntime) -> Result<(), Fail> {
     Ok(())
 }
 
-// If standard error has no room for the whole line of a fault, it receives a prefix of this line.
+// If standard error cannot accept the whole line of a fault, it receives a prefix of this line.
 #[test]
 fn fault_line_on_a_full_device(rt: HostRuntime) -> Result<(), Fail> {
     let devices = Devices {
@@ -210,7 +211,8 @@ fn fault_line_on_a_full_device(rt: HostRuntime) -> Result<(), Fail> {
     Ok(())
 }
 
-// The line of a fault is written after 999 interruptions of standard error, and is not written after 1,000.
+// The line of a fault is written even if standard error is interrupted 999 times. After 1,000 interruptions, the line
+// is not written.
 #[test]
 fn fault_line_on_an_interrupted_device(rt: HostRuntime) -> Result<(), Fail> {
     for (interruptions, line) in [(999, "qrencode: input is empty\n"), (1000, "")] {
@@ -232,7 +234,7 @@ fn fault_line_on_an_interrupted_device(rt: HostRuntime) -> Result<(), Fail> {
     Ok(())
 }
 
-// The reader is not called if the arguments are refused or contain the input.
+// If the arguments are refused or contain the input, nothing is read from standard input.
 #[test]
 fn string_beside_a_failing_reader(rt: HostRuntime) -> Result<(), Fail> {
     let devices = Devices {

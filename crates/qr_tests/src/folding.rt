@@ -1,4 +1,4 @@
-//! Tests of two options: `-i` folds small letters to capitals, and `-k` allows kanji mode.
+//! Tests of two options of the command: `-i` replaces small letters with capital letters, and `-k` allows kanji mode.
 
 use crate::runs::{Devices, run_with};
 use qr_bits::{Mode, Rule, Segment};
@@ -6,8 +6,8 @@ use qr_layout::{Level, Version};
 use qr_symbol::{encode, read_symbol};
 use std::test::Fail;
 
-// Returns whether the arguments `words` and the arguments `others` both lead to success and to the same drawing of
-// `input`.
+// Runs the command on `input` twice: with the arguments `words`, and with the arguments `others`. Returns whether both
+// runs succeed and write the same drawing.
 fn draw_alike(
     rt: &HostRuntime,
     words: &[&str],

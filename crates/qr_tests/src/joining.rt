@@ -9,8 +9,8 @@ use qr_matrix::Matrix;
 use qr_symbol::{ReadFault, Symbol, read_series};
 use std::test::Fail;
 
-// Returns a symbol of the series of `ABCDEFGH` in version 1 and level H. Position 0 contains `ABCDE`, and position 1
-// contains `FGH`.
+// Returns a symbol of the series of `ABCDEFGH` in version 1 and level H. The symbol at position 0 contains `ABCDE`, and
+// the symbol at position 1 contains `FGH`.
 fn part(rt: &HostRuntime, position: u8) -> Result<Symbol, Fail>
     requires { position < 2 }
 {
@@ -27,7 +27,7 @@ fn part(rt: &HostRuntime, position: u8) -> Result<Symbol, Fail>
     byte_symbol(rt, bytes, Some(header), Level::H)
 }
 
-// Returns a symbol with `side` modules on a side, all of them light.
+// Returns a symbol with `side` rows, in which all modules are light.
 fn light(rt: &HostRuntime, side: u8) -> Result<Symbol, Fail>
     requires least { 0 < side }
     requires most { side < 178 }

@@ -1,5 +1,5 @@
-//! Tests of the layout of a symbol: versions, blocks, format information, version information, and what each module
-//! contains.
+//! Tests of the layout of a symbol: versions, blocks, format information, version information, and the purpose of each
+//! module.
 
 use qr_layout::{
     Blocks, Level, Module, Role, Version, alignment_centres, cell, fixed_rectangles, format_word,

@@ -1,10 +1,10 @@
-//! The drawing of the letter `A` in version 1-L with mask 0, as another encoder draws it.
+//! Contains the drawing of the letter `A` in version 1-L with mask pattern 0. The modules come from another encoder.
 
 use crate::runs::{DRAW, Devices, run_with};
 use std::alloc::{AllocError, Global};
 use std::test::Fail;
 
-// The modules of the symbol, row by row from the top. A bit 1 is a dark module.
+// The modules of the symbol, row by row from the top. A module is dark if its bit is 1.
 static ROWS: [u32; 21] = [
     0b111111100101101111111,
     0b100000100111001000001,

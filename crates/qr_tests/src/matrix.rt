@@ -1,4 +1,4 @@
-//! Tests of `Matrix`, a square of modules: its modules are read and changed, and two squares are compared.
+//! Tests of `Matrix`, which is a square of modules. The tests read and change modules, and compare two squares.
 
 use qr_matrix::{Matrix, differences};
 use std::test::Fail;
@@ -62,7 +62,7 @@ fn a_row_is_masked_within(rt: HostRuntime) -> Result<(), Fail> {
     Ok(())
 }
 
-// Transposes two squares: in one square a row is one word of 64 bits, in the other it is three words.
+// Transposes two squares. In one square a row is one word of 64 bits, and in the other square a row is three words.
 #[test]
 fn a_square_is_transposed(rt: HostRuntime) -> Result<(), Fail> {
     let places = [

@@ -5,8 +5,8 @@ use qr_field::Divisor;
 use qr_mending::{mend, mend_with_erasures};
 use std::process::Abort;
 
-// Replaces the codewords of `damage` in the block of `01234567`, and corrects the block. Returns the number of
-// codewords that were corrected, or `None` if the block could not be corrected.
+// Replaces codewords in the block of `01234567`, as `damage` lists them, and corrects the block. Returns the number of
+// codewords that were corrected. Returns `None` if the block could not be corrected.
 fn mended_count(rt: &impl Abort, t: usize, damage: &[(usize, u8)]) -> Option<usize> {
     let mut damaged = EIGHT_DIGITS;
     for (place, codeword) in damage {
@@ -46,9 +46,9 @@ fn block_of_eight_digits_damaged(rt: HostRuntime) {
     }
 }
 
-// Replaces the codewords of `unread` and `misread` in the block of `01234567`, and corrects the block. The codewords of
-// `unread` are passed as erased. Returns the number of misread codewords, or `None` if the block could not be
-// corrected.
+// Replaces codewords in the block of `01234567`, as `unread` and `misread` list them, and corrects the block. The
+// codewords in `unread` are passed as erased, which means that they could not be read. Returns the number of misread
+// codewords. Returns `None` if the block could not be corrected.
 fn mended_with_erasures(
     rt: &impl Abort,
     spare: usize,
@@ -79,8 +79,8 @@ fn mended_with_erasures(
     None
 }
 
-// The expected results were found by a search: for every set of positions, the linear equations for the codewords at
-// these positions were solved.
+// The expected results were found by a search. For every set of positions of codewords, the search solved the linear
+// equations for the codewords at these positions.
 #[test]
 fn block_of_eight_digits_with_erasures(rt: HostRuntime) {
     let unread = [

@@ -8,9 +8,9 @@ use qr_mending::{mend_series, mend_symbol, mend_symbol_without};
 use qr_symbol::{ReadFault, build_masked, encode_series};
 use std::test::Fail;
 
-// Inverts `modules` in the symbol of `01234567` in version 1 and level M, and corrects the symbol. Returns the number
-// of misread codewords, the number of wrong modules of format information, and the number of all wrong modules. Returns
-// the fault if the symbol could not be corrected.
+// Inverts the modules `modules` in the symbol of `01234567` in version 1 and level M, and corrects the symbol. Returns
+// three numbers: the number of misread codewords, the number of wrong modules of the format information, and the number
+// of all wrong modules. Returns the fault if the symbol could not be corrected.
 fn mend_inverted(
     rt: &HostRuntime,
     modules: &[(u8, u8)],
@@ -39,7 +39,7 @@ fn mend_inverted(
     }
 }
 
-// In version 1 and level M, up to four of the 26 codewords can be corrected, since two of the ten error correction
+// In version 1 and level M, at most four of the 26 codewords can be corrected. Two of the ten error correction
 // codewords are kept unused.
 #[test]
 fn eight_digits_damaged(rt: HostRuntime) -> Result<(), Fail> {
@@ -85,7 +85,7 @@ fn eight_digits_damaged(rt: HostRuntime) -> Result<(), Fail> {
     Ok(())
 }
 
-// The rows and columns of nine modules, each of another codeword, in version 1 and level M.
+// The rows and columns of nine modules in version 1 and level M. Each module belongs to another codeword.
 static CODEWORDS: [(u8, u8); 9] = [
     (20, 20),
     (16, 20),
@@ -98,10 +98,10 @@ static CODEWORDS: [(u8, u8); 9] = [
     (12, 16),
 ];
 
-// Inverts `modules` in the symbol of `01234567` in version 1 and level M, and corrects the symbol. The first modules,
-// as many as `unread` says, are passed as not read. Returns the number of misread codewords, the number of wrong
-// modules of format information, and the number of all wrong modules. Returns the fault if the symbol could not be
-// corrected.
+// Inverts the modules `modules` in the symbol of `01234567` in version 1 and level M, and corrects the symbol. The
+// first `unread` of these modules are marked as not read. Returns three numbers: the number of misread codewords, the
+// number of wrong modules of the format information, and the number of all wrong modules. Returns the fault if the
+// symbol could not be corrected.
 fn mend_inverted_without(
     rt: &HostRuntime,
     modules: &[(u8, u8)],
@@ -177,8 +177,9 @@ fn eight_digits_with_unread_modules(rt: HostRuntime) -> Result<(), Fail> {
     Ok(())
 }
 
-// Returns the two symbols of the series of `ABCDEFGH` in version 1 and level H, which contain `ABCDE` and `FGH`. One
-// module of each symbol is inverted. In this version and level, up to eight wrong codewords can be corrected.
+// Returns the two symbols of the series of `ABCDEFGH` in version 1 and level H. The first symbol contains `ABCDE`, and
+// the second symbol contains `FGH`. One module of each symbol is inverted. In this version and level, at most eight
+// wrong codewords can be corrected.
 fn damaged_parts(rt: &HostRuntime) -> Result<Vec<Matrix>, Fail> {
     let symbols = encode_series(
         rt.alloc(),

@@ -1,11 +1,11 @@
-//! Tests of `encode_series`, which divides an input into the symbols of a series.
+//! Tests of `encode_series`, which encodes an input as a series of symbols.
 
 use qr_bits::{Header, INPUT_MAX, Rule};
 use qr_layout::{Level, Version};
 use qr_symbol::{EncodeFault, Symbol, encode_series, read_series, read_symbol};
 use std::test::Fail;
 
-// Returns whether `symbol` contains the bytes `bytes`, and before them the structured append header `header`, if any.
+// Returns whether `symbol` contains the optional structured append header `header` and then the bytes `bytes`.
 fn says(
     rt: &HostRuntime,
     symbol: &Symbol,

@@ -8,7 +8,8 @@ enum Pattern {
     Light,
     Dark,
     Chequered,
-    // In the first row, from this column on: the ratio 1:1:3:1:1 of a finder pattern, and then four light modules.
+    // The column of the first row at which dark and light modules in the ratio 1:1:3:1:1 of a finder pattern begin.
+    // Four light modules follow.
     WindowFrom(u8),
 }
 
@@ -30,7 +31,8 @@ fn is_dark(pattern: Pattern, row: u8, col: u8) -> bool {
 
 #[test]
 fn penalties(rt: HostRuntime) -> Result<(), Fail> {
-    // A row is one, two or three words of 64 bits. Some runs and one window continue from one word to the next.
+    // In the squares of this test, a row is one, two or three words of 64 bits. Some runs of modules of one colour
+    // begin in one word and end in the next word. One pattern with the ratio 1:1:3:1:1 does so too.
     let rows = [
         ("all light", 21u8, Pattern::Light, 2098),
         ("a chequered square", 21, Pattern::Chequered, 0),

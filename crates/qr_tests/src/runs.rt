@@ -1,9 +1,10 @@
-//! Runs the command with devices in memory.
+//! Runs the command for tests, with standard input and output in memory.
 
 use qrencode_cli::{Faults, Trial, run};
 use std::alloc::{AllocError, Global};
 
-/// The arguments, without the program's name, that draw a short input as one symbol of version 1.
+/// The arguments, without the name of the program, with which the command draws a short input as one symbol of version
+/// 1.
 pub const DRAW: [&str; 5] = ["-8", "-v", "1", "-t", "ASCII"];
 
 /// The exit status of a run of the command, and the devices after the run.
@@ -16,7 +17,7 @@ pub struct Run {
 }
 
 /// The faults of the three devices in a test of the command: standard input, standard output and standard error.
-/// `out_room` and `err_room` are the numbers of bytes that the two writers can accept.
+/// `out_room` and `err_room` are the numbers of bytes that standard output and standard error can accept.
 #[derive(Clone, Copy)]
 pub struct Devices {
     pub input: Faults,
@@ -37,7 +38,7 @@ impl Devices {
     };
 }
 
-/// Returns the command line that consists of the program's name and then `words`.
+/// Returns a command line: the name of the program, and then the arguments `words`.
 pub fn line_of(alloc: Global, words: &[&str]) -> Result<Vec<String>, AllocError> {
     let mut list = Vec::new(alloc);
     list.push(String::from_str(alloc, "qrencode")?)?;
@@ -47,8 +48,9 @@ pub fn line_of(alloc: Global, words: &[&str]) -> Result<Vec<String>, AllocError>
     Ok(list)
 }
 
-/// Runs the command with the arguments `words` and with `input` as standard input. The faults of the devices, and how
-/// many bytes the writers can accept, are those of `devices`.
+/// Runs the command with the arguments `words` and with `input` as standard input. `devices` describes the faults of
+/// standard input, standard output and standard error. `devices` also contains the numbers of bytes that the two
+/// outputs can accept.
 pub fn run_with(
     alloc: Global,
     words: &[&str],

@@ -1,5 +1,5 @@
-//! Codewords and symbols for the tests. The symbols have version 1 and one segment of byte mode, after an optional
-//! structured append header.
+//! Contains codewords and symbols for the tests. The symbols have version 1. They contain an optional structured append
+//! header, and then one segment in byte mode.
 
 ghost use Rattle.std.specs.Prelude.{◌<◌, ◌≤◌, length};
 ghost use Rattle.std.specs.Option.{ForSome};
@@ -16,7 +16,8 @@ pub static EIGHT_DIGITS: [u8; 26] = [
     0xA5, 0x24, 0xD4, 0xC1, 0xED, 0x36, 0xC7, 0x87, 0x2C, 0x55,
 ];
 
-/// Returns the data codewords of the structured append header `header`, if any, and of `bytes` in one segment.
+/// Returns the data codewords for the optional structured append header `header` and then the bytes `bytes` in one
+/// segment.
 pub fn byte_codewords(
     rt: &HostRuntime,
     bytes: &[u8],
@@ -37,7 +38,8 @@ pub fn byte_codewords(
     Ok(codewords(rt.alloc(), bytes, &[segment], header, version, level)?)
 }
 
-/// Returns the symbol of the structured append header `header`, if any, and of `bytes` in one segment.
+/// Returns the symbol that contains the optional structured append header `header` and then the bytes `bytes` in one
+/// segment.
 pub fn byte_symbol(
     rt: &HostRuntime,
     bytes: &[u8],

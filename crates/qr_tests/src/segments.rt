@@ -1,4 +1,5 @@
-//! Tests of segments: their number of bits, the best segments for an input, the longest prefix that fits, and folding.
+//! Tests of segments. The tests check the length of segments in bits, the best segments for an input, the longest
+//! prefix that fits, and the replacement of small letters.
 
 ghost use Rattle.std.specs.Prelude.{◌≡◌, ◌<◌, ◌≤◌, length};
 ghost use Rattle.std.specs.List.{All, sum_by};
@@ -192,8 +193,8 @@ fn kanji(rt: HostRuntime) -> Result<(), Fail> {
     Ok(())
 }
 
-// The expected values were worked out by hand. Three digits take 10 bits, two other bytes up to `Z` take 11 bits, and
-// two greater bytes take 13 bits. The sum is rounded down.
+// The expected values were worked out by hand. The function `least_bits` counts 10 bits for three digits, 11 bits for
+// two other bytes up to `Z`, and 13 bits for two greater bytes. The sum is rounded down.
 #[test]
 fn least_bits_of_inputs(rt: HostRuntime) -> Result<(), Fail> {
     let rows = [
@@ -230,8 +231,8 @@ fn prefixes_at_1_h(rt: HostRuntime) -> Result<(), Fail> {
     Ok(())
 }
 
-// In version 1 and level M, 108 bits are left after a structured append header. Seven kanji pairs take 103 bits, and
-// six pairs with half a pair take 110 bits.
+// In version 1 and level M, 108 bits are left after a structured append header. Seven kanji pairs need 103 bits, and
+// six kanji pairs with one more byte need 110 bits.
 #[test]
 fn pairs_at_1_m(rt: HostRuntime) -> Result<(), Fail> {
     let pairs = b"\x93\x5F\x93\x5F\x93\x5F\x93\x5F\x93\x5F\x93\x5F\x93\x5F\x93\x5F";

@@ -1,5 +1,5 @@
-//! Tests of series of symbols. The tests check how many symbols the command draws, and that the symbols of the largest
-//! series are read and joined to its input.
+//! Tests of series of symbols. One test checks how many symbols the command draws. Another test reads and joins the
+//! symbols of the largest series, and compares the result with the input.
 
 use crate::runs::{Devices, run_with};
 use qr_bits::{INPUT_MAX, Rule};
@@ -8,7 +8,7 @@ use qr_symbol::{EncodeFault, encode_series, read_series};
 use std::test::Fail;
 
 // In version 1-H, 7 bytes need one symbol, 8 bytes need two symbols, and 80 bytes need 16 symbols. The drawing of each
-// symbol has 29 lines of 58 characters. An input of 81 bytes is refused.
+// symbol has 29 lines of 58 characters. An input of 81 bytes needs more than 16 symbols, and is refused.
 #[test]
 fn of_version_1_h(rt: HostRuntime) -> Result<(), Fail> {
     let words = ["-S", "-8", "-v", "1", "-l", "H", "-t", "ASCII"];
@@ -33,7 +33,7 @@ fn of_version_1_h(rt: HostRuntime) -> Result<(), Fail> {
     Ok(())
 }
 
-// The largest series in byte mode has 16 symbols of version 40-L with 2,951 bytes each. An input of one byte more is
+// The largest series in byte mode has 16 symbols of version 40-L with 2,951 bytes each. An input with one more byte is
 // refused.
 #[test]
 fn of_version_40_l(rt: HostRuntime) -> Result<(), Fail> {

@@ -1,4 +1,4 @@
--- A law about the bytes that stand for modules.
+-- Defines a law about squares whose modules are written as bytes.
 use Rattle.std.specs.Prelude.{◌≡◌, ℕ, ◌+◌, ◌*◌, ◌<◌, List, slice_index_or}
 use Rattle.qr_matrix.specs.Grid.{Grid, colour}
 use Rattle.qrproved.specs.Modules.{byte_of, square_of_bytes}

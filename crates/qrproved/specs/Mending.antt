@@ -1,5 +1,5 @@
--- What the call that reads a damaged symbol writes, and when it writes nothing. In its buffer of modules the byte 2
--- stands for a module that is not known.
+-- Defines what the function `qrproved_mend` for C writes when it reads a damaged symbol, and when it writes nothing. In
+-- its buffer of modules, the byte 2 is a module that is not known.
 use Rattle.std.specs.Prelude.{◌≡◌, ℕ, ◌+◌, ◌*◌, ◌<◌, ◌≤◌, ◌==◌, if◌then◌else◌, Option, None, Some, List, ◌++◌, drop, length, slice_index_or, take}
 use Rattle.std.specs.List.{All, Any, Contains, count_by}
 use Rattle.qr_layout.specs.declared.level.Level.{Level}
@@ -13,24 +13,25 @@ use Rattle.qrproved.specs.Modules.{square_of_bytes}
 use Rattle.qrproved.specs.Reading.{TellsHeader}
 use Rattle.qrproved.specs.Settings.{level_of}
 
--- `square_of_unknown side bytes` is the square with `side` modules on a side in which exactly the modules with the byte
--- 2 are dark. The modules are in `bytes`, row by row [own].
+-- `square_of_unknown side bytes` is a square with `side` rows that shows which modules are not known. A module of this
+-- square is dark if its byte in `bytes` is 2, and light otherwise. The list `bytes` contains the modules row by row
+-- [own].
 abbrev pub square_of_unknown : ℕ → List ℕ → Grid
 square_of_unknown side bytes = square side (λ row col. slice_index_or bytes (row * side + col) 0 == 2)
 
--- `unknown_in side bytes` is the square in which exactly the unknown modules, those with the byte 2 in `bytes`, are
--- dark. The square has `side` modules on a side. The value is `None` if no module is unknown [own].
+-- `unknown_in side bytes` is a square with `side` rows that shows which modules are not known. A module of this square
+-- is dark if its byte in `bytes` is 2, and light otherwise. If no module has the byte 2, the value is `None` [own].
 abbrev pub unknown_in : ℕ → List ℕ → Option Grid
 unknown_in side bytes = if count_by (λ b. b == 2) (take (side * side) bytes) == 0 then None else Some (square_of_unknown side bytes)
 
 -- `AreModules modules side` holds if each byte of the square in the buffer `modules` is 0, 1 or 2. The square has
--- `side` modules on a side, and the buffer has a byte for each of its modules [own].
+-- `side` rows, and the buffer has a byte for each of its modules [own].
 pub record AreModules (modules : List ℕ) (side : ℕ) : Type 0 where
   pub whole : side * side ≤ length modules
   pub each : All (λ b. b ≤ 2) (take (side * side) modules)
 
 -- `HasOtherByte modules side` holds if at least one byte of the square in the buffer `modules` is more than 2. The
--- square has `side` modules on a side, and the buffer has a byte for each of its modules [own].
+-- square has `side` rows, and the buffer has a byte for each of its modules [own].
 pub record HasOtherByte (modules : List ℕ) (side : ℕ) : Type 0 where
   pub whole : side * side ≤ length modules
   pub one : Any (λ b. 2 < b) (take (side * side) modules)
@@ -40,21 +41,22 @@ pub record IsGreatest (xs : List ℕ) (n : ℕ) : Type 0 where
   pub one : Contains xs n
   pub most : All (λ x. x ≤ n) xs
 
--- `TellsDamage m changed side modules` holds if the struct `m` contains the damage of the square in `modules`, which
--- has `side` modules on a side. The damage consists of four numbers. Two of them are numbers of wrong modules: in the
--- whole square, and in the format information. The other two are the most codewords that were corrected in a block, and
--- the most that can be corrected in a block. The list `changed` contains for each block the number of codewords that
--- were corrected. Codewords with a module that is not known do not count (ISO/IEC 18004:2015, 7.5.1, 7.9.1).
+-- `TellsDamage m changed side modules` holds if the struct `m` contains four numbers that describe the damage of the
+-- square in `modules`. The square has `side` rows. The first two numbers count the wrong modules in the whole square
+-- and in the format information. The third number is the greatest item of the list `changed`. This list contains for
+-- each block the number of codewords that were corrected. Codewords with a module that is not known are not counted.
+-- The fourth number is the largest number of codewords that can be corrected in a block
+-- (ISO/IEC 18004:2015, 7.5.1, 7.9.1).
 pub record TellsDamage (m : QrprovedMended) (changed : List ℕ) (side : ℕ) (modules : List ℕ) : Type 0 where
   pub whole : HasWrongModulesWithout (unknown_in side modules) (square_of_bytes side modules) m.version (level_of m.level) m.mask changed m.wrong_modules
   pub format : m.wrong_format_modules ≡ wrong_format_modules_without (unknown_in side modules) (square_of_bytes side modules) (level_of m.level) m.mask
   pub most : IsGreatest changed m.changed_most
   pub allowed : m.changed_allowed ≡ tolerance_of m.version (level_of m.level)
 
--- `IsGivenMended modules side before after m` holds if the square in `modules` is read as some bytes once its damage is
--- corrected. The square has `side` modules on a side. A buffer changed from `before` to `after` because these bytes
--- were written to its first bytes. The struct `m` contains the number of these bytes, the version, level and mask, the
--- structured append header, and the damage [own].
+-- `IsGivenMended modules side before after m` holds if the square in `modules` is read as some bytes after its damage
+-- is corrected. The square has `side` rows. Writing the bytes that were read to the first bytes of a buffer changes the
+-- buffer from `before` to `after`. The struct `m` contains the number of the bytes that were read, the version, the
+-- level, the mask pattern, the structured append header, and the damage [own].
 pub record IsGivenMended (modules : List ℕ) (side : ℕ) (before after : List ℕ) (m : QrprovedMended) : Type 0 where
   pub all_modules : AreModules modules side
   pub content : Content
@@ -67,8 +69,8 @@ pub record IsGivenMended (modules : List ℕ) (side : ℕ) (before after : List 
   pub header : TellsHeader content.header m.has_header m.position m.last m.parity
   pub damage : TellsDamage m changed side modules
 
--- `HasMoreMendedBytes modules side buffer` holds if the square in `modules`, once its damage is corrected, is read as
--- more bytes than `buffer` has. The square has `side` modules on a side [own].
+-- `HasMoreMendedBytes modules side buffer` holds if the buffer `buffer` is too short for the bytes of the square in
+-- `modules`. These bytes are read after the damage of the square is corrected. The square has `side` rows [own].
 pub record HasMoreMendedBytes (modules : List ℕ) (side : ℕ) (buffer : List ℕ) : Type 0 where
   pub all_modules : AreModules modules side
   pub content : Content
@@ -79,7 +81,7 @@ pub record HasMoreMendedBytes (modules : List ℕ) (side : ℕ) (buffer : List �
   pub read : IsMendedReadingWithout (unknown_in side modules) (square_of_bytes side modules) version level mask content changed
   pub room : length buffer < length content.bytes
 
--- `IsUnmendedAt modules side fault` holds if the damaged square in `modules` cannot be read because of `fault`. The
--- square has `side` modules on a side, and each of its bytes is 0, 1 or 2 [own].
+-- `IsUnmendedAt modules side fault` holds if mending the square in `modules` may fail with the fault `fault`. The
+-- square has `side` rows, and each of its bytes is 0, 1 or 2 [own].
 abbrev pub IsUnmendedAt : List ℕ → ℕ → ReadFault → Type 0
 IsUnmendedAt modules side fault = AreModules modules side × IsUnmendedWithout (unknown_in side modules) (square_of_bytes side modules) fault

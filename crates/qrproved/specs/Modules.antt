@@ -1,4 +1,4 @@
--- The modules of squares, written as bytes.
+-- Defines how the modules of squares are written as bytes.
 use Rattle.std.specs.Prelude.{◌≡◌, ℕ, ◌+◌, ◌*◌, ◌<◌, ◌≤◌, ◌==◌, Bool, not, if◌then◌else◌, List, length, slice_index_or}
 use Rattle.qr_matrix.specs.Grid.{Grid, square, colour, light}
 
@@ -6,16 +6,16 @@ use Rattle.qr_matrix.specs.Grid.{Grid, square, colour, light}
 abbrev pub byte_of : Bool → ℕ
 byte_of dark = if dark then 1 else 0
 
--- `HoldsSquares side squares before after` holds if a buffer changed from `before` to `after` because the modules of
--- `squares` were written to it. The buffer contains one square after another, each row by row and with `side` modules
--- on a side. The bytes after the last module are unchanged [own].
+-- `HoldsSquares side squares before after` holds if writing the modules of `squares` to the first bytes of a buffer
+-- changes the buffer from `before` to `after`. The buffer contains one square after the other, each row by row. Each
+-- square has `side` rows. The bytes after the last module are unchanged [own].
 pub record HoldsSquares (side : ℕ) (squares : List Grid) (before after : List ℕ) : Type 0 where
   pub room : length squares * (side * side) ≤ length before
   pub long : length after ≡ length before
   pub modules : (k row col : ℕ) → k < length squares → row < side → col < side → slice_index_or after (k * (side * side) + (row * side + col)) 0 ≡ byte_of (colour (slice_index_or squares k (light 0)) row col)
   pub others : (i : ℕ) → length squares * (side * side) ≤ i → slice_index_or after i 0 ≡ slice_index_or before i 0
 
--- `square_of_bytes side bytes` is the square with `side` modules on a side whose modules are `bytes`, row by row. A
--- module is dark if its byte is not 0 [own].
+-- `square_of_bytes side bytes` is the square with `side` rows whose modules are `bytes`, row by row. A module is dark
+-- if its byte is not 0 [own].
 abbrev pub square_of_bytes : ℕ → List ℕ → Grid
 square_of_bytes side bytes = square side (λ row col. not (slice_index_or bytes (row * side + col) 0 == 0))

@@ -1,4 +1,4 @@
--- What the call for a series writes, and when its buffer is too short.
+-- Defines what the function `qrproved_encode_series` for C writes, and when its buffer is too short.
 use Rattle.std.specs.Prelude.{◌≡◌, ℕ, ◌*◌, ◌<◌, false, List, length}
 use Rattle.qr_layout.specs.Version.{side_of}
 use Rattle.qr_bits.specs.declared.modes.Mode.TheVariants.{Kanji}
@@ -10,9 +10,9 @@ use Rattle.qrproved.specs.declared.series.QrprovedSeries.{QrprovedSeries}
 use Rattle.qrproved.specs.Settings.{AreSettings, level_of, rule_of}
 use Rattle.qrproved.specs.Modules.{HoldsSquares}
 
--- `IsWrittenSeries x version level rule before after t` holds if a buffer changed from `before` to `after` because the
--- series of the input `x` was written to its first bytes. The numbers `version`, `level` and `rule` of the call are in
--- range. The struct `t` contains the number of symbols and the side of each symbol. If the symbols are read and joined,
+-- `IsWrittenSeries x version level rule before after t` holds if writing the series of the input `x` to the first bytes
+-- of a buffer changes the buffer from `before` to `after`. The numbers `version`, `level` and `rule` are in range. The
+-- struct `t` contains the number of symbols and the number of rows of each symbol. If the symbols are read and joined,
 -- the result is the input. Without kanji mode no shorter series exists [own].
 pub record IsWrittenSeries (x : List ℕ) (version level rule : ℕ) (before after : List ℕ) (t : QrprovedSeries) : Type 0 where
   pub settings : AreSettings version level rule

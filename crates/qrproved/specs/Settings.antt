@@ -1,4 +1,4 @@
--- The version, the level and the rule that the numbers in a call stand for.
+-- Defines which level and which rule belong to the numbers that a C program passes, and which numbers are in range.
 use Rattle.std.specs.Prelude.{ℕ, ◌<◌, ◌≤◌, ◌==◌, if◌then◌else◌}
 use Rattle.qr_layout.specs.declared.level.Level.{Level}
 use Rattle.qr_layout.specs.declared.level.Level.TheVariants as level
@@ -6,12 +6,12 @@ use Rattle.qr_bits.specs.declared.modes.Rule.{Rule}
 use Rattle.qr_bits.specs.declared.modes.Rule.TheVariants as rule
 
 -- `level_of n` is the error correction level with the number `n`. The numbers 0, 1, 2 and 3 are the levels L, M, Q and
--- H [own].
+-- H in this order [own].
 abbrev pub level_of : ℕ → Level
 level_of n = if n == 0 then level.L else (if n == 1 then level.M else (if n == 2 then level.Q else level.H))
 
--- `rule_of n` is the rule with the number `n`, which says which modes may be used. The number 0 allows all modes but
--- kanji mode, 1 allows byte mode only, and 2 allows all modes [own].
+-- `rule_of n` is the rule with the number `n`. The rule determines which modes may be used. The number 0 allows all
+-- modes except kanji mode. The number 1 allows byte mode only, and the number 2 allows all modes [own].
 abbrev pub rule_of : ℕ → Rule
 rule_of n = if n == 0 then rule.Auto else (if n == 1 then rule.BytesOnly else rule.WithKanji)
 

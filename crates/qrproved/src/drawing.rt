@@ -1,4 +1,4 @@
-//! The call that draws squares of modules as text or as SVG (ISO/IEC 18004:2015, 6.3.8).
+//! The function `qrproved_draw` for C, which draws squares of modules as text or as SVG (ISO/IEC 18004:2015, 6.3.8).
 
 ghost use Rattle.std.specs.Prelude.{◌≡◌, ◌≢◌, ◌*◌, ◌<◌, ◌≤◌, ◌↔◌, ◌⊎◌, length, IfOk, SomeIff};
 ghost use Rattle.qr_drawing.specs.Drawing.{drawn};
@@ -15,7 +15,7 @@ use std::alloc::{AllocError, Global};
 // The numbers that a caller passes to `qrproved_draw`, after they were checked.
 #[derive(Clone, Copy)]
 struct DrawingSettings {
-    // The number of modules on a side of each square.
+    // The number of rows and columns of each square.
     side: u8,
     // The number of squares that are drawn.
     count: u8,
@@ -25,7 +25,7 @@ struct DrawingSettings {
     margin: u8,
 }
 
-// Returns the type of drawing with the number `number`, or `None` if the number is more than 3.
+// Returns the type of drawing with the number `number`. Returns `None` if the number is more than 3.
 fn drawing_of(number: u32) -> Option<Drawing>
     ensures { SomeIff result (number < 4) (drawing_of number) }
 {
@@ -38,7 +38,8 @@ fn drawing_of(number: u32) -> Option<Drawing>
     }
 }
 
-// Returns the settings with these numbers, or `None` if at least one number is out of range.
+// Returns the settings of a drawing with these numbers. Returns `None` if at least one of the four numbers is out of
+// range.
 fn drawing_settings_of(side: u32, count: u32, drawing: u32, margin: u32) -> Option<DrawingSettings>
     ensures { SomeIff result (AreDrawingSettings side count drawing margin)
         (record { side = side; count = count; drawing = drawing_of drawing; margin = margin }) }
@@ -51,8 +52,8 @@ fn drawing_settings_of(side: u32, count: u32, drawing: u32, margin: u32) -> Opti
     })
 }
 
-// Returns the `count` squares whose modules are the bytes of `modules`, one square after another. Each square has
-// `side` modules on a side.
+// Returns `count` squares of modules, each with `side` rows. Their modules are the bytes of `modules`, one square after
+// the other.
 fn squares_of(alloc: Global, modules: &[u8], side: u8, count: u8) -> Result<Vec<Matrix>, AllocError>
     requires least { 1 ≤ side }
     requires most { side ≤ 177 }
@@ -68,8 +69,9 @@ fn squares_of(alloc: Global, modules: &[u8], side: u8, count: u8) -> Result<Vec<
     Ok(squares)
 }
 
-// Returns the drawing of the squares whose modules are the bytes of `modules`, one square after another. `asked`
-// contains the side and the number of the squares, and the type and the margin of the drawing.
+// Returns the drawing of the squares whose modules are the bytes of `modules`, one square after the other. `asked`
+// contains the number of squares and the number of rows of each square. `asked` also contains the type and the margin
+// of the drawing.
 fn drawn(alloc: Global, modules: &[u8], asked: DrawingSettings) -> Result<Vec<u8>, AllocError>
     requires least { 1 ≤ asked.side }
     requires most { asked.side ≤ 177 }
@@ -88,18 +90,18 @@ fn drawn(alloc: Global, modules: &[u8], asked: DrawingSettings) -> Result<Vec<u8
 }
 
 /// Draws squares of modules as the command `qrencode` draws symbols, and writes the drawing to the buffer `text`. All
-/// squares have `side` modules on a side, and need not be symbols. Their modules are in the buffer `modules`, in the
-/// order in which `qrproved_encode_series` writes them. Any byte except 0 is a dark module. The numbers 0 to 3 of
-/// `drawing` are the types ASCII, ASCIIi, UTF8 and SVG.
+/// squares have `side` rows, and need not be symbols. The buffer `modules` contains their modules in the order in which
+/// `qrproved_encode_series` writes modules. The byte 0 is a light module, and any other byte is a dark module. The
+/// numbers 0 to 3 of `drawing` are the types ASCII, ASCIIi, UTF8 and SVG in this order.
 ///
 /// The causes of a refusal are checked in this order: a number out of range, too few modules in `modules`, and a buffer
-/// `text` that is shorter than the drawing. The numbers are in range for 1 to 177 modules on a side, 1 to 16 squares,
-/// one of the four types, and a margin of 0 to 100 modules. If there are too few modules, `written` becomes 0. If
-/// `text` is too short, `written` becomes the length of the drawing. The first two causes are found before any
-/// allocation.
+/// `text` that is shorter than the drawing. The numbers are in range if each square has 1 to 177 rows, there are 1 to
+/// 16 squares, the type is one of the four types, and the margin is at most 100 modules. If there are too few modules,
+/// `written` becomes 0. If `text` is too short, `written` becomes the length of the drawing. The first two causes are
+/// found before any allocation.
 ///
-/// On status 0 the first bytes of `text` are the drawing of the squares in `modules`, in the type and with the margin
-/// asked for. The length of the drawing is in `written`.
+/// On status 0 the first bytes of `text` are the drawing of the squares in `modules`. The drawing has the type
+/// `drawing` and a margin of `margin` modules. The number `written` is the length of the drawing in bytes.
 #[unsafe(no_mangle)]
 pub extern "C" fn qrproved_draw(
     alloc: Global,

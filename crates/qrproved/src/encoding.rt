@@ -1,4 +1,4 @@
-//! The call that encodes an input as one symbol (ISO/IEC 18004:2015, 7.1).
+//! The function `qrproved_encode` for C, which encodes an input as one symbol (ISO/IEC 18004:2015, 7.1).
 
 ghost use Rattle.std.specs.Prelude.{◌≡◌, ◌≢◌, ◌<◌, ◌↔◌, ◌⊎◌, [], length};
 ghost use Rattle.qr_symbol.specs.VersionChoice.{HasNoVersion};
@@ -13,29 +13,30 @@ use qr_symbol::encode;
 use qr_symbol::laws::long_inputs_have_none;
 use std::alloc::Global;
 
-/// The version, the side and the mask pattern of a symbol that was encoded.
+/// The version, the number of rows and the mask pattern of a symbol that was encoded.
 #[repr(C)]
 #[derive(Clone, Copy)]
 pub struct QrprovedSymbol {
     /// The version, from 1 to 40.
     pub version: u8,
-    /// The number of modules on a side, from 21 to 177.
+    /// The number of rows and columns, from 21 to 177.
     pub side: u8,
     /// The number of the mask pattern, from 0 to 7.
     pub mask: u8,
 }
 
-/// Encodes `input` as one symbol, and writes its modules to the buffer `modules`. The symbol has the least version that
-/// the input fits, from `version` on. The byte of a module is at index `row * side + column` of the buffer. The numbers
-/// 0 to 3 of `level` stand for L, M, Q and H in this order. The number 0 of `rule` allows every mode except kanji mode,
-/// 1 allows byte mode only, and 2 allows every mode.
+/// Encodes `input` as one symbol, and writes the modules of the symbol to the buffer `modules`. The symbol has the
+/// least version, from `version` on, that the input fits. The byte of a module is at index `row * side + column` of the
+/// buffer, where `side` is the number of rows. The numbers 0 to 3 of `level` are the levels L, M, Q and H in this
+/// order. The number 0 of `rule` allows every mode except kanji mode. The number 1 allows byte mode only, and the
+/// number 2 allows every mode.
 ///
 /// The causes of a refusal are checked in this order: a number out of range, an empty input, an input that is too long,
 /// a buffer that is too short. Numbers out of range, an empty input and an input of more than 7,089 bytes are refused
 /// before any allocation.
 ///
-/// On status 0 the buffer contains exactly the symbol of the input, row by row. If this symbol is read, the result is
-/// the input. The struct contains the symbol's version, side and mask.
+/// On status 0 the buffer begins with exactly the symbol of the input, row by row. If this symbol is read, the result
+/// is the input. The struct `symbol` contains the version, the number of rows and the mask pattern of the symbol.
 #[unsafe(no_mangle)]
 pub extern "C" fn qrproved_encode(
     alloc: Global,
@@ -96,7 +97,7 @@ mod tests {
     use super::*;
     use std::test::Fail;
 
-    // The modules of `A` in byte mode in version 1-L, as another encoder draws them.
+    // The modules of the symbol for `A` in byte mode and version 1-L, as another encoder draws them.
     static ROWS: [u32; 21] = [
         0b111111100101101111111,
         0b100000100111001000001,
@@ -155,7 +156,8 @@ mod tests {
         Ok(())
     }
 
-    // According to another encoder, `g` in version 1-Q has mask 0, and five letters in version 1-L have mask 7.
+    // According to another encoder, the symbol for `g` in version 1-Q has mask pattern 0. The symbol for five letters
+    // in version 1-L has mask pattern 7.
     #[test]
     fn numbers_of_levels_and_rules(rt: HostRuntime) -> Result<(), Fail> {
         let digits = [b'7'; 42];
@@ -178,7 +180,7 @@ mod tests {
             assert_eq!(rt; status, DONE, "{name}");
             assert_eq!(rt; (symbol.version, symbol.mask), (least, mask), "{name}");
         }
-        // The least version that holds this number of digits or bytes (Table 7).
+        // Each row contains an input and the least version that this input fits (Table 7).
         let rows = [
             ("41 digits at L", &digits[..41], 0u32, 0u32, 1u8),
             ("42 digits at L", &digits[..], 0, 0, 2),

@@ -1,4 +1,4 @@
-//! Laws about the calls of the library. Each function exists only for its contract, which states a law.
+//! Contains laws about the functions of the library. Each function here exists only for its contract, which is the law.
 
 ghost use Rattle.std.specs.Prelude.{◌≡◌, [], ◌∷◌, map, true, false, IfOk};
 ghost use Rattle.qr_layout.specs.declared.level.Level.{Level};
@@ -36,16 +36,16 @@ pub fn statuses()
     ensures segments { SEGMENTS ≡ 10 }
 {}
 
-/// The numbers 0 to 3 stand for the levels L, M, Q and H in this order. The numbers 0 to 2 stand for the rules `Auto`,
-/// `BytesOnly` and `WithKanji` in this order, which say which encoding modes may be used. The byte of a dark module is
-/// 1, and the byte of a light module is 0.
+/// The numbers 0 to 3 are the levels L, M, Q and H in this order. A rule determines which modes may be used. The
+/// numbers 0 to 2 are the rules `Auto`, `BytesOnly` and `WithKanji` in this order. The byte of a dark module is 1, and
+/// the byte of a light module is 0.
 pub fn numbers()
     ensures levels { map level_of (0 ∷ 1 ∷ 2 ∷ 3 ∷ []) ≡ Level.L ∷ Level.M ∷ Level.Q ∷ Level.H ∷ [] }
     ensures rules { map rule_of (0 ∷ 1 ∷ 2 ∷ []) ≡ Rule.Auto ∷ Rule.BytesOnly ∷ Rule.WithKanji ∷ [] }
     ensures bytes { map byte_of (true ∷ false ∷ []) ≡ 1 ∷ 0 ∷ [] }
 {}
 
-/// If the modules of a square are written as bytes, the square that is read from these bytes has the same colours.
+/// If the modules of a square are written as bytes and then read as a square again, no module changes its colour.
 pub fn bytes_are_their_square()
     ensures { BytesAreTheirSquare }
 {}

@@ -1,4 +1,5 @@
-//! The call that reads a damaged symbol and reports its damage (ISO/IEC 18004:2015, 7.5.1, 7.9.1 and 12).
+//! The function `qrproved_mend` for C, which reads a damaged symbol and reports its damage
+//! (ISO/IEC 18004:2015, 7.5.1, 7.9.1 and 12).
 
 ghost use Rattle.std.specs.Prelude.{◌≡◌, ◌≢◌, ◌*◌, ◌<◌, ◌≤◌, ◌==◌, ◌↔◌, ◌⊎◌, length, IfOk, MatchBool, MatchResult};
 ghost use Rattle.std.specs.List.{All, Any, count_by};
@@ -23,19 +24,20 @@ use qr_mending::{Mended, changed_max, mend_symbol, mend_symbol_without};
 use qr_symbol::{Matrix, ReadFault};
 use std::alloc::{AllocError, Global};
 
-/// The content of a damaged symbol that was read, except for its bytes, and the damage of the symbol.
+/// What was read from a damaged symbol, without the bytes of its content, and numbers that describe the damage.
 #[repr(C)]
 #[derive(Clone, Copy)]
 pub struct QrprovedMended {
-    /// The number of bytes of the input that the symbol contains.
+    /// The number of bytes that the symbol contains.
     pub len: usize,
-    /// The number of modules of the whole square that are not known, or that have another colour than in the undamaged
-    /// symbol. The number is 0 exactly if all modules are known and the square is the undamaged symbol.
+    /// The number of wrong modules in the whole square. A module is wrong if it is not known, or if it does not have
+    /// the colour that it has in the undamaged symbol. So the number is 0 if the square is the undamaged symbol and all
+    /// its modules are known, and only then.
     pub wrong_modules: u32,
     /// The version, from 1 to 40.
     pub version: u8,
-    /// 1 if the symbol has a structured append header, and so is part of a series. Otherwise `has_header`, `position`,
-    /// `last` and `parity` are all 0.
+    /// This number is 1 if the symbol has a structured append header, and so is part of a series. Without such a
+    /// header, the four fields `has_header`, `position`, `last` and `parity` are 0.
     pub has_header: u8,
     /// The position of the symbol in its series, from 0 to 15.
     pub position: u8,
@@ -47,28 +49,28 @@ pub struct QrprovedMended {
     pub level: u8,
     /// The number of the mask pattern, from 0 to 7.
     pub mask: u8,
-    /// The number of modules of format information that are wrong or not known. The two copies have 30 modules
-    /// together.
+    /// The number of modules of the format information that are wrong or not known. The two copies of the format
+    /// information have 30 modules together.
     pub wrong_format_modules: u8,
-    /// The number of codewords that were corrected in the block with the most of them. Codewords with a module that is
-    /// not known do not count.
+    /// For each block, the codewords that were corrected are counted; this field is the greatest of these numbers.
+    /// Codewords with a module that is not known are not counted.
     pub changed_most: u8,
-    /// The greatest number of wrong codewords of a block that can be corrected, from 2 to 15.
+    /// The largest number of wrong codewords that can be corrected in a block, from 2 to 15.
     pub changed_allowed: u8,
 }
 
-// The byte that stands for a module that is not known.
+// The byte for a module that is not known.
 const NOT_KNOWN: u8 = 2;
 
-// Returns whether each byte of `modules` is 0, 1 or 2, that is, a light module, a dark module or a module that is not
-// known.
+// Returns whether each byte of `modules` is 0, 1 or 2. These bytes are a light module, a dark module and a module that
+// is not known.
 fn are_modules(modules: &[u8]) -> bool
     ensures { MatchBool result (All (λ b. b ≤ 2) modules.now) (Any (λ b. 2 < b) modules.now) }
 {
     modules.iter().all(|module| *module <= NOT_KNOWN)
 }
 
-// Returns how many bytes of `modules` stand for a module that is not known.
+// Returns the number of modules in `modules` that are not known.
 fn count_unknown(modules: &[u8]) -> usize
     ensures { result ≡ count_by (λ b. b == 2) modules.now }
 {
@@ -78,8 +80,8 @@ fn count_unknown(modules: &[u8]) -> usize
         .count()
 }
 
-// Returns the square with `side` modules on a side in which a module is dark exactly if its byte in `modules` says that
-// it is not known.
+// Returns a square with `side` rows that shows which modules are not known. A module of this square is dark if its byte
+// in `modules` is 2, and light otherwise.
 fn unknown_of(alloc: Global, modules: &[u8], side: u8) -> Result<Matrix, AllocError>
     requires least { 1 ≤ side }
     requires most { side ≤ 177 }
@@ -98,8 +100,8 @@ fn unknown_of(alloc: Global, modules: &[u8], side: u8) -> Result<Matrix, AllocEr
     Ok(unknown)
 }
 
-// Corrects the errors of the square in `modules`, which has `side` modules on a side, and reads it. A module with the
-// byte 2 is not known.
+// Corrects the errors of the square in `modules`, which has `side` rows, and reads the square. A module is not known if
+// its byte is 2.
 fn mend_modules(alloc: Global, modules: &[u8], side: u8) -> Result<Mended, ReadFault>
     requires least { 1 ≤ side }
     requires most { side ≤ 177 }
@@ -129,7 +131,7 @@ fn greatest(numbers: &[usize]) -> usize
     numbers.iter().copied().max().unwrap_or(0)
 }
 
-// Returns the struct for the damaged symbol `mended`, which was corrected and contains `len` bytes.
+// Returns the struct for the damaged symbol `mended`, whose damage was corrected. The symbol contains `len` bytes.
 fn mended_of(len: usize, mended: &Mended) -> QrprovedMended
     requires some { 1 ≤ length mended.now.changed.items }
     requires few { All (λ n. n ≤ 15) mended.now.changed.items }
@@ -164,24 +166,24 @@ fn mended_of(len: usize, mended: &Mended) -> QrprovedMended
 }
 
 /// Reads the symbol whose modules are in the buffer `modules`, in the order in which `qrproved_encode` writes them, and
-/// corrects its errors. The byte 0 is a light module, the byte 1 a dark module, and the byte 2 a module that is not
-/// known. A codeword with a module that is not known uses half as much of the error correction as a misread codeword.
-/// Writes the bytes that the symbol contains to the buffer `bytes`. Writes the symbol's structured append header and
-/// its damage to the struct `mended`.
+/// corrects its errors. The byte 0 is a light module, the byte 1 is a dark module, and the byte 2 is a module that is
+/// not known. A codeword with a module that is not known needs half as much error correction as a misread codeword.
+/// Writes the bytes that the symbol contains to the buffer `bytes`. Writes the structured append header and the damage
+/// of the symbol to the struct `mended`.
 ///
 /// The causes of a refusal are checked in the order in which this paragraph lists them. The first three causes are
-/// found before any allocation: a side that no version has, too few modules in `modules`, and a byte of more than 2.
-/// The other causes are damaged format information, damaged codewords, data codewords that cannot be parsed, and a
-/// buffer `bytes` that is too short.
+/// found before any allocation: a number of rows that no version has, too few modules in `modules`, and a byte of more
+/// than 2. The other causes are damaged format information, damaged codewords, data codewords that cannot be parsed,
+/// and a buffer `bytes` that is too short.
 ///
 /// On status 0 the modules in the buffer are a damaged form of a symbol. The call wrote the bytes and the header that
-/// this symbol contains, and its version, level and mask.
+/// this symbol contains, and the version, the level and the mask pattern of the symbol.
 ///
-/// The struct also contains four numbers. `wrong_modules` is the number of modules of the whole square that are not
-/// known or differ from the symbol. `wrong_format_modules` is the number of modules, of the 30 modules of format
-/// information, that are wrong or not known. `changed_most` is the number of codewords that were corrected in the block
-/// with the most of them. Codewords with a module that is not known are not counted in `changed_most`.
-/// `changed_allowed` is the greatest number of wrong codewords of a block that can be corrected.
+/// The struct also contains four numbers about the damage. `wrong_modules` is the number of wrong or unknown modules in
+/// the whole square. `wrong_format_modules` is the number of wrong or unknown modules among the 30 modules of the
+/// format information. To compute `changed_most`, the corrected codewords of each block are counted. Codewords with a
+/// module that is not known are left out. `changed_most` is the greatest of these numbers. `changed_allowed` is the
+/// largest number of wrong codewords that can be corrected in a block.
 #[unsafe(no_mangle)]
 pub extern "C" fn qrproved_mend(
     alloc: Global,
@@ -258,7 +260,7 @@ mod tests {
         }
     }
 
-    // Returns the modules of a square of 21 by 21, with those at these places inverted.
+    // Returns the modules `drawn` of a square with 21 rows, after the modules at the places `places` were inverted.
     fn inverted(drawn: [u8; 441], places: &[(u8, u8)]) -> Result<[u8; 441], Fail> {
         let mut modules = drawn;
         for (row, col) in places {
@@ -271,10 +273,11 @@ mod tests {
         Ok(modules)
     }
 
-    // Modules of the encoding region at 1-M, each of a different codeword.
+    // The places of modules of the encoding region in version 1-M. Each module belongs to a different codeword.
     static CODEWORDS: [(u8, u8); 5] = [(20, 20), (16, 20), (12, 20), (9, 18), (13, 18)];
 
-    // Four modules of the first copy of the format information, and then four of the second copy.
+    // The places of four modules of the first copy of the format information, and then of four modules of the second
+    // copy.
     static FORMATS: [(u8, u8); 8] = [
         (0, 8),
         (1, 8),
@@ -327,8 +330,8 @@ mod tests {
         Ok(())
     }
 
-    // In version 1-M eight of the ten error correction codewords may be used. Five unknown codewords need five of
-    // these, and one misread codeword needs two.
+    // In version 1-M eight of the ten error correction codewords may be used. Five unknown codewords need five error
+    // correction codewords, and one misread codeword needs two.
     #[test]
     fn modules_that_are_not_known(rt: HostRuntime) -> Result<(), Fail> {
         let drawn = eight_digits(&rt)?;
@@ -387,7 +390,7 @@ mod tests {
             &mut series,
         );
         assert_eq!(rt; status, DONE);
-        // Inverts the bottom right module of the second symbol, which is a bit of its first codeword.
+        // Inverts the bottom right module of the second symbol, which contains a bit of its first codeword.
         modules[881] = 1 - modules[881].min(1);
         let mut bytes = [7u8; 3];
         let mut mended = nothing();

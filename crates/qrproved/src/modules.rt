@@ -1,6 +1,6 @@
-//! Writes squares of modules to a buffer of bytes, and reads them from it. The buffer contains one square after
-//! another, each row by row and without a quiet zone. A dark module is written as the byte 1 and a light module as 0,
-//! but any byte except 0 is read as a dark module.
+//! Writes squares of modules to a buffer of bytes, and reads squares from such a buffer. The buffer contains one square
+//! after the other, each row by row and without a quiet zone. A dark module is written as the byte 1, and a light
+//! module as the byte 0. When a buffer is read, any byte except 0 is a dark module.
 
 ghost use Rattle.std.specs.Prelude.{◌≡◌, ℕ, ◌+◌, ◌*◌, ◌<◌, ◌≤◌, ◌⊎◌, length, slice_index_or, IfOk};
 ghost use Rattle.std.specs.List.{All};
@@ -12,15 +12,15 @@ ghost use Rattle.qrproved.specs.Steps.Modules.{four_bytes};
 use qr_symbol::{Matrix, Symbol};
 use std::alloc::{AllocError, Global};
 
-/// Returns the number of modules in a square that has `side` modules on a side.
+/// Returns the number of modules in a square that has `side` rows.
 pub(crate) fn area(side: u8) -> usize
     ensures { result ≡ side * side }
 {
     usize::from(side) * usize::from(side)
 }
 
-// Returns the bytes of the four modules that the four lowest bits of `bits` describe. The lowest bit is the first
-// module, and a bit 1 is a dark module.
+// Returns the bytes of four modules, which are the four lowest bits of `bits`. The lowest bit is the first module. A
+// module is dark if its bit is 1.
 fn four_bytes(bits: u8) -> [u8; 4]
     requires { bits < 16 }
     ensures { result ≡ four_bytes bits }
@@ -45,8 +45,8 @@ fn four_bytes(bits: u8) -> [u8; 4]
     }
 }
 
-// Writes the modules of row `row` of `matrix` as bytes to `modules`, from index `start` on. Writes four bytes at once
-// where possible.
+// Writes the modules of row `row` of `matrix` as bytes to `modules`, from index `start` on. Most bytes are written four
+// at once.
 fn write_row(matrix: &Matrix, row: u8, start: usize, modules: &mut [u8])
     requires row_in { row < matrix.now.side }
     requires room { start + matrix.now.side ≤ length modules.old }
@@ -86,8 +86,7 @@ pub(crate) fn write_square(matrix: &Matrix, start: usize, modules: &mut [u8])
     }
 }
 
-/// Writes the modules of `symbols` as bytes to `modules`, one symbol after another. Each symbol has `side` modules on a
-/// side.
+/// Writes the modules of `symbols` as bytes to `modules`, one symbol after the other. Each symbol has `side` rows.
 pub(crate) fn write_squares(symbols: &[Symbol], side: u8, modules: &mut [u8])
     requires sides { All (λ g. g.side ≡ side) (squares_of symbols.now) }
     requires room { length symbols.now * (side * side) ≤ length modules.old }
@@ -101,7 +100,7 @@ pub(crate) fn write_squares(symbols: &[Symbol], side: u8, modules: &mut [u8])
     }
 }
 
-/// Returns the square with `side` modules on a side whose modules are the first bytes of `modules`, row by row.
+/// Returns the square with `side` rows whose modules are the first bytes of `modules`, row by row.
 pub(crate) fn matrix_of(alloc: Global, modules: &[u8], side: u8) -> Result<Matrix, AllocError>
     requires least { 1 ≤ side }
     requires most { side ≤ 177 }

@@ -1,4 +1,4 @@
-//! Symbols for the tests of several files. Each symbol is an array with a byte for each module.
+//! Makes symbols for the tests of several files. Each symbol is an array with a byte for each module.
 
 use crate::encoding::{QrprovedSymbol, qrproved_encode};
 use crate::modules::write_square;

@@ -1,4 +1,4 @@
-//! The call that encodes an input as a series of symbols (ISO/IEC 18004:2015, 8).
+//! The function `qrproved_encode_series` for C, which encodes an input as a series of symbols (ISO/IEC 18004:2015, 8).
 
 ghost use Rattle.std.specs.Prelude.{◌≡◌, ◌≢◌, ◌<◌, ◌↔◌, ◌⊎◌, [], length};
 ghost use Rattle.qr_symbol.specs.Series.{HasNoSeries};
@@ -13,28 +13,29 @@ use qr_symbol::encode_series;
 use qr_symbol::laws::{long_inputs_have_none, series_are_one, series_have_one_side};
 use std::alloc::Global;
 
-/// The number of symbols of a series, and the side of each symbol.
+/// The number of symbols of a series, and the number of rows of each symbol.
 #[repr(C)]
 #[derive(Clone, Copy)]
 pub struct QrprovedSeries {
     /// The number of symbols, from 1 to 16.
     pub count: u8,
-    /// The number of modules on a side of each symbol, from 21 to 177.
+    /// The number of rows and columns of each symbol, from 21 to 177.
     pub side: u8,
 }
 
-/// Encodes `input` as a series of symbols, which all have the version `version`, and writes their modules to the buffer
-/// `modules`. The byte of a module is at index `number * side * side + row * side + column` of the buffer. Here
-/// `number` is the number of the module's symbol, counted from 0. If the input fits one symbol, its series is that
-/// symbol without a structured append header. The numbers of levels and rules are those of `qrproved_encode`.
+/// Encodes `input` as a series of symbols, and writes the modules of these symbols to the buffer `modules`. All symbols
+/// have the version `version`. The byte of a module is at index `number * side * side + row * side + column` of the
+/// buffer. Here `number` is the number of the module's symbol, counted from 0, and `side` is the number of rows of a
+/// symbol. If the input fits one symbol without a structured append header, the series is this one symbol. The numbers
+/// of levels and rules are the same as in `qrproved_encode`.
 ///
-/// The causes of a refusal are checked in this order: a number out of range, an empty input, an input that takes more
+/// The causes of a refusal are checked in this order: a number out of range, an empty input, an input that needs more
 /// than 16 symbols, a buffer that is too short. Numbers out of range, an empty input and an input of more than 113,425
 /// bytes are refused before any allocation.
 ///
-/// On status 0 the buffer contains exactly the series of the input, symbol after symbol. If the symbols are read and
-/// their bytes are joined, the result is the input. Without kanji mode no shorter series exists. The struct contains
-/// the number of symbols and the side of each symbol.
+/// On status 0 the buffer begins with exactly the series of the input, one symbol after the other. If the symbols are
+/// read and their bytes are joined, the result is the input. Without kanji mode no shorter series exists. The struct
+/// `series` contains the number of symbols and the number of rows of each symbol.
 #[unsafe(no_mangle)]
 pub extern "C" fn qrproved_encode_series(
     alloc: Global,
@@ -96,7 +97,8 @@ mod tests {
     use super::*;
     use std::test::Fail;
 
-    // Eight letters in byte mode in version 1-H are two symbols, with five letters and three letters.
+    // In byte mode and version 1-H, the series for eight letters has two symbols: the first contains five letters, and
+    // the second contains three letters.
     #[test]
     fn eight_letters_at_1_h(rt: HostRuntime) -> Result<(), Fail> {
         let mut modules = [7u8; 884];

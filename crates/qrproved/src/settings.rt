@@ -1,5 +1,5 @@
-//! Checks the numbers that stand for a version, a level and a rule in a call. The rule says which encoding modes may be
-//! used. C may pass any number, and numbers out of range are refused.
+//! Checks the numbers that a C program passes for the version, the level and the rule. The rule determines which modes
+//! may be used. A C program can pass any number, and numbers out of range are refused.
 
 ghost use Rattle.std.specs.Prelude.{◌≡◌, ◌<◌, ◌≤◌, SomeIff};
 ghost use Rattle.qrproved.specs.Settings.{AreSettings, level_of, rule_of};
@@ -14,11 +14,11 @@ pub(crate) struct Settings {
     pub version: Version,
     /// The error correction level.
     pub level: Level,
-    /// The rule that says which encoding modes the segments may have.
+    /// The rule that determines which modes the segments may have.
     pub rule: Rule,
 }
 
-/// Returns `number` if it is from `least` to `most`, and otherwise `None`.
+/// Returns `number` if it is at least `least` and at most `most`. Otherwise returns `None`.
 pub(crate) fn between(number: u32, least: u8, most: u8) -> Option<u8>
     ensures { SomeIff result ((least ≤ number) × (number ≤ most)) number }
 {
@@ -29,7 +29,8 @@ pub(crate) fn between(number: u32, least: u8, most: u8) -> Option<u8>
     Some(byte)
 }
 
-/// Returns the settings with these numbers, or `None` if at least one number is out of range.
+/// Returns the version, the level and the rule with these numbers. Returns `None` if at least one of the three numbers
+/// is out of range.
 pub(crate) fn settings_of(version: u32, level: u32, rule: u32) -> Option<Settings>
     ensures { SomeIff result (AreSettings version level rule)
         (record { version = version; level = level_of level; rule = rule_of rule }) }
@@ -41,7 +42,7 @@ pub(crate) fn settings_of(version: u32, level: u32, rule: u32) -> Option<Setting
     })
 }
 
-// Returns the error correction level with the number `number`, or `None` if the number is more than 3.
+// Returns the error correction level with the number `number`. Returns `None` if the number is more than 3.
 fn level_of(number: u32) -> Option<Level>
     ensures { SomeIff result (number < 4) (level_of number) }
 {
@@ -67,7 +68,7 @@ pub(crate) fn number_of(level: Level) -> u8
     }
 }
 
-// Returns the rule with the number `number`, or `None` if the number is more than 2.
+// Returns the rule with the number `number`. Returns `None` if the number is more than 2.
 fn rule_of(number: u32) -> Option<Rule>
     ensures { SomeIff result (number < 3) (rule_of number) }
 {

@@ -1,11 +1,11 @@
-//! The statuses that the calls for C return. The number of a status has the same meaning for all calls.
+//! Lists the statuses that the functions for C return. The number of a status has the same meaning for all functions.
 
 ghost use Rattle.std.specs.Prelude.{◌≡◌};
 ghost use Rattle.qrproved.specs.Steps.Status.{encode_status, read_status};
 
 use qr_symbol::{EncodeFault, ReadFault};
 
-/// The call succeeded, and wrote its whole result.
+/// The function succeeded, and wrote its whole result.
 pub(crate) const DONE: u8 = 0;
 
 /// The input is empty.
@@ -14,7 +14,7 @@ pub(crate) const EMPTY: u8 = 1;
 /// The input fits no version from the smallest allowed version on.
 pub(crate) const TOO_LONG: u8 = 2;
 
-/// The input takes more than 16 symbols of the version.
+/// The input needs more than 16 symbols of the version.
 pub(crate) const TOO_MANY: u8 = 3;
 
 /// An allocation was refused.
@@ -27,15 +27,16 @@ pub(crate) const SETTINGS: u8 = 5;
 /// A buffer of the caller is too short.
 pub(crate) const ROOM: u8 = 6;
 
-/// No version has symbols with this number of modules on a side.
+/// No version has symbols with this number of rows.
 pub(crate) const SIDE: u8 = 7;
 
-/// The format information is not that of any level and mask. When a damaged symbol is read, each copy of the format
-/// information differs from that of every level and mask in more than three modules.
+/// The format information belongs to no level and mask pattern. For a damaged symbol that is mended, this status has
+/// another meaning. Then the format information of every level and mask pattern differs from both copies in more than
+/// three modules.
 pub(crate) const FORMAT: u8 = 8;
 
-/// The error correction codewords of a block do not match its data codewords. When a damaged symbol is read, some block
-/// has more damage than can be corrected.
+/// The error correction codewords of a block do not belong to its data codewords. For a damaged symbol that is mended,
+/// this status has another meaning: some block has more damage than can be corrected.
 pub(crate) const CHECK: u8 = 9;
 
 /// The data codewords cannot be parsed.

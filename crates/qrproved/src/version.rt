@@ -1,4 +1,4 @@
-//! The version number of the library.
+//! The function `qrproved_version` for C, which returns the version number of the library.
 
 ghost use Rattle.std.specs.Prelude.{◌≡◌};
 

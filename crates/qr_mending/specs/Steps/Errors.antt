@@ -13,23 +13,23 @@ abbrev pub coefficient : ℕ → List ℕ → ℕ
 coefficient m [] = 0
 coefficient m (c ∷ e) = if m == length e then c else coefficient m e
 
--- `low p` lists all coefficients of the polynomial `p` but the leading coefficient, which is the last item of `p`.
+-- `low p` lists the coefficients of the polynomial `p` without the leading coefficient, which is the last item of `p`.
 abbrev pub low : List ℕ → List ℕ
 low p = take (length p - 1) p
 
 -- `weighted p e` is the list `e` with each item multiplied by a value of the polynomial `p`. The items of `e` are the
--- coefficients of a polynomial; that of the highest power of x comes first. The coefficient of x^m is multiplied by the
--- value of `p` at 2^m.
+-- coefficients of a polynomial; the coefficient of the highest power of x comes first. The coefficient of x^m is
+-- multiplied by the value of `p` at 2^m.
 abbrev pub weighted : List ℕ → List ℕ → List ℕ
 weighted p [] = []
 weighted p (c ∷ e) = product c (eval (power (length e)) p) ∷ weighted p e
 
--- `IsLocated p e` holds if the polynomial `p` locates the errors `e`, at most 255 bytes, which are the coefficients of
--- the error polynomial. If the coefficient of x^m in `e` is not 0, the value of `p` at 2^m is 0. The values of the
--- error polynomial at the powers of 2 also follow a recurrence. Let d be the degree of `p`. Then each value after the
--- first d is a sum of d products: each of the d values before it is multiplied by a coefficient of `p`. The
--- coefficients of `p` are listed from that of the lowest power of x on. The recurrence takes the leading coefficient as
--- 1.
+-- `IsLocated p e` holds if the polynomial `p` locates the errors `e`. The list `e` contains at most 255 bytes, which
+-- are the coefficients of the error polynomial. If the coefficient of x^m in `e` is not 0, the value of `p` at 2^m is
+-- 0. The values of the error polynomial at the powers of 2 also follow a recurrence. Let d be the degree of `p`. Each
+-- value after the first d values is computed from the d values before it: each of these d values is multiplied by a
+-- coefficient of `p`, and the products are added. In `p`, the coefficient of the lowest power of x comes first. The
+-- leading coefficient of `p` is not used in the recurrence, which takes this coefficient as 1.
 pub record IsLocated (p e : List ℕ) : Type 0 where
   pub bytes : All IsByte e
   pub most : length e ≤ 255

@@ -1,14 +1,14 @@
 -- Defines polynomials whose leading coefficient is 1, and the steps of the elimination that finds the error locator
--- polynomial. The elimination works on a list of polynomials, which is called the pool. A window is a list of values.
--- In the equation of a window, each coefficient of a polynomial is multiplied by the value with the same index in the
--- window. The polynomial solves the equation if the sum of these products is 0.
+-- polynomial. The elimination works on a list of polynomials, which is called the pool. A window is a list of values,
+-- and each window has an equation. In this equation, each coefficient of a polynomial is multiplied by the value with
+-- the same index in the window. The polynomial solves the equation if the sum of these products is 0.
 use Rattle.std.specs.Prelude.{◌≡◌, ℕ, ◌+◌, ◌<◌, ◌≤◌, List, [], take, drop, length, slice_index, slice_index_or}
 use Rattle.std.specs.List.{All}
 use Rattle.qr_field.specs.Polynomial.{IsByte}
 use Rattle.qr_mending.specs.declared.polynomial.Polynomial.{Polynomial}
 use Rattle.qr_mending.specs.Steps.Sums.{dot_of}
 
--- `all_of p` lists all coefficients of the polynomial `p`; that of the lowest power of x comes first.
+-- `all_of p` lists all coefficients of the polynomial `p`; the coefficient of the lowest power of x comes first.
 abbrev pub all_of : Polynomial → List ℕ
 all_of p = take (p.degree + 1) p.terms
 
@@ -16,8 +16,8 @@ all_of p = take (p.degree + 1) p.terms
 abbrev pub IsMonic : Polynomial → Type 0
 IsMonic p = slice_index p.terms p.degree ≡ 1
 
--- `miss_of p window` is the sum of the products of each coefficient of the polynomial `p` and the value with the same
--- index in the list `window`.
+-- `miss_of p window` is a sum of products: each coefficient of the polynomial `p` is multiplied by the value with the
+-- same index in the list `window`.
 abbrev pub miss_of : Polynomial → List ℕ → ℕ
 miss_of p window = dot_of (all_of p) window
 
@@ -30,8 +30,10 @@ abbrev pub at : List Polynomial → ℕ → Polynomial
 at pool k = slice_index_or pool k blank
 
 -- `IsRelieved pivot window before after` holds if the polynomial `after` can replace the polynomial `before` in the
--- pool. The two polynomials have the same degree, and `after` has the leading coefficient 1 if `before` has. The
--- polynomial `after` solves the equation of `window` and each equation that both `pivot` and `before` solve.
+-- pool. The two polynomials have the same degree. If the leading coefficient of `before` is 1, the leading coefficient
+-- of `after` is 1 too. The polynomial `after` solves the equation of the list `window`. It also solves each equation
+-- that both `pivot` and `before` solve. A polynomial solves the equation of a list if `miss_of` is 0 for the polynomial
+-- and the list.
 pub record IsRelieved (pivot : Polynomial) (window : List ℕ) (before after : Polynomial) : Type 0 where
   pub degree : after.degree ≡ before.degree
   pub monic : IsMonic before → IsMonic after
@@ -43,9 +45,9 @@ pub record HasDegrees (most : ℕ) (pool : List Polynomial) : Type 0 where
   pub each : (k : ℕ) → k < length pool → (at pool k).degree ≤ most
 
 -- `IsPool t i syndromes pool` holds if `pool` is a list of polynomials that solve the first `i` of `t` equations. The
--- degrees of the polynomials rise along the list and are at most `t`, and each leading coefficient is 1. A polynomial
--- solves equation j if the sum of the products of its coefficients and the syndromes from index j on is 0. The list has
--- at least `t` + 1 - `i` polynomials.
+-- degrees of the polynomials rise along the list and are at most `t`, and each leading coefficient is 1. In equation j,
+-- the coefficients of a polynomial are multiplied by the syndromes from index j on. The polynomial solves the equation
+-- if the sum of these products is 0. The list has at least `t` + 1 - `i` polynomials.
 pub record IsPool (t i : ℕ) (syndromes : List ℕ) (pool : List Polynomial) : Type 0 where
   pub count : t + 1 ≤ length pool + i
   pub degrees : HasDegrees t pool

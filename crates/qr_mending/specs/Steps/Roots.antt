@@ -1,5 +1,5 @@
--- Defines polynomials with given roots. The coefficients of a polynomial are listed from that of the lowest power of x
--- on.
+-- Defines polynomials with given roots. In each list of coefficients, the coefficient of the lowest power of x comes
+-- first.
 use Rattle.std.specs.Prelude.{ℕ, Bool, true, false, List, [], ◌∷◌, length, bit_xor}
 use Rattle.qr_field.specs.Galois.{product}
 use Rattle.qr_field.specs.Polynomial.{power}

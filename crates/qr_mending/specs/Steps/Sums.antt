@@ -3,8 +3,8 @@ use Rattle.std.specs.Prelude.{◌≡◌, ℕ, ◌+◌, ◌<◌, List, [], ◌∷
 use Rattle.qr_field.specs.Galois.{product}
 use Rattle.qr_field.specs.Steps.Polynomial.{value_at}
 
--- `dot_of p w` is the sum of the products of the items with the same index in the lists `p` and `w`. Items after the
--- end of the shorter list are left out.
+-- `dot_of p w` is a sum of products: each item of the list `p` is multiplied by the item of the list `w` with the same
+-- index. Items after the end of the shorter list are left out.
 abbrev pub dot_of : List ℕ → List ℕ → ℕ
 dot_of [] w = 0
 dot_of (a ∷ p) [] = 0
@@ -16,8 +16,9 @@ abbrev pub eval : ℕ → List ℕ → ℕ
 eval x [] = 0
 eval x (a ∷ p) = bit_xor a (product x (eval x p))
 
--- `blend p i e` is a sum of products of the items of `p` and values of the polynomial `e`. The first item is multiplied
--- by the value of `e` at 2 to the power `i`, the second item by the value at the next power of 2, and so on.
+-- `blend p i e` is a sum of products: each item of the list `p` is multiplied by a value of the polynomial `e`. The
+-- first item is multiplied by the value of `e` at 2 to the power `i`. The second item is multiplied by the value at the
+-- next power of 2, and so on.
 abbrev pub blend : List ℕ → ℕ → List ℕ → ℕ
 blend [] i e = 0
 blend (a ∷ p) i e = bit_xor (product a (value_at i e)) (blend p (i + 1) e)

@@ -1,9 +1,9 @@
--- The bytes of four modules, made at once from four bits.
+-- Defines the bytes of four modules, which are written at once.
 use Rattle.std.specs.Prelude.{ℕ, List, [], ◌∷◌}
 use Rattle.qr_matrix.specs.BitRow.{has_bit}
 use Rattle.qrproved.specs.Modules.{byte_of}
 
--- `four_bytes bits` is the bytes of four modules, which are the four lowest bits of `bits`. The lowest bit is the first
--- module.
+-- `four_bytes bits` lists the bytes of four modules, which are the four lowest bits of `bits`. The lowest bit is the
+-- first module.
 abbrev pub four_bytes : ℕ → List ℕ
 four_bytes bits = byte_of (has_bit bits 0) ∷ byte_of (has_bit bits 1) ∷ byte_of (has_bit bits 2) ∷ byte_of (has_bit bits 3) ∷ []

@@ -1,4 +1,4 @@
--- The numbers of the statuses for faults, as the C header lists them.
+-- Defines which status belongs to each fault. The C header lists the numbers of the statuses.
 use Rattle.std.specs.Prelude.{ℕ}
 use Rattle.qr_symbol.specs.declared.fault.EncodeFault.{EncodeFault}
 use Rattle.qr_symbol.specs.declared.fault.EncodeFault.TheVariants as fault
