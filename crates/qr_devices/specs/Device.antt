@@ -82,19 +82,20 @@ abbrev pub AppendsBeginning : Option (List ℕ) → Option (List ℕ) → List �
 AppendsBeginning old new whole = (prefix : List ℕ) × IsBeginning prefix whole × Appends old new prefix
 
 -- `is_read_fault c` is true if the counts `c` show that a read failed, or that 1,000 reads or more were interrupted
--- (EINTR): up to 999 interrupted reads are tried again [own]
+-- (EINTR). The loop that reads the input tries up to 999 interrupted reads again: `read_input` in `input.rt` of
+-- qrencode_cli [own]
 abbrev pub is_read_fault : ReadCounts → Bool
 is_read_fault c = nat_lt 0 c.failed || nat_le 1000 c.interrupted
 
 -- `is_write_fault c` is true if the counts `c` show one of three causes. Either a write or a flush failed, or the
--- device accepted no byte of a write that offered at least one byte, or 1,000 writes or more were interrupted (EINTR)
--- [own]
+-- device accepted no byte of a write that offered at least one byte, or 1,000 writes or more were interrupted (EINTR).
+-- The loop that writes a text tries up to 999 interrupted writes again: `send` in `pen.rt` of qr_drawing [own]
 abbrev pub is_write_fault : WriteCounts → Bool
 is_write_fault c = nat_lt 0 c.failed || (nat_lt 0 c.zeros || nat_le 1000 c.interrupted)
 
--- `IsWrittenWithin c` holds if the counts `c` show at most one call with a fault, and at most 1,000 interrupted writes.
--- A call with a fault is a write or a flush that failed, or a write that offered at least one byte, but of which the
--- device accepted no byte [own]
+-- `IsWrittenWithin c` holds if the counts `c` show at most one call with a fault, and at most 1,000 interrupted writes
+-- (EINTR). A call with a fault is either a write or a flush that failed, or a write of at least one byte of which the
+-- device accepted no byte. Of the interrupted writes, 999 are tried again (`INTERRUPTIONS_MAX`) [own]
 pub record IsWrittenWithin (c : WriteCounts) : Type 0 where
   pub faults : c.failed + c.zeros ≤ 1
   pub interrupted : c.interrupted ≤ INTERRUPTIONS_MAX + 1

@@ -11,7 +11,8 @@ ghost use Rattle.qr_devices.specs.declared.device.ReadCounts.{ReadCounts};
 ghost use Rattle.qr_devices.specs.declared.device.WriteCounts.{WriteCounts};
 
 /// The greatest number of interrupted calls (EINTR) that are tried again while one input is read or one text is
-/// written.
+/// written. Two loops use this limit: `read_input` in `input.rt` of `qrencode_cli`, and `send` in `pen.rt` of
+/// `qr_drawing`. If a call is interrupted after 999 interrupted calls, each loop returns a fault.
 pub const INTERRUPTIONS_MAX: u16 = 999;
 
 /// The two ways in which a read, a write or a flush of a device can fail.
