@@ -23,7 +23,7 @@ pub fn no_faults() -> Faults
     Faults::NONE
 }
 
-/// The limit of interrupted calls that are tried again is 999.
+/// At most 999 interrupted calls are tried again while one input is read or one text is written.
 pub fn interruptions_are_limited()
     ensures { INTERRUPTIONS_MAX ≡ 999 }
 {}

@@ -18,8 +18,8 @@ half_blocks upper lower =
     else (if lower then 0xE2 ∷ 0x96 ∷ 0x80 ∷ [] else 0xE2 ∷ 0x96 ∷ 0x88 ∷ [])
 
 -- `cell_of style margin g y x` is the text of the cell with the index `x` in line `y` of the drawing of the square of
--- modules `g`. A cell shows one module, or in the style `HalfBlocks` two modules, one above the other. Below the last
--- row of the drawing, modules count as light [own]
+-- modules `g`. A cell shows one module, or in the style `HalfBlocks` two modules, one above the other. A module below
+-- the last row of the square and its margin counts as light [own]
 abbrev pub cell_of : TextStyle → ℕ → Grid → ℕ → ℕ → List ℕ
 cell_of Plain margin g y x = ascii_module (is_dark_at margin g y x)
 cell_of Inverse margin g y x = ascii_module (not (is_dark_at margin g y x))

@@ -1,4 +1,4 @@
--- Defines the cells of a text from the bits of their modules, and the greatest number of bytes of a cell. A cell is the
+-- Defines the text of a cell from the bits of its modules, and the greatest number of bytes of a cell. A cell is the
 -- text for one module, or for two modules, one above the other.
 use Rattle.std.specs.Prelude.{◌≡◌, ℕ, ◌+◌, ◌*◌, ◌<◌, Bool, false, not, List, Option, Some, None}
 use Rattle.qr_matrix.specs.Grid.{Grid}
