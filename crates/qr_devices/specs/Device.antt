@@ -77,8 +77,8 @@ flush_counted returned c = record c {
 abbrev pub IsBeginning : List ℕ → List ℕ → Type 0
 IsBeginning prefix whole = (rest : List ℕ) × (prefix ++ rest ≡ whole)
 
--- `AppendsBeginning old new whole` holds if a prefix of the bytes `whole` was added to the bytes of a device, which so
--- changed from `old` to `new`. If the bytes of the device are unknown, `AppendsBeginning` always holds [own]
+-- `AppendsBeginning old new whole` holds if the bytes of a device changed from `old` to `new`, because a prefix of
+-- `whole` was added to them. If the bytes of the device are unknown, `AppendsBeginning` always holds [own]
 abbrev pub AppendsBeginning : Option (List ℕ) → Option (List ℕ) → List ℕ → Type 0
 AppendsBeginning old new whole = (prefix : List ℕ) × IsBeginning prefix whole × Appends old new prefix
 
@@ -96,8 +96,8 @@ abbrev pub is_write_fault : WriteCounts → Bool
 is_write_fault c = nat_lt 0 c.failed || (nat_lt 0 c.zeros || nat_le 1000 c.interrupted)
 
 -- `IsWrittenWithin c` holds if the counts `c` show at most one call with a fault, and at most 1,000 interrupted writes
--- (EINTR). A call with a fault is either a write or a flush that failed, or a write of at least one byte of which the
--- device accepted no byte. Of the interrupted writes, 999 are tried again (`INTERRUPTIONS_MAX`) [own]
+-- (EINTR). A call with a fault is a write that failed, a flush that failed, or a write of at least one byte of which
+-- the device accepted no byte. Of the interrupted writes, 999 are tried again (`INTERRUPTIONS_MAX`) [own]
 pub record IsWrittenWithin (c : WriteCounts) : Type 0 where
   pub faults : c.failed + c.zeros ≤ 1
   pub interrupted : c.interrupted ≤ INTERRUPTIONS_MAX + 1

@@ -9,14 +9,14 @@ use Rattle.qr_drawing.specs.Raster.{is_dark_at, raster_width, texts_below}
 unfoldable pub numbered : List ℕ → ℕ → List ℕ
 numbered text number = text ++ decimal number
 
--- `begins_run margin g y x` is true if a run of dark modules begins in row `y` and column `x` of the raster, which is
--- the square `g` with its margin. This means that the module in this place is dark, and that the module to its left is
--- light or outside the raster [own]
+-- `begins_run margin g y x` is true if a run of dark modules begins in row `y` and column `x` of a raster. The raster
+-- is the square of modules `g` with its margin. This means that the module in this place is dark, and that the module
+-- to its left is light or outside the raster [own]
 unfoldable pub begins_run : ℕ → Grid → ℕ → ℕ → Bool
 begins_run margin g y x = is_dark_at margin g y x && (x == 0 || not (is_dark_at margin g y (x - 1)))
 
--- `run_length margin g y x` is the number of dark modules in row `y` of the raster from column `x` on, up to the first
--- light module. The raster is the square of modules `g` with its margin [own]
+-- `run_length margin g y x` is the number of dark modules in row `y` of a raster, from column `x` on and before the
+-- first light module. The raster is the square of modules `g` with its margin [own]
 unfoldable pub run_length : ℕ → Grid → ℕ → ℕ → ℕ
 run_length margin g y x = prefix_len (is_dark_at margin g y) (range_with_len x (raster_width margin g - x))
 

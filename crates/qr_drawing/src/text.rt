@@ -95,7 +95,7 @@ fn push_half_block(text: &mut ArrayVec<u8, 1200>, upper: bool, lower: bool)
 }
 
 // Appends a cell to `text`. In the style `HalfBlocks` the cell shows the module `upper` and the module `lower` below
-// it; in the other styles the cell shows only the module `upper`.
+// it. In the other styles the cell shows only the module `upper`.
 fn push_cell(text: &mut ArrayVec<u8, 1200>, style: TextStyle, upper: bool, lower: bool)
     requires room { array_vec_len text.old + cell_room style ≤ 1200 }
     ensures { text.new.items ≡ text.old.items ++ cell_text style upper lower }
@@ -386,8 +386,9 @@ fn put_lines<W: Sink>(
     }
 }
 
-// Writes the lines of text of the symbol `matrix`, as `put_lines` does. The compiler makes a copy of this function for
-// each style, with the inlined functions that it calls. So no loop has to test the style.
+// Writes the lines of text of the symbol `matrix`, as `put_lines` does. `put_lines` calls this function once for each
+// style. The compiler inlines the function at each call, together with the functions that it calls. So no loop has to
+// test the style.
 #[inline(always)]
 fn put_lines_of<W: Sink>(
     pen: &mut Pen,

@@ -108,9 +108,9 @@ settings_of rows =
 abbrev pub settings_for : List Text → Result SettingsView Reason
 settings_for words = if length (faults_for words) == 0 then settings_of (rows_for words) else Err refused_by_clap
 
--- `IsUsageFault o f` holds if the fault `f` can be reported for a command line for which `o` is the settings or the
--- reason to refuse it. If `o` is a reason, `f` is the fault for this reason, or lack of memory. If `o` is settings, `f`
--- is lack of memory [own]
+-- `IsUsageFault o f` holds if the fault `f` can be reported for a command line with the result `o`. The result is
+-- settings, or a reason to refuse the command line. If `o` is a reason, `f` is the fault for this reason, or lack of
+-- memory. If `o` is settings, `f` is lack of memory [own]
 abbrev pub IsUsageFault : Result SettingsView Reason → UsageFault → Type 0
 IsUsageFault o (usage.Words text) = o ≡ Err refused_by_clap
 IsUsageFault o usage.Level = o ≡ Err unknown_level

@@ -125,8 +125,8 @@ fn run_to_result<R: Source, W: Sink>(
 }
 
 /// Runs the command: parses the arguments `words`, reads the input, and writes the drawing to `out`. The first of
-/// `words` is the program's name. The input is read from `input`, unless the arguments contain it as a string. After a
-/// fault, writes the fault's line to `err`. Returns the exit status, which is 0 or 1.
+/// `words` is the program's name. If the arguments contain a string, the string is the input. Otherwise the input is
+/// read from `input`. After a fault, writes the fault's line to `err`. Returns the exit status, which is 0 or 1.
 ///
 /// An interrupted read of the input is tried again, at most 999 times in all. The same limit holds for interrupted
 /// writes of the drawing, and separately for interrupted writes of a fault's line.
@@ -135,7 +135,8 @@ fn run_to_result<R: Source, W: Sink>(
 /// flushed once, after the last byte. `err` received nothing, and the status is 0.
 ///
 /// If the drawn symbols are read and their bytes are joined, the result is exactly the input. No byte of the input was
-/// cut off. With `-i` the result is the input in capitals, as the paragraph about `-i` below describes.
+/// cut off. With `-i` the result is the folded input, in which small letters are changed to capitals as described
+/// below.
 ///
 /// With `-8` the whole input is encoded in byte mode. Without `-8`, kanji mode may be used only if `-k` is given.
 ///
@@ -148,8 +149,8 @@ fn run_to_result<R: Source, W: Sink>(
 /// drawing if only the flush failed. After any other fault, nothing was written to `out`, and `out` was not flushed.
 ///
 /// A read fault is reported exactly if one of two events occurred: a failed read, or the 1,000th interrupted read. A
-/// write fault is reported exactly if one of four events occurred: a failed write of the drawing, a write that accepted
-/// no byte, the 1,000th interrupted write, or a failed flush.
+/// write fault is reported exactly if one of four events occurred. These events are a failed write of the drawing, a
+/// write that accepted no byte, the 1,000th interrupted write, and a failed flush.
 ///
 /// The input is every byte of `input` up to its end, but at most 113,425 bytes are read. At most 114,424 calls read
 /// from `input`. After the end of `input` no further read is made, not even a read into an empty buffer.

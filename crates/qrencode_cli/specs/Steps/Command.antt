@@ -16,7 +16,7 @@ use Rattle.qrencode_cli.specs.declared.fault.Fault.TheVariants.{Encode, Memory, 
 use Rattle.qr_symbol.specs.declared.fault.EncodeFault.TheVariants.{Empty, TooLong, TooMany}
 use Rattle.qrencode_cli.specs.declared.drawing_job.DrawingJob.{DrawingJob}
 
--- `drawing_of_job job` is the drawing of the symbols of the drawing job `job`
+-- `drawing_of_job job` is the drawing of the symbols of `job`, with the type and the margin of the drawing job `job`
 abbrev pub drawing_of_job : DrawingJob → List ℕ
 drawing_of_job job = drawn job.kind job.margin (squares_of job.symbols.items)
 
@@ -46,8 +46,9 @@ abbrev pub IsEarly : Fault → Type 0
 IsEarly Write = ⊥
 IsEarly _ = Unit {0}
 
--- `Prepares words old new result` holds if `result` is the drawing job for the command line `words` and its input, or a
--- fault that occurs before any byte is written. The reader of the input changed from `old` to `new`
+-- `Prepares words old new result` holds if `result` is correct for the command line `words` and its input. The result
+-- is a drawing job (the symbols, and how they are drawn), or a fault that occurs before any byte is written. The reader
+-- of the input changed from `old` to `new`
 pub record Prepares (words : List Text) (old new : Reader) (result : Result DrawingJob Fault) : Type 0 where
   pub given : List ℕ
   pub is_input : IsInputOf old.remaining given
