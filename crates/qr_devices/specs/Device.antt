@@ -15,19 +15,19 @@ counted n = min n (2 ^ 64 - 1)
 abbrev pub no_reads : ReadCounts
 no_reads = record { calls = 0; failed = 0; interrupted = 0; given = 0; ends = 0; past_end = 0 }
 
--- `read_returned room returned c` is the counts `c` with the result `returned` of one read added. The read was into a
--- buffer of `room` bytes. If the read returned `n` bytes, `given` grows by `n`. If `n` is 0 although the buffer is not
--- empty, `ends` grows by 1. If the read was interrupted, `interrupted` grows by 1. If the read failed, `failed` grows
--- by 1 [own]
+-- `read_returned room returned c` adds the result `returned` of a read to the counts `c`. The read was into a buffer of
+-- `room` bytes. If the read returned `n` bytes, `given` grows by `n`. If `n` is 0 although the buffer is not empty,
+-- `ends` grows by 1. If the read was interrupted, `interrupted` grows by 1. If the read failed, `failed` grows by 1
+-- [own]
 abbrev pub read_returned : ℕ → Result ℕ Trouble → ReadCounts → ReadCounts
 read_returned room (Ok n) c =
     record c { given = counted (c.given + n); ends = if n == 0 && nat_lt 0 room then counted (c.ends + 1) else c.ends }
 read_returned room (Err Interrupted) c = record c { interrupted = counted (c.interrupted + 1) }
 read_returned room (Err Failed) c = record c { failed = counted (c.failed + 1) }
 
--- `read_counted room returned c` is the counts `c` with one read added. The read was into a buffer of `room` bytes, and
--- its result was `returned`. The count `calls` grows by 1, and the result is added. If an earlier read has reached the
--- end of the input, `past_end` grows by 1 too [own]
+-- `read_counted room returned c` adds a read to the counts `c`. The read was into a buffer of `room` bytes, and its
+-- result was `returned`. The count `calls` grows by 1, and `read_returned` adds the result. If an earlier read has
+-- reached the end of the input, `past_end` grows by 1 too [own]
 abbrev pub read_counted : ℕ → Result ℕ Trouble → ReadCounts → ReadCounts
 read_counted room returned c = read_returned room returned (record c {
   calls = counted (c.calls + 1);
@@ -47,24 +47,25 @@ no_writes = record {
   settled = false;
 }
 
--- `write_returned len returned c` is the counts `c` with the result `returned` of one write of `len` bytes added. If
--- the device accepted `n` bytes, `taken` grows by `n`. If `n` is 0 although `len` is more than 0, `zeros` grows by 1.
--- If the write was interrupted, `interrupted` grows by 1. If the write failed, `failed` grows by 1 [own]
+-- `write_returned len returned c` adds the result `returned` of a write to the counts `c`. The write offered `len`
+-- bytes to the device. If the device accepted `n` bytes, `taken` grows by `n`. If `n` is 0 although `len` is more than
+-- 0, `zeros` grows by 1. If the write was interrupted, `interrupted` grows by 1. If the write failed, `failed` grows by
+-- 1 [own]
 abbrev pub write_returned : ℕ → Result ℕ Trouble → WriteCounts → WriteCounts
 write_returned len (Ok n) c =
     record c { taken = counted (c.taken + n); zeros = if n == 0 && nat_lt 0 len then counted (c.zeros + 1) else c.zeros }
 write_returned len (Err Interrupted) c = record c { interrupted = counted (c.interrupted + 1) }
 write_returned len (Err Failed) c = record c { failed = counted (c.failed + 1) }
 
--- `write_counted len returned c` is the counts `c` with one write of `len` bytes added, whose result was `returned`.
--- The count `calls` grows by 1, and the result is added. If `offered` was less than `len`, it becomes `len`. `settled`
--- becomes false [own]
+-- `write_counted len returned c` adds a write to the counts `c`. The write offered `len` bytes to the device, and its
+-- result was `returned`. The count `calls` grows by 1, and `write_returned` adds the result. If `offered` was less than
+-- `len`, it becomes `len`. `settled` becomes false [own]
 abbrev pub write_counted : ℕ → Result ℕ Trouble → WriteCounts → WriteCounts
 write_counted len returned c =
     write_returned len returned (record c { calls = counted (c.calls + 1); offered = max c.offered len; settled = false })
 
--- `flush_counted returned c` is the counts `c` with one flush added, whose result was `returned`. An interrupted flush
--- counts as failed, and not as interrupted [own]
+-- `flush_counted returned c` adds a flush to the counts `c`. The result of the flush was `returned`. An interrupted
+-- flush counts as failed, and not as interrupted [own]
 abbrev pub flush_counted : {T : Type 0} → Result T Trouble → WriteCounts → WriteCounts
 flush_counted returned c = record c {
   calls = counted (c.calls + 1);
