@@ -26,7 +26,8 @@ HeaderFits header = ForSome header (λ h. (h.position < 16) × (h.last < 16) × 
 unfoldable pub header_stream : Option Header → List Bool
 header_stream header = option_map_or (λ h. field 4 header_indicator ++ (field 4 h.position ++ (field 4 h.last ++ field 8 h.parity))) header []
 
--- `parity_of bs` is the parity data of the input `bs`: the bitwise exclusive or of all its bytes (ISO/IEC 18004:2015,
--- 8.3)
+-- `parity_of bs` is the parity data of the input `bs`: the bitwise exclusive or of all its bytes. In a series, `bs` is
+-- the bytes of the whole input, before the input is cut into parts. The command folds the input first if -i is given
+-- (ISO/IEC 18004:2015, 8.3)
 abbrev pub parity_of : List ℕ → ℕ
 parity_of bs = fold bit_xor 0 bs

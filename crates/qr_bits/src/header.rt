@@ -28,7 +28,7 @@ pub(crate) fn header_bits(header: Option<Header>) -> u64
 }
 
 /// Returns the parity data of `input`: the bitwise exclusive or of all its bytes (8.3). In a series, the headers of all
-/// symbols contain the parity data of the whole input.
+/// symbols contain the parity data of the whole input, which is all bytes that the symbols encode together.
 pub fn parity(input: &[u8]) -> u8
     ensures { result ≡ parity_of input.now }
 {

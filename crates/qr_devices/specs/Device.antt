@@ -1,4 +1,4 @@
--- Defines what each call of a device adds to the counts of the device, and which counts show the cause of a fault.
+-- Defines what each read, write or flush adds to the counts of a device, and which counts show the cause of a fault.
 use Rattle.std.specs.Prelude.{◌≡◌, ◌+◌, ◌-◌, ◌^◌, ◌≤◌, ◌++◌, ◌==◌, ◌||◌, ◌&&◌, ℕ, Bool, false, nat_lt, nat_le, min, max, List, Option, Result, Ok, Err, is_ok, if◌then◌else◌}
 use Rattle.std.specs.Io.KnownBytes.{Appends}
 use Rattle.qr_devices.specs.declared.device.TheConstants.{INTERRUPTIONS_MAX}
@@ -15,18 +15,19 @@ counted n = min n (2 ^ 64 - 1)
 abbrev pub no_reads : ReadCounts
 no_reads = record { calls = 0; failed = 0; interrupted = 0; given = 0; ends = 0; past_end = 0 }
 
--- `read_returned room returned c` is the counts `c` after the result `returned` of a read into a buffer of `room` bytes
--- was added. If the read returned `n` bytes, `given` grows by `n`, and `ends` grows by 1 if `n` is 0 although the
--- buffer is not empty. If the read was interrupted, `interrupted` grows by 1; if it failed, `failed` grows by 1 [own]
+-- `read_returned room returned c` adds the result `returned` of a read to the counts `c`. The read was into a buffer of
+-- `room` bytes. If the read returned `n` bytes, `given` grows by `n`. If `n` is 0 although the buffer is not empty,
+-- `ends` grows by 1. If the read was interrupted, `interrupted` grows by 1. If the read failed, `failed` grows by 1
+-- [own]
 abbrev pub read_returned : ℕ → Result ℕ Trouble → ReadCounts → ReadCounts
 read_returned room (Ok n) c =
     record c { given = counted (c.given + n); ends = if n == 0 && nat_lt 0 room then counted (c.ends + 1) else c.ends }
 read_returned room (Err Interrupted) c = record c { interrupted = counted (c.interrupted + 1) }
 read_returned room (Err Failed) c = record c { failed = counted (c.failed + 1) }
 
--- `read_counted room returned c` is the counts `c` after a read into a buffer of `room` bytes was added, where
--- `returned` is what the read returned. The count `calls` grows by 1, and the result of the read is added. If an
--- earlier read has reached the end of the input, `past_end` grows by 1 too [own]
+-- `read_counted room returned c` adds a read to the counts `c`. The read was into a buffer of `room` bytes, and its
+-- result was `returned`. The count `calls` grows by 1, and `read_returned` adds the result. If an earlier read has
+-- reached the end of the input, `past_end` grows by 1 too [own]
 abbrev pub read_counted : ℕ → Result ℕ Trouble → ReadCounts → ReadCounts
 read_counted room returned c = read_returned room returned (record c {
   calls = counted (c.calls + 1);
@@ -46,24 +47,25 @@ no_writes = record {
   settled = false;
 }
 
--- `write_returned len returned c` is the counts `c` after the result `returned` of a write of `len` bytes was added. If
--- the device accepted `n` bytes, `taken` grows by `n`, and `zeros` grows by 1 if `n` is 0 although `len` is not. If the
--- write was interrupted, `interrupted` grows by 1; if it failed, `failed` grows by 1 [own]
+-- `write_returned len returned c` adds the result `returned` of a write to the counts `c`. The write offered `len`
+-- bytes to the device. If the device accepted `n` bytes, `taken` grows by `n`. If `n` is 0 although `len` is more than
+-- 0, `zeros` grows by 1. If the write was interrupted, `interrupted` grows by 1. If the write failed, `failed` grows by
+-- 1 [own]
 abbrev pub write_returned : ℕ → Result ℕ Trouble → WriteCounts → WriteCounts
 write_returned len (Ok n) c =
     record c { taken = counted (c.taken + n); zeros = if n == 0 && nat_lt 0 len then counted (c.zeros + 1) else c.zeros }
 write_returned len (Err Interrupted) c = record c { interrupted = counted (c.interrupted + 1) }
 write_returned len (Err Failed) c = record c { failed = counted (c.failed + 1) }
 
--- `write_counted len returned c` is the counts `c` after a write of `len` bytes was added, where `returned` is what the
--- write returned. The count `calls` grows by 1, and the result of the write is added. `offered` becomes `len` if it was
--- less, and `settled` becomes false [own]
+-- `write_counted len returned c` adds a write to the counts `c`. The write offered `len` bytes to the device, and its
+-- result was `returned`. The count `calls` grows by 1, and `write_returned` adds the result. If `offered` was less than
+-- `len`, it becomes `len`. `settled` becomes false [own]
 abbrev pub write_counted : ℕ → Result ℕ Trouble → WriteCounts → WriteCounts
 write_counted len returned c =
     write_returned len returned (record c { calls = counted (c.calls + 1); offered = max c.offered len; settled = false })
 
--- `flush_counted returned c` is the counts `c` after a flush was added, where `returned` is what the flush returned. An
--- interrupted flush counts as failed, and not as interrupted [own]
+-- `flush_counted returned c` adds a flush to the counts `c`. The result of the flush was `returned`. An interrupted
+-- flush counts as failed, and not as interrupted [own]
 abbrev pub flush_counted : {T : Type 0} → Result T Trouble → WriteCounts → WriteCounts
 flush_counted returned c = record c {
   calls = counted (c.calls + 1);
@@ -76,37 +78,39 @@ flush_counted returned c = record c {
 abbrev pub IsBeginning : List ℕ → List ℕ → Type 0
 IsBeginning prefix whole = (rest : List ℕ) × (prefix ++ rest ≡ whole)
 
--- `AppendsBeginning old new whole` holds if the bytes of a device changed from `old` to `new` because a prefix of
+-- `AppendsBeginning old new whole` holds if the bytes of a device changed from `old` to `new`, because a prefix of
 -- `whole` was added to them. If the bytes of the device are unknown, `AppendsBeginning` always holds [own]
 abbrev pub AppendsBeginning : Option (List ℕ) → Option (List ℕ) → List ℕ → Type 0
 AppendsBeginning old new whole = (prefix : List ℕ) × IsBeginning prefix whole × Appends old new prefix
 
 -- `is_read_fault c` is true if the counts `c` show that a read failed, or that 1,000 reads or more were interrupted
--- (EINTR): up to 999 interrupted reads are tried again [own]
+-- (EINTR). The loop that reads the input tries up to 999 interrupted reads again: `read_input` in `input.rt` of
+-- qrencode_cli [own]
 abbrev pub is_read_fault : ReadCounts → Bool
 is_read_fault c = nat_lt 0 c.failed || nat_le 1000 c.interrupted
 
--- `is_write_fault c` is true if the counts `c` show one of three causes. Either a write or a flush failed, or the
--- device accepted no byte of a write that offered at least one byte, or 1,000 writes or more were interrupted (EINTR)
--- [own]
+-- `is_write_fault c` is true if the counts `c` show one of three causes. The first cause is that a write or a flush
+-- failed. The second cause is that the device accepted no byte of a write of at least one byte. The third cause is that
+-- 1,000 writes or more were interrupted (EINTR). The loop that writes a text tries up to 999 interrupted writes again:
+-- `send` in `pen.rt` of qr_drawing [own]
 abbrev pub is_write_fault : WriteCounts → Bool
 is_write_fault c = nat_lt 0 c.failed || (nat_lt 0 c.zeros || nat_le 1000 c.interrupted)
 
--- `IsWrittenWithin c` holds if the counts `c` show at most one call with a fault, and at most 1,000 interrupted writes.
--- A call with a fault is a write or a flush that failed, or a write that offered at least one byte, but of which the
--- device accepted no byte [own]
+-- `IsWrittenWithin c` holds if the counts `c` show at most one call with a fault, and at most 1,000 interrupted writes
+-- (EINTR). A call with a fault is a write that failed, a flush that failed, or a write of at least one byte of which
+-- the device accepted no byte. Of the interrupted writes, 999 are tried again (`INTERRUPTIONS_MAX`) [own]
 pub record IsWrittenWithin (c : WriteCounts) : Type 0 where
   pub faults : c.failed + c.zeros ≤ 1
   pub interrupted : c.interrupted ≤ INTERRUPTIONS_MAX + 1
 
--- `Reader` is a device from which bytes are read, as contracts see it: the bytes that are still to be read, if they are
--- known, and the counts of its reads [own]
+-- `Reader` describes a device from which bytes are read. It consists of the bytes that are still to be read, if they
+-- are known, and of the counts of the reads [own]
 pub record Reader : Type 0 where
   pub remaining : Option (List ℕ)
   pub counts : ReadCounts
 
--- `Writer` is a device to which bytes are written, as contracts see it: the bytes that it accepted, if they are known,
--- and the counts of its writes and flushes [own]
+-- `Writer` describes a device to which bytes are written. It consists of the bytes that the device accepted, if they
+-- are known, and of the counts of the writes and flushes [own]
 pub record Writer : Type 0 where
   pub taken : Option (List ℕ)
   pub counts : WriteCounts

@@ -1,4 +1,5 @@
--- Defines which bytes a device for tests contains, and how this device misbehaves.
+-- Defines which bytes a device for tests contains, and how the device misbehaves: it can be slow, interrupted, failing
+-- or full.
 use Rattle.std.specs.Prelude.{ℕ, ◌-◌, min, max, nat_lt, nat_le, List, length, drop, Result, Ok, Err, if◌then◌else◌}
 use Rattle.qr_devices.specs.declared.device.Trouble.{Trouble}
 use Rattle.qr_devices.specs.declared.device.Trouble.TheVariants.{Interrupted, Failed}
@@ -13,10 +14,10 @@ bytes_left t = drop t.position t.bytes.items
 abbrev pub bytes_held : Trial → List ℕ
 bytes_held t = t.bytes.items
 
--- `moved m call there` is what the call with the number `call` returns if `there` bytes could be moved, where `m` is
--- the faults of the device. Calls with a number below `interruptions` are interrupted. Of the other calls, those with
--- the number `fails_from` or a greater number fail. Every other call moves as many bytes as `at_most` allows, and at
--- least one byte if `there` is not 0 [own]
+-- `moved m call there` is the result of the read or write with the number `call` on a device with the faults `m`. At
+-- most `there` bytes can be read or written. Calls with a number below `interruptions` are interrupted. Of the other
+-- calls, those with the number `fails_from` or a greater number fail. Every other call moves `there` bytes, or
+-- `at_most` bytes if that is fewer. Here an `at_most` of 0 means 1 [own]
 abbrev pub moved : Faults → ℕ → ℕ → Result ℕ Trouble
 moved m call there =
     if nat_lt call m.interruptions then Err Interrupted else

@@ -1,5 +1,5 @@
-//! Defines the traits `Source` and `Sink` for devices: what the command reads from and what it writes to. Each device
-//! has counts, for example of its calls, of the calls that failed, and of the bytes.
+//! Defines the traits `Source` and `Sink` for devices. The command reads its input from a `Source`, and writes its
+//! output to a `Sink`. Each device has counts, for example the number of its calls, of failed calls, and of bytes.
 //!
 //! Contracts state which bytes a device reads or writes, if these bytes are known. The counts of a device are always
 //! known, so a contract can state exactly when a device caused a fault.
@@ -11,7 +11,8 @@ ghost use Rattle.qr_devices.specs.declared.device.ReadCounts.{ReadCounts};
 ghost use Rattle.qr_devices.specs.declared.device.WriteCounts.{WriteCounts};
 
 /// The greatest number of interrupted calls (EINTR) that are tried again while one input is read or one text is
-/// written.
+/// written. Two loops use this limit: `read_input` in `input.rt` of `qrencode_cli`, and `send` in `pen.rt` of
+/// `qr_drawing`. If a call is interrupted after 999 calls were interrupted, the loop ends with a fault.
 pub const INTERRUPTIONS_MAX: u16 = 999;
 
 /// The two ways in which a read, a write or a flush of a device can fail.
@@ -23,7 +24,7 @@ pub enum Trouble {
     Failed,
 }
 
-/// Counts that show how the reads of a device went. Each count stops at `u64::MAX`.
+/// Counts that show how the reads of a device went. A count that reaches `u64::MAX` stays there.
 #[derive(Clone, Copy, Debug, PartialEq, Eq)]
 pub struct ReadCounts {
     /// The number of all reads, also of those that failed or were interrupted.
@@ -74,7 +75,7 @@ impl ReadCounts {
     }
 }
 
-/// Counts that show how the writes and flushes of a device went. Each count stops at `u64::MAX`.
+/// Counts that show how the writes and flushes of a device went. A count that reaches `u64::MAX` stays there.
 #[derive(Clone, Copy, Debug, PartialEq, Eq)]
 pub struct WriteCounts {
     /// The number of all writes and flushes, also of those that failed or were interrupted.
@@ -145,8 +146,8 @@ impl WriteCounts {
 pub trait Source {
     ghost use Rattle.qr_devices.specs.Device.{Reader};
 
-    // The device as contracts see it: the bytes that are still to be read, if they are known, and the counts of the
-    // reads so far.
+    // What contracts state about the device: the bytes that are still to be read, if they are known, and the counts of
+    // the reads so far.
     ghost device: { Self → Reader };
 
     /// Reads some bytes into the beginning of `buf`, and returns the number of bytes that were read. Returns 0 only at
@@ -163,8 +164,8 @@ pub trait Source {
 pub trait Sink {
     ghost use Rattle.qr_devices.specs.Device.{Writer};
 
-    // The device as contracts see it: the bytes that it accepted so far, if they are known, and the counts of the
-    // writes and flushes so far.
+    // What contracts state about the device: the bytes that the device accepted so far, if they are known, and the
+    // counts of the writes and flushes so far.
     ghost device: { Self → Writer };
 
     /// Offers the bytes of `buf` to the device, which accepts some of the first bytes. Returns the number of bytes that

@@ -1,5 +1,5 @@
-//! States laws of devices, which are readers and writers: how many interrupted calls are tried again, and how values of
-//! the public types are compared and cloned.
+//! States laws of devices, which are readers and writers. The laws state how many interrupted calls are tried again,
+//! and how values of the public types are compared and cloned.
 
 ghost use Rattle.std.specs.Prelude.{◌≡◌, ◌-◌, ◌^◌, false};
 ghost use Rattle.qr_devices.specs.declared.device.TheConstants.{INTERRUPTIONS_MAX};
@@ -23,7 +23,7 @@ pub fn no_faults() -> Faults
     Faults::NONE
 }
 
-/// The limit of interrupted calls that are tried again is 999.
+/// At most 999 interrupted calls are tried again while one input is read or one text is written.
 pub fn interruptions_are_limited()
     ensures { INTERRUPTIONS_MAX ≡ 999 }
 {}

@@ -1,5 +1,5 @@
 //! Defines devices, which are readers and writers that count how their calls went. A device for tests reads or writes
-//! bytes in memory, and is interrupted or fails when the test asks for it.
+//! bytes in memory, and is interrupted or fails where the test requires this.
 #![tactic(auto)]
 
 mod counted;

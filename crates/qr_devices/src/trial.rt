@@ -6,17 +6,19 @@ ghost use Rattle.std.specs.Vec.{vec_len, vec_capacity};
 use crate::device::{ReadCounts, Sink, Source, Trouble, WriteCounts};
 use std::alloc::{AllocError, Global};
 
-/// The ways in which a device for tests misbehaves. The reads of a device are numbered from 0; its writes and flushes
-/// are numbered together, also from 0.
+/// The ways in which a device for tests misbehaves. The reads of a device are numbered, beginning with 0. The writes
+/// and flushes of a device are numbered together, also beginning with 0.
 #[derive(Clone, Copy, Debug, PartialEq, Eq)]
 pub struct Faults {
     /// The greatest number of bytes that one read or write moves, where 0 means the same as 1.
     pub at_most: usize,
     /// Each read or write with a number below `interruptions` is interrupted.
     pub interruptions: u64,
-    /// Each read or write with the number `fails_from` or a greater number fails, unless it is interrupted.
+    /// Each read or write with the number `fails_from` or a greater number fails. A call that is interrupted does not
+    /// fail.
     pub fails_from: u64,
-    /// Each write with the number `stops_from` or a greater number returns 0, unless it is interrupted or fails.
+    /// Each write with the number `stops_from` or a greater number returns 0, if it is not interrupted and does not
+    /// fail.
     pub stops_from: u64,
     /// Whether each flush fails.
     pub flush_fails: bool,
@@ -33,9 +35,9 @@ impl Faults {
     };
 }
 
-/// A device for tests: bytes in memory that are read, or room in memory for bytes that are written. A call moves as
-/// many bytes as the device's `Faults`, the length of the buffer, and the remaining bytes or room allow. A call fails
-/// or is interrupted exactly if these `Faults` state so. A write to a full device returns 0.
+/// A device for tests: bytes in memory that are read, or room in memory for bytes that are written. A read or write
+/// moves as many bytes as the device's `Faults`, the length of the buffer, and the remaining bytes or room allow. A
+/// call fails or is interrupted exactly if the `Faults` of the device require it. A write to a full device returns 0.
 #[derive(Drop)]
 pub struct Trial {
     bytes: Vec<u8>,
@@ -52,7 +54,7 @@ impl Trial {
     ghost use Rattle.qr_devices.specs.Device.{no_reads, no_writes};
     ghost use Rattle.qr_devices.specs.Trial.{bytes_held, bytes_left, moved};
 
-    /// Returns a device from which `bytes` can be read, and which misbehaves as `faults` states.
+    /// Returns a device from which `bytes` can be read. The device misbehaves as `faults` describes.
     pub fn reader(alloc: Global, bytes: &[u8], faults: Faults) -> Result<Trial, AllocError>
         ensures left { IfOk result (λ t. bytes_left t ≡ bytes.now) }
         ensures unread { IfOk result (λ t. t.reads ≡ no_reads) }
@@ -68,7 +70,7 @@ impl Trial {
         })
     }
 
-    /// Returns a device that accepts up to `room` bytes, and which misbehaves as `faults` states.
+    /// Returns a device that accepts up to `room` bytes. The device misbehaves as `faults` describes.
     ///
     /// # Notes
     ///
@@ -125,8 +127,8 @@ impl Trial {
         self.position = end;
     }
 
-    // Returns the result of the call with the number `call`, if `there` bytes could be moved: the number of bytes that
-    // are moved, or the error.
+    // Returns the result of the read or write with the number `call`: the number of bytes that are moved, or the error.
+    // At most `there` bytes can be moved.
     fn moved(&self, call: u64, there: usize) -> Result<usize, Trouble>
         ensures value { result ≡ moved self.now.faults call there }
         ensures bound { IfOk result (λ n. n ≤ there) }

@@ -7,13 +7,14 @@ use Rattle.qr_matrix.specs.Grid.{Grid, colour}
 unfoldable pub texts_below : ℕ → (ℕ → List ℕ) → List ℕ
 texts_below n text = flat_map text (range_with_len 0 n)
 
--- `raster_width margin g` is the width of the raster of the square of modules `g`, which is also its height. The width
--- is counted in modules: the side of the square plus the margin on both sides [own]
+-- `raster_width margin g` is the width of the raster of the square of modules `g`, which is also its height. A raster
+-- is a square with its light margin. The width is counted in modules: the side of the square, plus the margin on the
+-- left and on the right [own]
 abbrev pub raster_width : ℕ → Grid → ℕ
 raster_width margin g = 2 * margin + g.side
 
--- `is_dark_at margin g y x` is true if the module in row `y` and column `x` of the raster is a dark module of the
--- square `g`. The raster is the square with its margin. The margin, which is the quiet zone, is light (ISO/IEC
+-- `is_dark_at margin g y x` is true if the module in row `y` and column `x` of a raster is dark. The raster is the
+-- square of modules `g` with its margin. All modules of the margin, which is the quiet zone, are light (ISO/IEC
 -- 18004:2015, 6.3.8)
 unfoldable pub is_dark_at : ℕ → Grid → ℕ → ℕ → Bool
 is_dark_at margin g y x =

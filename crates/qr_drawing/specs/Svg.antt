@@ -1,5 +1,5 @@
 -- Defines the SVG document of symbols, which are drawn one below the other. The document depends only on the rasters of
--- the symbols: their squares of modules with a light margin.
+-- the symbols. A raster is the square of modules of a symbol with its light margin.
 use Rattle.std.specs.Prelude.{ℕ, ◌+◌, ◌-◌, ◌*◌, ◌==◌, Bool, not, ◌&&◌, ◌||◌, if◌then◌else◌, List, [], ◌++◌, length, slice_index_or, codes, decimal}
 use Rattle.std.specs.List.{prefix_len, range_with_len}
 use Rattle.qr_matrix.specs.Grid.{Grid, light}
@@ -9,14 +9,14 @@ use Rattle.qr_drawing.specs.Raster.{is_dark_at, raster_width, texts_below}
 unfoldable pub numbered : List ℕ → ℕ → List ℕ
 numbered text number = text ++ decimal number
 
--- `begins_run margin g y x` is true if a run of dark modules begins in row `y` and column `x` of the raster, which is
--- the square `g` with its margin. So the module in this place is dark, and the module to its left is light or outside
--- the raster [own]
+-- `begins_run margin g y x` is true if a run of dark modules begins in row `y` and column `x` of a raster. The raster
+-- is the square of modules `g` with its margin. This means that the module in this place is dark, and that the module
+-- to its left is light or outside the raster [own]
 unfoldable pub begins_run : ℕ → Grid → ℕ → ℕ → Bool
 begins_run margin g y x = is_dark_at margin g y x && (x == 0 || not (is_dark_at margin g y (x - 1)))
 
--- `run_length margin g y x` is the number of dark modules in row `y` of the raster from column `x` on, up to the first
--- light module. The raster is the square of modules `g` with its margin [own]
+-- `run_length margin g y x` is the number of dark modules in row `y` of a raster, from column `x` on and before the
+-- first light module. The raster is the square of modules `g` with its margin [own]
 unfoldable pub run_length : ℕ → Grid → ℕ → ℕ → ℕ
 run_length margin g y x = prefix_len (is_dark_at margin g y) (range_with_len x (raster_width margin g - x))
 
@@ -28,20 +28,21 @@ box_path x y modules =
     numbered (codes "M") x ++ numbered (codes " ") y ++ numbered (codes "h") modules ++ numbered (codes "v1h-") modules
     ++ codes "z"
 
--- `run_path top margin g y x` is the box around the run of dark modules that begins in row `y` and column `x` of the
--- raster of `g`. If no run begins there, `run_path top margin g y x` is empty. In the document there are `top` rows
--- above this raster [own]
+-- `run_path top margin g y x` is the box around the run of dark modules that begins in row `y` and column `x` of a
+-- raster. If no run begins there, the result is empty. The raster is the square of modules `g` with its margin, and in
+-- the document there are `top` rows above the raster [own]
 unfoldable pub run_path : ℕ → ℕ → Grid → ℕ → ℕ → List ℕ
 run_path top margin g y x =
     if begins_run margin g y x then box_path x (top + y) (run_length margin g y x) else []
 
--- `row_path top margin g y` is the boxes around the runs of dark modules in row `y` of the raster of `g`, from left to
--- right. In the document there are `top` rows above this raster [own]
+-- `row_path top margin g y` is the boxes around the runs of dark modules in row `y` of a raster, from left to right.
+-- The raster is the square of modules `g` with its margin, and in the document there are `top` rows above the raster
+-- [own]
 unfoldable pub row_path : ℕ → ℕ → Grid → ℕ → List ℕ
 row_path top margin g y = texts_below (raster_width margin g) (run_path top margin g y)
 
--- `symbol_path top margin g` is the boxes around all runs of dark modules in the raster of `g`, row by row. In the
--- document there are `top` rows above this raster [own]
+-- `symbol_path top margin g` is the boxes around all runs of dark modules in a raster, row by row. The raster is the
+-- square of modules `g` with its margin, and in the document there are `top` rows above the raster [own]
 unfoldable pub symbol_path : ℕ → ℕ → Grid → List ℕ
 symbol_path top margin g = texts_below (raster_width margin g) (row_path top margin g)
 
@@ -50,14 +51,14 @@ symbol_path top margin g = texts_below (raster_width margin g) (row_path top mar
 abbrev pub square_at : List Grid → ℕ → Grid
 square_at squares k = slice_index_or squares k (light 0)
 
--- `stack_path margin squares` is the boxes around all runs of dark modules of the symbols, which are drawn one below
--- the other. The raster of the symbol with the index `k` begins `k` times its own height below the top of the document.
--- A raster is the square of modules with its margin [own]
+-- `stack_path margin squares` is the boxes around all runs of dark modules of the symbols with these squares. The
+-- symbols are drawn one below the other. A raster is a square of modules with its margin. The raster with the index `k`
+-- begins `k` times its own height below the top of the document [own]
 unfoldable pub stack_path : ℕ → List Grid → List ℕ
 stack_path margin squares =
     texts_below (length squares) (λ k. symbol_path (k * raster_width margin (square_at squares k)) margin (square_at squares k))
 
--- `declaration` is the first line of the document, which declares that the document is XML [own]
+-- `declaration` is the first line of an SVG document, which declares that the document is XML [own]
 unfoldable pub declaration : List ℕ
 declaration = codes "<?xml version=\"1.0\" encoding=\"UTF-8\"?>\n"
 

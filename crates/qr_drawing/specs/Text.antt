@@ -17,28 +17,28 @@ half_blocks upper lower =
     if upper then (if lower then 32 ∷ [] else 0xE2 ∷ 0x96 ∷ 0x84 ∷ [])
     else (if lower then 0xE2 ∷ 0x96 ∷ 0x80 ∷ [] else 0xE2 ∷ 0x96 ∷ 0x88 ∷ [])
 
--- `cell_of style margin g y x` is the text of the cell with the index `x` in line `y` of the drawing of the square of
--- modules `g`. A cell shows one module, or in the style `HalfBlocks` two modules, one above the other. Below the last
--- row of the drawing, modules count as light [own]
+-- `cell_of style margin g y x` is the text of one cell in the drawing of the square of modules `g`. The cell has the
+-- index `x` in line `y` of the drawing. A cell shows one module, or in the style `HalfBlocks` two modules, one above
+-- the other. A module below the last row of the square and its margin counts as light [own]
 abbrev pub cell_of : TextStyle → ℕ → Grid → ℕ → ℕ → List ℕ
 cell_of Plain margin g y x = ascii_module (is_dark_at margin g y x)
 cell_of Inverse margin g y x = ascii_module (not (is_dark_at margin g y x))
 cell_of HalfBlocks margin g y x = half_blocks (is_dark_at margin g (2 * y) x) (is_dark_at margin g (2 * y + 1) x)
 
 -- `line_count style rows` is the number of lines of text that are needed to show `rows` rows of modules. In the style
--- `HalfBlocks` each line shows two rows, and an odd last row has a line of its own [own]
+-- `HalfBlocks` each line shows two rows. If `rows` is odd, the last line shows only the last row [own]
 abbrev pub line_count : TextStyle → ℕ → ℕ
 line_count Plain rows = rows
 line_count Inverse rows = rows
 line_count HalfBlocks rows = (rows + 1) / 2
 
--- `cells_of_line style margin g y` is the text of line `y` of the drawing of the square of modules `g`: the cells of
--- this line, from left to right [own]
+-- `cells_of_line style margin g y` is the text of line `y` in the drawing of the square of modules `g`, without a
+-- newline. The text is the cells of this line, from left to right [own]
 abbrev pub cells_of_line : TextStyle → ℕ → Grid → ℕ → List ℕ
 cells_of_line style margin g y = texts_below (raster_width margin g) (cell_of style margin g y)
 
--- `text_drawing style margin g` is the drawing of the square of modules `g` as a text: all lines from top to bottom,
--- each with a newline at its end [own]
+-- `text_drawing style margin g` is the drawing of the square of modules `g` as a text. The text is all lines from top
+-- to bottom, each with a newline at its end [own]
 abbrev pub text_drawing : TextStyle → ℕ → Grid → List ℕ
 text_drawing style margin g =
     texts_below (line_count style (raster_width margin g)) (λ y. cells_of_line style margin g y ++ 10 ∷ [])

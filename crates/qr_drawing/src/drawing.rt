@@ -103,16 +103,16 @@ fn put_drawing<S: HasSquare, W: Sink>(
     }
 }
 
-/// Draws 1 to 16 symbols, or other squares of modules, which must all have the same side. A drawing as text has the
-/// symbols one after the other; an SVG document has the symbols one below the other. Each symbol has a light margin of
-/// `margin` modules on all sides (ISO/IEC 18004:2015, 6.3.8).
+/// Draws 1 to 16 symbols, or other squares of modules, which must all have the same side. A drawing as text contains
+/// the texts of the symbols, one after the other. An SVG document shows the symbols one below the other. Each symbol
+/// has a light margin of `margin` modules on all sides (ISO/IEC 18004:2015, 6.3.8).
 ///
 /// The drawing depends only on the type of drawing and on the squares with their margins. The definitions describe a
-/// text line by line, and an SVG document run by run. A run is dark modules side by side in a row.
+/// text line by line, and an SVG document run by run. A run is a group of dark modules side by side in a row.
 ///
-/// Allocates no memory, and offers the writer `out` at most 1,200 bytes at a time. Writes that are interrupted are
-/// tried again, up to 999 of them in all. The call fails only if the writer fails; in this case the writer has accepted
-/// a prefix of the drawing. The writer is not flushed.
+/// Allocates no memory, and offers the writer `out` at most 1,200 bytes at a time. Interrupted writes (EINTR) are tried
+/// again, at most 999 times in all. The call fails only if the writer fails. In this case the writer has accepted a
+/// prefix of the drawing. The writer is not flushed.
 pub fn draw<S: HasSquare, W: Sink>(
     symbols: &[S],
     kind: Drawing,

@@ -10,7 +10,7 @@ pub use crate::derives::{
 };
 
 /// The characters for one module, and for two modules one above the other, are those that `CharactersOfModules` lists.
-/// In a text with two rows of modules in each line, an odd last row has a line of its own.
+/// If each line of a text shows two rows of modules and the number of rows is odd, the last line shows only one row.
 pub fn characters_of_modules()
     ensures { CharactersOfModules }
 {}

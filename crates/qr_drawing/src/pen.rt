@@ -30,9 +30,10 @@ pub(crate) struct Pen {
     ghost few: { interrupted < 1000 },
 }
 
-// Offers `bytes` to the writer `out`, at most 1,200 bytes at a time, until the writer has accepted all of them.
-// `interrupted` is the number of writes that were interrupted before this call. Returns the number of writes that were
-// interrupted before and during this call.
+// Offers `bytes` to the writer `out`, at most 1,200 bytes at a time, until the writer has accepted all of them. An
+// interrupted write (EINTR) is tried again, up to 999 times in one drawing or one text. `interrupted` is the number of
+// writes that were interrupted before this call. Returns the number of writes that were interrupted before and during
+// this call.
 fn send<W: Sink>(out: &mut W, bytes: &[u8], interrupted: u16) -> Result<u16, DrawFault>
     requires { interrupted < 1000 }
     ensures writes { MatchResult result
@@ -118,7 +119,7 @@ impl Pen {
 }
 
 /// Writes `text` to the writer `out`, at most 1,200 bytes at a time. The writer accepts the whole text, or a prefix of
-/// the text if the writer fails. Writes that are interrupted are tried again, up to 999 of them in one call. The writer
+/// the text if the writer fails. Interrupted writes (EINTR) are tried again, at most 999 times in one call. The writer
 /// is not flushed.
 pub fn write_text<W: Sink>(text: &[u8], out: &mut W) -> Result<(), DrawFault>
     ensures ok { OnOk result (Appends (W.device out.old).taken (W.device out.new).taken text.now) }

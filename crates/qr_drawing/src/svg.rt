@@ -15,10 +15,10 @@ use itoa::Buffer;
 use qr_devices::Sink;
 use qr_symbol::Matrix;
 
-// No box has more bytes than this number. A box is the part of the path that surrounds one run of dark modules.
+// Every box has at most this number of bytes. A box is the part of the path that surrounds one run of dark modules.
 const BOX_MAX: usize = 32;
 
-// The document has no more bytes than this number before the first box.
+// Before the first box, the document has at most this number of bytes.
 const HEAD_MAX: usize = 300;
 
 // The number of bytes of the document after the last box.
@@ -83,7 +83,7 @@ fn push_number(text: &mut ArrayVec<u8, 1200>, number: u16)
     }
 }
 
-// Appends the box around a run of `modules` dark modules to `text`. The run begins in row `y` and column `x` of the
+// Appends to `text` the box around a run of `modules` dark modules. The run begins in row `y` and column `x` of the
 // document.
 #[tactic(auto, unfolding(crate::specs::Svg::box_path, crate::specs::Svg::numbered))]
 fn push_box(text: &mut ArrayVec<u8, 1200>, x: u16, y: u16, modules: u16)
@@ -113,7 +113,7 @@ fn push_numbered(text: &mut ArrayVec<u8, 1200>, bytes: &[u8], number: u16)
     push_all(text, digits.format(number).as_bytes());
 }
 
-// Appends the line that opens an SVG document of `width` by `height` modules to `text`.
+// Appends to `text` the line that opens an SVG document of `width` by `height` modules.
 fn push_opening(text: &mut ArrayVec<u8, 1200>, width: u16, height: u16)
     requires room { array_vec_len text.old + 120 ≤ 1200 }
     ensures items { text.new.items ≡ text.old.items ++ opening width height }
@@ -125,7 +125,7 @@ fn push_opening(text: &mut ArrayVec<u8, 1200>, width: u16, height: u16)
     push_all(text, b"\" shape-rendering=\"crispEdges\">\n");
 }
 
-// Appends the line that makes the whole document of `width` by `height` modules white to `text`.
+// Appends to `text` the line that makes a whole document of `width` by `height` modules white.
 #[tactic(auto, unfolding(crate::specs::Svg::background))]
 fn push_background(text: &mut ArrayVec<u8, 1200>, width: u16, height: u16)
     requires room { array_vec_len text.old + 80 ≤ 1200 }
@@ -137,7 +137,7 @@ fn push_background(text: &mut ArrayVec<u8, 1200>, width: u16, height: u16)
     push_all(text, b"\" fill=\"#ffffff\"/>\n");
 }
 
-// Appends all lines before the path of an SVG document, and the beginning of the line with the path, to `text`. The
+// Appends to `text` all lines before the path of an SVG document, and the beginning of the line with the path. The
 // document has `width` by `height` modules.
 fn push_head(text: &mut ArrayVec<u8, 1200>, width: u16, height: u16)
     requires room { array_vec_len text.old + 300 ≤ 1200 }

@@ -1,5 +1,5 @@
-//! Draws symbols as lines of text. A line consists of cells: a cell is two characters for one module, or one character
-//! for two modules, one above the other.
+//! Draws symbols as lines of text. A line consists of cells. A cell is two characters that show one module, or one
+//! character that shows two modules, one above the other.
 
 ghost use Rattle.std.specs.Prelude.{◌≡◌, ℕ, ◌≤◌, ◌<◌, ◌+◌, ◌-◌, ◌*◌, ◌/◌, ◌%◌, ◌++◌, ◌∷◌, [], false, map, IfSome};
 ghost use Rattle.std.specs.List.{flat_map};
@@ -95,7 +95,7 @@ fn push_half_block(text: &mut ArrayVec<u8, 1200>, upper: bool, lower: bool)
 }
 
 // Appends a cell to `text`. In the style `HalfBlocks` the cell shows the module `upper` and the module `lower` below
-// it; in the other styles the cell shows only the module `upper`.
+// it. In the other styles the cell shows only the module `upper`.
 fn push_cell(text: &mut ArrayVec<u8, 1200>, style: TextStyle, upper: bool, lower: bool)
     requires room { array_vec_len text.old + cell_room style ≤ 1200 }
     ensures { text.new.items ≡ text.old.items ++ cell_text style upper lower }
@@ -296,7 +296,8 @@ fn push_cells(
 
 // Appends the cells of row `row` of the raster to `text`, without the margin. The raster is the square of modules with
 // its margin. In the style `HalfBlocks` each cell also shows the module in the row below. Eight cells are appended at a
-// time, and then four cells if at least four columns remain. The last columns, fewer than four, are left out.
+// time, and then four cells if at least four columns remain. The remaining columns, of which there are fewer than four,
+// are not appended.
 #[inline(always)]
 fn push_columns(
     text: &mut ArrayVec<u8, 1200>,
@@ -328,8 +329,8 @@ fn push_columns(
 }
 
 // Writes line `y` of the text through the buffer `pen`, in three parts. The first part is the left margin. The second
-// part is the columns of the symbol, eight or four at a time. The third part is the remaining columns, fewer than four,
-// then the right margin and the newline.
+// part is the columns of the symbol, eight or four at a time, up to a multiple of four. The third part is the remaining
+// columns, of which there are fewer than four, then the right margin and the newline.
 #[inline(always)]
 fn put_line<W: Sink>(
     pen: &mut Pen,
@@ -385,8 +386,9 @@ fn put_lines<W: Sink>(
     }
 }
 
-// Writes the lines of text of the symbol `matrix`, as `put_lines` does. The compiler makes a copy of this function for
-// each style, with the inlined functions that it calls. So no loop has to branch on the style.
+// Writes the lines of text of the symbol `matrix`, as `put_lines` does. `put_lines` calls this function once for each
+// style. The compiler inlines the function at each call, together with the functions that it calls. So no loop has to
+// test the style.
 #[inline(always)]
 fn put_lines_of<W: Sink>(
     pen: &mut Pen,

@@ -49,7 +49,8 @@ second_place s i = record {
 }
 
 -- `version_place s i` is the place of bit i of the version information in the copy beside the top right finder pattern.
--- The symbol has s modules on a side (ISO/IEC 18004:2015, 7.10)
+-- The symbol has s modules on a side. The 18 bits of this copy are in the rows 0 to 5 and the columns s - 11 to s - 9.
+-- In the second copy, beside the bottom left finder pattern, rows and columns are exchanged (ISO/IEC 18004:2015, 7.10)
 abbrev pub version_place : ℕ → ℕ → Module
 version_place s i = record { row = i / 3; col = s - 11 + i % 3 }
 
@@ -67,8 +68,9 @@ unfoldable pub format_bit_at : ℕ → ℕ → ℕ → Option ℕ
 format_bit_at s r c = find (λ i. is_at (first_place i) r c || is_at (second_place s i) r c) (range_with_len 0 15)
 
 -- `version_bit_at v r c` is the index of the bit of the version information that the module at (r, c) of version v
--- contains. The value is `None` if the module contains no such bit. Below version 7, no module contains such a bit
--- (ISO/IEC 18004:2015, 7.10)
+-- contains. The value is `None` if the module contains no such bit. Each bit is in two modules: at `version_place`, and
+-- at the same place with row and column exchanged. Below version 7, no module contains such a bit (ISO/IEC 18004:2015,
+-- 7.10)
 unfoldable pub version_bit_at : ℕ → ℕ → ℕ → Option ℕ
 version_bit_at v r c =
     if nat_lt v 7 then None else

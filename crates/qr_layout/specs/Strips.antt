@@ -24,7 +24,9 @@ places_of s [] = []
 places_of s (x ∷ xs) = both_of (rows_from s x 0 s) ++ places_of s xs
 
 -- `strip_at p` is the strip with the number p, if the strips are numbered from left to right, beginning with 1. A strip
--- is two neighbouring columns that are filled together, and no strip contains column 6 (ISO/IEC 18004:2015, 7.7.3)
+-- is two neighbouring columns that are filled together. No strip contains column 6, which contains a timing pattern: if
+-- 2 * p - 1 is 6 or more, the right column is one column further to the right. The code skips column 6 in `strip_at` of
+-- strips.rt, and the walk calls that function (ISO/IEC 18004:2015, 7.7.3)
 abbrev pub strip_at : ℕ → Strip
 strip_at p = record { right = (let c = 2 * p - 1 in if nat_lt c 6 then c else c + 1); upward = p % 2 == 0 }
 

@@ -1,7 +1,8 @@
 //! The order in which the bits of the codewords fill the modules of the encoding region (ISO/IEC 18004:2015, 7.7.3).
 //! The function `walk` returns an iterator that visits the modules in this order. This walk goes through strips of two
 //! columns, from right to left. The walk goes upward in the first strip, downward in the second, and so on in turn. In
-//! each row of a strip, the right module comes first. No strip contains column 6, which contains a timing pattern.
+//! each row of a strip, the right module comes first. No strip contains column 6, which contains a timing pattern:
+//! `strip_at` in strips.rt skips this column.
 
 ghost use Rattle.std.specs.Prelude.{◌≡◌, ◌<◌, ◌≤◌, ◌↔◌, IfSome, IsSome, List, length};
 ghost use Rattle.std.specs.Iterator.{YieldsFirst, item_count};

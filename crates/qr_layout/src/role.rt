@@ -200,6 +200,11 @@ fn format_bit(side: u8, row: u8, col: u8) -> Option<u8>
     }
 }
 
+// Returns the index of the bit of the version information that the module in row `row` and column `col` of a symbol of
+// version `v` contains. Returns `None` if the module contains no such bit. From version 7 on there are two copies: the
+// first is in the rows 0 to 5 and the columns side - 11 to side - 9, and the second is in the columns 0 to 5 and the
+// rows side - 11 to side - 9. So the second copy is the first copy with rows and columns exchanged. Here side is the
+// number of modules on a side of the symbol.
 fn version_bit(v: Version, row: u8, col: u8) -> Option<u8>
     requires row_in { row < side_of v }
     requires col_in { col < side_of v }

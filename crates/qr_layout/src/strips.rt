@@ -23,14 +23,16 @@ pub struct Strip {
 }
 
 // Returns the strip (two neighbouring columns) with the number `number`. Strips are numbered from left to right,
-// beginning with 1.
+// beginning with 1. This function is the place where the walk skips column 6, which contains a timing pattern: no strip
+// contains column 6.
 #[inline(always)]
 pub(crate) fn strip_at(number: u8) -> Strip
     requires least { 0 < number }
     requires most { number ≤ 88 }
     ensures { result ≡ strip_at number }
 {
-    // The index of the right column if column 6, which contains a timing pattern, is not counted.
+    // The index of the right column if column 6 is not counted. If column 6 is counted, each index from 6 on is one
+    // more.
     let untimed = 2 * number - 1;
     let right = if untimed < 6 { untimed } else { untimed + 1 };
     let upward = number % 2 == 0;

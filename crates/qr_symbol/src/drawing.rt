@@ -16,7 +16,7 @@ use qr_layout::{Module, Strip, Version, all_strips, walk};
 use qr_matrix::{BitRow, Matrix};
 
 // Returns the codeword with the index `place`, or 0 if `place` is after the last codeword. So the remainder bits, which
-// follow the codewords, are 0 before a mask pattern inverts them.
+// are in the modules after those of the last codeword, are 0 (light) before a mask pattern inverts some of them.
 fn codeword_at(codewords: &[u8], place: usize) -> u8
     ensures { result ≡ slice_index codewords.now place }
 {
@@ -37,7 +37,8 @@ fn eight_codewords(codewords: &[u8], place: usize) -> u64
 }
 
 // Returns the eight codewords from index `place` on as one integer of 64 bits, as `eight_codewords` does. If there are
-// fewer than eight codewords from this index on, zeros follow the last codeword.
+// fewer than eight codewords from this index on, zeros follow the last codeword. So the remainder bits, which fill the
+// modules after the last codeword, are 0 (light) before a mask pattern inverts some of them.
 #[inline(never)]
 fn last_codewords(codewords: &[u8], place: usize) -> u64
     requires { place ≤ 5000 }

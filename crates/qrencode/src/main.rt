@@ -28,7 +28,7 @@ fn command<R: Source, W: Sink, E: Sink>(
 }
 
 // Runs the command with the arguments and the standard streams of the process. If memory is refused while the arguments
-// are listed, or if an argument is not text, writes nothing and returns status 1.
+// are listed, or if an argument is not valid UTF-8, writes nothing and returns status 1.
 fn main(rt: HostRuntime) -> ExitCode {
     let words: Vec<String> = match env::args(&rt) {
         Ok(args) => match args.collect(rt.alloc()) {

@@ -1,5 +1,5 @@
--- The command's arguments as rules of the crate `clap`, and the matches and faults that `clap` states for a command
--- line.
+-- Defines the command's arguments as rules of the crate `clap`. Also defines which matches and which faults `clap`
+-- finds in a command line. A match is an argument with its value.
 use Rattle.std.specs.Prelude.{ℕ, true, List, codes, Some, pos, slice_index, ℤ}
 use Rattle.clap.specs.Words.{Kinds, fault_of}
 use Rattle.clap.specs.Walk.{Row, Rule, Text}
@@ -12,8 +12,8 @@ use Rattle.clap.specs.declared.builder.value_parser.ValueParser.TheVariants as p
 abbrev pub text_rule : Text → ℕ → Rule
 text_rule id letter = record (new_rule id) { short = Some letter; value_names = 1 }
 
--- `number_rule id letter most` is the rule of `clap` for an option that has a number from 0 to `most` as its value. The
--- option's name is `id`, and its letter on the command line is `letter` [own]
+-- `number_rule id letter most` is the rule of `clap` for an option that has a number as its value. The number is at
+-- least 0 and at most `most`. The option's name is `id`, and its letter on the command line is `letter` [own]
 abbrev pub number_rule : Text → ℕ → ℤ → Rule
 number_rule id letter most = record (text_rule id letter) { parser = Some (parser.Signed (pos 0) most) }
 
@@ -37,8 +37,8 @@ abbrev pub letter_of : Text → ℕ
 letter_of text = slice_index text 0
 
 -- `command` is the command `qrencode` with its arguments, in the form that `clap` uses. The arguments are the options
--- -l, -v, -t, -m, -8, -k, -i and -S, and one positional text. Only -t must be given. The number of -v is from 0 to 40,
--- and the number of -m is from 0 to 100 [own]
+-- -l, -v, -t, -m, -8, -k, -i and -S, and one text that is not part of an option. Only -t must be given. The value of -v
+-- is a number from 0 to 40, both included. The value of -m is a number from 0 to 100, both included [own]
 unfoldable pub command : App
 command = with_rule (with_rule (with_rule (with_rule (with_rule (with_rule (with_rule (with_rule (with_rule (new_app (codes "qrencode"))
     (text_rule (codes "level") (letter_of (codes "l"))))
@@ -51,12 +51,12 @@ command = with_rule (with_rule (with_rule (with_rule (with_rule (with_rule (with
     (flag_rule (codes "structured") (letter_of (codes "S"))))
     (positional_rule (codes "string"))
 
--- `rows_for words` is the list of matches, which are the arguments and values that `clap` finds in the command line
--- `words` [own]
+-- `rows_for words` is the list of the matches that `clap` finds in the command line `words`. A match is an argument
+-- with its value [own]
 unfoldable pub rows_for : List Text → List Row
 rows_for words = matches_of command words
 
--- `faults_for words` is the list of the kinds of fault that `clap` states for the command line `words`. The list is
--- empty if `clap` accepts the command line [own]
+-- `faults_for words` is the list of the kinds of fault that `clap` finds in the command line `words`. The list is empty
+-- if `clap` accepts the command line [own]
 unfoldable pub faults_for : List Text → Kinds
 faults_for words = fault_of command words

@@ -1,4 +1,5 @@
--- What the command draws for a command line and an input, and what a run of the command does to its devices.
+-- Defines what the command draws for a command line and an input. Also defines what a run of the command does to its
+-- devices: the reader of the input, standard output and standard error.
 use Rattle.std.specs.Prelude.{◌≡◌, ◌↔◌, ◌≤◌, ◌<◌, ◌+◌, ◌⊎◌, ℕ, List, [], length, take, max, MatchOption, None, IfErr, IsErrOf, IsTrue, MatchResult, Result, Ok, Err, is_ok, true, false, if◌then◌else◌}
 use Rattle.std.specs.Option.{option_map_or}
 use Rattle.std.specs.Io.KnownBytes.{Appends, Consumes}
@@ -24,9 +25,9 @@ use Rattle.qr_symbol.specs.declared.fault.EncodeFault.TheVariants as encode
 abbrev pub input_for : SettingsView → List ℕ → List ℕ
 input_for s given = option_map_or (λ text. take INPUT_MAX text) s.string given
 
--- `held s input` is the input as the symbols contain it under the settings `s`. Without -i the value is `input` itself.
--- Under -i small letters become capitals, except in two cases: with -8 all bytes stay the same, and with -k kanji pairs
--- stay the same [own]
+-- `held s input` is the bytes that the symbols contain for `input` under the settings `s`. Without -i these bytes are
+-- `input` itself. With -i small letters become capitals. There are two exceptions: with -8 all bytes stay the same, and
+-- with -k kanji pairs stay the same [own]
 abbrev pub held : SettingsView → List ℕ → List ℕ
 held s input = if s.fold then folded (rule_for s) input else input
 
@@ -53,9 +54,9 @@ pub record HasSettingsWith (words : List Text) (P : SettingsView → Type 0) : T
 abbrev pub HasDrawing : List Text → List ℕ → List ℕ → Type 0
 HasDrawing words given drawing = HasSettingsWith words (λ s. IsDrawing s (held s (input_for s given)) drawing)
 
--- `HasRefusal words given why` holds if the command line `words` has settings, but its input cannot be drawn for the
--- reason `why`. This reason is a relation between the settings and the input. The list `given` contains the bytes that
--- the reader returned [own]
+-- `HasRefusal words given why` holds if the command line `words` is not refused, but `why` holds of its settings and
+-- its input. Here `why` is a reason for which an input cannot be drawn. The list `given` contains the bytes that the
+-- reader returned [own]
 abbrev pub HasRefusal : List Text → List ℕ → (SettingsView → List ℕ → Type 0) → Type 0
 HasRefusal words given why = HasSettingsWith words (λ s. why s (held s (input_for s given)))
 
@@ -72,7 +73,7 @@ IsRefusal words given _ = ⊥
 
 -- `IsFault words given f` holds if the fault `f` can occur for the command line `words` and for `given`, the bytes that
 -- the reader returned. A refusal can occur if it is correct. A read fault can occur if the command line is not refused
--- and contains no string, and a write fault if there is a drawing. Lack of memory can always occur [own]
+-- and contains no string. A write fault can occur if there is a drawing. Lack of memory can always occur [own]
 abbrev pub IsFault : List Text → List ℕ → Fault → Type 0
 IsFault words given fault.Read = HasSettingsWith words (λ s. s.string ≡ None)
 IsFault words given fault.Memory = Unit {0}
@@ -89,7 +90,7 @@ pub record DrawnWhole (old new : Writer) (drawing : List ℕ) : Type 0 where
 
 -- `DrawnInPart old new drawing` holds if a writer changed from `old` to `new` in one of two ways. Either the writer
 -- received a prefix of `drawing` and was not flushed, or it received the whole `drawing` and its one flush failed. In
--- both cases the number of bytes that it received is at most the length of `drawing` [own]
+-- both cases the number of bytes that the writer received is at most the length of `drawing` [own]
 abbrev pub DrawnInPart : Writer → Writer → List ℕ → Type 0
 DrawnInPart old new drawing = (old.counts ≡ no_writes → new.counts.taken ≤ counted (length drawing))
     × ((AppendsBeginning old.taken new.taken drawing × (new.counts.flushes ≡ old.counts.flushes))
@@ -110,25 +111,25 @@ AllRead old new given = Consumes old.remaining new.remaining given
     × (old.counts ≡ no_reads → new.counts.given ≡ length given)
     × (old.counts ≡ no_reads → (new.counts.ends ≡ 1) ⊎ (length given ≡ INPUT_MAX))
 
--- `InputConsumed old new given outcome` holds if a run that had to read its input read all of it. The reader changed
--- from `old` to `new`, and the input is `given`. If the `outcome` is a read fault or lack of memory, nothing is
--- required [own]
+-- `InputConsumed old new given outcome` is about a run that has to read its input. It holds if the run read the whole
+-- input `given`, and so changed the reader from `old` to `new`. If the `outcome` is a read fault or lack of memory,
+-- `InputConsumed` always holds [own]
 abbrev pub InputConsumed : Reader → Reader → List ℕ → {T : Type 0} → Result T Fault → Type 0
 InputConsumed old new given (Err fault.Read) = Unit {0}
 InputConsumed old new given (Err fault.Memory) = Unit {0}
 InputConsumed old new given _ = AllRead old new given
 
 -- `InputConsumedFor settings old new given outcome` holds if the reader changed from `old` to `new` as the `settings`
--- require. The reader is unchanged if the command line is refused, or if the command line contains the input as a
--- string. Otherwise `InputConsumed` holds [own]
+-- require. If the command line is refused, or if it contains the input as a string, the reader has to be unchanged.
+-- Otherwise `InputConsumed` has to hold, which means that the whole input was read [own]
 abbrev pub InputConsumedFor : Result SettingsView Reason → Reader → Reader → List ℕ → {T : Type 0} → Result T Fault → Type 0
 InputConsumedFor (Err r) old new given outcome = new ≡ old
 InputConsumedFor (Ok s) old new given outcome = MatchOption s.string (InputConsumed old new given outcome) (λ _. new ≡ old)
 
 -- `ErrorHolds old new line` holds if standard error changed from `old` to `new` as the `line` of a fault requires.
--- Standard error received a prefix of the line, and was not flushed. The prefix is the whole line, unless the counts
--- show that a write failed, that a write accepted no byte, or that the 1,000th interruption occurred. The number of
--- bytes received is at most the length of the line [own]
+-- Standard error received a prefix of the line, and was not flushed. The prefix is the whole line if the counts of
+-- standard error show no write fault. (A write fault is a failed write, a write that accepted no byte, or 1,000
+-- interrupted writes.) The number of bytes received is at most the length of the line [own]
 abbrev pub ErrorHolds : Writer → Writer → List ℕ → Type 0
 ErrorHolds old new line = AppendsBeginning old.taken new.taken line
     × (old.counts ≡ no_writes → new.counts.taken ≤ counted (length line))
@@ -138,11 +139,12 @@ ErrorHolds old new line = AppendsBeginning old.taken new.taken line
 
 -- `Runs words in0 in1 out0 out1 err0 err1 outcome status` holds if a run for the command line `words` can have this
 -- `outcome` and this exit `status`. The outcome is success or a fault. The reader and the two writers are `in0`, `out0`
--- and `err0` before the run, and `in1`, `out1` and `err1` after it. The arguments and the input determine the outcome,
--- except for lack of memory and faults of devices. If the counts of a device were 0 before the run, the counts after it
--- show whether the device had a fault, and stay within their limits. No write of the drawing offers more than 1,200
--- bytes. After success, standard error receives nothing, and the status is 0. After a fault, standard error receives
--- the fault's line, and the status is 1 [own]
+-- and `err0` before the run, and `in1`, `out1` and `err1` after the run. Apart from lack of memory and faults of
+-- devices, the arguments and the input determine the outcome. If the counts of a device were 0 before the run, its
+-- counts stay within their limits. For the reader and for standard output, these counts then also show whether the
+-- outcome is a read fault or a write fault. No write of the drawing offers more than 1,200 bytes. After success,
+-- standard error receives nothing, and the status is 0. After a fault, standard error receives the fault's line, and
+-- the status is 1 [own]
 pub record Runs (words : List Text) (in0 in1 : Reader) (out0 out1 err0 err1 : Writer) (outcome : Result (Unit {0}) Fault) (status : ℕ) : Type 0 where
   pub given : List ℕ
   pub is_input : IsInputOf in0.remaining given

@@ -1,4 +1,5 @@
--- The settings of some command lines, and laws about drawings, refusals, modes, folding, statuses and faults.
+-- Defines what the laws of the command state. The laws are about the settings of some command lines, and about
+-- drawings, refusals, modes, folding, statuses and faults.
 use Rattle.std.specs.Prelude.{◌≡◌, ℕ, List, [], ◌∷◌, codes, Some, None, Result, Ok, Err, MatchResult, String, true, false}
 use Rattle.std.specs.Global.{Global}
 use Rattle.clap.specs.Walk.{Text}
@@ -106,8 +107,8 @@ AnswersAreOne = (words : List Text) (given d e : List ℕ) → HasDrawing words 
 abbrev pub RefusalsExcludeDrawings : Type 0
 RefusalsExcludeDrawings = (words : List Text) (given d : List ℕ) (f : Fault) → HasDrawing words given d → IsRefusal words given f → ⊥
 
--- `AreAlike r q` holds if the faults `r` and `q` are equal. Two faults with a text of `clap` are alike whatever their
--- texts are [own]
+-- `AreAlike r q` holds if the faults `r` and `q` are equal, or if both are faults with a text of `clap`, even if their
+-- texts differ [own]
 abbrev pub AreAlike : Fault → Fault → Type 0
 AreAlike (fault.Usage (usage.Words text)) (fault.Usage (usage.Words other)) = Unit {0}
 AreAlike r q = r ≡ q
@@ -123,8 +124,9 @@ pub record RulesOfModes : Type 0 where
   pub kanji : (s : SettingsView) → s.bytes_only ≡ false → s.kanji ≡ true → rule_for s ≡ WithKanji
   pub neither : (s : SettingsView) → s.bytes_only ≡ false → s.kanji ≡ false → rule_for s ≡ Auto
 
--- `FoldingFollowsTheRule` holds if the input is folded for the allowed modes under -i, and is unchanged without -i.
--- Under -i and -k, the second byte of a kanji pair is unchanged, even if it is the code of a small letter [own].
+-- `FoldingFollowsTheRule` holds if -i folds the input, that is, changes small letters to capitals, as the allowed modes
+-- require. Without -i the input is unchanged. With -i and -k, the second byte of a kanji pair is unchanged, even if it
+-- is the code of a small letter [own].
 pub record FoldingFollowsTheRule : Type 0 where
   pub folds : (s : SettingsView) (input : List ℕ) → s.fold ≡ true → held s input ≡ folded (rule_for s) input
   pub keeps : (s : SettingsView) (input : List ℕ) → s.fold ≡ false → held s input ≡ input
@@ -136,8 +138,8 @@ abbrev pub StatusesAreTwo : Type 0
 StatusesAreTwo = (words : List Text) (in0 in1 : Reader) (out0 out1 err0 err1 : Writer) (outcome : Result (Unit {0}) Fault) (status : ℕ)
     → Runs words in0 in1 out0 out1 err0 err1 outcome status → MatchResult outcome (λ _. status ≡ 0) (λ _. status ≡ 1)
 
--- `LinesOfFaults` holds if each fault is reported by the line in the list below. The fault of arguments that `clap`
--- refuses is not in the list [own].
+-- `LinesOfFaults` holds if the line of each fault is the one in the list below. The list leaves out the fault for
+-- arguments that `clap` refuses, whose line is a text of `clap` [own].
 pub record LinesOfFaults : Type 0 where
   pub level : fault_line (fault.Usage usage.Level) ≡ codes "qrencode: unknown level\n"
   pub type : fault_line (fault.Usage usage.Kind) ≡ codes "qrencode: unknown type\n"

@@ -1,4 +1,4 @@
--- The settings of a command line, and why a command line is refused.
+-- Defines the settings that follow from a command line, and the reasons to refuse a command line.
 use Rattle.std.specs.Prelude.{◌≡◌, ◌==◌, ◌&&◌, ℕ, Bool, false, nat_le, List, length, Option, Some, None, option_and_then, Result, Ok, Err, codes, if◌then◌else◌}
 use Rattle.std.specs.Option.{is_none, option_map_or}
 use Rattle.std.specs.Str.{bytes_eq, str_eq_ignore_ascii_case}
@@ -14,8 +14,8 @@ use Rattle.qr_drawing.specs.declared.drawing.Drawing.TheVariants as drawing
 use Rattle.qrencode_cli.specs.declared.settings.UsageFault.{UsageFault}
 use Rattle.qrencode_cli.specs.declared.settings.UsageFault.TheVariants as usage
 
--- The reason why a command line is refused. Either `clap` refuses it, or the level is unknown, or the type of drawing
--- is unknown, or a series is asked for without a version [own]
+-- The reason why a command line is refused. There are four reasons: `clap` refuses the arguments, the level is unknown,
+-- the type of drawing is unknown, or a series is asked for without a version [own]
 pub data Reason : Type 0 where
   refused_by_clap : Reason
   unknown_level : Reason
@@ -35,8 +35,8 @@ pub record SettingsView : Type 0 where
   pub structured : Bool
   pub string : Option Text
 
--- `rule_for s` is the rule that says which modes the settings `s` allow. Under -8 only byte mode is allowed. Without
--- -8, the option -k allows all modes. Without -8 and -k, all modes but kanji mode are allowed [own]
+-- `rule_for s` is the rule that states which encoding modes the settings `s` allow. Under -8 only byte mode is allowed.
+-- Without -8, the option -k allows all modes. Without -8 and -k, all modes but kanji mode are allowed [own]
 abbrev pub rule_for : SettingsView → Rule
 rule_for s = if s.bytes_only then BytesOnly else (if s.kanji then WithKanji else Auto)
 
@@ -59,22 +59,23 @@ drawing_named t =
     (if str_eq_ignore_ascii_case t (codes "svg") then Some drawing.Svg else None)))
 
 -- `number_or otherwise o` is the number of an option that has the text `o` as its value. If the option is not given,
--- the number is `otherwise`. If the text is not a number of one byte, the number is 0 [own]
+-- the number is `otherwise`. If the text is not a number from 0 to 255, the result is 0 [own]
 abbrev pub number_or : ℕ → Option Text → ℕ
 number_or otherwise o = option_map_or byte_or_zero o otherwise
 
--- `version_at o` is the version of an option that has the text `o` as its value. If the number is not from 1 to 40, or
--- if the option is not given, the value is `None` [own]
+-- `version_at o` is the version of an option that has the text `o` as its value. If the option is not given, or if its
+-- number is not from 1 to 40, the version is `None` [own]
 abbrev pub version_at : Option Text → Option ℕ
 version_at o = let n = number_or 0 o in if nat_le 1 n && nat_le n 40 then Some n else None
 
--- `flag_at o` is true if an option without a value is given. For such an option, `clap` states the text `true` as `o`
--- [own]
+-- `flag_at o` is true if an option without a value is given, that is, if `o` is the text `true`. An option without a
+-- value has this text in the matches of `clap` [own]
 abbrev pub flag_at : Option Text → Bool
 flag_at o = option_map_or (λ t. bytes_eq t (codes "true")) o false
 
--- `settings_with rows level kind` is the settings that follow from `rows`, the matches of `clap`, and from the level
--- and the type of drawing. The default margin is 4 modules, the width of the quiet zone (ISO/IEC 18004:2015, 6.3.8)
+-- `settings_with rows level kind` is the settings with the error correction level `level` and the type of drawing
+-- `kind`. All other settings follow from `rows`, the arguments and values that `clap` found. The default margin is 4
+-- modules, the width of the quiet zone (ISO/IEC 18004:2015, 6.3.8)
 abbrev pub settings_with : List Row → Level → Drawing → SettingsView
 settings_with rows level kind = record {
   level = level;
@@ -88,28 +89,28 @@ settings_with rows level kind = record {
   string = first_of (codes "string") rows;
 }
 
--- `checked_series s` is the settings `s`. If `s` asks for a series without a version, the value is a refusal instead
--- [own]
+-- `checked_series s` is the settings `s`, or a refusal if `s` asks for a series without a version [own]
 abbrev pub checked_series : SettingsView → Result SettingsView Reason
 checked_series s = if s.structured && is_none s.smallest then Err needs_version else Ok s
 
--- `settings_of rows` is the settings that follow from `rows`, the matches of `clap`, or the reason to refuse them.
--- First the level is checked, which is L if -l is not given. Then the type of drawing is checked. The last check is
--- that a series has a version [own]
+-- `settings_of rows` is the settings that follow from `rows`, the arguments and values that `clap` found, or the reason
+-- to refuse these arguments. First the level is checked. The default level, without -l, is L. Then the type of drawing
+-- is checked. The last check is that a series has a version [own]
 abbrev pub settings_of : List Row → Result SettingsView Reason
 settings_of rows =
     option_map_or (λ l. option_map_or (λ kind. checked_series (settings_with rows l kind))
     (option_and_then drawing_named (first_of (codes "type") rows)) (Err unknown_type))
     (option_map_or level_named (first_of (codes "level") rows) (Some level.L)) (Err unknown_level)
 
--- `settings_for words` is the settings of the command line `words`, which follow from the matches that `clap` states
--- for it. If `clap` states a fault, the command line is refused [own]
+-- `settings_for words` is the settings of the command line `words`, or the reason to refuse it. If `clap` finds a
+-- fault, the command line is refused. Otherwise the settings follow from the arguments and values that `clap` found
+-- [own]
 abbrev pub settings_for : List Text → Result SettingsView Reason
 settings_for words = if length (faults_for words) == 0 then settings_of (rows_for words) else Err refused_by_clap
 
--- `IsUsageFault o f` holds if the fault `f` can be reported for a command line with the result `o`. If `o` is a reason
--- to refuse the command line, `f` is the fault for this reason, or lack of memory. If `o` is settings, `f` is lack of
--- memory [own]
+-- `IsUsageFault o f` holds if the fault `f` can be reported for a command line with the result `o`. The result is
+-- settings, or a reason to refuse the command line. If `o` is a reason, `f` is the fault for this reason, or lack of
+-- memory. If `o` is settings, `f` is lack of memory [own]
 abbrev pub IsUsageFault : Result SettingsView Reason → UsageFault → Type 0
 IsUsageFault o (usage.Words text) = o ≡ Err refused_by_clap
 IsUsageFault o usage.Level = o ≡ Err unknown_level

@@ -1,4 +1,4 @@
--- The symbols that the settings ask for.
+-- Defines which symbols the settings of a command line ask for.
 use Rattle.std.specs.Prelude.{◌≡◌, ℕ, Bool, true, false, List, [], ◌∷◌, unwrap_or}
 use Rattle.qr_symbol.specs.declared.symbol.Symbol.{Symbol}
 use Rattle.qr_matrix.specs.Grid.{Grid}
@@ -7,8 +7,8 @@ use Rattle.qr_symbol.specs.VersionChoice.{HasNoVersion}
 use Rattle.qr_symbol.specs.Series.{HasNoSeries, IsSeries, squares_of}
 use Rattle.qrencode_cli.specs.Settings.{SettingsView, rule_for}
 
--- `smallest_of s` is the smallest version that may be chosen, or for a series the version of its symbols. The value is
--- the version of -v, or 1 if -v is missing or 0 [own]
+-- `smallest_of s` is the smallest version that the one symbol may have. For a series it is the version of all symbols.
+-- The value is the version of -v, or 1 if -v is missing or 0 [own]
 abbrev pub smallest_of : SettingsView → ℕ
 smallest_of s = unwrap_or s.smallest 1
 
@@ -38,12 +38,12 @@ AreSquares false s input squares = (square : Grid) × IsSquareOf s input square 
 abbrev pub AreSymbols : SettingsView → List ℕ → List Grid → Type 0
 AreSymbols s input squares = AreSquares s.structured s input squares
 
--- `IsTooLong s input` holds if the settings `s` ask for one symbol, but `input` fits no version from the smallest
--- allowed version on at their level [own]
+-- `IsTooLong s input` holds if the settings `s` ask for one symbol, but `input` fits none of the allowed versions. The
+-- allowed versions are those from the smallest one on, at the level of `s` [own]
 abbrev pub IsTooLong : SettingsView → List ℕ → Type 0
 IsTooLong s input = (s.structured ≡ false) × HasNoVersion (smallest_of s) s.level (rule_for s) input
 
--- `IsTooMany s input` holds if the settings `s` ask for a series, but `input` has no series of their version and level
--- [own]
+-- `IsTooMany s input` holds if the settings `s` ask for a series, but `input` has no series with the version and the
+-- level of `s` [own]
 abbrev pub IsTooMany : SettingsView → List ℕ → Type 0
 IsTooMany s input = (s.structured ≡ true) × HasNoSeries (smallest_of s) s.level (rule_for s) input

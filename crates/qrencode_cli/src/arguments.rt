@@ -36,7 +36,7 @@ fn text_option<'a>(alloc: Global, option: OptionText<'a>) -> Arg<'a>
         .help(option.help)
 }
 
-// Returns an option for `clap` that has a number from 0 to `most` as its value.
+// Returns an option for `clap` that has a number as its value. The number is at least 0 and at most `most`.
 fn number_option<'a>(alloc: Global, option: OptionText<'a>, most: i64) -> Arg<'a>
     ensures rule { rule_of result ≡ number_rule option.entry.id.now option.entry.short most }
     ensures local { result.global ≡ false }
@@ -63,8 +63,8 @@ fn flag_option<'a>(alloc: Global, option: OptionText<'a>) -> Arg<'a>
         .action(ArgAction::SetTrue)
 }
 
-// Returns a positional argument for `clap`, that is, an argument that is not part of an option. `id` is its name in the
-// code. In the help text, `value` is its name, and `help` is the line that describes it.
+// Returns a positional argument for `clap`, that is, an argument that is not part of an option. `id` is the name of the
+// argument in the code. In the help text, `value` is the name of the argument, and `help` describes the argument.
 fn positional<'a>(alloc: Global, id: &'a str, value: &'a str, help: &'a str) -> Arg<'a>
     ensures rule { rule_of result ≡ positional_rule id.entry.now }
     ensures local { result.global ≡ false }

@@ -21,8 +21,8 @@ use qr_layout::Version;
 use qr_symbol::{Symbol, encode, encode_series};
 use std::alloc::Global;
 
-// Encodes `input` with the level, the version and the modes of `settings`, and returns the symbols. The result is a
-// series under `-S`, and otherwise one symbol.
+// Encodes `input` with the level, the version and the modes of `settings`, and returns the symbols. With `-S` the
+// result is a series of symbols, and without `-S` it is one symbol.
 fn symbols_for(alloc: Global, input: &[u8], settings: &Settings) -> Result<Vec<Symbol>, Fault>
     requires { length input.now ≤ INPUT_MAX }
     ensures { MatchResult result (λ symbols. AreDrawnFor settings.now input.now symbols.items)
@@ -39,7 +39,8 @@ fn symbols_for(alloc: Global, input: &[u8], settings: &Settings) -> Result<Vec<S
     Ok(symbols)
 }
 
-// Encodes `input` without folding its letters, and returns the drawing job: the symbols, and how they are drawn.
+// Encodes `input` as it is, without changing small letters to capitals. Returns the drawing job: the symbols, and how
+// they are drawn.
 fn job_of(alloc: Global, input: &[u8], settings: &Settings) -> Result<DrawingJob, Fault>
     requires { length input.now ≤ INPUT_MAX }
     ensures { MatchResult result (λ p. IsDrawing settings.now input.now (drawing_of_job p))
@@ -52,8 +53,8 @@ fn job_of(alloc: Global, input: &[u8], settings: &Settings) -> Result<DrawingJob
     })
 }
 
-// Encodes `input`, and returns the drawing job: the symbols, and how they are drawn. Under `-i`, folds `input` first,
-// that is, turns its small letters into capitals as `fold` does.
+// Encodes `input`, and returns the drawing job: the symbols, and how they are drawn. If `-i` is given, first changes
+// the small letters of `input` to capitals (`fold`).
 fn make_job(alloc: Global, input: &[u8], settings: &Settings) -> Result<DrawingJob, Fault>
     requires { length input.now ≤ INPUT_MAX }
     ensures { MatchResult result (λ p. IsDrawing settings.now (held settings.now input.now) (drawing_of_job p))
@@ -124,8 +125,8 @@ fn run_to_result<R: Source, W: Sink>(
 }
 
 /// Runs the command: parses the arguments `words`, reads the input, and writes the drawing to `out`. The first of
-/// `words` is the program's name. The input is read from `input`, unless the arguments contain it as a string. After a
-/// fault, writes the fault's line to `err`. Returns the exit status, which is 0 or 1.
+/// `words` is the program's name. If the arguments contain a string, the string is the input. Otherwise the input is
+/// read from `input`. After a fault, writes the fault's line to `err`. Returns the exit status, which is 0 or 1.
 ///
 /// An interrupted read of the input is tried again, at most 999 times in all. The same limit holds for interrupted
 /// writes of the drawing, and separately for interrupted writes of a fault's line.
@@ -134,7 +135,8 @@ fn run_to_result<R: Source, W: Sink>(
 /// flushed once, after the last byte. `err` received nothing, and the status is 0.
 ///
 /// If the drawn symbols are read and their bytes are joined, the result is exactly the input. No byte of the input was
-/// cut off. With `-i` the result is the folded input, which is described below.
+/// cut off. With `-i` the result is the folded input, in which small letters are changed to capitals as described
+/// below.
 ///
 /// With `-8` the whole input is encoded in byte mode. Without `-8`, kanji mode may be used only if `-k` is given.
 ///
@@ -142,16 +144,16 @@ fn run_to_result<R: Source, W: Sink>(
 /// character of kanji mode) are unchanged. If `-8` is given too, all bytes are unchanged. Without `-i` no letter is
 /// changed.
 ///
-/// After a fault the status is 1, and `err` received the fault's line. If writing this line failed, `err` received a
-/// prefix of it. After a write fault, `out` received a prefix of the drawing, or the whole drawing if only the flush
-/// failed. After any other fault, nothing was written to `out`, and `out` was not flushed.
+/// After a fault the status is 1, and `err` received the fault's line. If the line could not be written completely,
+/// `err` received a prefix of the line. After a write fault, `out` received a prefix of the drawing, or the whole
+/// drawing if only the flush failed. After any other fault, nothing was written to `out`, and `out` was not flushed.
 ///
 /// A read fault is reported exactly if one of two events occurred: a failed read, or the 1,000th interrupted read. A
-/// write fault is reported exactly if one of four events occurred: a failed write of the drawing, a write that accepted
-/// no byte, the 1,000th interrupted write, or a failed flush.
+/// write fault is reported exactly if one of four events occurred. These events are a failed write of the drawing, a
+/// write that accepted no byte, the 1,000th interrupted write, and a failed flush.
 ///
-/// The input is every byte of `input` up to its end, but at most 113,425 bytes are read. No more than 114,424 calls
-/// read from `input`. After the end of `input` no further read is made, not even a read into an empty buffer.
+/// The input is every byte of `input` up to its end, but at most 113,425 bytes are read. At most 114,424 calls read
+/// from `input`. After the end of `input` no further read is made, not even a read into an empty buffer.
 ///
 /// If a run has to read the input, it reads `input` to its end, or until it has 113,425 bytes. Only a read fault or
 /// lack of memory can stop the reading earlier. After a write fault, the number of bytes that `out` received is at most

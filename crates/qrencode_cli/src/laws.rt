@@ -6,14 +6,14 @@ ghost use Rattle.qr_devices.specs.declared.device.TheConstants.{INTERRUPTIONS_MA
 ghost use Rattle.qr_drawing.specs.declared.pen.TheConstants.{WRITE_MAX};
 ghost use Rattle.qrencode_cli.specs.Laws.{AnswersAreOne, FoldingFollowsTheRule, LinesOfFaults, NumbersOfUsageFaults, RefusalsAreOne, RefusalsExcludeDrawings, CommandLines, RulesOfModes, StatusesAreTwo};
 
-/// `CommandLines` lists 45 command lines, each with its settings or with a reason to refuse it. Each command line on
-/// the list has the settings beside it, or is refused for the reason beside it.
+/// `CommandLines` lists 45 command lines, each with its settings or with a reason to refuse it. Each command line has
+/// the settings that the list states for it, or is refused for the reason that the list states.
 pub fn command_lines()
     ensures { CommandLines }
 {}
 
-/// Three constants have these values. At most 113,425 bytes of input are read (`INPUT_MAX`). One write offers at most
-/// 1,200 bytes to a device (`WRITE_MAX`). For each device, at most 999 interrupted calls are tried again
+/// This law states the values of three constants. At most 113,425 bytes of input are read (`INPUT_MAX`). One write
+/// offers at most 1,200 bytes to a device (`WRITE_MAX`). For each device, at most 999 interrupted calls are tried again
 /// (`INTERRUPTIONS_MAX`).
 pub fn limits()
     ensures input { INPUT_MAX ≡ 113425 }
@@ -36,9 +36,9 @@ pub fn rules_of_modes()
     ensures { RulesOfModes }
 {}
 
-/// The input is folded for the allowed modes if `-i` is given, and is unchanged otherwise. Folding turns the letters
-/// `a` to `z` into capitals. With `-k`, folding does not change kanji pairs, that is, two bytes that are one character
-/// of kanji mode. With `-8`, folding changes nothing.
+/// If `-i` is given, the input is folded, in a way that depends on the allowed modes. Without `-i` the input is
+/// unchanged. Folding turns the letters `a` to `z` into capitals. With `-k`, folding does not change kanji pairs, that
+/// is, two bytes that are one character of kanji mode. With `-8`, folding changes nothing.
 #[tactic(auto, unfolding(qr_bits::specs::Folding::folded_around_pairs, qr_bits::specs::Modes::is_kanji_pair))]
 pub fn folding_follows_the_rule()
     ensures { FoldingFollowsTheRule }

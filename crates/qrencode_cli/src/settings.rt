@@ -27,8 +27,8 @@ const QUIET_ZONE: u8 = 4;
 pub struct Settings {
     /// The error correction level.
     pub level: Level,
-    /// The smallest version that may be chosen, or `None` if every version may be chosen. For a series, the version of
-    /// all its symbols.
+    /// The smallest version that may be chosen, or `None` if every version may be chosen. In a series, all symbols have
+    /// exactly this version.
     pub smallest: Option<Version>,
     /// The type of the drawing.
     pub kind: Drawing,
@@ -67,7 +67,7 @@ impl Model for Settings {
 }
 
 impl Settings {
-    // Returns the rule that says which encoding modes the segments may have.
+    // Returns the rule that states which encoding modes the segments may have.
     pub(crate) fn rule(&self) -> Rule
         ensures { result ≡ rule_for self.now }
     {
@@ -81,8 +81,8 @@ impl Settings {
     }
 }
 
-/// The reason why a command line is refused. If several of the first four reasons apply, the one that is listed first
-/// here is returned. `Memory` is returned if memory is refused before another reason is returned.
+/// The reason why a command line is refused. If several of the first four reasons apply, `options` returns the first of
+/// them, in the order of this list. If memory is refused before `options` returns another reason, it returns `Memory`.
 #[derive(Debug, Drop, Error)]
 pub enum UsageFault {
     /// `clap` refuses the arguments. The text is the message of `clap`, or the help text if the arguments ask for help.
@@ -192,7 +192,7 @@ fn drawing_in(matches: &ArgMatches<'_>) -> Option<Drawing>
     text_in(matches, "type").and_then(drawing_named)
 }
 
-// Returns whether the option `id`, an option without a value, is given. Reads the option as a text, because the
+// Returns whether the option `id`, an option without a value, is given. The option is read as a text, because the
 // contracts of `clap` describe every value as a text.
 fn flag_in(matches: &ArgMatches<'_>, id: &str) -> bool
     ensures { result ≡ flag_at (first_of id.now (rows_of (found_of matches.now))) }
@@ -260,8 +260,8 @@ fn settings_in(alloc: Global, matches: &ArgMatches<'_>) -> Result<Settings, Usag
 }
 
 /// Parses the command line `words`, and returns its settings. The first text of `words` is the program's name. The
-/// crate `clap` decides which arguments are valid and which values the options have. The contract of `clap` states both
-/// for commands without subcommands.
+/// crate `clap` decides which arguments are valid and which values the options have. For commands without subcommands,
+/// the contract of `clap` states these decisions.
 ///
 /// # Errors
 ///

@@ -1,4 +1,4 @@
--- Defines the cells of a text from the bits of their modules, and the greatest number of bytes of a cell. A cell is the
+-- Defines the text of a cell from the bits of its modules, and the greatest number of bytes of a cell. A cell is the
 -- text for one module, or for two modules, one above the other.
 use Rattle.std.specs.Prelude.{◌≡◌, ℕ, ◌+◌, ◌*◌, ◌<◌, Bool, false, not, List, Option, Some, None}
 use Rattle.qr_matrix.specs.Grid.{Grid}
@@ -22,14 +22,14 @@ top_row Inverse y = y
 top_row HalfBlocks y = 2 * y
 
 -- `cell_text style upper lower` is the text of a cell. In the style `HalfBlocks` the cell shows the module `upper` and
--- the module `lower` below it; in the other styles the cell shows only the module `upper`
+-- the module `lower` below it. In the other styles the cell shows only the module `upper`
 abbrev pub cell_text : TextStyle → Bool → Bool → List ℕ
 cell_text Plain upper lower = ascii_module upper
 cell_text Inverse upper lower = ascii_module (not upper)
 cell_text HalfBlocks upper lower = half_blocks upper lower
 
--- `cell_at style margin g row x` is the text of the cell for the module in row `row` and column `x` of the raster,
--- which is the square of modules `g` with its margin. In the style `HalfBlocks` the cell also shows the module in the
+-- `cell_at style margin g row x` is the text of the cell for the module in row `row` and column `x` of a raster. The
+-- raster is the square of modules `g` with its margin. In the style `HalfBlocks` the cell also shows the module in the
 -- row below
 abbrev pub cell_at : TextStyle → ℕ → Grid → ℕ → ℕ → List ℕ
 cell_at style margin g row x = cell_text style (is_dark_at margin g row x) (is_dark_at margin g (row + 1) x)
@@ -44,14 +44,14 @@ bits_text n style upper lower = texts_below n (λ k. cell_text style (has_bit up
 abbrev pub pair_text : ℕ → List ℕ
 pair_text pair = texts_below 2 (λ k. half_blocks (has_bit pair k) (has_bit pair (2 + k)))
 
--- `AreDark margin g row col bits` holds if the bits 0 to 7 of `bits` are the colours of eight modules in row `row` of
--- the raster. A set bit is a dark module. Bit 0 is the module in column `col` of the square of modules `g`, without the
--- margin. Bits of columns outside the square may have any value
+-- `AreDark margin g row col bits` holds if the bits 0 to 7 of `bits` are the colours of eight modules in row `row` of a
+-- raster. The raster is the square of modules `g` with its margin. A set bit is a dark module. Bit 0 is the module in
+-- column `col` of the square, without the margin. Bits of columns outside the square may have any value
 abbrev pub AreDark : ℕ → Grid → ℕ → ℕ → ℕ → Type 0
 AreDark margin g row col bits = (k : ℕ) → k < 8 → col + k < g.side → has_bit bits k ≡ is_dark_at margin g row (margin + (col + k))
 
--- `ShowsRow margin g row r` holds if row `row` of the raster shows row `r` of the square of modules `g`. If `r` is
--- `None`, the whole row of the raster is light
+-- `ShowsRow margin g row r` holds if row `row` of a raster shows row `r` of the square of modules `g`. The raster is
+-- the square with its margin. If `r` is `None`, the whole row of the raster has to be light
 abbrev pub ShowsRow : ℕ → Grid → ℕ → Option ℕ → Type 0
 ShowsRow margin g row (Some r) = (margin + r ≡ row) × (r < g.side)
 ShowsRow margin g row None = (x : ℕ) → is_dark_at margin g row x ≡ false

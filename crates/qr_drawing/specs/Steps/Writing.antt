@@ -14,27 +14,26 @@ pub record IsWell (c : WriteCounts) (interrupted : ℕ) : Type 0 where
   pub few : interrupted < 1000
 
 -- `Sends old new text held` holds if the writer accepted a prefix of `text`, and `held` is the rest of `text`. The
--- writer was `old` before, and is `new` afterwards
+-- writer changed from `old` to `new`
 pub record Sends (old new : Writer) (text held : List ℕ) : Type 0 where
   pub sent : List ℕ
   pub grows : Appends old.taken new.taken sent
   pub whole : sent ++ held ≡ text
   pub many : old.counts.taken < 2 ^ 64 → new.counts.taken ≡ counted (old.counts.taken + length sent)
 
--- `Writes old new tried tries text held` holds if `text` was written, except for its last bytes `held`, which wait in
--- the pen. The writer was `old` before, and is `new` afterwards. If the writer had no fault and `tried` interrupted
--- writes before, it has no fault and `tries` interrupted writes afterwards. No write offered more than 1,200 bytes, and
--- there was no flush
+-- `Writes old new tried tries text held` holds if a prefix of `text` was written, and the rest `held` is in the pen, a
+-- buffer. The writer changed from `old` to `new`. If the writer had no fault and `tried` interrupted writes before, it
+-- has no fault and `tries` interrupted writes afterwards. No write offered more than 1,200 bytes, and there was no
+-- flush
 pub record Writes (old new : Writer) (tried tries : ℕ) (text held : List ℕ) : Type 0 where
   pub sends : Sends old new text held
   pub well : IsWell old.counts tried → IsWell new.counts tries
   pub offered : new.counts.offered ≤ max old.counts.offered 1200
   pub flushes : new.counts.flushes ≡ old.counts.flushes
 
--- `Stops old new tried text` holds if a fault of the writer ended the writing of `text`, after the writer had accepted
--- a prefix of `text`. The writer was `old` before, and is `new` afterwards. If the writer had no fault and `tried`
--- interrupted writes before, its counts show one fault afterwards. No write offered more than 1,200 bytes, and there
--- was no flush
+-- `Stops old new tried text` holds if the writer accepted a prefix of `text`, and then a fault of the writer ended the
+-- writing. The writer changed from `old` to `new`. If the writer had no fault and `tried` interrupted writes before,
+-- its counts show one fault afterwards. No write offered more than 1,200 bytes, and there was no flush
 pub record Stops (old new : Writer) (tried : ℕ) (text : List ℕ) : Type 0 where
   pub prefix : AppendsBeginning old.taken new.taken text
   pub most : old.counts.taken < 2 ^ 64 → new.counts.taken ≤ counted (old.counts.taken + length text)

@@ -1,4 +1,4 @@
--- The results of the steps of a run of the command.
+-- Defines the results of the steps of a run of the command.
 use Rattle.std.specs.Prelude.{◌≡◌, ◌<◌, ◌≤◌, ℕ, List, [], length, IfErr, Result, MatchResult}
 use Rattle.clap.specs.Walk.{Text}
 use Rattle.qrencode_cli.specs.Command.{HasDrawing, InputConsumedFor, IsFault, OutputHolds}
@@ -16,13 +16,13 @@ use Rattle.qrencode_cli.specs.declared.fault.Fault.TheVariants.{Encode, Memory, 
 use Rattle.qr_symbol.specs.declared.fault.EncodeFault.TheVariants.{Empty, TooLong, TooMany}
 use Rattle.qrencode_cli.specs.declared.drawing_job.DrawingJob.{DrawingJob}
 
--- `drawing_of_job job` is the drawing of the symbols of the drawing job `job`
+-- `drawing_of_job job` is the drawing of the symbols of `job`, with the type and the margin of the drawing job `job`
 abbrev pub drawing_of_job : DrawingJob → List ℕ
 drawing_of_job job = drawn job.kind job.margin (squares_of job.symbols.items)
 
 -- `AreDrawnFor s input symbols` holds if `symbols` are the symbols of `input` under the settings `s`, and these symbols
--- can be drawn. If they are read and joined, the result is `input`, which has at least one byte and fewer than
--- `INPUT_MAX` bytes
+-- can be drawn. If the symbols are read and joined, the result is `input`. The input has at least one byte and fewer
+-- than `INPUT_MAX` bytes
 pub record AreDrawnFor (s : SettingsView) (input : List ℕ) (symbols : List Symbol) : Type 0 where
   pub asked : AreSymbols s input (squares_of symbols)
   pub joined : IsJoined (squares_of symbols) input
@@ -46,16 +46,18 @@ abbrev pub IsEarly : Fault → Type 0
 IsEarly Write = ⊥
 IsEarly _ = Unit {0}
 
--- `Prepares words old new result` holds if `result` is the drawing job for the command line `words` and its input, or a
--- fault that occurs before any byte is written. The reader of the input changed from `old` to `new`
+-- `Prepares words old new result` holds if `result` is correct for the command line `words` and its input. The result
+-- is a drawing job (the symbols, and how they are drawn), or a fault that occurs before any byte is written. The reader
+-- of the input changed from `old` to `new`
 pub record Prepares (words : List Text) (old new : Reader) (result : Result DrawingJob Fault) : Type 0 where
   pub given : List ℕ
   pub is_input : IsInputOf old.remaining given
   pub reads : InputConsumedFor (settings_for words) old new given result
   pub answer : MatchResult result (λ p. HasDrawing words given (drawing_of_job p)) (λ f. IsFault words given f × IsEarly f)
 
--- `Attempts words in0 in1 out0 out1 result` holds if a run for the command line `words` can have this `result`, before
--- a fault is reported. The reader changed from `in0` to `in1`, and standard output changed from `out0` to `out1`
+-- `Attempts words in0 in1 out0 out1 result` holds if a run for the command line `words` can have this `result`. A fault
+-- in the `result` is not yet reported on standard error. The reader changed from `in0` to `in1`, and standard output
+-- changed from `out0` to `out1`
 pub record Attempts (words : List Text) (in0 in1 : Reader) (out0 out1 : Writer) (result : Result (Unit {0}) Fault) : Type 0 where
   pub given : List ℕ
   pub is_input : IsInputOf in0.remaining given

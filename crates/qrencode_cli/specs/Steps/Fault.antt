@@ -1,4 +1,4 @@
--- How the faults of the command line and of encoding become faults of the command.
+-- Defines how the faults of the command line and of encoding become faults of the command.
 use Rattle.qr_symbol.specs.declared.fault.EncodeFault.{EncodeFault}
 use Rattle.qr_symbol.specs.declared.fault.EncodeFault.TheVariants as encode
 use Rattle.qrencode_cli.specs.declared.fault.Fault.{Fault}
