@@ -105,12 +105,12 @@ impl BitRow {
         requires { pattern < 64 }
         ensures { (c : ℕ) → c < 192 → has result c ≡ has_bit pattern (c % 6) }
     {
-        let twice = 65 * u64::from(pattern);
-        BitRow([
-            (twice % 64).wrapping_mul(SIXTHS),
-            (twice / 16 % 64).wrapping_mul(SIXTHS),
-            (twice / 4 % 64).wrapping_mul(SIXTHS),
-        ])
+        // The second word begins with bit 4 of the pattern, since 64 % 6 is 4. So its two lowest bits are the bits 4 and 5
+        // of the pattern, and above these bits is the first word. The third word begins with bit 2 of the pattern, since
+        // 128 % 6 is 2.
+        let pattern = u64::from(pattern);
+        let word = pattern.wrapping_mul(SIXTHS);
+        BitRow([word, word << 2 | pattern >> 4, word << 4 | pattern >> 2])
     }
 
     /// Returns the bit row in which a bit is set if it is set in this bit row and not set in `other`.

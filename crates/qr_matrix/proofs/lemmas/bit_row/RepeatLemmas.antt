@@ -1,5 +1,5 @@
 -- A pattern of six bits, repeated over three words.
-use Rattle.std.proofs.Common.{◌≡◌, ℕ, zero, suc, ◌*◌, ◌/◌, ◌%◌, ◌^◌, ◌<◌, Bool, true, false, ◌&&◌, refl, inl, inr, subst, arith}
+use Rattle.std.proofs.Common.{◌≡◌, ℕ, zero, suc, ◌*◌, ◌/◌, ◌%◌, ◌^◌, ◌<◌, Bool, true, false, ◌&&◌, bit_or, refl, inl, inr, subst, arith}
 use Rattle.std.proofs.lemmas.Bool.{cases_lt}
 use Rattle.qr_matrix.specs.BitRow.{has_bit}
 use Rattle.qr_matrix.specs.Penalty.{is_same, all_below}
@@ -32,7 +32,9 @@ same-same false false h = refl
 
 -- the three words of a pattern
 abbrev pub repeats : ℕ → ℕ
-repeats p = three (65 * p % 64 * 0x1041041041041041 % 2 ^ 64) (65 * p / 16 % 64 * 0x1041041041041041 % 2 ^ 64) (65 * p / 4 % 64 * 0x1041041041041041 % 2 ^ 64)
+repeats p =
+    let w = p * 0x1041041041041041 % 2 ^ 64 in
+    three w (bit_or (w * 2 ^ 2 % 2 ^ 64) (p / 2 ^ 4)) (bit_or (w * 2 ^ 4 % 2 ^ 64) (p / 2 ^ 2))
 
 -- a place has its bit of the pattern
 repeats-at : ℕ → ℕ → Bool

@@ -1,8 +1,16 @@
-use Rattle.std.proofs.Common.{ap, ◌∙◌}
+use Rattle.std.proofs.Common.{ap, ◌∙◌, ◌*◌, ◌/◌, ◌%◌, ◌^◌, ◌<◌, refl, arith}
+use Rattle.std.proofs.lemmas.Nat.{or_lt}
 use Rattle.qr_matrix.specs.BitRow.{has, has_bit, bit_row_number}
 use Rattle.qr_matrix.proofs.lemmas.bit_row.RepeatLemmas.{repeats, repeated-bit}
 use Rattle.qr_matrix.proofs.bit_row.BitRow.repeated.Goals as goal
 
 pub returns : goal.returns
 unfolding has bit_row_number
-returns c = λ k l. ap (λ z. has_bit (repeats z) k) c.from-twice.ensures ∙ repeated-bit c.args.pattern k c.requires l
+returns c = λ k l. ap (λ z. has_bit (repeats z) k) c.from-pattern.ensures ∙ repeated-bit c.args.pattern k c.requires l
+
+pub invariant_of-result : goal.invariant_of-result
+invariant_of-result c =
+    let p = c.from-pattern.result in
+    let small : p < 64 = omega (arith, c.from-pattern.ensures) in
+    let w = p * 0x1041041041041041 % 2 ^ 64 in
+    (refl, omega arith, or_lt 64 (w * 2 ^ 2 % 2 ^ 64) (p / 2 ^ 4) (omega arith) (omega arith), or_lt 64 (w * 2 ^ 4 % 2 ^ 64) (p / 2 ^ 2) (omega arith) (omega arith))
