@@ -66,8 +66,9 @@ pub fn fitting_inputs_are_short()
 {}
 
 /// Segments that satisfy the definition `IsLeastSegmentation` cover their input: no segment is empty, their lengths add
-/// up to the length of the input, and the mode of each segment can write its bytes. These segments take as few bits as
-/// the valid assignment of modes that takes the fewest bits. An assignment has a mode for each byte of the input.
+/// up to the length of the input, and the mode of each segment can write its bytes. Segments that satisfy
+/// `IsLeastSegmentation` take as few bits as the valid assignment of modes that takes the fewest bits. An assignment
+/// has a mode for each byte of the input.
 pub fn least_segmentations_fit()
     ensures { LeastSegmentationsFit }
 {}

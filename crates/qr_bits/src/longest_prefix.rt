@@ -72,8 +72,8 @@ fn longest_by_rows(input: &[u8], version: Version, rule: Rule, room: u64) -> usi
 ///
 /// # Notes
 ///
-/// The function `longest_fit` never allocates memory. It has the parameter `_alloc` and returns a `Result` only so that
-/// it can be called like the functions `segments` and `codewords`.
+/// The function `longest_fit` never allocates memory. The function `longest_fit` has the parameter `_alloc` and returns
+/// a `Result` only so that it can be called like the functions `segments` and `codewords`.
 pub fn longest_fit(
     _alloc: Global,
     input: &[u8],

@@ -1,4 +1,5 @@
-//! The bits of the format information and of the version information of a symbol (ISO/IEC 18004:2015, 7.9 and 7.10).
+//! Contains the bits of the format information and of the version information of a symbol (ISO/IEC 18004:2015, 7.9 and
+//! 7.10).
 
 ghost use Rattle.std.specs.Prelude.{◌≡◌, ◌≤◌, ◌<◌, SomeIff};
 ghost use Rattle.qr_layout.specs.Format.{format_word_of, version_word_of};
