@@ -55,7 +55,7 @@ pub fn streams_have_their_bits()
 {}
 
 /// If segments fit in a symbol, the character count of each segment fits the width of its character count indicator.
-/// The law is for segments whose modes can write their bytes.
+/// This law requires that the mode of each segment can write the bytes of the segment.
 pub fn counts_fit_where_bits_fit()
     ensures { CountsFitWhereBitsFit }
 {}
@@ -67,8 +67,8 @@ pub fn fitting_inputs_are_short()
 
 /// Segments that satisfy the definition `IsLeastSegmentation` cover their input: no segment is empty, their lengths add
 /// up to the length of the input, and the mode of each segment can write its bytes. Segments that satisfy
-/// `IsLeastSegmentation` take as few bits as the valid assignment of modes that takes the fewest bits. An assignment
-/// has a mode for each byte of the input.
+/// `IsLeastSegmentation` take as few bits as possible: no valid assignment of modes to the bytes of the input takes
+/// fewer bits. An assignment has a mode for each byte of the input.
 pub fn least_segmentations_fit()
     ensures { LeastSegmentationsFit }
 {}
@@ -80,7 +80,7 @@ pub fn segmentations_are_one()
         → IsLeastSegmentation v r xs ss → IsLeastSegmentation v r xs ts → ss ≡ ts }
 {}
 
-/// To fold an input (to turn small letters into capitals) does not change its number of bytes.
+/// Folding turns the small letters of an input into capitals, and does not change the number of bytes.
 pub fn foldings_keep_lengths()
     ensures { (r : Rule) (xs : List ℕ) → length (folded r xs) ≡ length xs }
 {}
@@ -131,8 +131,8 @@ pub fn payloads_compute()
 /// The definitions in `specs/` compute the data codewords of four symbols of version 1. The first symbol has a segment
 /// of digits, the second symbol has a segment of alphanumeric characters, and the third symbol has a segment of kanji
 /// pairs. The fourth symbol has a structured append header and a segment in byte mode, and is the second symbol of a
-/// series of three. These four examples contain the mode indicators, the character counts, the order of the fields of a
-/// structured append header, the terminator and the pad codewords (7.4.1 to 7.4.10, 8.1).
+/// series of three. The four symbols are examples of mode indicators, character counts, the order of the fields of a
+/// structured append header, terminators and pad codewords (7.4.1 to 7.4.10, 8.1).
 #[tactic(auto, unfolding(crate::specs::Modes::characters, crate::specs::Modes::character_value, crate::specs::Modes::kanji_value, crate::specs::Stream::digit_bits, crate::specs::Stream::character_bits, crate::specs::Stream::kanji_bits, crate::specs::Stream::payload, crate::specs::Stream::segment_stream, crate::specs::Stream::segments_stream, crate::specs::Header::header_stream, crate::specs::Padding::padded, crate::specs::Padding::pads, crate::specs::Bits::field, crate::specs::Bits::bits_of))]
 pub fn streams_compute()
     ensures digits { padded 16 (segments_stream 1 (codes "01234567") (one Numeric 8)) ≡ bits_of eight_digits }

@@ -41,10 +41,10 @@ fn bytes_in(room: u64, version: Version) -> usize
 // Returns the length of the longest prefix of `input` that can be written in at most `room` bits.
 //
 // The function considers each prefix in reverse order, where the second byte of a kanji pair comes first. A prefix
-// takes as many bits in reverse order as in the order of the input. The reverse order is used because the function
-// `best_choices` adds a byte in front of the bytes that were added before. Each turn of the loop adds the byte
-// `input[i]`. After this turn, `rest.start / 4`, rounded down, is the least number of bits of the prefix that ends with
-// `input[i]`.
+// takes as many bits in reverse order as in the order of the input. The reverse order is needed because the function
+// `best_choices` can add a byte only in front of the bytes that are already counted. Each turn of the loop adds the
+// byte `input[i]`. After each turn of the loop, `rest.start / 4`, rounded down, is the least number of bits of the
+// prefix that ends with `input[i]`.
 fn longest_by_rows(input: &[u8], version: Version, rule: Rule, room: u64) -> usize
     requires { length input.now ≤ INPUT_MAX }
     ensures { IsLongestFit version rule input.now room result }

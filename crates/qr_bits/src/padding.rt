@@ -36,8 +36,9 @@ pub(crate) fn capacity(version: Version, level: Level) -> u64
 /// segments. After the bits of the segments come a terminator, zero bits up to the end of a codeword, and pad
 /// codewords, as far as the symbol has room (7.4.9, 7.4.10).
 ///
-/// Returns `TooLong` if the header and the segments together have more bits than the data codewords of the symbol. The
-/// function returns no other error, except `Memory` if memory is refused.
+/// Returns `TooLong` if the header and the segments together have more bits than the data codewords of the symbol.
+/// Apart from `TooLong`, the only error of the function `codewords` is `Memory`, which is returned if memory is
+/// refused.
 pub fn codewords(
     alloc: Global,
     input: &[u8],

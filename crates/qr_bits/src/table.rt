@@ -9,9 +9,9 @@
 //!
 //! One number represents the choice of a mode for a byte. Ties between assignments that take equally many bits are
 //! decided by taking the smallest number: 4 times the number of bits, plus the rank of the mode (in the order Numeric,
-//! Alphanumeric, Byte, Kanji). The smallest number belongs to a choice that takes the fewest bits. Among the choices
-//! that take the fewest bits, this choice has the mode of the lowest rank. A row of the table contains the best mode of
-//! one byte for each `RunState` before the byte, in two bits each.
+//! Alphanumeric, Byte, Kanji). The smallest number belongs to the choice with the fewest bits; if several choices have
+//! the fewest bits, it belongs to the choice with the lowest rank. A row of the table contains the best mode of one
+//! byte for each `RunState` before the byte, in two bits each.
 
 ghost use Rattle.std.specs.Prelude.{◌≡◌, ◌+◌, ◌*◌, ◌/◌, ◌%◌, ◌<◌, ◌≤◌, ℕ, Bool, true, false, length, reverse, IfOk, vec_len};
 ghost use Rattle.qr_bits.specs.declared.modes.Mode.{Mode};
@@ -44,8 +44,8 @@ fn ranked(rank: u32) -> Mode
     }
 }
 
-// Returns whether `byte` may have the mode `mode` under `rule`. `mode` must not be kanji mode. The result does not hold
-// for a byte that is written as the second byte of a kanji pair.
+// Returns whether `byte` may have the mode `mode` under `rule`. `mode` must not be kanji mode. If the byte is written
+// as the second byte of a kanji pair, the result does not apply to it.
 #[tactic(auto, unfolding(crate::specs::Steps::RunState::may_begin))]
 #[inline(always)]
 fn may_begin(rule: Rule, byte: u8, mode: Mode) -> bool

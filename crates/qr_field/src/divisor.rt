@@ -10,7 +10,7 @@ use crate::register::Register;
 use arrayvec::ArrayVec;
 use std::marker::Model;
 
-/// A generator polynomial for n error correction codewords, in the form of its multiples. The multiples of the
+/// A `Divisor` contains multiples of the generator polynomial for n error correction codewords. The multiples of the
 /// generator polynomial are computed once and used for many blocks. In contracts, the value of a `Divisor` is the
 /// number n of error correction codewords.
 #[derive(Drop)]

@@ -68,10 +68,10 @@ pub fn erasures_are_unambiguous()
     ensures { ErasuresAreUnambiguous }
 {}
 
-/// If every codeword of a block was read, the number of unread codewords is 0. In this case, the number of misread
-/// codewords is the number of codewords in which the block differs from the list that was read. So the law
-/// `erasures_are_unambiguous` applies if twice the number of misread codewords is at most the number of error
-/// correction codewords.
+/// If every codeword of a block was read, the number of unread codewords is 0. If every codeword of a block was read,
+/// the number of misread codewords is the number of codewords in which the block differs from the list that was read.
+/// Without unread codewords, the law `erasures_are_unambiguous` applies if twice the number of misread codewords is at
+/// most the number of error correction codewords.
 pub fn damage_is_unambiguous()
     ensures read { (xs : List ℕ) → erasures (map (λ x. Some x) xs) ≡ 0 }
     ensures misread { (xs ys : List ℕ) → errors (map (λ x. Some x) xs) ys ≡ differences xs ys }

@@ -77,8 +77,8 @@ fn is_alignment_light(v: Version, row: u8, col: u8) -> bool
     is_light_among(centres, side, row, col)
 }
 
-// Returns the colour of the module in row `row` and column `col` (`true` is dark), if it belongs to a finder pattern,
-// separator, timing pattern or alignment pattern. For any other module, returns `None`.
+// Returns the colour of the module in row `row` and column `col` (`true` is dark), if the module belongs to a finder
+// pattern, separator, timing pattern or alignment pattern. For any other module, returns `None`.
 #[tactic(auto, unfolding(crate::specs::Role::pattern_colour))]
 fn pattern_colour(v: Version, row: u8, col: u8) -> Option<bool>
     ensures { result ≡ pattern_colour v row col }

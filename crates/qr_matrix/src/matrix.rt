@@ -208,8 +208,8 @@ impl Matrix {
         self.set_bit_row(row, plain.bit_row(index) ^ inverted);
     }
 
-    // Sets the colours of the modules of row `row` whose bits are set in `columns`. The modules with these bits become
-    // dark if `dark` is true, and light otherwise. No bit of a column outside the square may be set.
+    // Sets the modules of row `row` whose bits are set in `columns` to one colour: dark if `dark` is true, and light
+    // otherwise. No bit of a column outside the square may be set.
     fn fill_row(&mut self, row: u8, columns: BitRow, dark: bool)
         requires row_in { row < self.old.side }
         requires past { (c : ℕ) → self.old.side ≤ c → has columns c ≡ false }
@@ -233,8 +233,8 @@ impl Matrix {
         requires right_in { right ≤ self.old.side }
         ensures { self.new ≡ with_rectangle self.old top bottom left right dark }
     {
-        // The line `prove!` below only helps the prover: it repeats that a `Matrix` has at most 177 modules on a side.
-        // The prover needs the bound 177 if the rectangle has no rows.
+        // The `prove!` line below only helps the prover: this line repeats that a `Matrix` has at most 177 modules on a
+        // side. The prover needs the bound 177 if the rectangle has no rows.
         prove!(self.side <= 177);
         let columns = BitRow::below(right).and_not(BitRow::below(left));
         for row in top..bottom {
