@@ -29,7 +29,7 @@ use crate::modes::INPUT_MAX;
 
 /// A parse of bits succeeds exactly if the bits are a bit stream, followed by an end. A bit stream is an optional
 /// structured append header and segments. An end is either fewer than four bits, or a terminator and any further bits.
-/// The segments of the bit stream may be empty and may be chosen in any way.
+/// The segments of the bit stream may be empty, and need not be the segments with the fewest bits.
 pub fn streams_are_parsed()
     ensures { StreamsAreParsed }
 {}
@@ -40,8 +40,8 @@ pub fn data_are_parsed()
 {}
 
 /// If the data codewords of a symbol have room for a bit stream, exactly one list of data codewords contains the bit
-/// stream and its padding. This list has as many codewords as the standard requires for the version and the level of
-/// the symbol.
+/// stream and its padding. The list of data codewords has as many codewords as the standard requires for the version
+/// and the level of the symbol.
 pub fn data_are_one()
     ensures there { DataAreThere }
     ensures one { DataAreOne }
@@ -222,8 +222,8 @@ pub fn parse_fault_numbers(fault: ParseFault) -> u8
 /// The definition `kanji_value` converts kanji pairs to values, and the definition `kanji_pair` converts values to
 /// kanji pairs. The examples are the two kanji pairs that the standard encodes, and the greatest kanji pair (7.4.6).
 /// The definition `is_kanji_pair` decides for thirteen pairs of bytes whether they are kanji pairs. Six of the thirteen
-/// are kanji pairs, which are in the ranges 8140 to 9FFC and E040 to EBBF (hexadecimal). Of the seven others, six are
-/// outside these ranges, and the second byte of 81FD is too great.
+/// are kanji pairs, which are in the ranges 8140 to 9FFC and E040 to EBBF (hexadecimal). Seven of the thirteen are no
+/// kanji pairs: six are outside the two ranges, and the second byte of 81FD is too great.
 #[tactic(auto, unfolding(crate::specs::Modes::is_kanji_pair, crate::specs::Modes::kanji_value, crate::specs::Parsing::kanji_pair))]
 pub fn kanji_compute()
     ensures first { kanji_value 0x93 0x5F ≡ 0xD9F }

@@ -24,7 +24,7 @@ fn least_sixths(byte: u8) -> u32
 
 /// Returns a lower bound on the number of bits that `input` takes, however it is split into segments. The bound is a
 /// sum of 10/3 bits for each digit, 11/2 bits for any other byte that is not greater than `Z`, and 13/2 bits for each
-/// byte greater than `Z`. This sum is rounded down to whole bits. The bound does not include mode indicators and
+/// byte greater than `Z`. The bound is rounded down to whole bits. The bound does not include mode indicators and
 /// character count indicators (ISO/IEC 18004:2015, 7.4.3 to 7.4.6).
 ///
 /// # Notes

@@ -54,8 +54,8 @@ impl Model for Parsed {
 
 /// Parses data codewords up to their end: the terminator, or the place where fewer than four bits are left. The bits
 /// after the end may be any bits. Apart from lack of memory, the parse succeeds exactly if the bits before the end are
-/// an optional structured append header, followed by segments. The segments may be empty, and the input may be split
-/// into segments in any way.
+/// an optional structured append header, followed by segments. The segments may be empty, and need not be the segments
+/// with the fewest bits.
 ///
 /// If the parse fails, returns the fault that occurs first. The fault is `Memory` if memory is refused. The fault is
 /// `BadMode` if a mode indicator belongs to none of the four modes, or if a structured append header is not at the
@@ -148,8 +148,8 @@ fn segment(
     Ok(Segment { mode, len })
 }
 
-// Reads the mode indicator and the character count indicator of a segment. Then checks that the codewords contain all
-// bits of the segment's data. The function does not allocate, so its fault is never `Memory`.
+// Reads the mode indicator and the character count indicator of a segment. After that, checks that the codewords
+// contain all bits of the segment's data. The function does not allocate, so its fault is never `Memory`.
 #[tactic(auto, unfolding(crate::specs::Parsing::segment_at, crate::specs::Parsing::leading_number, crate::specs::Parsing::payload_at))]
 fn segment_head(reader: &mut BitReader, version: Version) -> Result<(Mode, u16), ParseFault>
     requires { 4 ≤ length reader.old }

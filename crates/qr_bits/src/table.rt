@@ -10,8 +10,8 @@
 //! One number represents the choice of a mode for a byte. Ties between assignments that take equally many bits are
 //! decided by taking the smallest number: 4 times the number of bits, plus the rank of the mode (in the order Numeric,
 //! Alphanumeric, Byte, Kanji). The smallest number belongs to the choice with the fewest bits; if several choices have
-//! the fewest bits, it belongs to the choice with the lowest rank. A row of the table contains the best mode of one
-//! byte for each `RunState` before the byte, in two bits each.
+//! the fewest bits, it belongs to the choice with the lowest rank. A row of the table belongs to one byte, and contains
+//! two bits for each `RunState` before this byte: the best mode of the byte.
 
 ghost use Rattle.std.specs.Prelude.{◌≡◌, ◌+◌, ◌*◌, ◌/◌, ◌%◌, ◌<◌, ◌≤◌, ℕ, Bool, true, false, length, reverse, IfOk, vec_len};
 ghost use Rattle.qr_bits.specs.declared.modes.Mode.{Mode};

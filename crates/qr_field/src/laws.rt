@@ -54,8 +54,8 @@ pub fn correction_computes()
 {}
 
 /// If the data codewords of two blocks differ, the blocks differ in at least n + 1 codewords, where n is the number of
-/// error correction codewords of each block. The law is for two blocks with the same number of data codewords, and with
-/// at most 255 codewords each in all.
+/// error correction codewords of each block. The law requires that the two blocks have the same number of data
+/// codewords, and that neither block has more than 255 codewords in all.
 pub fn blocks_lie_apart()
     ensures { BlocksLieApart }
 {}

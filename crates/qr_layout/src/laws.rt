@@ -130,9 +130,9 @@ pub fn blocks_are_short(v: Version, level: Level)
     ensures reached { longest_of (blocks_of 27 L) ≡ 153 }
 {}
 
-/// Let t be half the number of error correction codewords of a block, rounded down. If at most t codewords of a block
-/// are misread, only one block can have been damaged in this way, by the laws of the crate `qr_field`. The number t is
-/// at least 9 % of the number of codewords of the block at level L, 17 % at M, 23 % at Q and 30 % at H.
+/// Let t be half the number of error correction codewords of a block, rounded down. By the laws of the crate
+/// `qr_field`, only one block can have been damaged in this way if at most t codewords are misread. The number t is at
+/// least 9 % of the number of codewords of the block at level L, 17 % at M, 23 % at Q and 30 % at H.
 pub fn blocks_stand_damage(v: Version, level: Level)
     ensures { damage_of level * longest_of (blocks_of v level)
         ≤ 100 * ((blocks_of v level).ec_len / 2) }

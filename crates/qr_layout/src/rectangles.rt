@@ -33,11 +33,11 @@ impl Rectangle {
     }
 }
 
-/// Returns rectangles that cover the parts of a symbol of version `v` outside the encoding region (ISO/IEC 18004:2015,
-/// 6.3.3 to 6.3.5, 7.9 and 7.10). The returned list has no rectangles for the alignment patterns. Three rectangles are
-/// corners of the symbol, each with a finder pattern, its separator and format information. Two rectangles are row 6
-/// and column 6, which contain the timing patterns. From version 7 on, the list has two more rectangles, which contain
-/// the version information. Some of the rectangles overlap.
+/// Returns rectangles that cover all parts of a symbol of version `v` outside the encoding region, except for the
+/// alignment patterns (ISO/IEC 18004:2015, 6.3.3 to 6.3.5, 7.9 and 7.10). Three rectangles are corners of the symbol,
+/// each with a finder pattern, its separator and format information. Two rectangles are row 6 and column 6, which
+/// contain the timing patterns. From version 7 on, the list has two more rectangles, which contain the version
+/// information. Some of the rectangles overlap.
 pub fn fixed_rectangles(v: Version) -> ArrayVec<Rectangle, 7>
     ensures { result.items ≡ fixed_rectangles v }
 {

@@ -57,8 +57,8 @@ fn is_light_beside(centres: &[u8], side: u8, a: u8, row: u8, col: u8) -> bool
 }
 
 // Returns whether the module in row `row` and column `col` is on the light ring of an alignment pattern. `centres`
-// contains the rows of all centres, and the same numbers are the columns of the centres. `side` is the number of
-// modules on a side of the symbol.
+// contains the rows of all centres; the columns of the centres have the same numbers. `side` is the number of modules
+// on a side of the symbol.
 fn is_light_among(centres: &[u8], side: u8, row: u8, col: u8) -> bool
     requires { 21 ≤ side }
     ensures { result ≡ list_any (λ a. list_any (λ b. not (is_corner_pair side a b)

@@ -1,5 +1,5 @@
-//! Finds the runs of dark modules in a row: neighbouring dark modules, as many as possible. A run begins at a column in
-//! which the colour changes to dark, and ends before the column in which the colour changes to light.
+//! Finds the runs of dark modules in a row. A run is as many neighbouring dark modules as possible. A run begins at a
+//! column in which the colour changes to dark, and ends before the column in which the colour changes to light.
 
 ghost use Rattle.std.specs.Prelude.{◌≡◌, ℕ, ◌<◌, ◌-◌, false};
 ghost use Rattle.qr_matrix.specs.BitRow.{has};

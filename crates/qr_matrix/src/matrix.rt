@@ -133,8 +133,8 @@ impl Matrix {
         self.rows[row].word(number)
     }
 
-    // Returns the number of words of 64 bits that the modules of a row fill. The modules may fill only a part of the
-    // last of these words.
+    // Returns the number of words of 64 bits that the modules of a row fill. The modules of a row may fill only a part
+    // of the last word.
     pub(crate) fn words(&self) -> u8
         ensures least { 64 * (result - 1) < self.now.side }
         ensures most { self.now.side ≤ 64 * result }

@@ -15,8 +15,8 @@ use crate::matrix::Matrix;
 
 // Exchanges the right parts of the word `upper` with the left parts of the word `lower`, and returns both words. Each
 // word is divided into parts of `steps` columns, which are left parts and right parts in turn. The part at column 0 is
-// a left part. The set bits of `mask` are the columns of the left parts. To exchange two parts, the function inverts
-// the bits in which the parts differ, in both words.
+// a left part. The set bits of `mask` are the columns of the left parts. To exchange two parts, the function inverts,
+// in both words, the bits in which the parts differ.
 #[inline(always)]
 fn exchange_words(upper: u64, lower: u64, steps: usize, mask: u64) -> (u64, u64)
     requires some { 1 ≤ steps }
