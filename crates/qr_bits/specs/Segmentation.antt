@@ -27,7 +27,8 @@ unfoldable pub Covers : List ℕ → List Segment → Type 0
 Covers xs segs = All (λ s. 0 < s.len) segs × Suits xs segs
 
 -- `rank m` is the rank of the mode `m` in the order Numeric, Alphanumeric, Byte, Kanji. This order decides between
--- assignments of modes that take equally many bits [own]
+-- assignments of modes that take equally many bits. The function `choices` in table.rt takes the smallest number, which
+-- is 4 times the number of bits plus the rank of the mode [own]
 abbrev pub rank : Mode → ℕ
 rank Numeric = 0
 rank Alphanumeric = 1

@@ -59,7 +59,7 @@ impl BitWriter {
         Ok(())
     }
 
-    /// Writes zero bits up to the end of the current codeword, so that the number of bits becomes a multiple of eight.
+    /// Writes zero bits until the number of written bits is a multiple of eight.
     pub(crate) fn fill(&mut self) -> Result<(), AllocError>
         ensures { OnOk result (self.new ≡ filled self.old) }
     {
@@ -80,8 +80,8 @@ impl BitWriter {
     }
 }
 
-// Cuts the number `bits`, which has `width` bits, into bytes, beginning with its highest bit. Appends the whole bytes
-// to `whole`. Returns how many bits remain after the last whole byte, which is less than eight.
+// Cuts the `width` bits of the number `bits` into bytes, from the highest bit to the lowest. Appends the whole bytes to
+// `whole`. Returns the number of bits that remain after the last whole byte; this number is less than eight.
 fn push_whole(whole: &mut Vec<u8>, bits: u32, width: u8) -> Result<u8, AllocError>
     requires { width ≤ 23 }
     ensures few { IfOk result (λ left. left < 8) }
@@ -95,9 +95,9 @@ fn push_whole(whole: &mut Vec<u8>, bits: u32, width: u8) -> Result<u8, AllocErro
     Ok(left)
 }
 
-// Joins the bits of `rest`, a number of `width` bits, and the bits of `bytes`. Cuts the joined bits into bytes, and
-// appends these bytes to `whole`. The last `width` bits do not fill a byte, and the function returns these bits as a
-// number.
+// Joins the `width` bits of the number `rest` and the bits of `bytes`, in this order. Cuts the joined bits into bytes,
+// and appends these bytes to `whole`. The last `width` of the joined bits do not fill a byte, and the function returns
+// these bits as a number.
 fn push_bytes(whole: &mut Vec<u8>, width: u8, mut rest: u8, bytes: &[u8]) -> Result<u8, AllocError>
     requires few { width < 8 }
     requires rest { rest < 2 ^ width }
@@ -170,8 +170,8 @@ impl<'a> BitReader<'a> {
         number
     }
 
-    /// Returns whether no further segment follows. This is so if fewer than four bits are left, or if the next four
-    /// bits are the terminator.
+    /// Returns whether the segments end here: either fewer than four bits are left, or the next four bits are the
+    /// terminator.
     #[tactic(auto, unfolding(crate::specs::Parsing::ends))]
     pub(crate) fn ends(&self) -> bool
         ensures { result ≡ ends self.now }
@@ -179,8 +179,8 @@ impl<'a> BitReader<'a> {
         self.len() < 4 || self.indicator() == TERMINATOR
     }
 
-    /// Returns whether the next four bits are the mode indicator of structured append. A structured append header
-    /// begins with this mode indicator.
+    /// Returns whether the next four bits are the mode indicator of structured append, with which a structured append
+    /// header begins.
     #[tactic(auto, unfolding(crate::specs::Parsing::begins_header))]
     pub(crate) fn begins_header(&self) -> bool
         ensures { result ≡ begins_header self.now }

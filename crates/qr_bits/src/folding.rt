@@ -1,4 +1,5 @@
-//! Folds an input: turns its small letters into capitals, which alphanumeric mode can write.
+//! Folds an input: turns its small letters into capitals, because alphanumeric mode can write capitals, but no small
+//! letters.
 
 ghost use Rattle.std.specs.Prelude.{◌≡◌, length, map, vec_len, IfOk};
 ghost use Rattle.qr_bits.specs.Folding.{capital, folded, folded_around_pairs};
@@ -7,10 +8,11 @@ use crate::modes::Rule;
 use crate::table::begins_with_pair;
 use std::alloc::{AllocError, Global};
 
-/// Returns `input` with its letters `a` to `z` turned into capitals. The number of bytes is unchanged.
+/// Returns `input` with its letters `a` to `z` turned into capitals. The result has as many bytes as `input`.
 ///
-/// Under `Rule::WithKanji`, the input is read from the left, and both bytes of each kanji pair are unchanged. A kanji
-/// pair is two bytes that kanji mode writes as one character. Under `Rule::BytesOnly`, all bytes are unchanged.
+/// Under `Rule::WithKanji`, the function finds the kanji pairs from the left, and leaves both bytes of each pair
+/// unchanged. A kanji pair is two bytes that kanji mode writes as one character. Under `Rule::BytesOnly`, all bytes are
+/// unchanged.
 pub fn fold(alloc: Global, input: &[u8], rule: Rule) -> Result<Vec<u8>, AllocError>
     ensures bytes { IfOk result (λ v. v.items ≡ folded rule input.now) }
     ensures len { IfOk result (λ v. vec_len v ≡ length input.now) }

@@ -12,9 +12,9 @@ pub(crate) const HEADER_BITS: u64 = 20;
 pub struct Header {
     /// The index of the symbol in the series, from 0 to 15 (8.2).
     pub position: u8,
-    /// The number of symbols in the series less 1, from 0 to 15 (8.2).
+    /// The number of symbols in the series, minus 1: a number from 0 to 15 (8.2).
     pub last: u8,
-    /// The parity data of the series: the exclusive or of all bytes of its whole input (8.3).
+    /// The parity data of the series: the exclusive or of all bytes of the input that the series encodes (8.3).
     pub parity: u8,
 }
 
@@ -27,8 +27,8 @@ pub(crate) fn header_bits(header: Option<Header>) -> u64
     }
 }
 
-/// Returns the parity data of `input`: the bitwise exclusive or of all its bytes (8.3). In a series, the headers of all
-/// symbols contain the parity data of the whole input, which is all bytes that the symbols encode together.
+/// Returns the parity data of `input`: the bitwise exclusive or of all its bytes (8.3). In a series of symbols, each
+/// header contains the parity data of the whole input: all bytes that the symbols encode together.
 pub fn parity(input: &[u8]) -> u8
     ensures { result ≡ parity_of input.now }
 {

@@ -1,6 +1,6 @@
 //! The functions of this file are laws: their contracts state facts about the definitions in `specs/` and about the
-//! public types. Some laws hold for every input. The other laws compute examples, and compare the results with values
-//! that the standard prints or that were worked out by hand.
+//! public types. Some laws hold for every input, and some laws compute examples. The results of the examples are
+//! compared with values that the standard prints or that were worked out by hand.
 
 ghost use Rattle.std.specs.Prelude.{◌≡◌, ◌-◌, ◌/◌, ◌%◌, ℕ, List, [], ◌∷◌, ◌++◌, true, false, length, map, codes};
 ghost use Rattle.qr_layout.specs.declared.level.Level.{Level};
@@ -27,9 +27,9 @@ pub use crate::derives::{
 use crate::fault::{BitFault, ParseFault};
 use crate::modes::INPUT_MAX;
 
-/// A parse succeeds exactly if the bits begin with a bit stream, and no further segment follows. No segment follows if
-/// fewer than four bits are left, or if the terminator comes next. The segments of the bit stream may be empty and may
-/// be chosen in any way.
+/// A parse of bits succeeds exactly if the bits are a bit stream, followed by an end. A bit stream is an optional
+/// structured append header and segments. An end is either fewer than four bits, or a terminator and any further bits.
+/// The segments of the bit stream may be empty, and need not be the segments with the fewest bits.
 pub fn streams_are_parsed()
     ensures { StreamsAreParsed }
 {}
@@ -39,22 +39,23 @@ pub fn data_are_parsed()
     ensures { DataAreParsed }
 {}
 
-/// If the length of a bit stream is at most the capacity of a symbol, there is exactly one list of data codewords for
-/// the bit stream. The number of codewords in this list is the number that the standard requires for the symbol.
+/// If the data codewords of a symbol have room for a bit stream, exactly one list of data codewords contains the bit
+/// stream and its padding. The list of data codewords has as many codewords as the standard requires for the version
+/// and the level of the symbol.
 pub fn data_are_one()
     ensures there { DataAreThere }
     ensures one { DataAreOne }
     ensures full { DataFillTheSymbol }
 {}
 
-/// The length of a bit stream is the number of bits of its header, if it has one, plus the number of bits of its
-/// segments.
+/// The length of a bit stream is the number of bits of its structured append header (0 without a header), plus the
+/// number of bits of its segments.
 pub fn streams_have_their_bits()
     ensures { StreamsHaveTheirBits }
 {}
 
-/// Suppose that segments together have no more bits than the capacity of a symbol, and that the mode of each segment
-/// can write its bytes. Then the character count of each segment fits the width of its character count indicator.
+/// If segments fit in a symbol, the character count of each segment fits the width of its character count indicator.
+/// This law requires that the mode of each segment can write the bytes of the segment.
 pub fn counts_fit_where_bits_fit()
     ensures { CountsFitWhereBitsFit }
 {}
@@ -64,20 +65,22 @@ pub fn fitting_inputs_are_short()
     ensures { FittingInputsAreShort }
 {}
 
-/// Segments that satisfy `IsLeastSegmentation` cover their input, as `Covers` defines it. These segments take the
-/// fewest bits. If some valid assignment of modes to the bytes of the input (`IsAssignment`) takes at most n bits, then
-/// these segments have at most n bits, and conversely.
+/// Segments that satisfy the definition `IsLeastSegmentation` cover their input: no segment is empty, their lengths add
+/// up to the length of the input, and the mode of each segment can write its bytes. Segments that satisfy
+/// `IsLeastSegmentation` take as few bits as possible: no valid assignment of modes to the bytes of the input takes
+/// fewer bits. An assignment has a mode for each byte of the input.
 pub fn least_segmentations_fit()
     ensures { LeastSegmentationsFit }
 {}
 
-/// For each input, version and rule, at most one list of segments satisfies `IsLeastSegmentation`.
+/// For each input, version and rule (which determines the allowed modes), at most one list of segments satisfies the
+/// definition `IsLeastSegmentation`.
 pub fn segmentations_are_one()
     ensures { (v : ℕ) (r : Rule) (xs : List ℕ) (ss ts : List Segment)
         → IsLeastSegmentation v r xs ss → IsLeastSegmentation v r xs ts → ss ≡ ts }
 {}
 
-/// Folding an input does not change its number of bytes.
+/// Folding turns the small letters of an input into capitals, and does not change the number of bytes.
 pub fn foldings_keep_lengths()
     ensures { (r : Rule) (xs : List ℕ) → length (folded r xs) ≡ length xs }
 {}
@@ -87,18 +90,19 @@ pub fn pieces_need_no_more()
     ensures { PiecesNeedNoMore }
 {}
 
-/// In the list of all bits of codewords, the bit with the index k is the bit that `codeword_bit` computes for k.
+/// In the list of all bits of codewords, the bit with the index k is the bit that the definition `codeword_bit`
+/// computes for k.
 pub fn bits_are_codeword_bits()
     ensures { BitsAreCodewordBits }
 {}
 
-/// `INPUT_MAX`, the greatest length of an input in bytes, is 113,425.
+/// The constant `INPUT_MAX`, the greatest length of an input in bytes, is 113,425.
 pub fn limits()
     ensures { INPUT_MAX ≡ 113425 }
 {}
 
-/// For the first and the last version of each range of versions in Table 3, `count_width` computes the width of the
-/// character count indicator that the table prints (7.4.1, Table 3).
+/// Table 3 of the standard prints the widths of the character count indicators for three ranges of versions. For the
+/// first and the last version of each range, the definition `count_width` computes the printed widths (7.4.1, Table 3).
 pub fn widths_compute()
     ensures digits { map (λ v. count_width v Numeric) (1 ∷ 9 ∷ 10 ∷ 26 ∷ 27 ∷ 40 ∷ [])
         ≡ 10 ∷ 10 ∷ 12 ∷ 12 ∷ 14 ∷ 14 ∷ [] }
@@ -110,9 +114,10 @@ pub fn widths_compute()
         ≡ 8 ∷ 8 ∷ 10 ∷ 10 ∷ 12 ∷ 12 ∷ [] }
 {}
 
-/// The definitions compute the data bits of the standard's examples `01234567` and `AC-42` (7.4.3, 7.4.4). The
-/// definitions also compute the data bits of `0123`, where one digit remains after a group of three digits. For the
-/// last nine characters of alphanumeric mode, the definitions compute the values of Table 5.
+/// The definitions `digit_bits` and `character_bits` compute the data bits of the standard's examples `01234567` and
+/// `AC-42` (7.4.3, 7.4.4). The definition `digit_bits` also computes the data bits of `0123`, where one digit remains
+/// after a group of three digits. For the last nine characters of alphanumeric mode, the definition `character_value`
+/// computes the values of Table 5.
 #[tactic(auto, unfolding(crate::specs::Modes::characters, crate::specs::Stream::digit_bits, crate::specs::Modes::character_value, crate::specs::Stream::character_bits, crate::specs::Bits::field))]
 pub fn payloads_compute()
     ensures digits { digit_bits (codes "01234567") ≡ field 10 12 ++ (field 10 345 ++ field 7 67) }
@@ -123,11 +128,11 @@ pub fn payloads_compute()
         ≡ 36 ∷ 37 ∷ 38 ∷ 39 ∷ 40 ∷ 41 ∷ 42 ∷ 43 ∷ 44 ∷ [] }
 {}
 
-/// The definitions compute the data codewords of four symbols of version 1. The first three symbols have one segment
-/// each: the first of digits, the second of alphanumeric characters, and the third of kanji pairs. The fourth symbol is
-/// the second of a series of three symbols, and has a structured append header and one segment in byte mode. The
-/// examples show the mode indicators, the character counts, the order of the fields of a structured append header, the
-/// terminator and the pad codewords (7.4.1 to 7.4.10, 8.1).
+/// The definitions in `specs/` compute the data codewords of four symbols of version 1. The first symbol has a segment
+/// of digits, the second symbol has a segment of alphanumeric characters, and the third symbol has a segment of kanji
+/// pairs. The fourth symbol has a structured append header and a segment in byte mode, and is the second symbol of a
+/// series of three. The four symbols are examples of mode indicators, character counts, the order of the fields of a
+/// structured append header, terminators and pad codewords (7.4.1 to 7.4.10, 8.1).
 #[tactic(auto, unfolding(crate::specs::Modes::characters, crate::specs::Modes::character_value, crate::specs::Modes::kanji_value, crate::specs::Stream::digit_bits, crate::specs::Stream::character_bits, crate::specs::Stream::kanji_bits, crate::specs::Stream::payload, crate::specs::Stream::segment_stream, crate::specs::Stream::segments_stream, crate::specs::Header::header_stream, crate::specs::Padding::padded, crate::specs::Padding::pads, crate::specs::Bits::field, crate::specs::Bits::bits_of))]
 pub fn streams_compute()
     ensures digits { padded 16 (segments_stream 1 (codes "01234567") (one Numeric 8)) ≡ bits_of eight_digits }
@@ -136,7 +141,7 @@ pub fn streams_compute()
     ensures series { padded 9 (header_stream (Some middle) ++ segments_stream 1 (codes "FGH") (one Byte 3)) ≡ bits_of middle_data }
 {}
 
-/// The definition `parse` computes the content of the second symbol in a series of three symbols. Each row of
+/// The definition `parse` computes the content of the second symbol in a series of three symbols. Each row of the list
 /// `unreadable` contains codewords that cannot be parsed, and the fault that `parse` computes for these codewords.
 #[tactic(auto, unfolding(crate::specs::Parsing::parse, crate::specs::Parsing::first_header, crate::specs::Parsing::begins_header, crate::specs::Parsing::header_at, crate::specs::Parsing::segments_of, crate::specs::Parsing::segments_at, crate::specs::Parsing::segment_at, crate::specs::Parsing::leading_number, crate::specs::Parsing::payload_at, crate::specs::Parsing::values_of, crate::specs::Parsing::digits_of, crate::specs::Parsing::characters_of, crate::specs::Parsing::character, crate::specs::Parsing::bytes_of, crate::specs::Parsing::pairs_of, crate::specs::Parsing::kanji_pair, crate::specs::Parsing::mode_of, crate::specs::Parsing::ends, crate::specs::Modes::characters, crate::specs::Bits::field, crate::specs::Bits::bits_of))]
 pub fn parses_compute()
@@ -145,8 +150,8 @@ pub fn parses_compute()
     ensures faults { map (λ row. parse 1 (bits_of row.0)) unreadable ≡ map (λ row. Err row.1) unreadable }
 {}
 
-/// A structured append header leaves fewer bits of a symbol for segments. The number `room_of` of these bits is the
-/// capacity of the symbol, less the number of bits of the header (8.1).
+/// In a symbol with a structured append header, fewer bits remain for segments. The definition `room_of` computes how
+/// many bits remain: the number of bits of the data codewords, minus the number of bits of the header (8.1).
 pub fn headers_take_room()
     ensures { (v : ℕ) (l : Level) (h : Header) → room_of v l ≡ capacity_of v l - header_bits (Some h) }
 {}
@@ -167,10 +172,10 @@ pub fn rules_compute()
     ensures kanji { map (may_use Rule.WithKanji) all_modes ≡ true ∷ true ∷ true ∷ true ∷ [] }
 {}
 
-/// The definition `folded` computes three examples. Under the rule `Auto`, the letters `a` and `z` become capitals, and
-/// the characters beside `a` and `z` in ASCII are unchanged. Under the rule `BytesOnly`, all bytes are unchanged. Under
-/// the rule `WithKanji`, a kanji pair is unchanged even if its second byte is a small letter. A last byte that could
-/// begin a kanji pair is also unchanged.
+/// The definition `folded`, which turns small letters into capitals, computes three examples. Under the rule `Auto`,
+/// the letters `a` and `z` become capitals, and the characters beside `a` and `z` in ASCII are unchanged. Under the
+/// rule `BytesOnly`, all bytes are unchanged. Under the rule `WithKanji`, a kanji pair is unchanged even if its second
+/// byte is a small letter. Under the rule `WithKanji`, a last byte that could begin a kanji pair is unchanged.
 #[tactic(auto, unfolding(crate::specs::Folding::folded_around_pairs, crate::specs::Modes::is_kanji_pair))]
 pub fn foldings_compute()
     ensures auto { folded Rule.Auto (codes "@AZ[`az{") ≡ codes "@AZ[`AZ{" }
@@ -180,8 +185,8 @@ pub fn foldings_compute()
 {}
 
 /// The definition `least_bits` computes a lower bound on the number of bits for five short inputs: `012`, `/9:`, `AZ`,
-/// `[z` and `1A[`. The definition distinguishes digits, other bytes up to `Z`, and greater bytes. The inputs contain
-/// the bytes on both sides of each limit between these ranges.
+/// `[z` and `1A[`. The definition distinguishes three kinds of bytes: digits, all other bytes that are not greater than
+/// `Z`, and bytes greater than `Z`. The five inputs contain the bytes on both sides of each limit between these kinds.
 #[tactic(auto, unfolding(crate::specs::Segmentation::least_bits))]
 pub fn least_bits_compute()
     ensures { map least_bits (codes "012" ∷ codes "/9:" ∷ codes "AZ" ∷ codes "[z" ∷ codes "1A[" ∷ [])
@@ -192,7 +197,7 @@ pub fn least_bits_compute()
 ///
 /// # Notes
 ///
-/// The discriminants stay the same in later versions of this crate.
+/// The discriminants of `BitFault` stay the same in later versions of this crate.
 pub fn bit_fault_numbers(fault: BitFault) -> u8
     ensures memory { fault ≡ BitFault.Memory → result ≡ 1 }
     ensures too_long { fault ≡ BitFault.TooLong → result ≡ 2 }
@@ -204,7 +209,7 @@ pub fn bit_fault_numbers(fault: BitFault) -> u8
 ///
 /// # Notes
 ///
-/// The discriminants stay the same in later versions of this crate.
+/// The discriminants of `ParseFault` stay the same in later versions of this crate.
 pub fn parse_fault_numbers(fault: ParseFault) -> u8
     ensures memory { fault ≡ ParseFault.Memory → result ≡ 1 }
     ensures bad_mode { fault ≡ ParseFault.BadMode → result ≡ 2 }
@@ -214,9 +219,11 @@ pub fn parse_fault_numbers(fault: ParseFault) -> u8
     fault as u8
 }
 
-/// The definitions convert kanji pairs to values, and values to kanji pairs. The examples are the two kanji pairs that
-/// the standard encodes, and the greatest kanji pair (7.4.6). The definitions also decide whether some other pairs of
-/// bytes are kanji pairs. These pairs are in or outside the ranges 8140 to 9FFC and E040 to EBBF (hexadecimal).
+/// The definition `kanji_value` converts kanji pairs to values, and the definition `kanji_pair` converts values to
+/// kanji pairs. The examples are the two kanji pairs that the standard encodes, and the greatest kanji pair (7.4.6).
+/// The definition `is_kanji_pair` decides for thirteen pairs of bytes whether they are kanji pairs. Six of the thirteen
+/// are kanji pairs, which are in the ranges 8140 to 9FFC and E040 to EBBF (hexadecimal). Seven of the thirteen are no
+/// kanji pairs: six are outside the two ranges, and the second byte of 81FD is too great.
 #[tactic(auto, unfolding(crate::specs::Modes::is_kanji_pair, crate::specs::Modes::kanji_value, crate::specs::Parsing::kanji_pair))]
 pub fn kanji_compute()
     ensures first { kanji_value 0x93 0x5F ≡ 0xD9F }

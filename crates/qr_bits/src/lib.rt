@@ -1,4 +1,5 @@
-//! Splits an input into segments, writes segments as the data codewords of a symbol, and parses data codewords.
+//! This crate splits an input into segments, writes segments as the data codewords of a symbol, and parses data
+//! codewords.
 #![tactic(auto)]
 
 mod bits;

@@ -27,8 +27,8 @@ fn ends_with_pair(rule: Rule, bytes: &[u8]) -> bool
     may_use(rule, Mode::Kanji) && is_kanji_pair(bytes[len - 2], bytes[len - 1])
 }
 
-// Returns the greatest number of bytes that one segment in byte mode can contain, if it has at most `room` bits in a
-// symbol of this version (7.4.5).
+// Returns the greatest number of bytes that one segment in byte mode can contain, if the segment has at most `room`
+// bits in a symbol of this version (7.4.5).
 fn bytes_in(room: u64, version: Version) -> usize
     requires { 20 ≤ room }
     ensures fits { 4 + count_width version Mode.Byte + 8 * result ≤ room }
@@ -40,10 +40,11 @@ fn bytes_in(room: u64, version: Version) -> usize
 
 // Returns the length of the longest prefix of `input` that can be written in at most `room` bits.
 //
-// The function reads the bytes of a prefix in reverse order, where each kanji pair begins with its second byte. The
-// number of bits is the same in both orders. A byte at the end of the prefix is the first byte in reverse order, and
-// `best_choices` can add a byte only as the first byte. Each turn of the loop adds `input[i]`. After the turn, a
-// quarter of `rest.start`, rounded down, is the least number of bits for the prefix that ends with `input[i]`.
+// The function considers each prefix in reverse order, where the second byte of a kanji pair comes first. A prefix
+// takes as many bits in reverse order as in the order of the input. The reverse order is needed because the function
+// `best_choices` can add a byte only in front of the bytes that are already counted. Each turn of the loop adds the
+// byte `input[i]`. After each turn of the loop, `rest.start / 4`, rounded down, is the least number of bits of the
+// prefix that ends with `input[i]`.
 fn longest_by_rows(input: &[u8], version: Version, rule: Rule, room: u64) -> usize
     requires { length input.now ≤ INPUT_MAX }
     ensures { IsLongestFit version rule input.now room result }
@@ -62,16 +63,17 @@ fn longest_by_rows(input: &[u8], version: Version, rule: Rule, room: u64) -> usi
     longest
 }
 
-/// Returns the length, in bytes, of the longest prefix of `input` that fits in a symbol of this version and level after
-/// a structured append header. The segments of the prefix may have the modes that `rule` allows.
+/// Returns the length, in bytes, of the longest prefix of `input` that fits in a symbol of this version and level,
+/// together with a structured append header. The segments of the prefix may have the modes that `rule` allows.
 ///
-/// Under `Rule::WithKanji`, a prefix may fit although a shorter prefix does not fit. The reason is that a prefix that
-/// ends within a kanji pair may need a segment in byte mode for its last byte. The function never returns an error.
+/// Under `Rule::WithKanji`, a prefix may fit although a shorter prefix does not fit. A prefix that ends within a kanji
+/// pair may take more bits than a longer prefix, because its last byte may need a segment in byte mode. The function
+/// `longest_fit` never returns an error.
 ///
 /// # Notes
 ///
-/// The function never allocates. The function has the parameter `_alloc` and the return type `Result` only so that its
-/// calls look like calls of `segments` and `codewords`.
+/// The function `longest_fit` never allocates memory. The function `longest_fit` has the parameter `_alloc` and returns
+/// a `Result` only so that it can be called like the functions `segments` and `codewords`.
 pub fn longest_fit(
     _alloc: Global,
     input: &[u8],

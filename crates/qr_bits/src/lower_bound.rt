@@ -1,5 +1,6 @@
-//! Computes a lower bound on the number of bits that an input takes, however it is split into segments. If the capacity
-//! of a version is less than this bound, the version can be skipped without splitting the input.
+//! Computes a lower bound on the number of bits that an input takes, however it is split into segments. If the data
+//! codewords of a version have fewer bits than this bound, the input does not fit, and the code can skip this version
+//! without splitting the input.
 
 ghost use Rattle.std.specs.Prelude.{length, ℕ, ◌/◌, ◌≡◌, ◌≤◌};
 ghost use Rattle.qr_bits.specs.declared.modes.Rule.{Rule};
@@ -21,14 +22,14 @@ fn least_sixths(byte: u8) -> u32
     }
 }
 
-/// Returns a lower bound on the number of bits that `input` takes, however it is split into segments. The bound adds
-/// 10/3 bits for each digit, 11/2 bits for each other byte up to `Z`, and 13/2 bits for each byte greater than `Z`. The
-/// sum is rounded down to whole bits. The bound does not include mode indicators and character count indicators
-/// (ISO/IEC 18004:2015, 7.4.3 to 7.4.6).
+/// Returns a lower bound on the number of bits that `input` takes, however it is split into segments. The bound is a
+/// sum of 10/3 bits for each digit, 11/2 bits for any other byte that is not greater than `Z`, and 13/2 bits for each
+/// byte greater than `Z`. The bound is rounded down to whole bits. The bound does not include mode indicators and
+/// character count indicators (ISO/IEC 18004:2015, 7.4.3 to 7.4.6).
 ///
 /// # Notes
 ///
-/// The function reads each byte of the input once.
+/// The function `least_bits` reads each byte of the input once.
 pub fn least_bits(input: &[u8]) -> u32
     requires { length input.now ≤ INPUT_MAX }
     ensures value { result ≡ least_bits input.now }

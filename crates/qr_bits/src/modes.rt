@@ -11,7 +11,7 @@ use crate::fault::ParseFault;
 use qr_layout::Version;
 
 /// The greatest length of an input, in bytes: 16 times 7,089, plus 1. A symbol contains at most 7,089 bytes, and a
-/// series has at most 16 symbols. So an input of this length does not fit in a series.
+/// series has at most 16 symbols. So an input of `INPUT_MAX` bytes does not fit in a series.
 pub const INPUT_MAX: usize = 113_425;
 
 /// The mode of a segment, which determines how the bytes of the segment are written as bits (7.3.3 to 7.3.6).
@@ -31,7 +31,7 @@ pub enum Mode {
 /// Determines which modes the segments of an input may have.
 #[derive(Clone, Copy, Debug, PartialEq, Eq)]
 pub enum Rule {
-    /// All modes except kanji mode.
+    /// Allows all modes except kanji mode.
     Auto,
     BytesOnly,
     WithKanji,
@@ -138,7 +138,8 @@ pub(crate) fn payload_bits(mode: Mode, len: usize) -> usize
     }
 }
 
-// The 45 characters of alphanumeric mode. The index of a character is its value (7.4.4, Table 5).
+// The 45 characters of alphanumeric mode. The index of a character in this array is its value in alphanumeric mode
+// (7.4.4, Table 5).
 pub(crate) const CHARACTERS: [u8; 45] = *b"0123456789ABCDEFGHIJKLMNOPQRSTUVWXYZ $%*+-./:";
 
 pub(crate) fn is_digit(byte: u8) -> bool

@@ -26,17 +26,19 @@ pub(crate) fn capacity(version: Version, level: Level) -> u64
     ensures last { version ≤ 40 }
     ensures least { 72 ≤ result }
 {
-    // This call is here only for the proof: its contract states that the version is from 1 to 40.
+    // The function `number` is called here only for the proof: its contract states that the version is from 1 to 40.
     let _ = version.number();
     8 * u64::from(version.data_codewords(level))
 }
 
-/// Returns the data codewords of a symbol of this version and level, which contains `input` in the segments `segs`. The
-/// data codewords begin with the bits of the structured append header, if there is one, and the bits of the segments.
-/// After these bits come a terminator, zero bits up to the end of a codeword, and pad codewords (7.4.9, 7.4.10).
+/// Returns the data codewords of a symbol of this version and level that contains the bytes `input` in the segments
+/// `segs`. The data codewords begin with the bits of the structured append header, if there is one, and the bits of the
+/// segments. After the bits of the segments come a terminator, zero bits up to the end of a codeword, and pad
+/// codewords, as far as the symbol has room (7.4.9, 7.4.10).
 ///
-/// Returns `TooLong` if the header and the segments together have more bits than the data codewords of the symbol. The
-/// only other error is `Memory`.
+/// Returns `TooLong` if the header and the segments together have more bits than the data codewords of the symbol.
+/// Apart from `TooLong`, the only error of the function `codewords` is `Memory`, which is returned if memory is
+/// refused.
 pub fn codewords(
     alloc: Global,
     input: &[u8],

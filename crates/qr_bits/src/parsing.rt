@@ -16,8 +16,8 @@ use std::alloc::Global;
 use std::marker::Model;
 
 // A group of digits or characters is written as one number. The five constants below are the limits of these numbers:
-// for example, the number for three digits is less than `THREE_DIGITS`. `PAIRS` is the limit for two characters, and
-// `SINGLES` is the limit for one character (7.4.3, 7.4.4).
+// for example, the number for three digits is less than `THREE_DIGITS`. The number for two characters is less than
+// `PAIRS`, and the number for one character is less than `SINGLES` (7.4.3, 7.4.4).
 const THREE_DIGITS: u16 = 1000;
 
 const TWO_DIGITS: u16 = 100;
@@ -52,16 +52,16 @@ impl Model for Parsed {
     } };
 }
 
-/// Parses data codewords up to the terminator, or until fewer than four bits are left. All further bits are ignored.
-/// Apart from lack of memory, the parse succeeds exactly if the bits before this end are an optional structured append
-/// header, followed by segments. The segments may be chosen in any way and may be empty, and the padding may be any
-/// bits.
+/// Parses data codewords up to their end: the terminator, or the place where fewer than four bits are left. The bits
+/// after the end may be any bits. Apart from lack of memory, the parse succeeds exactly if the bits before the end are
+/// an optional structured append header, followed by segments. The segments may be empty, and need not be the segments
+/// with the fewest bits.
 ///
 /// If the parse fails, returns the fault that occurs first. The fault is `Memory` if memory is refused. The fault is
 /// `BadMode` if a mode indicator belongs to none of the four modes, or if a structured append header is not at the
-/// beginning. The fault is `Cut` if the codewords end within a header, a character count indicator, or the data of a
-/// segment. The fault is `BadValue` if the number for a group of digits or characters is too large, or if a value in
-/// kanji mode belongs to no kanji pair.
+/// beginning of the codewords. The fault is `Cut` if the codewords end within a structured append header, a character
+/// count indicator, or the data of a segment. The fault is `BadValue` if the number for a group of digits or characters
+/// is too large, or if a value in kanji mode belongs to no kanji pair.
 #[tactic(auto, unfolding(crate::specs::Parsing::parse))]
 pub fn parse(alloc: Global, codewords: &[u8], version: Version) -> Result<Parsed, ParseFault>
     requires { length codewords.now ≤ 3706 }
@@ -148,8 +148,8 @@ fn segment(
     Ok(Segment { mode, len })
 }
 
-// Reads the mode indicator and the character count indicator of a segment. Then checks that the codewords contain all
-// bits of the segment's data. The function does not allocate, so its fault is never `Memory`.
+// Reads the mode indicator and the character count indicator of a segment. After that, checks that the codewords
+// contain all bits of the segment's data. The function does not allocate, so its fault is never `Memory`.
 #[tactic(auto, unfolding(crate::specs::Parsing::segment_at, crate::specs::Parsing::leading_number, crate::specs::Parsing::payload_at))]
 fn segment_head(reader: &mut BitReader, version: Version) -> Result<(Mode, u16), ParseFault>
     requires { 4 ≤ length reader.old }
@@ -171,8 +171,8 @@ fn segment_head(reader: &mut BitReader, version: Version) -> Result<(Mode, u16),
     Ok((mode, count))
 }
 
-// Reads the data of a segment in `mode`, and appends its bytes to `out`. All bits of the data must be among the bits
-// that are not read yet. `count` is the number of digits, characters, bytes or kanji pairs.
+// Reads the data of a segment in `mode`, and appends its bytes to `out`. The bits that are not read yet must contain
+// all bits of the data. `count` is the number of digits, characters, bytes or kanji pairs of the segment.
 #[tactic(auto, unfolding(crate::specs::Parsing::values_of))]
 fn values(
     reader: &mut BitReader,

@@ -7,8 +7,8 @@ ghost use Rattle.qr_bits.specs.Segmentation.{Covers, bits, segment_bits};
 use crate::modes::{INPUT_MAX, Mode, count_width, payload_bits, suits};
 use qr_layout::Version;
 
-/// A segment: `len` bytes of the input that are written in the mode `mode`. The bytes of each segment follow the bytes
-/// of the segment before it.
+/// A segment: `len` bytes of the input that are written in the mode `mode`. In a list of segments, the bytes of each
+/// segment directly follow the bytes of the segment before it.
 #[derive(Clone, Copy, Debug, PartialEq, Eq)]
 pub struct Segment {
     pub mode: Mode,
@@ -16,9 +16,8 @@ pub struct Segment {
     pub len: usize,
 }
 
-/// Returns whether the segments `segs` cover the whole `input`. No segment may be empty, and the lengths of the
-/// segments must add up to the length of the input. The mode of each segment must be able to write the bytes of the
-/// segment.
+/// Returns whether the segments `segs` cover the whole `input`. The result is true if no segment is empty, the lengths
+/// of the segments add up to the length of the input, and the mode of each segment can write its bytes.
 pub fn covers(input: &[u8], segs: &[Segment]) -> bool
     ensures { IsTrue result ↔ Covers input.now segs.now }
 {
@@ -37,8 +36,8 @@ pub fn covers(input: &[u8], segs: &[Segment]) -> bool
     rest.is_empty()
 }
 
-/// Returns the number of bits of the segments `segs` in a symbol of this version. The number includes mode indicators,
-/// character count indicators and data, but no structured append header.
+/// Returns the number of bits of the segments `segs` in a symbol of this version. The returned number includes mode
+/// indicators, character count indicators and data, but no structured append header.
 pub fn bit_len(segs: &[Segment], version: Version) -> u64
     requires nonempty { All (λ s. 0 < s.len) segs.now }
     requires short { sum_by (λ s. s.len) segs.now ≤ INPUT_MAX }

@@ -1,15 +1,17 @@
-//! Finds a mode for each byte of an input, so that the segments take the fewest bits. A table of the best modes is
-//! filled from the last byte to the first.
+//! Finds a mode for each byte of an input, so that the segments take the fewest bits. The code fills a table of the
+//! best modes, from the last byte to the first.
 //!
 //! In a given version, the number of bits that the remaining bytes add depends only on their modes and on the
-//! `RunState` before these bytes. This state contains the mode of the byte before, and the number of bytes so far in
-//! the group of this byte. A group is three digits, two characters or a kanji pair. For each state and each mode of the
-//! next byte, the code adds two numbers: the number of bits that the byte adds, and the fewest bits that all later
-//! bytes then add. The best mode for the state is the mode with the least sum.
+//! `RunState` before these bytes. A `RunState` contains the mode of the last byte, and the number of bytes that its
+//! group has so far. A group is three digits, two characters or a kanji pair. For each `RunState` and each mode of the
+//! next byte, the code adds two numbers: the number of bits that this byte adds, and the fewest bits that all later
+//! bytes can add after it. The best mode for a `RunState` is the mode with the least sum.
 //!
-//! One number represents a choice of a mode: four times the number of bits of the choice, plus the rank of the mode. So
-//! the best choice has the least number. This choice takes the fewest bits, and has the lowest rank among the choices
-//! that take equally many bits. A row of the table contains the best modes of one byte, in two bits for each state.
+//! One number represents the choice of a mode for a byte. Ties between assignments that take equally many bits are
+//! decided by taking the smallest number: 4 times the number of bits, plus the rank of the mode (in the order Numeric,
+//! Alphanumeric, Byte, Kanji). The smallest number belongs to the choice with the fewest bits; if several choices have
+//! the fewest bits, it belongs to the choice with the lowest rank. A row of the table belongs to one byte, and contains
+//! two bits for each `RunState` before this byte: the best mode of the byte.
 
 ghost use Rattle.std.specs.Prelude.{◌≡◌, ◌+◌, ◌*◌, ◌/◌, ◌%◌, ◌<◌, ◌≤◌, ℕ, Bool, true, false, length, reverse, IfOk, vec_len};
 ghost use Rattle.qr_bits.specs.declared.modes.Mode.{Mode};
@@ -42,8 +44,8 @@ fn ranked(rank: u32) -> Mode
     }
 }
 
-// Returns whether `byte` may have the mode `mode` under `rule`. The mode must not be kanji mode. The byte must not be
-// the second byte of a kanji pair.
+// Returns whether `byte` may have the mode `mode` under `rule`. `mode` must not be kanji mode. If the byte is written
+// as the second byte of a kanji pair, the result does not apply to it.
 #[tactic(auto, unfolding(crate::specs::Steps::RunState::may_begin))]
 #[inline(always)]
 fn may_begin(rule: Rule, byte: u8, mode: Mode) -> bool
@@ -58,10 +60,10 @@ fn may_begin(rule: Rule, byte: u8, mode: Mode) -> bool
     }
 }
 
-// Returns the number that represents the choice of a mode for a byte. This number is four times the number of bits of
-// the choice, plus the rank of the mode. If `may` is false, the mode may not be used, and the result is `NO_CHOICE`.
-// `first` is the number of the choice if only the bits of the byte are counted. `rest` is the number of the best choice
-// for the bytes after the byte.
+// Returns the number that represents the choice of a mode for a byte. This number is four times the number of bits that
+// the byte and all later bytes add, plus the rank of the mode. If `may` is false, the mode may not be used, and the
+// result is `NO_CHOICE`. `first` is four times the number of bits that the byte alone adds, plus the rank of the mode.
+// `rest` is the number that represents the best choice for the later bytes.
 #[inline(always)]
 fn number_if(may: bool, first: u32, rest: u32) -> u32
     requires first { first ≤ 135 }
@@ -71,8 +73,8 @@ fn number_if(may: bool, first: u32, rest: u32) -> u32
     if may { first + rest / 4 * 4 } else { NO_CHOICE }
 }
 
-// Returns a row of the table, which contains a mode for each state. The rank of this mode is the number that `numbers`
-// contains for the state, modulo 4.
+// Returns a row of the table of best modes, which contains a mode for each `RunState`. The rank of the mode for a
+// `RunState` is the number that `numbers` contains for this `RunState`, modulo 4.
 #[inline(always)]
 fn modes_of(numbers: &PerState<u32>) -> u32
     ensures { (p : RunState) → mode_at result p ≡ ranked (in_state numbers.now p % 4) }
@@ -84,12 +86,13 @@ fn modes_of(numbers: &PerState<u32>) -> u32
     numbers.start % 4 + 4 * last
 }
 
-// Finds the best choice of a mode for a byte, for each state before the byte. Returns the chosen modes as a row of the
-// table, and the numbers that represent the choices. The flag `digit` is true if the byte may be written in numeric
-// mode, and `character` is true if the byte may be written in alphanumeric mode. The flag `pair` is true if the byte
-// may be the first byte of a kanji pair. For each state after the byte, `rest` contains the number that represents the
-// best choice for the later bytes. This number is four times the number of bits of the choice, plus the rank of its
-// mode.
+// Finds the best mode of a byte for each `RunState` before the byte. Returns the best modes as a row of the table of
+// best modes, and the numbers that represent the choices of these modes. Ties between assignments that take equally
+// many bits are decided by taking the smallest number: 4 times the number of bits, plus the rank of the mode (in the
+// order Numeric, Alphanumeric, Byte, Kanji). The flag `digit` is true if the byte may be written in numeric mode, and
+// the flag `character` is true if the byte may be written in alphanumeric mode. The flag `pair` is true if the byte may
+// be the first byte of a kanji pair. For each `RunState` after the byte, `rest` contains the number that represents the
+// best choice for the later bytes.
 #[inline(always)]
 fn choices(
     first_choices: &FirstChoices,
@@ -111,10 +114,11 @@ fn choices(
     let no_digits = characters.min(others);
     let no_characters = digits.min(others);
     let start = digits.min(no_digits);
-    // In the states `Digit3`, `Character2`, `InBytes` and `WholePair`, the last group of bytes is complete. To continue
-    // the segment then takes fewer bits than to begin a new segment of the same mode, and both choices lead to the same
-    // `RunState`. So a new segment of the same mode is never the best choice. These states can therefore use `start`,
-    // which is the least number of all choices that begin a new segment in any mode.
+    // In the states `Digit3`, `Character2`, `InBytes` and `WholePair`, the last group of bytes is complete. After a
+    // complete group, to continue the segment takes fewer bits than to begin a new segment of the same mode, and both
+    // choices lead to the same `RunState`. So a new segment of the same mode is never the best choice after a complete
+    // group. For these four states, the code can therefore use `start`, which is the least number of all choices that
+    // begin a new segment in any mode.
     let digit2 = number_if(digit, number(3, Mode::Numeric), rest.digit2);
     let digit3 = number_if(digit, number(3, Mode::Numeric), rest.digit3);
     let digit1 = number_if(digit, number(4, Mode::Numeric), rest.digit1);
@@ -137,10 +141,11 @@ fn choices(
     (modes_of(&numbers), numbers)
 }
 
-/// Finds the best choice of a mode for `byte`, for each state before the byte. Returns the chosen modes as a row of the
-/// table, and the numbers that represent the choices. The flag `pair` is true if the byte may be the first byte of a
-/// kanji pair. After the first byte of a kanji pair, only kanji mode is possible, and the second byte adds no bits. For
-/// each state after the byte, `rest` contains the number that represents the best choice for the later bytes.
+/// Finds the best mode of `byte` for each `RunState` before the byte. Returns the best modes as a row of the table of
+/// best modes, and the numbers that represent the choices of these modes. The flag `pair` is true if the byte may be
+/// the first byte of a kanji pair. After the first byte of a kanji pair, only kanji mode is possible, and the second
+/// byte of the pair adds no bits. For each `RunState` after the byte, `rest` contains the number that represents the
+/// best choice for the later bytes.
 #[tactic(auto, unfolding(crate::specs::Steps::RunState::may_begin))]
 #[inline(always)]
 pub(crate) fn best_choices(
@@ -153,7 +158,7 @@ pub(crate) fn best_choices(
     requires { IsSmall rest.now }
     ensures { IsRow first_choices.now.version rule byte pair rest.now result.0 result.1 }
 {
-    // The calls below pass constants as flags where this is possible, so that the compiler can drop the cases that the
+    // Where possible, the calls below pass constants as flags, so that the compiler can leave out the cases that the
     // constants exclude. A byte that may be written in numeric mode may also be written in alphanumeric mode.
     if pair {
         let digit = may_begin(rule, byte, Mode::Numeric);
@@ -180,7 +185,7 @@ pub(crate) fn begins_with_pair(rule: Rule, bytes: &[u8]) -> bool
 }
 
 /// Returns the table of best modes, with one row for each byte of `input`, from the last byte to the first. Each row
-/// contains the best mode of the byte for each state before the byte.
+/// contains the best mode of a byte for each `RunState` before the byte.
 pub(crate) fn best_modes(
     alloc: Global,
     input: &[u8],
@@ -203,8 +208,8 @@ pub(crate) fn best_modes(
     Ok(table)
 }
 
-// In a row of the table, two neighbouring bits contain the mode for `state`. Returns the index of the lower of these
-// two bits.
+// In a row of the table of best modes, two neighbouring bits contain the mode for `state`. Returns the index of the
+// lower of these two bits.
 #[inline(always)]
 fn shift_of(state: RunState) -> u32
     ensures value { result ≡ shift_of state }
@@ -223,7 +228,7 @@ fn shift_of(state: RunState) -> u32
     }
 }
 
-/// Returns the mode that `row`, a row of the table, contains for `state`.
+/// Returns the mode that `row`, a row of the table of best modes, contains for the `RunState` `state`.
 #[tactic(auto, unfolding(crate::specs::Steps::Table::mode_at))]
 #[inline(always)]
 pub(crate) fn mode_at(row: u32, state: RunState) -> Mode

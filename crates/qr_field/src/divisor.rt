@@ -1,5 +1,5 @@
-//! Division of a block's data codewords by a generator polynomial (ISO/IEC 18004:2015, 7.5.2). Multiples of the
-//! generator polynomial are computed once, before the first division.
+//! Divides the data codewords of blocks by a generator polynomial (ISO/IEC 18004:2015, 7.5.2). The code computes
+//! multiples of the generator polynomial only once, before the first division.
 
 ghost use Rattle.std.specs.Prelude.{◌≡◌, ◌≤◌, ℕ, List, length};
 ghost use Rattle.qr_field.specs.Steps.Register.{HasMultiples, divisor_of, packed, value_of};
@@ -10,14 +10,15 @@ use crate::register::Register;
 use arrayvec::ArrayVec;
 use std::marker::Model;
 
-/// A generator polynomial for n error correction codewords, together with its multiples. The multiples are computed
-/// once and used for many blocks. In contracts, the value of a `Divisor` is the number n.
+/// A `Divisor` contains multiples of the generator polynomial for n error correction codewords. The multiples of the
+/// generator polynomial are computed once and used for many blocks. In contracts, the value of a `Divisor` is the
+/// number n of error correction codewords.
 #[derive(Drop)]
 pub struct Divisor {
     count: usize,
-    // Both fields contain multiples of the coefficients that follow the leading 1 of the generator polynomial. The
-    // factors of the multiples in `low` are the numbers 0 to 15. The factors of the multiples in `high` are the same
-    // numbers shifted left by four bits.
+    // `low` and `high` contain multiples of the coefficients that follow the leading 1 of the generator polynomial. The
+    // factors of the multiples in `low` are the numbers 0 to 15. The factors of the multiples in `high` are the numbers
+    // 0 to 15, shifted left by four bits.
     low: [Register; 16],
     high: [Register; 16],
 }
@@ -34,8 +35,8 @@ impl Model for Divisor {
         × HasMultiples (divisor_of d.count) 4 16 d.high };
 }
 
-// Returns 16 multiples of the coefficients `terms`. Entry i of the result contains these coefficients, each multiplied
-// in the field by the number i shifted left by `shift` bits.
+// Returns 16 multiples of the coefficients `terms`. Entry i of the result contains the coefficients `terms`, each
+// multiplied in the field of 256 elements by the number i shifted left by `shift` bits.
 fn multiples(terms: &[u8], shift: u8) -> [Register; 16]
     requires long { length terms.now ≤ 30 }
     requires small { shift ≤ 4 }
@@ -67,8 +68,8 @@ impl Divisor {
         }
     }
 
-    /// Returns the number of error correction codewords that this divisor computes for a block. This number is from 1
-    /// to 30.
+    /// Returns the number of error correction codewords that this divisor computes for a block. The returned number is
+    /// from 1 to 30.
     pub fn count(&self) -> usize
         ensures is { result ≡ self.now }
         ensures least { 1 ≤ result }
@@ -78,7 +79,7 @@ impl Divisor {
     }
 
     // Returns the coefficients that follow the leading 1 of the generator polynomial, each multiplied by `factor` in
-    // the field.
+    // the field of 256 elements.
     fn multiple(&self, factor: u8) -> Register
         ensures { value_of result ≡ packed (scaled factor (divisor_of self.now)) }
     {
@@ -87,8 +88,9 @@ impl Divisor {
     }
 
     /// Returns the error correction codewords of a block with the data codewords `message` (ISO/IEC 18004:2015, 7.5.2).
-    /// The coefficients of the block's polynomial are the data codewords, followed by the error correction codewords.
-    /// No other list of the same length makes this polynomial a multiple of the generator polynomial.
+    /// The polynomial of a block has the data codewords as its coefficients, followed by the error correction
+    /// codewords. Among all lists of the same length, only the returned list makes the polynomial of the block a
+    /// multiple of the generator polynomial.
     pub fn correction(&self, message: &[u8]) -> ArrayVec<u8, 30>
         ensures definition { IsCorrection message.now self.now result.items }
         ensures only { (e : List ℕ) → IsCorrection message.now self.now e → e ≡ result.items }

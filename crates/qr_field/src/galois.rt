@@ -1,6 +1,6 @@
-//! Products and quotients in the field of 256 elements, in which the error correction codewords are computed (ISO/IEC
-//! 18004:2015, 7.5.2). Each element of the field is a byte. For the definition of a product, a byte is read as a
-//! polynomial whose coefficients are the bits of the byte. The sum of two elements is their exclusive or.
+//! Computes products and quotients in the field of 256 elements, which is used to compute error correction codewords
+//! (ISO/IEC 18004:2015, 7.5.2). Each element of the field is a byte. For the definition of a product, a byte is read as
+//! a polynomial whose coefficients are the bits of the byte. The sum of two elements is their exclusive or.
 
 ghost use Rattle.std.specs.Prelude.{◌≡◌, ◌≤◌, ℕ};
 ghost use Rattle.qr_field.specs.Galois.{IsProduct, product};
@@ -8,8 +8,9 @@ ghost use Rattle.qr_field.specs.Galois.{IsProduct, product};
 use crate::logarithm::{logarithm, power_of};
 
 /// Returns the product of `a` and `b` in the field of 256 elements (ISO/IEC 18004:2015, 7.5.2). The carryless product
-/// of two bytes is their product as polynomials whose coefficients are bits. The product in the field is the only byte
-/// that differs from this carryless product by a multiple of the field's modulus polynomial.
+/// of two bytes is the product of the two polynomials that have the bits of the bytes as their coefficients. The
+/// product of `a` and `b` in the field is the only byte that differs from their carryless product by a multiple of the
+/// field's modulus polynomial.
 pub fn mul(a: u8, b: u8) -> u8
     ensures definition { IsProduct a b result }
     ensures only { (p : ℕ) → IsProduct a b p → p ≡ result }

@@ -1,6 +1,6 @@
-//! Powers of 2 and logarithms to the base 2 in the field of 256 elements (ISO/IEC 18004:2015, 7.5.2). The powers of 2
-//! with the exponents 0 to 254 are the 255 elements other than 0, each exactly once. The power with the exponent 255 is
-//! 1 again.
+//! Contains the powers of 2 and the logarithms to the base 2 in the field of 256 elements (ISO/IEC 18004:2015, 7.5.2).
+//! The powers of 2 with the exponents 0 to 254 are the 255 elements other than 0, each exactly once. The power of 2
+//! with the exponent 255 is 1 again.
 
 ghost use Rattle.std.specs.Prelude.{◌≡◌, ◌<◌, ◌≤◌};
 ghost use Rattle.qr_field.specs.Polynomial.{power};

@@ -1,4 +1,4 @@
-//! The places of the alignment patterns in a symbol (ISO/IEC 18004:2015, 6.3.6 and Annex E).
+//! Computes the places of the alignment patterns in a symbol (ISO/IEC 18004:2015, 6.3.6 and Annex E).
 
 ghost use Rattle.std.specs.Prelude.{◌≡◌, ◌≤◌, ◌-◌, ◌+◌, ◌&&◌, ◌++◌, ◌∷◌, [], if◌then◌else◌, not, length, nat_le, nat_lt};
 ghost use Rattle.std.specs.List.{list_any, flat_map};
@@ -12,7 +12,8 @@ use crate::version::Version;
 use arrayvec::ArrayVec;
 
 // The rows in which alignment patterns have their centres, for each of the versions 1 to 40 (ISO/IEC 18004:2015, Annex
-// E, Table E.1). The same numbers are the columns of the centres. Each list is filled up with zeros at its end.
+// E, Table E.1). The columns of the centres have the same numbers as the rows. The list of each version is filled up
+// with zeros to seven numbers.
 static CENTRES: [[u8; 7]; 40] = [
     [0, 0, 0, 0, 0, 0, 0],
     [6, 18, 0, 0, 0, 0, 0],
@@ -56,8 +57,8 @@ static CENTRES: [[u8; 7]; 40] = [
     [6, 30, 58, 86, 114, 142, 170],
 ];
 
-// Returns the rows in which the alignment patterns of version `v` have their centres. The same numbers are the columns
-// of the centres.
+// Returns the rows in which the alignment patterns of version `v` have their centres. The columns of the centres have
+// the same numbers as the rows.
 pub(crate) fn centre_list(v: Version) -> &'static [u8]
     ensures { result.now ≡ centres_of v }
 {
@@ -71,9 +72,9 @@ pub(crate) fn centre_list(v: Version) -> &'static [u8]
 }
 
 impl Version {
-    /// Returns the rows in which the alignment patterns of this version have their centres, in rising order. The same
-    /// numbers are the columns of the centres. For version 1 the list is empty, since symbols of version 1 have no
-    /// alignment pattern.
+    /// Returns the rows in which the alignment patterns of this version have their centres, in rising order. The
+    /// columns of the centres have the same numbers as the rows. For version 1 the returned list is empty, since
+    /// symbols of version 1 have no alignment pattern.
     pub fn centres(self) -> ArrayVec<u8, 7>
         ensures { result.items ≡ centres_of self }
     {
@@ -85,7 +86,8 @@ impl Version {
     }
 }
 
-// Returns whether the distance between `at` and `centre` is at most two. The two numbers are rows, or both are columns.
+// Returns whether the distance between `at` and `centre` is at most two. Both numbers are rows, or both numbers are
+// columns.
 fn is_near(centre: u8, at: u8) -> bool
     ensures { result ≡ (nat_le (centre - 2) at && nat_lt at (centre + 3)) }
 {
@@ -96,9 +98,9 @@ fn is_near(centre: u8, at: u8) -> bool
     }
 }
 
-// Returns whether the place in row `a` and column `b` is in a corner with a finder pattern. Row `a` and column `b`
-// contain centres of alignment patterns, but no alignment pattern has its centre in such a corner. `side` is the number
-// of modules on a side of the symbol.
+// Returns whether the place in row `a` and column `b` is in a corner with a finder pattern. Row `a` and column `b` each
+// contain centres of alignment patterns, but no alignment pattern has its centre in a corner with a finder pattern.
+// `side` is the number of modules on a side of the symbol.
 pub(crate) fn is_corner_pair(side: u8, a: u8, b: u8) -> bool
     requires { 21 ≤ side }
     ensures { result ≡ is_corner_pair side a b }
@@ -120,7 +122,7 @@ fn is_beside(centres: &[u8], side: u8, a: u8, col: u8) -> bool
 }
 
 // Returns whether the module in row `row` and column `col` is in an alignment pattern. `centres` contains the rows of
-// all centres, and the same numbers are the columns of the centres. `side` is the number of modules on a side of the
+// all centres; the columns of the centres have the same numbers. `side` is the number of modules on a side of the
 // symbol.
 fn is_on_centre(centres: &[u8], side: u8, row: u8, col: u8) -> bool
     requires { 21 ≤ side }

@@ -1,4 +1,4 @@
-//! The division of the codewords of a symbol into blocks for error correction (ISO/IEC 18004:2015, 7.5.1, Table 9).
+//! Divides the codewords of a symbol into blocks for error correction (ISO/IEC 18004:2015, 7.5.1, Table 9).
 
 ghost use Rattle.std.specs.Prelude.{◌≡◌};
 ghost use Rattle.qr_layout.specs.Blocks.{correction_len_of, block_count_of, data_codewords_of, blocks_of};
@@ -6,7 +6,7 @@ ghost use Rattle.qr_layout.specs.Blocks.{correction_len_of, block_count_of, data
 use crate::level::Level;
 use crate::version::Version;
 
-// The number of error correction codewords of each block. The four lists are for the levels L, M, Q and H, and each
+// The number of error correction codewords of each block. The four lists belong to the levels L, M, Q and H, and each
 // list has a number for each of the versions 1 to 40.
 static CORRECTION_LENS: [[u8; 40]; 4] = [
     [
@@ -27,7 +27,7 @@ static CORRECTION_LENS: [[u8; 40]; 4] = [
     ],
 ];
 
-// The number of blocks of a symbol. The four lists are for the levels L, M, Q and H, and each list has a number for
+// The number of blocks of a symbol. The four lists belong to the levels L, M, Q and H, and each list has a number for
 // each of the versions 1 to 40.
 static BLOCK_COUNTS: [[u8; 40]; 4] = [
     [
@@ -49,8 +49,8 @@ static BLOCK_COUNTS: [[u8; 40]; 4] = [
 ];
 
 /// The sizes of the blocks of a symbol. The symbol has `short` short blocks, followed by `long` long blocks. A short
-/// block has `short_len` data codewords, and a long block has one data codeword more. Every block has `ec_len` error
-/// correction codewords.
+/// block has `short_len` data codewords, and a long block has `short_len + 1` data codewords. Every block has `ec_len`
+/// error correction codewords.
 #[derive(Clone, Copy, Debug, PartialEq, Eq)]
 pub struct Blocks {
     pub short: u8,
@@ -85,7 +85,8 @@ impl Version {
     }
 
     /// Returns the number of data codewords of a symbol of this version at the error correction level `level` (ISO/IEC
-    /// 18004:2015, 7.4.10, Table 7). The least number is 9, and the greatest is 2,956.
+    /// 18004:2015, 7.4.10, Table 7). The least number of data codewords is 9 (version 1 at level H), and the greatest
+    /// is 2,956 (version 40 at level L).
     pub fn data_codewords(self, level: Level) -> u16
         ensures { result ≡ data_codewords_of self level }
     {

@@ -1,6 +1,6 @@
-//! Equality and clones of versions, levels, modules, roles, block sizes and strips. The operator `==` returns true
-//! exactly if its two operands are the same value. The clone of a value is the same value, if cloning does not fail for
-//! lack of memory.
+//! Compares and clones versions, levels, modules, roles, block sizes and strips. The operator `==` returns true exactly
+//! if its two operands are the same value. The clone of a value is the same value, unless the call fails for lack of
+//! memory.
 
 ghost use Rattle.std.specs.Prelude.{◌≡◌, ◌↔◌, IsTrue, IfOk};
 
@@ -33,7 +33,7 @@ pub fn modules_are_equal(a: Module, b: Module) -> bool
     a == b
 }
 
-/// Returns whether `a` and `b` are the same role.
+/// Returns whether `a` and `b` are the same role, which is what a module contains.
 pub fn roles_are_equal(a: Role, b: Role) -> bool
     ensures { IsTrue result ↔ (a ≡ b) }
 {
@@ -47,7 +47,7 @@ pub fn blocks_are_equal(a: Blocks, b: Blocks) -> bool
     a == b
 }
 
-/// Returns whether `a` and `b` are the same strip.
+/// Returns whether `a` and `b` are the same strip (two neighbouring columns that are filled together).
 pub fn strips_are_equal(a: Strip, b: Strip) -> bool
     ensures { IsTrue result ↔ (a ≡ b) }
 {
@@ -75,7 +75,7 @@ pub fn module_clones(a: Module) -> Result<Module, AllocError>
     a.clone()
 }
 
-/// Returns a clone of the role `a`; the clone and `a` are the same role.
+/// Returns a clone of the role `a` (what a module contains); the clone and `a` are the same role.
 pub fn role_clones(a: Role) -> Result<Role, AllocError>
     ensures { IfOk result (λ b. b ≡ a) }
 {
@@ -89,7 +89,8 @@ pub fn blocks_clones(a: Blocks) -> Result<Blocks, AllocError>
     a.clone()
 }
 
-/// Returns a clone of the strip `a`; the clone and `a` are the same strip.
+/// Returns a clone of the strip `a` (two neighbouring columns that are filled together); the clone and `a` are the same
+/// strip.
 pub fn strip_clones(a: Strip) -> Result<Strip, AllocError>
     ensures { IfOk result (λ b. b ≡ a) }
 {

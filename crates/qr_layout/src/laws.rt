@@ -1,6 +1,6 @@
 //! Laws about the layout of symbols, for every version, level and mask pattern. The contract of each function states a
-//! law. Only three functions of this file compute a value: `nth_place`, `first_version` and `default_module`. The
-//! others do nothing.
+//! law. Only three functions of this file compute a value: `nth_place`, `first_version` and `default_module`. All other
+//! functions of this file do nothing.
 
 ghost use Rattle.std.specs.Prelude.{◌≡◌, ◌<◌, ◌≤◌, ◌-◌, ◌*◌, ◌/◌, ◌⊎◌, ◌↔◌, ◌||◌, not, true, ℕ, List, ◌∷◌, ◌++◌, length, map, slice_get};
 ghost use Rattle.std.specs.List.{list_any, range_with_len};
@@ -27,30 +27,30 @@ use crate::order::walk;
 use crate::region::Module;
 use crate::version::Version;
 
-/// For each version, at most one list of modules satisfies `IsOrder`. Such a list contains the modules of the encoding
-/// region in the order in which they are filled.
+/// For each version, at most one list of modules satisfies the definition `IsOrder`. A list that satisfies `IsOrder`
+/// contains the modules of the encoding region in the order in which they are filled.
 pub fn order_is_one(v: Version)
     ensures { (ms ns : List Module) → IsOrder v ms → IsOrder v ns → ms ≡ ns }
 {}
 
 /// A list that satisfies `IsOrder` contains one module for each bit of the codewords and one module for each remainder
-/// bit. The number of these modules is at most 29,648.
+/// bit. A list that satisfies `IsOrder` has at most 29,648 modules.
 pub fn order_is_full(v: Version)
     ensures count { (ms : List Module) → IsOrder v ms → length ms ≡ module_count_of v }
     ensures most { module_count_of v ≤ 29648 }
 {}
 
-/// The number of modules of the encoding region is the number of modules of the whole symbol, less the modules of four
-/// parts. These parts are the three corners (finder patterns, separators, format information and the dark module), the
-/// timing patterns, the alignment patterns and the version information. The codewords and remainder bits of the version
-/// need exactly this number of modules, one for each bit.
+/// The number of modules of the encoding region is the number of modules of the whole symbol, minus the number of
+/// modules of four parts. The four parts are the three corners (finder patterns, separators, format information and the
+/// dark module), the timing patterns, the alignment patterns and the version information. The codewords and remainder
+/// bits of the version together have exactly as many bits as the encoding region has modules.
 pub fn region_is_counted(v: Version)
     ensures region { places_passing (side_of v) (is_in_region v) ≡ region_size v }
     ensures filled { module_count_of v ≡ region_size v }
 {}
 
-/// The encoding region consists of the modules of the symbol that are outside the rectangles of `fixed_rectangles` and
-/// outside the alignment patterns.
+/// The encoding region consists of the modules of the symbol that are outside the rectangles of the definition
+/// `fixed_rectangles` and outside the alignment patterns.
 #[tactic(auto, using(crate::proofs::lemmas::alignment::AlignmentLemmas::region_outside))]
 pub fn region_is_outside(v: Version)
     ensures { (r c : ℕ) → r < side_of v → c < side_of v → is_in_region v r c
@@ -62,16 +62,16 @@ pub fn region_is_symmetric(v: Version)
     ensures { (r c : ℕ) → is_in_region v r c ≡ is_in_region v c r }
 {}
 
-/// For each module of the encoding region, `number_of` is the number of modules that come before this module in the
-/// order in which the region is filled.
+/// For each module of the encoding region, the definition `number_of` yields the number of modules that are filled
+/// before this module.
 pub fn number_counts(v: Version)
     ensures { (front back : List Module) (m : Module) → IsOrder v (front ++ m ∷ back)
         → number_of v m ≡ length front }
 {}
 
 /// The definition `number_of` assigns numbers to the modules of the encoding region, from 0 on and without gaps. Each
-/// module has a number that is less than the number of modules of the encoding region. Conversely, each number that is
-/// less than the number of modules belongs to exactly one module.
+/// module of the encoding region has a number that is less than the number of modules of this region. Conversely, each
+/// number that is less than the number of modules of the encoding region belongs to exactly one module.
 pub fn numbers_are_places(v: Version)
     ensures below { (m : Module) → InRegion v m → number_of v m < module_count_of v }
     ensures one_place { (m n : Module) → InRegion v m → InRegion v n
@@ -81,7 +81,7 @@ pub fn numbers_are_places(v: Version)
 {}
 
 /// Returns the module with the index `number`, counted from 0, in the order in which the encoding region of version `v`
-/// is filled. Returns `None` if no module has this index.
+/// is filled. Returns `None` if no module has the index `number`.
 pub fn nth_place(v: Version, number: usize) -> Option<Module>
     ensures { (ms : List Module) → IsOrder v ms → result ≡ slice_get ms number }
 {
@@ -89,7 +89,7 @@ pub fn nth_place(v: Version, number: usize) -> Option<Module>
 }
 
 /// Annex E of the standard has a rule for the distances between the centres of alignment patterns. For the versions 2
-/// to 40, `centres_of` contains the rows that this rule yields.
+/// to 40, the definition `centres_of` contains the rows that the rule of Annex E yields.
 #[tactic(auto, unfolding(crate::specs::Alignment::centres_of))]
 pub fn centres_are_spaced()
     ensures { map centres_of (range_with_len 2 39) ≡ map spaced_centres (range_with_len 2 39) }
@@ -105,8 +105,9 @@ pub fn data_codewords_compute()
 {}
 
 /// For all versions and levels, a block has two error correction codewords for each misread codeword that can be
-/// corrected. In addition, the block has its misdecode protection codewords. Table 9 of the standard prints how many
-/// misread codewords can be corrected, and how many misdecode protection codewords there are.
+/// corrected. In addition, the error correction codewords of a block include its misdecode protection codewords. Table
+/// 9 of the standard prints how many misread codewords can be corrected, and how many misdecode protection codewords
+/// there are.
 #[tactic(auto, unfolding(crate::specs::Blocks::correction_len_of))]
 pub fn correction_lens_compute()
     ensures l { map (λ v. correction_len_of v L) all_versions ≡ map (printed_correction L) all_versions }
@@ -115,30 +116,31 @@ pub fn correction_lens_compute()
     ensures h { map (λ v. correction_len_of v H) all_versions ≡ map (printed_correction H) all_versions }
 {}
 
-/// The blocks of a symbol together have all its data codewords and all its error correction codewords. Each block has
-/// at least one data codeword and from 1 to 30 error correction codewords.
+/// Together, the blocks of a symbol contain all data codewords and all error correction codewords of the symbol. Each
+/// block has at least one data codeword and from 1 to 30 error correction codewords.
 pub fn blocks_are_whole(v: Version, level: Level)
     ensures { AreWhole v level (blocks_of v level) }
 {}
 
-/// A block has at most 153 codewords, for data and for error correction together. The longest blocks of version 27 at
-/// level L have 153 codewords.
+/// A block has at most 153 codewords: data codewords and error correction codewords together. The longest blocks of
+/// version 27 at level L have 153 codewords.
 #[tactic(auto, unfolding(crate::specs::Blocks::data_codewords_of, crate::specs::Blocks::block_count_of, crate::specs::Blocks::correction_len_of, crate::specs::Version::total_codewords_of))]
 pub fn blocks_are_short(v: Version, level: Level)
     ensures most { longest_of (blocks_of v level) ≤ 153 }
     ensures reached { longest_of (blocks_of 27 L) ≡ 153 }
 {}
 
-/// Let t be half the number of error correction codewords of a block, rounded down. By the laws of `qr_field`, the
-/// codewords that were read fit only one block if at most t codewords are misread. The number t is at least 9 % of the
-/// number of codewords of the block at level L, 17 % at M, 23 % at Q and 30 % at H.
+/// Let t be half the number of error correction codewords of a block, rounded down. By the laws of the crate
+/// `qr_field`, only one block can have been damaged in this way if at most t codewords are misread. The number t is at
+/// least 9 % of the number of codewords of the block at level L, 17 % at M, 23 % at Q and 30 % at H.
 pub fn blocks_stand_damage(v: Version, level: Level)
     ensures { damage_of level * longest_of (blocks_of v level)
         ≤ 100 * ((blocks_of v level).ec_len / 2) }
 {}
 
 /// A symbol has at most 232 data codewords up to version 9, at most 1,370 up to version 26, and at most 2,956 in all
-/// versions. The versions 9 and 26 are limits because some character count indicators become longer after each of them.
+/// versions. The versions 9 and 26 are the limits because some character count indicators become longer after version
+/// 9, and some after version 26.
 pub fn data_is_bounded(v: Version, level: Level)
     ensures small { v ≤ 9 → data_codewords_of v level ≤ 232 }
     ensures middle { v ≤ 26 → data_codewords_of v level ≤ 1370 }
@@ -146,21 +148,21 @@ pub fn data_is_bounded(v: Version, level: Level)
 {}
 
 /// The 15 bits of format information are five data bits and ten error correction bits, all combined with the bits
-/// 101010000010010 by exclusive or. The data bits indicate the level and the mask pattern. The error correction bits
-/// are the remainder that Annex C of the standard defines.
+/// 101010000010010 by exclusive or. The five data bits indicate the level and the mask pattern. The ten error
+/// correction bits are the remainder that Annex C of the standard defines.
 pub fn format_words_are_remainders(level: Level, mask: u8)
     ensures { mask < 8 → IsFormatWord (five_bits level mask) (format_word_of level mask) }
 {}
 
-/// The 18 bits of version information are six data bits and twelve error correction bits. The data bits are the number
-/// of the version. The error correction bits are the remainder that Annex D of the standard defines.
+/// The 18 bits of version information are six data bits and twelve error correction bits. The six data bits are the
+/// number of the version. The twelve error correction bits are the remainder that Annex D of the standard defines.
 pub fn version_words_are_remainders(v: Version)
     ensures { IsVersionWord v (version_word_of v) }
 {}
 
 /// In six examples, the definitions `format_word_of` and `version_word_of` yield the bits that the standard prints.
-/// Annexes C and D of the standard work out two of these examples, and the tables of these annexes contain the other
-/// four.
+/// Annexes C and D of the standard work out two of the six examples step by step, and the tables of these annexes
+/// contain the other four examples.
 #[tactic(auto, unfolding(crate::specs::Format::format_word_of, crate::specs::Format::version_word_of, crate::specs::Format::remainder_of))]
 pub fn words_compute()
     ensures l { format_word_of L 0 ≡ 0x77C4 }
@@ -171,7 +173,8 @@ pub fn words_compute()
     ensures version_40 { version_word_of 40 ≡ 0x28C69 }
 {}
 
-/// In version 1, the modules of row 8, column 8 and row 6 contain what the figures of the standard show there.
+/// In a symbol of version 1, the modules of row 8, column 8 and row 6 contain what the figures of the standard show
+/// there.
 #[tactic(auto, unfolding(crate::specs::Role::role_of, crate::specs::Role::pattern_colour, crate::specs::Role::is_alignment_light, crate::specs::Role::format_bit_at, crate::specs::Role::version_bit_at, crate::specs::Alignment::centres_of))]
 pub fn roles_compute()
     ensures across { map (role_of 1 8) (range_with_len 0 21) ≡ row_8 }
@@ -179,8 +182,8 @@ pub fn roles_compute()
     ensures timing { map (role_of 1 6) (range_with_len 0 21) ≡ row_6 }
 {}
 
-/// Three parts of symbols contain what the figures of the standard show (6.3.3 to 6.3.6 and 7.10). These parts are a
-/// finder pattern of version 1, an alignment pattern of version 2 and the version information of version 7.
+/// Three parts of symbols contain what the figures of the standard show (6.3.3 to 6.3.6 and 7.10). The three parts are
+/// a finder pattern of version 1, an alignment pattern of version 2 and the version information of version 7.
 #[tactic(auto, unfolding(crate::specs::Role::role_of, crate::specs::Role::pattern_colour, crate::specs::Role::is_alignment_light, crate::specs::Role::format_bit_at, crate::specs::Role::version_bit_at, crate::specs::Alignment::centres_of))]
 pub fn patterns_compute()
     ensures finder { map (λ r. map (role_of 1 r) (range_with_len 0 8)) (range_with_len 0 8) ≡ finder_figure }
@@ -189,7 +192,8 @@ pub fn patterns_compute()
     ensures version_below { map (λ c. map (λ r. role_of 7 r c) (range_with_len 34 3)) (range_with_len 0 6) ≡ version_figure }
 {}
 
-/// Each bit of the format information is at exactly two places, `first_place` and `second_place`.
+/// Each bit of the format information is at exactly two places, which the definitions `first_place` and `second_place`
+/// compute.
 pub fn format_bits_have_places(v: Version)
     ensures first { (i : ℕ) → i < 15
         → role_of v (first_place i).row (first_place i).col ≡ FormatBit i }
@@ -200,9 +204,9 @@ pub fn format_bits_have_places(v: Version)
         → (i < 15) × ((m ≡ first_place i) ⊎ (m ≡ second_place (side_of v) i)) }
 {}
 
-/// From version 7 on, each bit of the version information is at exactly two places. The first place is `version_place`,
-/// and the second place is `version_place` with its row and its column exchanged. Below version 7, no module contains a
-/// bit of version information.
+/// From version 7 on, each bit of the version information is at exactly two places. The definition `version_place`
+/// computes the first place, and the second place is the first place with its row and its column exchanged. Below
+/// version 7, no module contains a bit of version information.
 pub fn version_bits_have_places(v: Version)
     ensures first { (i : ℕ) → 7 ≤ v → i < 18
         → role_of v (version_place (side_of v) i).row (version_place (side_of v) i).col

@@ -1,8 +1,8 @@
-//! The order in which the bits of the codewords fill the modules of the encoding region (ISO/IEC 18004:2015, 7.7.3).
-//! The function `walk` returns an iterator that visits the modules in this order. This walk goes through strips of two
-//! columns, from right to left. The walk goes upward in the first strip, downward in the second, and so on in turn. In
-//! each row of a strip, the right module comes first. No strip contains column 6, which contains a timing pattern:
-//! `strip_at` in strips.rt skips this column.
+//! Defines the order in which the bits of the codewords fill the modules of the encoding region (ISO/IEC 18004:2015,
+//! 7.7.3). The function `walk` returns an iterator that visits the modules in the order in which they are filled. The
+//! walk goes through strips (two neighbouring columns each), from right to left. The walk goes upward in the first
+//! strip, downward in the second strip, and so on in turn. In each row of a strip, the right module comes first. No
+//! strip contains column 6, which contains a timing pattern: the function `strip_at` in strips.rt skips this column.
 
 ghost use Rattle.std.specs.Prelude.{◌≡◌, ◌<◌, ◌≤◌, ◌↔◌, IfSome, IsSome, List, length};
 ghost use Rattle.std.specs.Iterator.{YieldsFirst, item_count};
@@ -70,7 +70,7 @@ impl Cursor {
     }
 
     // Returns the position at which the walk visits the module `m`, if `m` is not in column 6. The walk leaves out
-    // column 6.
+    // column 6, which contains a timing pattern.
     #[tactic(auto, unfolding(crate::specs::Steps::Order::cursor_at))]
     fn at(m: Module) -> Cursor
         ensures { result ≡ cursor_at m }
@@ -144,8 +144,8 @@ pub fn walk(v: Version) -> Steps
     }
 }
 
-/// Returns an iterator over exactly those modules that `walk` yields after the module `m`. Returns `None` if `m` is not
-/// in the encoding region of version `v`. The module `m` may be outside the symbol.
+/// Returns an iterator over exactly those modules that the iterator of `walk` yields after the module `m`. Returns
+/// `None` if `m` is not in the encoding region of version `v`, for example if `m` is outside the symbol.
 pub fn walk_after(v: Version, m: Module) -> Option<Steps>
     ensures given { IsSome result ↔ InRegion v m }
     ensures rest { IfSome result (IsOrderAfter v m) }
@@ -161,8 +161,9 @@ pub fn walk_after(v: Version, m: Module) -> Option<Steps>
     })
 }
 
-/// Returns the number of modules of the encoding region of version `v`. This number is 8 times the number of codewords,
-/// plus the number of remainder bits. The least number is 208, and the greatest is 29,648.
+/// Returns the number of modules of the encoding region of version `v`. The encoding region has 8 modules for each
+/// codeword, and one module for each remainder bit. The encoding region has 208 modules in version 1, and 29,648
+/// modules in version 40.
 pub fn region_len(v: Version) -> u32
     ensures count { result ≡ module_count_of v }
     ensures length { (ms : List Module) → IsOrder v ms → length ms ≡ result }

@@ -9,8 +9,8 @@ use crate::version::Version;
 use arrayvec::ArrayVec;
 use std::ops::Range;
 
-/// A rectangle of modules. Its first row is `top`, and `bottom` is the row after its last row. Its first column is
-/// `left`, and `right` is the column after its last column.
+/// A rectangle of modules. The first row of the rectangle is `top`, and `bottom` is the row after its last row. The
+/// first column of the rectangle is `left`, and `right` is the column after its last column.
 #[derive(Clone, Copy, Default)]
 pub struct Rectangle {
     pub top: u8,
@@ -33,10 +33,10 @@ impl Rectangle {
     }
 }
 
-/// Returns rectangles that cover the parts of a symbol of version `v` outside the encoding region (ISO/IEC 18004:2015,
-/// 6.3.3 to 6.3.5, 7.9 and 7.10). The alignment patterns have no rectangles in the list. Three rectangles are corners,
+/// Returns rectangles that cover all parts of a symbol of version `v` outside the encoding region, except for the
+/// alignment patterns (ISO/IEC 18004:2015, 6.3.3 to 6.3.5, 7.9 and 7.10). Three rectangles are corners of the symbol,
 /// each with a finder pattern, its separator and format information. Two rectangles are row 6 and column 6, which
-/// contain the timing patterns. From version 7 on, there are two more rectangles, which contain the version
+/// contain the timing patterns. From version 7 on, the list has two more rectangles, which contain the version
 /// information. Some of the rectangles overlap.
 pub fn fixed_rectangles(v: Version) -> ArrayVec<Rectangle, 7>
     ensures { result.items ≡ fixed_rectangles v }

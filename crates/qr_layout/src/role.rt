@@ -1,5 +1,5 @@
-//! The role of each module of a symbol: a fixed colour, a bit of the format information or of the version information,
-//! a bit of a codeword, or a remainder bit (ISO/IEC 18004:2015, 6.3 and 7.7.2).
+//! Defines the role of each module of a symbol: a fixed colour, a bit of the format information or of the version
+//! information, a bit of a codeword, or a remainder bit (ISO/IEC 18004:2015, 6.3 and 7.7.2).
 
 ghost use Rattle.std.specs.Prelude.{◌≡◌, ◌≢◌, ◌<◌, ◌≤◌, ◌==◌, ◌&&◌, not};
 ghost use Rattle.std.specs.List.{list_any};
@@ -15,7 +15,7 @@ use crate::version::Version;
 /// The role of a module: what the module contains.
 #[derive(Clone, Copy, Debug, PartialEq, Eq)]
 pub enum Role {
-    /// A colour that is the same in each symbol of the version; `true` is dark.
+    /// A colour that the module has in all symbols of the version; `true` is dark.
     Fixed(bool),
     /// A bit of the format information, where bit 0 is the lowest bit and bit 14 is the highest.
     FormatBit(u8),
@@ -57,8 +57,8 @@ fn is_light_beside(centres: &[u8], side: u8, a: u8, row: u8, col: u8) -> bool
 }
 
 // Returns whether the module in row `row` and column `col` is on the light ring of an alignment pattern. `centres`
-// contains the rows of all centres, and the same numbers are the columns of the centres. `side` is the number of
-// modules on a side of the symbol.
+// contains the rows of all centres; the columns of the centres have the same numbers. `side` is the number of modules
+// on a side of the symbol.
 fn is_light_among(centres: &[u8], side: u8, row: u8, col: u8) -> bool
     requires { 21 ≤ side }
     ensures { result ≡ list_any (λ a. list_any (λ b. not (is_corner_pair side a b)
@@ -77,8 +77,8 @@ fn is_alignment_light(v: Version, row: u8, col: u8) -> bool
     is_light_among(centres, side, row, col)
 }
 
-// Returns the colour of the module in row `row` and column `col`, where `true` is dark. The module must belong to a
-// finder pattern, separator, timing pattern or alignment pattern. For any other module, returns `None`.
+// Returns the colour of the module in row `row` and column `col` (`true` is dark), if the module belongs to a finder
+// pattern, separator, timing pattern or alignment pattern. For any other module, returns `None`.
 #[tactic(auto, unfolding(crate::specs::Role::pattern_colour))]
 fn pattern_colour(v: Version, row: u8, col: u8) -> Option<bool>
     ensures { result ≡ pattern_colour v row col }
@@ -142,7 +142,8 @@ pub fn second_format_place(v: Version, bit: u8) -> Module
 }
 
 // Returns the index of the bit of the format information that the module in row `row` of column 8 contains. Returns
-// `None` if this module contains no such bit. `side` is the number of modules on a side of the symbol.
+// `None` if this module contains no bit of the format information. `side` is the number of modules on a side of the
+// symbol.
 fn format_bit_down(side: u8, row: u8) -> Option<u8>
     requires least { 21 ≤ side }
     requires most { side ≤ 177 }
@@ -163,8 +164,8 @@ fn format_bit_down(side: u8, row: u8) -> Option<u8>
 }
 
 // Returns the index of the bit of the format information that the module in column `col` of row 8 contains, where `col`
-// is not 8. Returns `None` if this module contains no such bit. `side` is the number of modules on a side of the
-// symbol.
+// is not 8. Returns `None` if this module contains no bit of the format information. `side` is the number of modules on
+// a side of the symbol.
 fn format_bit_across(side: u8, col: u8) -> Option<u8>
     requires least { 21 ≤ side }
     requires col_in { col < side }
@@ -201,10 +202,10 @@ fn format_bit(side: u8, row: u8, col: u8) -> Option<u8>
 }
 
 // Returns the index of the bit of the version information that the module in row `row` and column `col` of a symbol of
-// version `v` contains. Returns `None` if the module contains no such bit. From version 7 on there are two copies: the
-// first is in the rows 0 to 5 and the columns side - 11 to side - 9, and the second is in the columns 0 to 5 and the
-// rows side - 11 to side - 9. So the second copy is the first copy with rows and columns exchanged. Here side is the
-// number of modules on a side of the symbol.
+// version `v` contains. Returns `None` if the module contains no bit of the version information. From version 7 on, a
+// symbol has two copies of the version information. The first copy is in the rows 0 to 5 and the columns side - 11 to
+// side - 9, where side is the number of modules on a side of the symbol. The second copy is the first copy with rows
+// and columns exchanged.
 fn version_bit(v: Version, row: u8, col: u8) -> Option<u8>
     requires row_in { row < side_of v }
     requires col_in { col < side_of v }

@@ -1,5 +1,5 @@
-//! The strips of a symbol (ISO/IEC 18004:2015, 7.7.3). A strip is two neighbouring columns that are filled together.
-//! Only those modules of a strip that are in the encoding region contain bits of codewords.
+//! Defines the strips of a symbol (ISO/IEC 18004:2015, 7.7.3). A strip is two neighbouring columns that are filled
+//! together. Only those modules of a strip that are in the encoding region contain bits of codewords.
 
 ghost use Rattle.std.specs.Prelude.{◌≡◌, ◌<◌, ◌≤◌, List};
 ghost use Rattle.std.specs.Iterator.{YieldsFirst, item_count};
@@ -12,8 +12,8 @@ ghost use Rattle.qr_layout.specs.declared.strips.Strip.{Strip};
 use crate::version::Version;
 use std::marker::Model;
 
-/// A strip: two neighbouring columns that are filled together, row by row. In each row the module in the right column
-/// comes first.
+/// A strip: two neighbouring columns that are filled together, row by row. In each row of a strip, the module in the
+/// right column comes first.
 #[derive(Clone, Copy, Debug, PartialEq, Eq)]
 pub struct Strip {
     /// The index of the right column of the strip.
@@ -23,16 +23,15 @@ pub struct Strip {
 }
 
 // Returns the strip (two neighbouring columns) with the number `number`. Strips are numbered from left to right,
-// beginning with 1. This function is the place where the walk skips column 6, which contains a timing pattern: no strip
-// contains column 6.
+// beginning with 1. This function skips column 6, which contains a timing pattern: no strip contains column 6.
 #[inline(always)]
 pub(crate) fn strip_at(number: u8) -> Strip
     requires least { 0 < number }
     requires most { number ≤ 88 }
     ensures { result ≡ strip_at number }
 {
-    // The index of the right column if column 6 is not counted. If column 6 is counted, each index from 6 on is one
-    // more.
+    // `untimed` is the index of the right column if column 6 is not counted. If column 6 is counted, each index from 6
+    // on is greater by 1.
     let untimed = 2 * number - 1;
     let right = if untimed < 6 { untimed } else { untimed + 1 };
     let upward = number % 2 == 0;
@@ -52,7 +51,7 @@ pub(crate) fn column_without_timing(col: u8) -> u8
 #[derive(Drop)]
 pub struct Strips {
     // The number of strips that are still to come. If the strips are numbered from left to right, beginning with 1,
-    // this is also the number of the next strip.
+    // `remaining` is also the number of the next strip.
     remaining: u8,
 }
 
@@ -86,8 +85,8 @@ impl Iterator for Strips {
 }
 
 /// Returns all strips of a symbol of version `v`, from right to left. A strip is two neighbouring columns. The bits of
-/// the codewords fill the symbol strip by strip in this order. In each strip, these bits fill only the modules that are
-/// in the encoding region.
+/// the codewords fill the symbol strip by strip, from right to left. In each strip, the bits of the codewords fill only
+/// the modules that are in the encoding region.
 pub fn all_strips(v: Version) -> Strips
     ensures order { IsOrder v (in_region_of v (places_of (side_of v) result)) }
     ensures inside { All (λ x. (1 ≤ x.right) × (x.right < side_of v)) result }

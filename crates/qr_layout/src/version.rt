@@ -1,5 +1,5 @@
-//! The forty versions of QR Code. A version determines the number of modules on a side of a symbol, and the numbers of
-//! its codewords and remainder bits (ISO/IEC 18004:2015, 6.3.2 and 7.1, Table 1).
+//! The forty versions of QR Code. A version determines the number of modules on a side of a symbol, the number of its
+//! codewords, and the number of its remainder bits (ISO/IEC 18004:2015, 6.3.2 and 7.1, Table 1).
 
 ghost use Rattle.std.specs.Prelude.{◌≡◌, ◌≤◌, SomeIff, ℕ, MatchOption};
 ghost use Rattle.qr_layout.specs.Version.{side_of};
@@ -53,8 +53,8 @@ impl Version {
         }
     }
 
-    /// Returns the version whose symbols have `side` modules on a side, or `None` if there is no such version. Symbols
-    /// have 21, 25, 29 and so on, up to 177 modules on a side.
+    /// Returns the version whose symbols have `side` modules on a side, or `None` if there is no such version. The
+    /// number of modules on a side of a symbol is 21, 25, 29 and so on, up to 177.
     pub fn of_side(side: u8) -> Option<Version>
         ensures { MatchOption result
             ((v : ℕ) → 1 ≤ v → v ≤ 40 → side ≡ side_of v → ⊥)
@@ -84,8 +84,8 @@ impl Version {
         17 + 4 * self.number
     }
 
-    /// Returns the number of codewords of a symbol of this version, from 26 to 3,706. This number includes the data
-    /// codewords and the error correction codewords.
+    /// Returns the number of codewords of a symbol of this version, from 26 to 3,706. The returned number includes the
+    /// data codewords and the error correction codewords.
     #[tactic(auto, unfolding(crate::specs::Version::total_codewords_of))]
     pub fn total_codewords(self) -> u16
         ensures { result ≡ total_codewords_of self }
@@ -93,8 +93,8 @@ impl Version {
         TOTAL_CODEWORDS[usize::from(self.number - 1)]
     }
 
-    /// Returns the number of remainder bits of a symbol of this version: 0, 3, 4 or 7. Remainder bits are modules that
-    /// are left over when the codewords are placed.
+    /// Returns the number of remainder bits of a symbol of this version: 0, 3, 4 or 7. Remainder bits fill the modules
+    /// of the encoding region that are left over when all codewords are placed.
     #[tactic(auto, unfolding(crate::specs::Version::remainder_bits_of))]
     pub fn remainder_bits(self) -> u8
         ensures { result ≡ remainder_bits_of self }

@@ -82,8 +82,9 @@ impl BitRow {
         BitRow([u64::MAX, u64::MAX, low_bits(n - 128)])
     }
 
-    /// Returns the same bit row as `below(n)`, where `n` is from `64 * (words - 1)` to `64 * words`. If the caller
-    /// passes a constant as `words`, two of the three words of the result are constants too.
+    /// Returns the bit row in which exactly the bits with an index below `n` are set, where `n` is from `64 * (words -
+    /// 1)` to `64 * words`. If the caller passes a constant as `words`, two of the three words of the result are
+    /// constants.
     #[inline(always)]
     pub(crate) fn below_in(n: u8, words: u8) -> BitRow
         requires least { 64 * (words - 1) ≤ n }
@@ -120,8 +121,8 @@ impl BitRow {
         self ^ (self & other)
     }
 
-    /// Returns this bit row moved by `steps` bits, where `steps` is from 1 to 63. Bit `c` of the result is bit `c +
-    /// steps` of this bit row.
+    /// Returns this bit row moved by `steps` bits towards bit 0, where `steps` is from 1 to 63. Bit `c` of the result
+    /// is bit `c + steps` of this bit row.
     pub(crate) fn shifted_left(self, steps: u32) -> BitRow
         requires some { 0 < steps }
         requires few { steps < 64 }
@@ -136,8 +137,8 @@ impl BitRow {
         ])
     }
 
-    /// Returns this bit row moved by one bit. Bit `c` of the result is bit `c - 1` of this bit row, and bit 0 is not
-    /// set.
+    /// Returns this bit row moved by one bit away from bit 0. Bit `c` of the result is bit `c - 1` of this bit row, and
+    /// bit 0 is not set.
     pub(crate) fn shifted_right(self) -> BitRow
         ensures { (c : ℕ) → c < 192 → has result c ≡ (nat_lt 0 c && has self (c - 1)) }
     {
@@ -154,7 +155,7 @@ impl BitRow {
         a[0].count_ones() + a[1].count_ones() + a[2].count_ones()
     }
 
-    /// Returns the number of bits that are set, as `count` does, but faster if no bit is set.
+    /// Returns the number of bits that are set in this bit row. If no bit is set, this function is faster than `count`.
     pub(crate) fn count_few(self) -> u32
         ensures value { result ≡ size_of self }
         ensures bound { result ≤ 192 }
@@ -257,7 +258,7 @@ impl BitRow {
     }
 
     /// Sets some of the four bits from bit `place` on: bit `place + k` is set if bit `k` of `bits` is 1. All other bits
-    /// of the bit row stay as they are. `place` is a multiple of four.
+    /// of the bit row are unchanged. `place` is a multiple of four.
     pub fn set_four(&mut self, place: u8, bits: u8)
         requires place_in { place < 192 }
         requires whole { place % 4 ≡ 0 }

@@ -1,4 +1,5 @@
-//! Finds the runs of dark modules in a row. A run begins and ends at columns in which the colour changes.
+//! Finds the runs of dark modules in a row. A run is as many neighbouring dark modules as possible. A run begins at a
+//! column in which the colour changes to dark, and ends before the column in which the colour changes to light.
 
 ghost use Rattle.std.specs.Prelude.{◌≡◌, ℕ, ◌<◌, ◌-◌, false};
 ghost use Rattle.qr_matrix.specs.BitRow.{has};
@@ -17,8 +18,8 @@ pub struct Run {
 /// are still to come.
 #[derive(Drop)]
 pub struct DarkRuns {
-    // In this bit row, a bit is set if its column is not before `col` and has another colour than the column before it.
-    // All columns before `col` count as light.
+    // Bit `c` of this bit row is set if `c` is at least `col`, and column `c` of the row has another colour than column
+    // `c - 1`. In this comparison, all columns before `col` count as light.
     changes: BitRow,
     col: u8,
     ghost later: { (c : ℕ) → c < col → has changes c ≡ false },
@@ -28,8 +29,8 @@ impl Matrix {
     ghost use Rattle.std.specs.Prelude.{◌≡◌, ◌<◌};
     ghost use Rattle.qr_matrix.specs.DarkRuns.{AreRunsFrom};
 
-    /// Returns an iterator over all runs of dark modules in row `row`, from left to right. Each run is as long as
-    /// possible.
+    /// Returns an iterator over all runs of dark modules in row `row`, from left to right. Each run contains as many
+    /// neighbouring dark modules as possible.
     pub fn dark_runs(&self, row: u8) -> DarkRuns
         requires { row < self.now.side }
         ensures start { result.col ≡ 0 }

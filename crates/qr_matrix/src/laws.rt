@@ -1,8 +1,8 @@
 //! States laws of the penalty (ISO/IEC 18004:2015, 7.8.3.1, Table 11), and of the differences between two squares of
 //! modules. For the penalty, the code counts 64 modules at a time (in words of 64 bits), and the definitions count
-//! module by module. The laws state that both counts are equal for every square. The functions without a parameter do
-//! nothing: their contracts are the laws. The functions with a parameter return counts, and their contracts state what
-//! is counted.
+//! module by module. The laws state that the counts of the code and of the definitions are equal for every square. The
+//! functions without a parameter do nothing: their contracts are the laws. The functions with a parameter return
+//! counts, and their contracts state what is counted.
 
 ghost use Rattle.std.specs.Prelude.{◌≡◌, ◌↔◌, ◌<◌, ℕ, Bool};
 ghost use Rattle.qr_matrix.specs.Penalty.{over_lines, run_cost, square_count, window_count, penalty_of};
@@ -17,7 +17,7 @@ use crate::windows::window_count;
 
 /// For the example squares of the contract, the definition of the penalty yields the points that were counted by hand
 /// from Table 11. Some squares contain the ratio 1:1:3:1:1 of a finder pattern, at the beginning of a row or later in a
-/// row or a column. The definition finds this ratio both before and after four light modules.
+/// row or a column. The definition of the penalty finds the ratio 1:1:3:1:1 both before and after four light modules.
 #[tactic(auto, unfolding(crate::specs::Penalty::penalty_of, crate::specs::Penalty::over_lines, crate::specs::Penalty::run_cost, crate::specs::Penalty::is_run, crate::specs::Penalty::window_count, crate::specs::Penalty::is_window, crate::specs::Penalty::square_count, crate::specs::Penalty::is_square_of_two, crate::specs::Penalty::dark_count, crate::specs::Penalty::dark_cost))]
 pub fn penalties_compute()
     ensures one { penalty_of 1 all_light ≡ 100 }
@@ -29,15 +29,15 @@ pub fn penalties_compute()
     ensures inside { over_lines 75 (ratio_in_a_row 60) (window_count 75) ≡ 2 }
 {}
 
-/// The runs of modules of one colour in a row or column cost penalty points. This cost can be counted module by module.
-/// Each module at which five modules of one colour begin costs 1 point. If this module is the first module of its run,
-/// it costs 2 points more.
+/// The penalty points for the runs of modules of one colour in a row or column can be counted module by module. Each
+/// module at which five modules of one colour begin costs 1 point. A module costs 2 additional points if it is the
+/// first module of a run of five or more modules.
 pub fn runs_cost_by_places()
     ensures { (side : ℕ) (line : ℕ → Bool) → run_cost side line ≡ place_cost side line }
 {}
 
 /// Returns the penalty points for the runs of one colour in all rows and columns, counted 64 modules at a time. The
-/// definition of the penalty yields the same number, counted run by run.
+/// definition of the penalty counts run by run, and yields the same number of points.
 pub fn runs_on_words(m: &Matrix) -> u32
     ensures { result ≡ over_lines m.now.side (colour m.now) (run_cost m.now.side) }
 {
@@ -45,7 +45,7 @@ pub fn runs_on_words(m: &Matrix) -> u32
 }
 
 /// Returns the number of squares of two by two modules of one colour, counted 64 modules at a time. The definition of
-/// the penalty yields the same number, counted module by module.
+/// the penalty counts module by module, and yields the same number of squares.
 pub fn squares_on_words(m: &Matrix) -> u32
     ensures { result ≡ square_count m.now.side (colour m.now) }
 {
@@ -53,16 +53,16 @@ pub fn squares_on_words(m: &Matrix) -> u32
 }
 
 /// Returns the number of windows in all rows and columns, counted 64 modules at a time. A window is eleven modules: the
-/// ratio 1:1:3:1:1 of a finder pattern, before or after four light modules. The definition of the penalty yields the
-/// same number, counted module by module.
+/// ratio 1:1:3:1:1 of a finder pattern, before or after four light modules. The definition of the penalty counts module
+/// by module, and yields the same number of windows.
 pub fn windows_on_words(m: &Matrix) -> u32
     ensures { result ≡ over_lines m.now.side (colour m.now) (window_count m.now.side) }
 {
     window_count(m, m.words())
 }
 
-/// The number of modules in which two squares differ is 0 exactly if each module of the first square has the same
-/// colour in the second square.
+/// The definition `difference_count` yields 0 exactly if each module of the first square has the same colour in the
+/// second square.
 pub fn differences_tell_squares_apart()
     ensures { (g h : Grid) → (difference_count g h ≡ 0)
         ↔ ((r c : ℕ) → r < g.side → c < g.side → colour g r c ≡ colour h r c) }

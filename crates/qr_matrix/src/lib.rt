@@ -1,5 +1,5 @@
-//! Stores the modules of a symbol as a square, in which each row is a bit row: three words of 64 bits. This crate also
-//! computes the penalty of a square, and counts the modules in which two squares differ.
+//! This crate stores the modules of a symbol as a square, in which each row is a bit row: three words of 64 bits. The
+//! crate also computes the penalty of a square, and counts the modules in which two squares differ.
 #![tactic(auto)]
 
 mod bit_row;

@@ -15,8 +15,8 @@ use std::marker::Model;
 #[derive(Drop)]
 pub struct Matrix {
     side: u8,
-    // Each row of modules as a bit row, in which a set bit is a dark module. The lowest bit is column 0. No bit of a
-    // column outside the square is set.
+    // Contains one bit row for each row of modules; a set bit is a dark module. The lowest bit of a bit row is the
+    // module in column 0. No bit of a column outside the square is set.
     rows: Vec<BitRow>,
 }
 
@@ -63,8 +63,9 @@ impl Matrix {
         self.rows[usize::from(row)].at(col)
     }
 
-    /// Returns the four modules of row `row` from column `col` on, as the bits of a number. The lowest bit is column
-    /// `col`, which is a multiple of four, and a set bit is a dark module. All four modules must be in the square.
+    /// Returns the four modules of row `row` from column `col` on, as the bits of a number. The lowest bit of the
+    /// number is the module in column `col`, and a set bit is a dark module. `col` must be a multiple of four, and all
+    /// four modules must be in the square.
     pub fn four(&self, row: u8, col: u8) -> u8
         requires row_in { row < self.now.side }
         requires col_in { col + 4 ≤ self.now.side }
@@ -75,9 +76,9 @@ impl Matrix {
         self.rows[usize::from(row)].four(col)
     }
 
-    /// Returns the eight modules of row `row` from column `col` on, as the bits of a number. The lowest bit is column
-    /// `col`, which is a multiple of eight, and a set bit is a dark module. The bits of columns outside the square are
-    /// 0.
+    /// Returns the eight modules of row `row` from column `col` on, as the bits of a number. The lowest bit of the
+    /// number is the module in column `col`, and a set bit is a dark module. `col` must be a multiple of eight. The
+    /// bits of columns outside the square are 0.
     pub fn eight(&self, row: u8, col: u8) -> u8
         requires row_in { row < self.now.side }
         requires col_in { col < self.now.side }
@@ -88,7 +89,7 @@ impl Matrix {
     }
 
     /// Returns the end of a run of modules of one colour: the first column after `col` that has another colour than
-    /// column `col` in row `row`. If there is no such column, the result is the number of columns.
+    /// column `col` in row `row`. If the run continues to the end of the row, the result is the number of columns.
     pub fn run_end(&self, row: u8, col: u8) -> u8
         requires row_in { row < self.now.side }
         requires col_in { col < self.now.side }
@@ -99,8 +100,8 @@ impl Matrix {
         later.first().min(side)
     }
 
-    // Returns a bit row (192 bits) for row `row`. Bit `c` is set if the module in column `c` has another colour than
-    // the module before it. Outside the square, the colour counts as light.
+    // Returns a bit row (192 bits) with the changes of colour in row `row`. Bit `c` is set if the module in column `c`
+    // has another colour than the module in column `c - 1`. Outside the square, the colour counts as light.
     pub(crate) fn changes(&self, row: u8) -> BitRow
         requires { row < self.now.side }
         ensures changes { (c : ℕ) → c < 192 → has result c ≡ is_change (colour self.now row) c }
@@ -122,8 +123,8 @@ impl Matrix {
         self.rows[row]
     }
 
-    // Returns up to 64 modules of row `row`, from column `64 * number` on, as the bits of a word. The lowest bit is
-    // column `64 * number`. The bits of columns outside the square are 0.
+    // Returns up to 64 modules of row `row`, from column `64 * number` on, as the bits of a word. The lowest bit of the
+    // word is the module in column `64 * number`. The bits of columns outside the square are 0.
     pub(crate) fn word(&self, row: usize, number: usize) -> u64
         requires row_in { row < self.now.side }
         requires word_in { number < 3 }
@@ -132,7 +133,8 @@ impl Matrix {
         self.rows[row].word(number)
     }
 
-    // Returns the number of words of 64 bits that the modules of a row fill. The last word may be filled only in part.
+    // Returns the number of words of 64 bits that the modules of a row fill. The modules of a row may fill only a part
+    // of the last word.
     pub(crate) fn words(&self) -> u8
         ensures least { 64 * (result - 1) < self.now.side }
         ensures most { self.now.side ≤ 64 * result }
@@ -142,7 +144,7 @@ impl Matrix {
     }
 
     // Returns row `row` as a bit row. `words` is the number of words of 64 bits that the modules of a row fill. If the
-    // caller passes a constant as `words`, the compiler can leave out all operations on the words that are not filled.
+    // caller passes a constant as `words`, the compiler can leave out all operations on words without modules.
     #[inline(always)]
     pub(crate) fn bit_row_in(&self, row: usize, words: u8) -> BitRow
         requires row_in { row < self.now.side }
@@ -188,10 +190,10 @@ impl Matrix {
         self.rows[row].put_word(number, word);
     }
 
-    /// Sets the modules of row `row` to the colours that they have in `plain`, but inverts some of these colours. A
-    /// module is inverted if it is dark in `within` and the bit of `pattern` for its column is 1. `pattern` has six
-    /// bits, which are repeated every six columns; the lowest bit is for column 0. This square, `plain` and `within`
-    /// must have the same side.
+    /// Sets the modules of row `row` to the colours that they have in the square `plain`, but inverts some of these
+    /// colours. The colour of a module is inverted if the module is dark in the square `within` and the bit of
+    /// `pattern` for its column is 1. `pattern` has six bits, which are repeated every six columns; the lowest bit is
+    /// for column 0. This square, `plain` and `within` must have the same side.
     pub fn set_row_masked(&mut self, row: u8, plain: &Matrix, within: &Matrix, pattern: u8)
         requires row_in { row < self.old.side }
         requires plain_side { plain.now.side ≡ self.old.side }
@@ -206,8 +208,8 @@ impl Matrix {
         self.set_bit_row(row, plain.bit_row(index) ^ inverted);
     }
 
-    // Sets the colours of the columns of row `row` whose bits are set in `columns`. These modules become dark if `dark`
-    // is true, and light otherwise. No bit of a column outside the square may be set.
+    // Sets the modules of row `row` whose bits are set in `columns` to one colour: dark if `dark` is true, and light
+    // otherwise. No bit of a column outside the square may be set.
     fn fill_row(&mut self, row: u8, columns: BitRow, dark: bool)
         requires row_in { row < self.old.side }
         requires past { (c : ℕ) → self.old.side ≤ c → has columns c ≡ false }
@@ -223,7 +225,7 @@ impl Matrix {
 
     /// Sets the modules of a rectangle to one colour: dark if `dark` is true, and light otherwise. The rectangle has
     /// the rows from `top` up to, but not including, `bottom`, and the columns from `left` up to, but not including,
-    /// `right`. It must be inside the square.
+    /// `right`. The rectangle must be inside the square.
     pub fn fill(&mut self, top: u8, bottom: u8, left: u8, right: u8, dark: bool)
         requires rows_in_order { top ≤ bottom }
         requires bottom_in { bottom ≤ self.old.side }
@@ -231,8 +233,8 @@ impl Matrix {
         requires right_in { right ≤ self.old.side }
         ensures { self.new ≡ with_rectangle self.old top bottom left right dark }
     {
-        // This line only helps the prover: it repeats that a `Matrix` has at most 177 modules on a side. The prover
-        // needs this bound if the rectangle has no rows.
+        // The `prove!` line below only helps the prover: this line repeats that a `Matrix` has at most 177 modules on a
+        // side. The prover needs the bound 177 if the rectangle has no rows.
         prove!(self.side <= 177);
         let columns = BitRow::below(right).and_not(BitRow::below(left));
         for row in top..bottom {
@@ -240,8 +242,8 @@ impl Matrix {
         }
     }
 
-    /// Sets this square to the transpose of `other`, which must have the same side. The module in row `r` and column
-    /// `c` gets the colour that `other` has in row `c` and column `r`.
+    /// Sets this square to the transpose of the square `other`, which must have as many rows as this square. The module
+    /// in row `r` and column `c` gets the colour that `other` has in row `c` and column `r`.
     pub fn set_transposed(&mut self, other: &Matrix)
         requires { other.now.side ≡ self.old.side }
         ensures { self.new ≡ transposed other.now }

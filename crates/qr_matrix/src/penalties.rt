@@ -15,7 +15,7 @@ const SQUARE_POINTS: u32 = 3;
 // four light modules.
 const WINDOW_POINTS: u32 = 40;
 
-// The points of Table 11 for each whole twentieth by which the share of dark modules differs from a half.
+// The points of Table 11 for each whole twentieth (5 %) by which the share of dark modules differs from a half.
 const BALANCE_POINTS: u32 = 10;
 
 // Returns the number of dark modules of `matrix`. `words` is the number of words of 64 bits that the modules of a row
@@ -36,7 +36,7 @@ fn dark_count(matrix: &Matrix, words: u8) -> u32
 }
 
 // Returns the penalty points for the share of dark modules, if `dark` of `modules` modules are dark. There are 10
-// points for each whole twentieth by which this share differs from a half.
+// points for each whole twentieth (5 %) by which the share of dark modules differs from a half.
 fn balance_cost(modules: u32, dark: u32) -> u32
     requires some { 0 < modules }
     requires most { modules ≤ 31329 }
@@ -65,10 +65,10 @@ fn penalty_in(m: &Matrix, words: u8) -> u32
         + balance_cost(modules, dark_count(m, words))
 }
 
-/// Returns the penalty of a square of modules, which is a sum of points (ISO/IEC 18004:2015, 7.8.3.1, Table 11). Runs
-/// of five or more modules of one colour cost points, and so do squares of two by two modules of one colour, and the
-/// share of dark modules. Each window also costs points. A window is eleven modules: the ratio 1:1:3:1:1 of a finder
-/// pattern, before or after four light modules.
+/// Returns the penalty of a square of modules, which is a sum of points (ISO/IEC 18004:2015, 7.8.3.1, Table 11). The
+/// points are for runs of five or more modules of one colour, for squares of two by two modules of one colour, for
+/// windows, and for the share of dark modules. A window is eleven modules: the ratio 1:1:3:1:1 of a finder pattern,
+/// before or after four light modules.
 pub fn penalty(m: &Matrix) -> u32
     ensures { result ≡ penalty_of m.now.side (colour m.now) }
 {

@@ -6,10 +6,10 @@ ghost use Rattle.qr_matrix.specs.BitRow.{has};
 
 use crate::bit_row::BitRow;
 
-// Returns the columns of a row at which a square of two by two modules of one colour begins, as the set bits of a bit
-// row. `joins` contains the columns in which the module has the same colour as the next module of the row. `below`
-// contains the columns in which the module has the same colour as the module below it. So a square begins at column `c`
-// if `joins` contains `c`, and `below` contains both `c` and `c + 1`.
+// Returns a bit row: bit `c` is set if a square of two by two modules of one colour begins at column `c` of a row. In
+// `joins`, bit `c` is set if the modules in the columns `c` and `c + 1` of the row have the same colour. In `below`,
+// bit `c` is set if the module in column `c` and the module below it have the same colour. So a square begins at column
+// `c` if bit `c` of `joins` is set, and the bits `c` and `c + 1` of `below` are set.
 pub(crate) fn squares_at(joins: BitRow, below: BitRow) -> BitRow
     ensures { (c : ℕ) → has result c ≡ ((has joins c && has below c) && has below (c + 1)) }
 {

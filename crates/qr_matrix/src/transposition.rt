@@ -2,8 +2,9 @@
 //! transposed in tiles of 64 by 64 modules. A tile is stored in 64 words of 64 bits, one word for each row of the tile.
 //!
 //! A tile is transposed in six stages. The first stage divides the tile into two by two parts of 32 by 32 bits, and
-//! exchanges the upper right part with the lower left part. The second stage does the same with each of these four
-//! parts, which it divides into parts of 16 by 16 bits. The parts of the last stage are single bits.
+//! exchanges the upper right part with the lower left part. The second stage divides each of the four parts into two by
+//! two parts of 16 by 16 bits, and exchanges the upper right part with the lower left part. In the last stage, each
+//! part is a single bit.
 
 ghost use Rattle.std.specs.Prelude.{◌≡◌, ℕ, ◌+◌, ◌-◌, ◌*◌, ◌/◌, ◌%◌, ◌<◌, ◌≤◌, ◌&&◌, ◌==◌, ◌⊎◌, nat_lt, if◌then◌else◌, false, slice_index};
 ghost use Rattle.qr_matrix.specs.Grid.{square, colour, IsSquare};
@@ -14,8 +15,8 @@ use crate::matrix::Matrix;
 
 // Exchanges the right parts of the word `upper` with the left parts of the word `lower`, and returns both words. Each
 // word is divided into parts of `steps` columns, which are left parts and right parts in turn. The part at column 0 is
-// a left part. `mask` contains the columns of the left parts. To exchange two parts, the function inverts the bits in
-// which the parts differ, in both words.
+// a left part. The set bits of `mask` are the columns of the left parts. To exchange two parts, the function inverts,
+// in both words, the bits in which the parts differ.
 #[inline(always)]
 fn exchange_words(upper: u64, lower: u64, steps: usize, mask: u64) -> (u64, u64)
     requires some { 1 ≤ steps }
@@ -31,8 +32,8 @@ fn exchange_words(upper: u64, lower: u64, steps: usize, mask: u64) -> (u64, u64)
 }
 
 // Exchanges parts of the tile in the `2 * steps` rows from row `first` on. Each part has `steps` rows and columns. In
-// each group of two by two parts, the upper right part and the lower left part are exchanged. `mask` contains the
-// columns of the left parts.
+// each group of two by two parts, the upper right part and the lower left part are exchanged. The set bits of `mask`
+// are the columns of the left parts.
 #[inline(always)]
 fn exchange_rows(tile: &mut [u64; 64], first: usize, steps: usize, mask: u64)
     requires some { 1 ≤ steps }
@@ -53,8 +54,8 @@ fn exchange_rows(tile: &mut [u64; 64], first: usize, steps: usize, mask: u64)
 }
 
 // Does one of the six stages of a transposition: exchanges parts of the tile that have `steps` rows and columns. In
-// each group of two by two parts, the upper right part and the lower left part are exchanged. `mask` contains the
-// columns of the left parts.
+// each group of two by two parts, the upper right part and the lower left part are exchanged. The set bits of `mask`
+// are the columns of the left parts.
 #[inline(always)]
 fn exchange(tile: &mut [u64; 64], steps: usize, mask: u64)
     requires some { 1 ≤ steps }
@@ -98,8 +99,8 @@ fn tile_of(matrix: &Matrix, band: usize, word: usize) -> [u64; 64]
 }
 
 // Sets the modules of one tile of `matrix` to the colours of `tile`. The tile has 64 rows and columns, and begins at
-// row `64 * band` and column `64 * word` of the square. Rows of the tile that lie below the square are left out.
-// Modules of the tile that lie to the right of the square must be light.
+// row `64 * band` and column `64 * word` of the square. The function leaves out rows of the tile that lie below the
+// square. Modules of the tile that lie to the right of the square must be light.
 fn set_tile(matrix: &mut Matrix, band: usize, word: usize, tile: &[u64; 64])
     requires whole { IsSquare matrix.old.side matrix.old }
     requires band_in { 64 * band ≤ matrix.old.side }
