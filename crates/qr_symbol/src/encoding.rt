@@ -32,18 +32,18 @@ pub(crate) const SYMBOL_BYTES_MAX: usize = 7089;
 /// with the smallest number is chosen.
 ///
 /// If the modules of the symbol are read in the standard's order, unmasked, deinterleaved and parsed, the result is
-/// exactly the input, in the same segments.
+/// exactly the input, in the segments with which the symbol was made.
 ///
 /// # Errors
 ///
 /// Returns `Empty` exactly if the input has no byte. Returns `TooLong` if the input fits no version from `smallest` on.
-/// Returns `Memory` if an allocation is refused; then `TooLong` is not returned. An input of more than 7,089 bytes fits
-/// no version; for such an input, `TooLong` is returned before any allocation.
+/// Returns `Memory` if an allocation is refused; in this case `TooLong` is not returned. An input of more than 7,089
+/// bytes fits no version; for such an input, `TooLong` is returned before any allocation.
 ///
 /// # Notes
 ///
-/// Among the parameters of `encode`, the level comes before the version. In `encode_series`, the version comes before
-/// the level.
+/// Among the parameters of `encode`, the level comes before the version. Among the parameters of `encode_series`, the
+/// version comes before the level.
 pub fn encode(
     alloc: Global,
     input: &[u8],
