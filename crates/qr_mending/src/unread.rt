@@ -23,8 +23,8 @@ use qr_symbol::{BlockSizes, ReadFault};
 use std::alloc::{AllocError, Global};
 
 // Returns a mark for each codeword of a symbol. The mark of a codeword is a byte with one bit for each of the eight
-// modules of the codeword. The bit is 1 if the module is dark in `unknown`, which means that the module was not read.
-// So the mark of a codeword is 0 if all its modules were read, and only then.
+// modules of the codeword. The bit of a module is 1 if the module is dark in `unknown`, which means that the module was
+// not read. So the mark of a codeword is 0 if all its modules were read, and only then.
 pub(crate) fn read_marks(
     alloc: Global,
     version: Version,
@@ -106,8 +106,8 @@ fn erased_of(alloc: Global, marks: &[u8]) -> Result<Vec<bool>, AllocError>
 
 // Mends a damaged block in which some codewords are erased and other codewords may be misread. `erased` is true at the
 // index of each erased codeword. To correct an erased codeword, one error correction codeword is needed. To correct a
-// misread codeword, two error correction codewords are needed. Returns `None` if in total more than `spare` error
-// correction codewords are needed.
+// misread codeword, two error correction codewords are needed. Returns `None` if more than `spare` error correction
+// codewords are needed to mend the block.
 fn mend_block(
     divisor: &Divisor,
     spare: usize,

@@ -15,8 +15,9 @@ use crate::patterns::is_bit_set;
 use qr_layout::{Module, Strip, Version, all_strips, walk};
 use qr_matrix::{BitRow, Matrix};
 
-// Returns the codeword with the index `place`, or 0 if `place` is after the last codeword. Since 0 is returned there,
-// the remainder bits (the modules after the last codeword) are 0 (light) before a mask pattern inverts some of them.
+// Returns the codeword with the index `place`, or 0 if `place` is after the last codeword. Because of the returned 0,
+// the remainder bits (the bits of the modules after the last codeword) are 0 (light) before a mask pattern inverts some
+// of them.
 fn codeword_at(codewords: &[u8], place: usize) -> u8
     ensures { result ≡ slice_index codewords.now place }
 {
@@ -38,7 +39,8 @@ fn eight_codewords(codewords: &[u8], place: usize) -> u64
 
 // Returns the eight codewords from index `place` on as one integer of 64 bits, as `eight_codewords` does. If there are
 // fewer than eight codewords from index `place` on, zeros follow the last codeword. Because of these zeros, the
-// remainder bits (the modules after the last codeword) are 0 (light) before a mask pattern inverts some of them.
+// remainder bits (the bits of the modules after the last codeword) are 0 (light) before a mask pattern inverts some of
+// them.
 #[inline(never)]
 fn last_codewords(codewords: &[u8], place: usize) -> u64
     requires { place ≤ 5000 }
