@@ -34,8 +34,8 @@ pub(crate) struct MendedSquare {
 // the mask whose format information differs from this copy in at most three modules. `marks` is empty, or contains for
 // each codeword a mark that shows which modules of the codeword were not read. An erased codeword is known to be
 // unreadable. A codeword is erased if its mark is not 0. If `marks` is empty, no codeword is erased. Returns `None` if
-// no level and mask have format information that is so near to this copy. If some block has more erased and misread
-// codewords than can be corrected, `None` is returned.
+// the format information of every level and mask differs from this copy in more than three modules. If some block has
+// more erased and misread codewords than can be corrected, `None` is returned.
 fn mend_by(
     alloc: Global,
     version: Version,
