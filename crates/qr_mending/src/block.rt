@@ -26,7 +26,8 @@ fn candidate(n: usize, t: usize, damaged: &[u8]) -> ArrayVec<u8, 255>
     without_errors(coefficients, first.as_slice(), damaged)
 }
 
-// Returns the number of indices at which the lists `xs` and `ys` have different items. Both lists have the same length.
+// Returns the number of indices at which the lists `xs` and `ys` have different items. The lists `xs` and `ys` have the
+// same length.
 fn count_differences(xs: &[u8], ys: &[u8]) -> usize
     requires { length xs.now ≡ length ys.now }
     ensures { result ≡ differences xs.now ys.now }

@@ -53,8 +53,8 @@ fn values(locator: &[u8], syndromes: &[u8]) -> ArrayVec<u8, 255>
 }
 
 // Returns the error of one codeword of a damaged block. `place` is the index of this codeword, counted backwards: the
-// last codeword of the block has the index 0. `series` contains the values of the error polynomial at all 255 powers of
-// 2. `locator` lists the coefficients of the locator polynomial.
+// last codeword of the block has the index 0. `locator` lists the coefficients of the locator polynomial. `series`
+// contains the values of the error polynomial at all 255 powers of 2.
 fn error(locator: &[u8], series: &[u8], place: u8) -> u8
     requires count { length series.now ≡ 255 }
     requires place { place < 255 }

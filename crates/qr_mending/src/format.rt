@@ -1,6 +1,6 @@
-//! Finds the level and the mask of a damaged symbol. A symbol contains two copies of its format information. The format
-//! information of the level and mask that are found differs from one of the copies in the symbol in at most three
-//! modules (ISO/IEC 18004:2015, 7.9.1 and Annex C).
+//! Finds the level and the mask of a damaged symbol. A symbol contains two copies of its format information. The level
+//! and the mask are found if their format information differs from one of the two copies in at most three modules
+//! (ISO/IEC 18004:2015, 7.9.1 and Annex C).
 
 ghost use Rattle.std.specs.Prelude.{◌≡◌, ℕ, ◌+◌, ◌<◌, ◌≤◌, Some, MatchOption};
 ghost use Rattle.qr_layout.specs.declared.level.Level.{Level};
@@ -19,9 +19,8 @@ use qr_matrix::Matrix;
 const FORMAT_BITS: u8 = 15;
 
 // If a copy of the format information has more than `FORMAT_ERRORS` wrong modules, the copy is not used. Any two
-// different pairs of level and mask have format information that differs in at least seven bits. So a copy of the
-// format information is near to at most one pair of level and mask, which means that it differs in at most three
-// modules from the pair's format information.
+// different pairs of level and mask have format information that differs in at least seven bits. So at most one pair of
+// level and mask has format information that differs from a given copy in at most three modules.
 const FORMAT_ERRORS: u8 = 3;
 
 /// One of the two copies of the format information in a symbol.
@@ -161,8 +160,8 @@ fn near_mask_of(matrix: &Matrix, version: Version, copy: FormatCopy, level: Leve
 }
 
 // Returns the level and the mask whose format information differs from the copy `copy` in `matrix` in at most three
-// modules. There is at most one pair of level and mask with such format information. If there is no such pair, returns
-// `None`.
+// modules. There is at most one pair of level and mask with such format information. If there is no pair of level and
+// mask with such format information, returns `None`.
 pub(crate) fn near_format_of(
     matrix: &Matrix,
     version: Version,

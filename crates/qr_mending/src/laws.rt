@@ -1,6 +1,6 @@
 //! States laws about the mending of damaged blocks and symbols. A damaged block or symbol can be mended to at most one
 //! result. A symbol that can be mended and read is refused only for lack of memory. Most functions of this file do
-//! nothing: the contract of such a function is the law. Each function that has a body mends one or more symbols, and
+//! nothing: the contract of such a function is the law. Each function that contains code mends one or more symbols, and
 //! its contract is a law about the result.
 
 ghost use Rattle.std.specs.Prelude.{◌≡◌, ◌≢◌, ◌↔◌, ◌⊎◌, Err, ℕ, ◌*◌, ◌/◌, ◌≤◌, false, List, length, replicate, Option, None, Some, MatchResult};
@@ -38,8 +38,8 @@ use qr_symbol::ReadFault;
 use std::alloc::Global;
 
 /// A damaged block of at most 255 codewords can be mended to at most one block. A block is a possible result of mending
-/// if it differs from the damaged block in at most t codewords. The law holds if twice this number t is at most the
-/// number of error correction codewords of the block.
+/// if it differs from the damaged block in at most t codewords. The law holds if 2t, twice the number of codewords that
+/// may be wrong, is at most the number of error correction codewords of the block.
 pub fn mended_blocks_are_one()
     ensures { (n t : ℕ) (damaged b c : List ℕ) → length damaged ≤ 255 → 2 * t ≤ n
         → IsMended n t damaged b → IsMended n t damaged c → b ≡ c }
@@ -70,9 +70,9 @@ pub fn near_format_is_one()
 {}
 
 /// In seven combinations of version and level, the number of codewords that can be corrected in a block agrees with
-/// Table 9 of the standard. In six of the seven combinations, some error correction codewords of a block are not used
-/// to correct errors, only to detect them. The number of codewords that only detect errors agrees with Table 9 of the
-/// standard.
+/// Table 9 of the standard. In six combinations of version and level, some error correction codewords of a block are
+/// not used to correct errors, only to detect them. The number of codewords that only detect errors agrees with Table 9
+/// of the standard.
 pub fn tolerances_compute()
     ensures one { tolerance_of 1 Level.L ≡ 2 × tolerance_of 1 Level.M ≡ 4 }
     ensures one_more { tolerance_of 1 Level.Q ≡ 6 × tolerance_of 1 Level.H ≡ 8 }
@@ -85,15 +85,15 @@ pub fn tolerances_compute()
 {}
 
 /// The codewords that were read from a damaged symbol can be mended to at most one message, which is the data codewords
-/// of the symbol. A damaged symbol also determines the number of changed codewords in each block.
+/// of the symbol. A damaged symbol determines the number of changed codewords in each block.
 pub fn mended_messages_are_one(version: Version, level: Level)
     ensures { (cw m n x y : List ℕ) → IsMendedIn version level cw m x → IsMendedIn version level cw n y
         → (m ≡ n) × (x ≡ y) }
 {}
 
-/// A damaged symbol is read as at most one content after its damage is mended. A damaged symbol also determines the
-/// version, the level, the mask and the number of changed codewords in each block. The law holds for symbols whose
-/// modules were all read, and for symbols with modules that were not read.
+/// A damaged symbol is read as at most one content after its damage is mended. A damaged symbol determines the version,
+/// the level, the mask and the number of changed codewords in each block. The law holds for symbols whose modules were
+/// all read, and for symbols with modules that were not read.
 pub fn mended_readings_are_one()
     ensures { (unknown : Option Grid) (g : Grid) (v w : ℕ) (l k : Level) (m n : ℕ) (p q : Content) (x y : List ℕ)
         → IsMendedReadingWithout unknown g v l m p x → IsMendedReadingWithout unknown g w k n q y
@@ -116,15 +116,15 @@ pub fn sound_squares_are_symbols()
 {}
 
 /// If a square of modules can be read without mending, the content that is read is also the result of mending. Mending
-/// such a square changes no codeword.
+/// a square that can be read without mending changes no codeword.
 pub fn readings_are_mended_readings()
     ensures { (g : Grid) (p : Content) → (h : IsReading g p)
         → IsMendedReading g h.version h.level h.mask p (replicate (blocks_in h.version h.level) 0) }
 {}
 
-/// The result of mending a symbol contains a list with the number of changed codewords of each block. The list of these
-/// numbers has at least one item. No block has more changed codewords than can be corrected in a block. For every
-/// version and level, the number of codewords that can be corrected is at least 2 and at most 15.
+/// The result of mending a symbol contains a list with the number of changed codewords of each block. The list of the
+/// numbers of changed codewords has at least one item. No block has more changed codewords than can be corrected in a
+/// block. For every version and level, the number of codewords that can be corrected is at least 2 and at most 15.
 pub fn changes_are_bounded()
     ensures some { (unknown : Option Grid) (g : Grid) (v : ℕ) (l : Level) (m : ℕ) (p : Content) (x : List ℕ)
         → IsMendedReadingWithout unknown g v l m p x → 1 ≤ length x }
@@ -174,9 +174,9 @@ pub fn mendings_without_are_refused_exactly(
 }
 
 /// Two symbols of the same version differ in many modules or codewords if their data codewords or their levels are
-/// different. Either the two symbols differ in at least seven modules of each copy of the format information, or some
-/// block has many different codewords in the two symbols. The number of codewords of this block that differ is more
-/// than twice the number of codewords that can be corrected in a block.
+/// different. Either the two symbols differ in at least seven modules of each copy of the format information, or they
+/// differ in many codewords of some block. The number of codewords of this block that differ is more than twice the
+/// number of codewords that can be corrected in a block.
 pub fn symbols_lie_apart(version: Version)
     ensures { SymbolsLieApart version }
 {}
@@ -260,8 +260,8 @@ pub fn series_mendings_are_refused_exactly(
 
 /// If the symbols of a series for an input are damaged, mending the symbols yields exactly this input, or memory is
 /// refused. The law holds if each symbol has no more damage than can be mended. The law also holds for symbols that
-/// another encoder made. Mending such symbols yields the bytes that result from reading and joining the undamaged
-/// symbols.
+/// another encoder made. Mending symbols of another encoder yields the bytes that result from reading and joining the
+/// undamaged symbols.
 pub fn damaged_series_are_mended(alloc: Global, damaged: &[Matrix]) -> Result<Vec<u8>, ReadFault>
     ensures series { (v : ℕ) (l : Level) (rule : Rule) (x : List ℕ) (ss : List Symbol) → 1 ≤ v → v ≤ 40
         → IsSeries v l rule x ss → AreDamagedSquares damaged.now (squares_of ss)

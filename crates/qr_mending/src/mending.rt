@@ -156,8 +156,8 @@ pub struct Mended {
 /// Reads a damaged symbol and corrects its wrong codewords (ISO/IEC 18004:2015, 7.5.1, 7.9.1 and 12). The version
 /// follows from the number of rows of `matrix`. The level and the mask are found by means of the copy of the format
 /// information beside the top left finder pattern. The format information of the level and mask that are found differs
-/// from this copy in at most three modules. If no level and mask are found, or if some block cannot be mended with
-/// them, the second copy of the format information is used in the same way. In each block up to `changed_max` wrong
+/// from the copy that is used in at most three modules. If no level and mask are found, or if some block cannot be
+/// mended, the second copy of the format information is used in the same way. In each block up to `changed_max` wrong
 /// codewords are corrected. The function patterns, the version information and the remainder bits have no effect on the
 /// content that is read. Wrong modules of the function patterns, the version information and the remainder bits are
 /// counted in `Mended::wrong_modules`.

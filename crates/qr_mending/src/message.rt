@@ -26,8 +26,8 @@ pub(crate) struct MendedBlock {
 }
 
 // Mends a damaged block in which at most `t` codewords are wrong. `message` contains the data codewords that were read,
-// and `checks` contains the error correction codewords that were read. Returns `ReadFault::Check` if every block
-// differs from the codewords that were read in more than `t` codewords.
+// and `checks` contains the error correction codewords that were read. Returns `ReadFault::Check` if the codewords that
+// were read differ from every block in more than `t` codewords.
 fn mend_block(
     alloc: Global,
     divisor: &Divisor,

@@ -1,5 +1,5 @@
 //! This file contains the laws of mask patterns, of interleaving, of reading and of series of symbols. Most functions
-//! of this file contain no code: their contract is the law. The functions of this file that contain code build, read,
+//! of this file contain no code: their contract is the law. Some functions of this file contain code: they build, read,
 //! compare or clone values, and the contract of each is a law about its result.
 
 ghost use Rattle.std.specs.Prelude.{◌≡◌, ◌<◌, ◌≤◌, ◌+◌, ◌%◌, ◌⊎◌, ℕ, false, List, length, map, None, ◌∷◌, IfOk, IfErr, ◌≢◌, ◌↔◌, Err};
@@ -99,9 +99,9 @@ pub fn interleaving_is_one(version: Version, level: Level)
         → IsInterleaved version level d xs → IsInterleaved version level e xs → d ≡ e }
 {}
 
-/// If two squares of modules of the same version and level contain different data codewords, some block has many
-/// different codewords in the two squares. The number of codewords of this block that differ is greater than the number
-/// of error correction codewords of the block.
+/// If two squares of modules of the same version and level contain different data codewords, they differ in many
+/// codewords of some block. The number of codewords of this block that differ is greater than the number of error
+/// correction codewords of the block.
 pub fn messages_lie_apart(version: Version, level: Level)
     ensures { MessagesLieApart version level }
 {}
@@ -122,7 +122,7 @@ pub fn squares_give_their_bits(version: Version)
         → read_bits version mask (grid_of version l mask cw) ms ≡ bits_of cw }
 {}
 
-/// Under each mask pattern, every square of modules contains exactly one list of codewords of the version. The list of
+/// If the mask pattern is given, exactly one list of codewords can be read from a square of modules. The list of
 /// codewords in a square is the final sequence for at most one list of data codewords.
 pub fn reading_is_one(version: Version, level: Level)
     ensures some { (mask : ℕ) (g : Grid) → (cw : List ℕ) × IsRead version mask g cw }
@@ -162,7 +162,7 @@ pub fn readings_are_refused_exactly(alloc: Global, matrix: &Matrix) -> Result<Pa
     read_symbol(alloc, matrix)
 }
 
-/// There is at most one list of bytes that results if the squares of modules in a list are read and joined.
+/// If the squares of modules in a list are read and joined, at most one list of bytes is a possible result.
 pub fn joinings_are_one()
     ensures { (gs : List Grid) (x y : List ℕ) → IsJoined gs x → IsJoined gs y → x ≡ y }
 {}
@@ -209,8 +209,8 @@ pub fn series_are_one()
 {}
 
 /// Each part into which an input is cut fits a symbol together with a structured append header. Without kanji mode, the
-/// input cannot be cut into fewer parts that all fit. So without kanji mode, the series of a nonempty input is the
-/// shortest possible.
+/// input cannot be cut into fewer parts that all fit. Without kanji mode, the series of a nonempty input therefore has
+/// the least possible number of symbols.
 pub fn series_are_shortest()
     ensures fit { (v : ℕ) (l : Level) (rule : Rule) (x : List ℕ) (parts : List (List ℕ))
         → AreParts v l rule x parts → FitParts v l rule x parts }

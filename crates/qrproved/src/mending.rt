@@ -36,8 +36,8 @@ pub struct QrprovedMended {
     pub wrong_modules: u32,
     /// The version, from 1 to 40.
     pub version: u8,
-    /// This number is 1 if the symbol has a structured append header, and so is part of a series. Without a structured
-    /// append header, the four fields `has_header`, `position`, `last` and `parity` are 0.
+    /// The number `has_header` is 1 if the symbol has a structured append header, and so is part of a series. Without a
+    /// structured append header, the four fields `has_header`, `position`, `last` and `parity` are 0.
     pub has_header: u8,
     /// The position of the symbol in its series, from 0 to 15.
     pub position: u8,
@@ -176,8 +176,8 @@ fn mended_of(len: usize, mended: &Mended) -> QrprovedMended
 /// next causes to be checked are damaged format information, damaged codewords, data codewords that cannot be parsed,
 /// and a buffer `bytes` that is too short.
 ///
-/// On status 0 the modules in the buffer are a damaged form of a symbol. In this case the call wrote the bytes and the
-/// header that the undamaged symbol contains, and the version, the level and the mask pattern of the symbol.
+/// On status 0 the modules in the buffer are a damaged form of a symbol. On status 0 the call wrote the bytes and the
+/// header of the undamaged symbol, and its version, level and mask pattern.
 ///
 /// The struct `mended` also contains four numbers that describe the damage of the symbol. `wrong_modules` is the number
 /// of wrong or unknown modules in the whole square. `wrong_format_modules` is the number of wrong or unknown modules
@@ -273,7 +273,7 @@ mod tests {
         Ok(modules)
     }
 
-    // The places of five modules of the encoding region, in symbols with the version 1-M, that belong to five different
+    // The places of five modules of the encoding region in version 1-M; the five modules belong to five different
     // codewords.
     static CODEWORDS: [(u8, u8); 5] = [(20, 20), (16, 20), (12, 20), (9, 18), (13, 18)];
 

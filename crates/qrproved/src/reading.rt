@@ -23,8 +23,8 @@ pub struct QrprovedContent {
     pub len: usize,
     /// The version, from 1 to 40.
     pub version: u8,
-    /// This number is 1 if the symbol has a structured append header, and so is part of a series. Without a structured
-    /// append header, the four fields `has_header`, `position`, `last` and `parity` are 0.
+    /// The number `has_header` is 1 if the symbol has a structured append header, and so is part of a series. Without a
+    /// structured append header, the four fields `has_header`, `position`, `last` and `parity` are 0.
     pub has_header: u8,
     /// The position of the symbol in its series, from 0 to 15.
     pub position: u8,
@@ -75,7 +75,7 @@ pub(crate) fn content_of(len: usize, version: Version, header: Option<Header>) -
 /// are wrong format information, wrong codewords, data codewords that cannot be parsed, and a buffer `bytes` that is
 /// too short.
 ///
-/// On status 0 the first copy of the format information and the codewords in `modules` belong to a symbol. In this case
+/// On status 0 the first copy of the format information and the codewords in `modules` belong to a symbol. On status 0
 /// the call wrote the bytes and the header that the symbol contains. The contract promises nothing about the function
 /// patterns, the dark module, the second copy of the format information, the version information and the remainder bits
 /// in `modules`.

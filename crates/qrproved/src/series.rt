@@ -26,9 +26,9 @@ pub struct QrprovedSeries {
 
 /// Encodes `input` as a series of symbols, and writes the modules of these symbols to the buffer `modules`. All symbols
 /// have the version `version`. The byte of a module is at index `number * side * side + row * side + column` of the
-/// buffer. In this index, `number` is the number of the module's symbol, counted from 0, and `side` is the number of
-/// rows of a symbol. If the input fits one symbol without a structured append header, the series is this one symbol.
-/// The parameters `level` and `rule` have the same meaning as in `qrproved_encode`.
+/// buffer. In the index of a byte, `number` is the number of the module's symbol, counted from 0, and `side` is the
+/// number of rows of a symbol. If the input fits one symbol without a structured append header, the series is this one
+/// symbol. The parameters `level` and `rule` have the same meaning as in `qrproved_encode`.
 ///
 /// The causes of a refusal are checked in this order: a number out of range, an empty input, an input that needs more
 /// than 16 symbols, a buffer that is too short. Numbers out of range, an empty input and an input of more than 113,425

@@ -18,7 +18,8 @@ pub(crate) struct Settings {
     pub rule: Rule,
 }
 
-/// Returns `number` if it is at least `least` and at most `most`. Otherwise returns `None`.
+/// Returns `number` if it is at least `least` and at most `most`. If `number` is less than `least` or more than `most`,
+/// returns `None`.
 pub(crate) fn between(number: u32, least: u8, most: u8) -> Option<u8>
     ensures { SomeIff result ((least ≤ number) × (number ≤ most)) number }
 {
