@@ -98,7 +98,7 @@ pub(crate) fn wrong_bit(is_unknown: bool, dark: bool, wanted: bool) -> u8
 
 // Returns the number of wrong modules in one copy of the format information in `matrix`. A module is wrong if it was
 // not read, or if it does not have the colour that its bit in `word` requires. A bit that is 1 requires a dark module.
-// A module was not read if it is dark in `unknown`.
+// A module was not read if it is dark in the square `unknown`.
 fn wrong_bits_without(
     matrix: &Matrix,
     unknown: &Matrix,
@@ -124,7 +124,7 @@ fn wrong_bits_without(
 
 // Returns the number of wrong modules among the 30 modules of the two copies of the format information in `matrix`. A
 // module is wrong if it was not read, or if it does not have the colour that the format information of the level and
-// the mask requires. A module was not read if it is dark in `unknown`.
+// the mask requires. A module was not read if it is dark in the square `unknown`.
 pub(crate) fn wrong_format_modules_without(
     matrix: &Matrix,
     unknown: &Matrix,
@@ -181,8 +181,9 @@ pub(crate) fn near_format_of(
 }
 
 // Returns the level and the mask whose format information differs from the first copy in `matrix` in at most three
-// modules. If no level and mask have such format information, the second copy is used in the same way. Returns `None`
-// if the format information of every level and mask differs from both copies in more than three modules.
+// modules. If no level and mask have format information that is so near to the first copy, the second copy is used in
+// the same way. Returns `None` if the format information of every level and mask differs from both copies in more than
+// three modules.
 pub(crate) fn near_format_of_either(matrix: &Matrix, version: Version) -> Option<(Level, u8)>
     requires { matrix.now.side ≡ side_of version }
     ensures { MatchOption result

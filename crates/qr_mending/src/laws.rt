@@ -160,7 +160,7 @@ pub fn mendings_are_refused_exactly(alloc: Global, damaged: &Matrix) -> Result<M
 /// not be read. If `mend_symbol_without` returns a fault other than `Memory`, `IsUnmendedWithout` holds for the damaged
 /// symbol and this fault. Conversely, if `IsUnmendedWithout` holds for the damaged symbol and a fault other than
 /// `Memory`, `mend_symbol_without` returns this fault unless memory is refused. A module was not read if it is dark in
-/// `unknown`.
+/// the square `unknown`.
 pub fn mendings_without_are_refused_exactly(
     alloc: Global,
     damaged: &Matrix,
@@ -202,11 +202,11 @@ pub fn damaged_symbols_are_mended(alloc: Global, damaged: &Matrix) -> Result<Men
 }
 
 /// If the symbol of an input is damaged and some modules could not be read, mending the symbol yields exactly this
-/// input, or memory is refused. A module that could not be read is dark in `unknown`, and its codeword is called
-/// erased. `damaged` may be any square of modules with as many rows as the symbol, under two conditions. The first
-/// condition is that in each block the number of erased codewords, plus twice the number of misread codewords, is at
-/// most twice `changed_max`. The second condition is that in `damaged` at most three modules of the first copy of the
-/// format information have a wrong colour. If the symbol cannot be mended with the first copy, it is enough that at
+/// input, or memory is refused. A module that could not be read is dark in the square `unknown`, and its codeword is
+/// called erased. `damaged` may be any square of modules with as many rows as the symbol, under two conditions. The
+/// first condition is that in each block the number of erased codewords, plus twice the number of misread codewords, is
+/// at most twice `changed_max`. The second condition is that in `damaged` at most three modules of the first copy of
+/// the format information have a wrong colour. If the symbol cannot be mended with the first copy, it is enough that at
 /// most three modules of the second copy have a wrong colour in `damaged`. The result contains the exact numbers of
 /// misread codewords and of wrong modules.
 pub fn damaged_symbols_without_modules_are_mended(

@@ -15,16 +15,15 @@ use crate::patterns::is_bit_set;
 use qr_layout::{Module, Strip, Version, all_strips, walk};
 use qr_matrix::{BitRow, Matrix};
 
-// Returns the codeword with the index `place`, or 0 if `place` is after the last codeword. Because of the returned 0,
-// the remainder bits (the bits of the modules after the last codeword) are 0 (light) before a mask pattern inverts some
-// of them.
+// Returns the codeword with the index `place`, or 0 if `place` is after the last codeword. Since 0 is returned after
+// the last codeword, the remainder bits are 0 (light) before a mask pattern inverts some of them.
 fn codeword_at(codewords: &[u8], place: usize) -> u8
     ensures { result ≡ slice_index codewords.now place }
 {
     codewords.get(place).copied().unwrap_or(0)
 }
 
-// Returns the eight codewords from index `place` on as one integer of 64 bits. The first of these codewords is the
+// Returns the eight codewords from index `place` on as one integer of 64 bits. The first of the eight codewords is the
 // highest byte of the integer.
 fn eight_codewords(codewords: &[u8], place: usize) -> u64
     requires { place + 8 ≤ length codewords.now }
@@ -38,9 +37,8 @@ fn eight_codewords(codewords: &[u8], place: usize) -> u64
 }
 
 // Returns the eight codewords from index `place` on as one integer of 64 bits, as `eight_codewords` does. If there are
-// fewer than eight codewords from index `place` on, zeros follow the last codeword. Because of these zeros, the
-// remainder bits (the bits of the modules after the last codeword) are 0 (light) before a mask pattern inverts some of
-// them.
+// fewer than eight codewords from index `place` on, zeros follow the last codeword. Because of the zeros after the last
+// codeword, the remainder bits are 0 (light) before a mask pattern inverts some of them.
 #[inline(never)]
 fn last_codewords(codewords: &[u8], place: usize) -> u64
     requires { place ≤ 5000 }
@@ -53,9 +51,9 @@ fn last_codewords(codewords: &[u8], place: usize) -> u64
     bits
 }
 
-// Eight codewords as one integer of 64 bits, `bits`. The first of the eight codewords is the highest byte of `bits`.
-// The bits of all codewords are numbered from 0, and `first` is the number of the codeword bit that is the highest bit
-// of `bits`.
+// Eight codewords, which are stored in one integer `bits` of 64 bits. The first of the eight codewords is the highest
+// byte of `bits`. The bits of all codewords are numbered from 0, and `first` is the number of the codeword bit that is
+// the highest bit of `bits`.
 #[derive(Clone, Copy)]
 struct CodewordBits {
     bits: u64,

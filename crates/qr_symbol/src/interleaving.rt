@@ -15,7 +15,7 @@ use qr_layout::{Blocks, Level, Version};
 use std::alloc::{AllocError, Global};
 
 /// The sizes of the blocks into which a list of codewords is divided. The first `short` blocks contain `short_len`
-/// codewords each. After these blocks come `long` blocks, which contain `short_len` + 1 codewords each
+/// codewords each. After the short blocks come `long` blocks, which contain `short_len` + 1 codewords each
 /// (ISO/IEC 18004:2015, 7.5.1).
 #[derive(Clone, Copy)]
 pub struct BlockSizes {

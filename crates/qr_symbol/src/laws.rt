@@ -55,8 +55,8 @@ pub fn masks_compute()
 {}
 
 /// `build_masked` draws module by module, and `build` draws several modules at once, but the two functions make the
-/// same symbol. If `build_masked` is called with the mask pattern that `build` has chosen, it makes a symbol with the
-/// same fields as `build`.
+/// same symbol. If `build_masked` is called with the mask pattern that `build` has chosen, all fields of the two
+/// symbols are equal.
 pub fn plain_and_fast_symbols_are_one(
     alloc: Global,
     version: Version,

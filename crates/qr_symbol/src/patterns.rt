@@ -1,6 +1,6 @@
 //! Draws the function patterns, the format information and the version information of a symbol. This file also draws a
-//! square in which only the encoding region is dark, which is the modules that the codewords fill (ISO/IEC 18004:2015,
-//! 6.3, 7.9 and 7.10).
+//! square in which only the encoding region (the modules that the codewords fill) is dark (ISO/IEC 18004:2015, 6.3, 7.9
+//! and 7.10).
 
 ghost use Rattle.std.specs.Prelude.{◌≡◌, ℕ, ◌%◌, ◌+◌, ◌<◌, ◌≤◌, ◌==◌, ◌&&◌, not, if◌then◌else◌, nat_le, nat_lt, false};
 ghost use Rattle.std.specs.List.{list_any, All};

@@ -37,8 +37,8 @@ use std::alloc::Global;
 ///
 /// Returns `Empty` exactly if the input has no byte. Returns `TooMany` if the input has no series, since it would be
 /// cut into more than 16 parts. Returns `Memory` if an allocation is refused; in this case `TooMany` is not returned.
-/// If kanji mode is not allowed, `TooMany` also means that there is no way to cut the input into at most 16 parts that
-/// fit.
+/// If kanji mode is not allowed, `TooMany` means that there is no way at all to cut the input into at most 16 parts
+/// that fit.
 ///
 /// # Notes
 ///

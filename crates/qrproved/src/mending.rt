@@ -171,10 +171,10 @@ fn mended_of(len: usize, mended: &Mended) -> QrprovedMended
 /// Writes the bytes that the symbol contains to the buffer `bytes`. Writes the structured append header and the damage
 /// of the symbol to the struct `mended`.
 ///
-/// The causes of a refusal are checked in the order in which this paragraph lists them. Three causes are found before
-/// any allocation: a number of rows that no version has, too few modules in `modules`, and a byte of more than 2. The
-/// next causes to be checked are damaged format information, damaged codewords, data codewords that cannot be parsed,
-/// and a buffer `bytes` that is too short.
+/// The causes of a refusal are checked in the order in which this paragraph lists them. Three causes of a refusal are
+/// found before any allocation: a number of rows that no version has, too few modules in `modules`, and a byte of more
+/// than 2. Four causes are found after an allocation: damaged format information, damaged codewords, data codewords
+/// that cannot be parsed, and a buffer `bytes` that is too short.
 ///
 /// On status 0 the modules in the buffer are a damaged form of a symbol. On status 0 the call wrote the bytes and the
 /// header of the undamaged symbol, and its version, level and mask pattern.

@@ -70,10 +70,10 @@ pub(crate) fn content_of(len: usize, version: Version, header: Option<Header>) -
 /// buffer `bytes`. Writes the version and the structured append header of the symbol to the struct `content`. The
 /// function `qrproved_read` corrects no errors.
 ///
-/// The causes of a refusal are checked in the order in which this paragraph lists them. Two causes are found before any
-/// allocation: a number of rows that no version has, and too few modules in `modules`. The next causes to be checked
-/// are wrong format information, wrong codewords, data codewords that cannot be parsed, and a buffer `bytes` that is
-/// too short.
+/// The causes of a refusal are checked in the order in which this paragraph lists them. Two causes of a refusal are
+/// found before any allocation: a number of rows that no version has, and too few modules in `modules`. Four causes are
+/// found after an allocation: wrong format information, wrong codewords, data codewords that cannot be parsed, and a
+/// buffer `bytes` that is too short.
 ///
 /// On status 0 the first copy of the format information and the codewords in `modules` belong to a symbol. On status 0
 /// the call wrote the bytes and the header that the symbol contains. The contract promises nothing about the function
