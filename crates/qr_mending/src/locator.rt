@@ -24,8 +24,8 @@ fn monomials(t: usize) -> ArrayVec<Polynomial, 16>
 
 // Returns the index of the first polynomial in `pool` that does not solve the equation of `window`. To test a
 // polynomial, each of its coefficients is multiplied by the value in `window` with the same index. A polynomial solves
-// the equation of `window` if the sum of the products is 0. If every polynomial in `pool` solves the equation, returns
-// the number of polynomials.
+// the equation of `window` if the sum of the products is 0. If every polynomial in `pool` solves the equation of
+// `window`, returns the number of polynomials in `pool`.
 fn first_miss(pool: &[Polynomial], window: &[u8], t: usize) -> usize
     requires degrees { HasDegrees t pool.now }
     requires small { t ≤ 15 }

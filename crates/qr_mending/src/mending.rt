@@ -69,10 +69,10 @@ fn mend_by(
 }
 
 // Mends the symbol in `matrix` by means of the first copy of its format information. If the symbol cannot be mended
-// with the first copy, the second copy is used. `marks` is empty, or contains for each codeword a mark that shows which
-// modules of the codeword were not read. An erased codeword is known to be unreadable. A codeword is erased if its mark
-// is not 0. If `marks` is empty, no codeword is erased. Returns `None` if the symbol can be mended with neither copy of
-// its format information.
+// with the first copy, the second copy of the format information is used. `marks` is empty, or contains for each
+// codeword a mark that shows which modules of the codeword were not read. An erased codeword is known to be unreadable.
+// A codeword is erased if its mark is not 0. If `marks` is empty, no codeword is erased. Returns `None` if the symbol
+// can be mended with neither copy of its format information.
 pub(crate) fn mend_by_either(
     alloc: Global,
     version: Version,

@@ -56,10 +56,10 @@ impl Canvas {
         })
     }
 
-    // Draws the codewords into the square `plain`, over the codewords of the previous symbol. First `plain` and
-    // `across` are swapped. The codewords are drawn into `across` in transposed form, which means that rows and columns
-    // are exchanged. The modules outside the encoding region are the same in the transposed form. At the end, the
-    // transposed form of `across` replaces all colours of `plain`. After the call, `across` contains the transposed
+    // Draws the codewords into the square `plain`, over the codewords of the previous symbol. First the squares `plain`
+    // and `across` are swapped. The codewords are drawn into `across` in transposed form, which means that rows and
+    // columns are exchanged. The modules outside the encoding region are the same in the transposed form. At the end,
+    // the transposed form of `across` replaces all colours of `plain`. After the call, `across` contains the transposed
     // form of `plain`.
     #[inline(never)]
     pub(crate) fn draw_data(&mut self, across: &mut Matrix, codewords: &[u8])
