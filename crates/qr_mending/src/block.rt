@@ -11,8 +11,8 @@ use crate::sums::syndromes;
 use arrayvec::ArrayVec;
 use qr_field::Divisor;
 
-// Looks for a block with `n` error correction codewords that differs from `damaged` in at most `t` codewords. Returns
-// this block if there is one. Otherwise returns some other list, which is as long as `damaged`.
+// Returns the block with `n` error correction codewords that differs from `damaged` in at most `t` codewords, if there
+// is one. If there is no such block, returns some list that is as long as `damaged`.
 fn candidate(n: usize, t: usize, damaged: &[u8]) -> ArrayVec<u8, 255>
     requires most { n ≤ 30 }
     requires half { 2 * t ≤ n }
@@ -26,7 +26,8 @@ fn candidate(n: usize, t: usize, damaged: &[u8]) -> ArrayVec<u8, 255>
     without_errors(coefficients, first.as_slice(), damaged)
 }
 
-// Returns the number of indices at which the lists `xs` and `ys` have different items. Both lists have the same length.
+// Returns the number of indices at which the lists `xs` and `ys` have different items. The lists `xs` and `ys` have the
+// same length.
 fn count_differences(xs: &[u8], ys: &[u8]) -> usize
     requires { length xs.now ≡ length ys.now }
     ensures { result ≡ differences xs.now ys.now }
@@ -41,7 +42,7 @@ fn count_differences(xs: &[u8], ys: &[u8]) -> usize
 }
 
 // Returns whether `codewords` is a block: data codewords followed by their error correction codewords. `divisor`
-// determines the number of error correction codewords.
+// determines the number of error correction codewords of the block.
 pub(crate) fn is_block(divisor: &Divisor, codewords: &[u8]) -> bool
     requires { divisor.now ≤ length codewords.now }
     ensures { Decides result (IsBlock divisor.now codewords.now) }
@@ -52,9 +53,9 @@ pub(crate) fn is_block(divisor: &Divisor, codewords: &[u8]) -> bool
 }
 
 /// Mends a damaged block of at most 255 codewords: replaces `codewords` with the block that differs from `codewords` in
-/// at most `t` codewords. Twice `t` must be at most the number of error correction codewords, which `divisor`
-/// determines. Returns the number of codewords that were wrong. If every block differs from `codewords` in more than
-/// `t` codewords, returns `None` and leaves `codewords` unchanged (ISO/IEC 18004:2015, 7.5.1 and Annex B).
+/// at most `t` codewords. Twice `t` must be at most the number of error correction codewords of the block, which
+/// `divisor` determines. Returns the number of codewords that were wrong. If every block differs from `codewords` in
+/// more than `t` codewords, returns `None` and leaves `codewords` unchanged (ISO/IEC 18004:2015, 7.5.1 and Annex B).
 pub fn mend(divisor: &Divisor, t: usize, codewords: &mut [u8]) -> Option<usize>
     requires half { 2 * t ≤ divisor.now }
     requires least { divisor.now ≤ length codewords.old }

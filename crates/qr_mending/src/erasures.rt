@@ -1,6 +1,6 @@
-//! Mends damaged blocks in which some codewords are known to be unreadable. Such a codeword is called erased. To
-//! correct an erased codeword, one error correction codeword is needed. To correct a misread codeword, two error
-//! correction codewords are needed (ISO/IEC 18004:2015, 7.5.1 and Annex B).
+//! Mends damaged blocks in which some codewords are known to be unreadable. A codeword that is known to be unreadable
+//! is called erased. To correct an erased codeword, one error correction codeword is needed. To correct a misread
+//! codeword, two error correction codewords are needed (ISO/IEC 18004:2015, 7.5.1 and Annex B).
 
 ghost use Rattle.std.specs.Prelude.{◌≡◌, ℕ, ◌+◌, ◌≤◌, List, length, IfSome, IfNone};
 ghost use Rattle.std.specs.List.{All, count_by};
@@ -20,10 +20,10 @@ use arrayvec::ArrayVec;
 use qr_field::Divisor;
 
 // Returns the modified syndromes of a damaged block. The errors of the codewords are the coefficients of the error
-// polynomial. `syndromes` contains the values of the error polynomial at the first powers of 2. For each m, the
-// coefficient of x^m in the error polynomial is multiplied by the value of `polynomial` at 2^m. The modified syndromes
-// are the values of the resulting polynomial at the first powers of 2. The number of modified syndromes is the number
-// of syndromes, less the degree of `polynomial`.
+// polynomial. `syndromes` contains the values of the error polynomial at the first powers of 2. A second polynomial is
+// made from the error polynomial: for each m, the coefficient of x^m is multiplied by the value of `polynomial` at 2^m.
+// The modified syndromes are the values of the second polynomial at the first powers of 2. The number of modified
+// syndromes is the number of syndromes, less the degree of `polynomial`.
 fn modified_syndromes(polynomial: &[u8], syndromes: &[u8]) -> ArrayVec<u8, 30>
     requires least { 1 ≤ length polynomial.now }
     requires long { length polynomial.now ≤ length syndromes.now + 1 }
@@ -39,10 +39,10 @@ fn modified_syndromes(polynomial: &[u8], syndromes: &[u8]) -> ArrayVec<u8, 30>
     modified
 }
 
-// Looks for a block with `n` error correction codewords to which `damaged` can be mended. Returns this block if there
-// is one. Otherwise returns some other list, which is as long as `damaged`. `erased` is true at the index of each
-// erased codeword, which is a codeword that is known to be unreadable. The number of erased codewords plus twice the
-// number of misread codewords may be at most `spare`.
+// Returns the block with `n` error correction codewords to which `damaged` can be mended, if there is one. If there is
+// no such block, returns some list that is as long as `damaged`. `erased` is true at the index of each erased codeword,
+// which is a codeword that is known to be unreadable. The number of erased codewords plus twice the number of misread
+// codewords may be at most `spare`.
 fn candidate(n: usize, spare: usize, erased: &[bool], damaged: &[u8]) -> ArrayVec<u8, 255>
     requires most { n ≤ 30 }
     requires spare { spare ≤ n }
@@ -79,14 +79,15 @@ fn count_misread(codewords: &[u8], erased: &[bool], mended: &[u8]) -> usize
     count
 }
 
-/// Mends a damaged block of at most 255 codewords. A codeword that could not be read is called erased; `erased` is true
-/// at its index. Other codewords may be misread. The values of erased codewords in `codewords` have no effect on the
-/// mended block. To correct an erased codeword, one error correction codeword is needed. To correct a misread codeword,
-/// two error correction codewords are needed. `divisor` determines the number of error correction codewords of the
-/// block. In total at most `spare` of these error correction codewords may be needed. In a symbol, `spare` is twice the
-/// number that `changed_max` returns. Returns the number of misread codewords, without the erased codewords. If there
-/// is no block for which `spare` error correction codewords are enough, returns `None` and leaves `codewords` unchanged
-/// (ISO/IEC 18004:2015, 7.5.1 and Annex B).
+/// Mends a damaged block of at most 255 codewords. A codeword that could not be read is called erased, and `erased` is
+/// true at the index of each erased codeword. Codewords that are not erased may be misread. The values of erased
+/// codewords in `codewords` have no effect on the mended block. To correct an erased codeword, one error correction
+/// codeword is needed. To correct a misread codeword, two error correction codewords are needed. `divisor` determines
+/// the number of error correction codewords of the block. To correct all erased and misread codewords, at most `spare`
+/// error correction codewords may be needed. In a symbol, `spare` is twice the number that the function `changed_max`
+/// returns. Returns the number of misread codewords; erased codewords are not counted. If `spare` error correction
+/// codewords are not enough to mend the block, returns `None` and leaves `codewords` unchanged (ISO/IEC 18004:2015,
+/// 7.5.1 and Annex B).
 pub fn mend_with_erasures(
     divisor: &Divisor,
     spare: usize,

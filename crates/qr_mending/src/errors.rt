@@ -1,8 +1,8 @@
 //! Removes the errors of a damaged block. An error is the difference between a codeword as it was read and the correct
 //! codeword. The errors of all codewords are the coefficients of the error polynomial. The locator is a polynomial with
 //! a root for each wrong codeword. The syndromes are the values of the error polynomial at the first powers of 2. From
-//! the locator and the syndromes, this module computes the values of the error polynomial at all other powers of 2. The
-//! values at all powers of 2 determine the errors.
+//! the locator and the syndromes, this module computes the values of the error polynomial at all 255 powers of 2. The
+//! values of the error polynomial at all powers of 2 determine the errors.
 
 ghost use Rattle.std.specs.Prelude.{◌≡◌, ℕ, ◌+◌, ◌<◌, ◌≤◌, List, length};
 ghost use Rattle.std.specs.List.{All};
@@ -17,9 +17,9 @@ use arrayvec::ArrayVec;
 use qr_field::power_of;
 
 // Returns the value of the error polynomial at 2 to the power n, where n is the length of `series`. `series` contains
-// the values of the error polynomial at 2 to the powers 0 to n - 1. `syndromes` contains the values at the first powers
-// of 2, from 2 to the power 0 on. `locator` lists the coefficients of the locator polynomial; the leading coefficient,
-// which is 1, comes last.
+// the values of the error polynomial at 2 to the powers 0 to n - 1. `syndromes` contains the values of the error
+// polynomial at the first powers of 2, from 2 to the power 0 on. `locator` lists the coefficients of the locator
+// polynomial; the leading coefficient, which is 1, comes last.
 fn next_value(locator: &[u8], syndromes: &[u8], series: &[u8]) -> u8
     requires least { 1 ≤ length locator.now }
     requires long { length locator.now ≤ length syndromes.now + 1 }
@@ -35,8 +35,8 @@ fn next_value(locator: &[u8], syndromes: &[u8], series: &[u8]) -> u8
 }
 
 // Returns the values of the error polynomial at all 255 powers of 2, from 2 to the power 0 on. `syndromes` contains the
-// first of these values. `locator` lists the coefficients of the locator polynomial. The locator polynomial determines
-// all values after the syndromes.
+// values of the error polynomial at the first powers of 2. `locator` lists the coefficients of the locator polynomial.
+// The locator polynomial determines all values that come after the values in `syndromes`.
 fn values(locator: &[u8], syndromes: &[u8]) -> ArrayVec<u8, 255>
     requires least { 1 ≤ length locator.now }
     requires long { length locator.now ≤ length syndromes.now + 1 }
@@ -52,9 +52,9 @@ fn values(locator: &[u8], syndromes: &[u8]) -> ArrayVec<u8, 255>
     series
 }
 
-// Returns the error of one codeword of a damaged block. `place` is the index of this codeword, counted from the last
-// codeword of the block. `series` contains the values of the error polynomial at all 255 powers of 2. `locator` lists
-// the coefficients of the locator polynomial.
+// Returns the error of one codeword of a damaged block. `place` is the index of this codeword, counted backwards: the
+// last codeword of the block has the index 0. `locator` lists the coefficients of the locator polynomial. `series`
+// contains the values of the error polynomial at all 255 powers of 2.
 fn error(locator: &[u8], series: &[u8], place: u8) -> u8
     requires count { length series.now ≡ 255 }
     requires place { place < 255 }

@@ -1,5 +1,5 @@
-//! Finds the level and the mask of a damaged symbol. The symbol contains two copies of its format information. The
-//! format information of the level and mask that are found differs from one of the copies in at most three modules
+//! Finds the level and the mask of a damaged symbol. A symbol contains two copies of its format information. The level
+//! and the mask are found if their format information differs from one of the two copies in at most three modules
 //! (ISO/IEC 18004:2015, 7.9.1 and Annex C).
 
 ghost use Rattle.std.specs.Prelude.{◌≡◌, ℕ, ◌+◌, ◌<◌, ◌≤◌, Some, MatchOption};
@@ -18,9 +18,9 @@ use qr_matrix::Matrix;
 // The length of the format information in bits.
 const FORMAT_BITS: u8 = 15;
 
-// If a copy of the format information has more wrong modules than this number, the copy is not used. Any two different
-// pairs of level and mask have format information that differs in at least seven bits. So a copy can be used for at
-// most one pair of level and mask.
+// If a copy of the format information has more than `FORMAT_ERRORS` wrong modules, the copy is not used. Any two
+// different pairs of level and mask have format information that differs in at least seven bits. So at most one pair of
+// level and mask has format information that differs from a given copy in at most three modules.
 const FORMAT_ERRORS: u8 = 3;
 
 /// One of the two copies of the format information in a symbol.
@@ -28,12 +28,12 @@ const FORMAT_ERRORS: u8 = 3;
 pub(crate) enum FormatCopy {
     /// The copy beside the top left finder pattern.
     First,
-    /// The copy beside the other two finder patterns.
+    /// The copy beside the top right and the bottom left finder pattern.
     Second,
 }
 
 impl FormatCopy {
-    // Returns the place of bit `bit` in this copy of the format information. The place is a row and a column.
+    // Returns the place (the row and the column) of bit `bit` in this copy of the format information.
     fn place(self, version: Version, bit: u8) -> Module
         requires { bit < 15 }
         ensures place { result ≡ copy_place self (side_of version) bit }
@@ -98,7 +98,7 @@ pub(crate) fn wrong_bit(is_unknown: bool, dark: bool, wanted: bool) -> u8
 
 // Returns the number of wrong modules in one copy of the format information in `matrix`. A module is wrong if it was
 // not read, or if it does not have the colour that its bit in `word` requires. A bit that is 1 requires a dark module.
-// A module was not read if it is dark in `unknown`.
+// A module was not read if it is dark in the square `unknown`.
 fn wrong_bits_without(
     matrix: &Matrix,
     unknown: &Matrix,
@@ -124,7 +124,7 @@ fn wrong_bits_without(
 
 // Returns the number of wrong modules among the 30 modules of the two copies of the format information in `matrix`. A
 // module is wrong if it was not read, or if it does not have the colour that the format information of the level and
-// the mask requires. A module was not read if it is dark in `unknown`.
+// the mask requires. A module was not read if it is dark in the square `unknown`.
 pub(crate) fn wrong_format_modules_without(
     matrix: &Matrix,
     unknown: &Matrix,
@@ -142,8 +142,8 @@ pub(crate) fn wrong_format_modules_without(
     first + wrong_bits_without(matrix, unknown, version, FormatCopy::Second, word)
 }
 
-// Returns the mask whose format information, together with the level `level`, differs from the copy `copy` in `matrix`
-// in at most three modules. Returns `None` if there is no such mask.
+// Returns the mask for which the format information of the level `level` and this mask differs from the copy `copy` in
+// `matrix` in at most three modules. If there is no mask with such format information, returns `None`.
 fn near_mask_of(matrix: &Matrix, version: Version, copy: FormatCopy, level: Level) -> Option<u8>
     requires { matrix.now.side ≡ side_of version }
     ensures { MatchOption result
@@ -160,7 +160,8 @@ fn near_mask_of(matrix: &Matrix, version: Version, copy: FormatCopy, level: Leve
 }
 
 // Returns the level and the mask whose format information differs from the copy `copy` in `matrix` in at most three
-// modules. There is at most one such pair of level and mask. Returns `None` if there is no such pair.
+// modules. There is at most one pair of level and mask with such format information. If there is no pair of level and
+// mask with such format information, returns `None`.
 pub(crate) fn near_format_of(
     matrix: &Matrix,
     version: Version,
@@ -180,8 +181,9 @@ pub(crate) fn near_format_of(
 }
 
 // Returns the level and the mask whose format information differs from the first copy in `matrix` in at most three
-// modules. If there is no such pair of level and mask, the second copy is used in the same way. Returns `None` if there
-// is no such pair for the second copy either.
+// modules. If no level and mask have format information that is so near to the first copy, the second copy is used in
+// the same way. Returns `None` if the format information of every level and mask differs from both copies in more than
+// three modules.
 pub(crate) fn near_format_of_either(matrix: &Matrix, version: Version) -> Option<(Level, u8)>
     requires { matrix.now.side ≡ side_of version }
     ensures { MatchOption result

@@ -1,7 +1,7 @@
 //! States laws about the mending of damaged blocks and symbols. A damaged block or symbol can be mended to at most one
-//! result. A symbol that can be mended and read is refused only for lack of memory. Most functions here do nothing: the
-//! contract of such a function is the law. Each of the other functions mends one or more symbols, and its contract is a
-//! law about the result.
+//! result. A symbol that can be mended and read is refused only for lack of memory. Most functions of this file do
+//! nothing: the contract of such a function is the law. Each function that contains code mends one or more symbols, and
+//! its contract is a law about the result.
 
 ghost use Rattle.std.specs.Prelude.{◌≡◌, ◌≢◌, ◌↔◌, ◌⊎◌, Err, ℕ, ◌*◌, ◌/◌, ◌≤◌, false, List, length, replicate, Option, None, Some, MatchResult};
 ghost use Rattle.std.specs.List.{All};
@@ -37,9 +37,9 @@ use qr_matrix::Matrix;
 use qr_symbol::ReadFault;
 use std::alloc::Global;
 
-/// A damaged block of at most 255 codewords can be mended to at most one block. A block is a possible result if it
-/// differs from the damaged block in at most t codewords. Twice the number t must be at most the number of error
-/// correction codewords of the block.
+/// A damaged block of at most 255 codewords can be mended to at most one block. A block is a possible result of mending
+/// if it differs from the damaged block in at most t codewords. The law holds if 2t, twice the number of codewords that
+/// may be wrong, is at most the number of error correction codewords of the block.
 pub fn mended_blocks_are_one()
     ensures { (n t : ℕ) (damaged b c : List ℕ) → length damaged ≤ 255 → 2 * t ≤ n
         → IsMended n t damaged b → IsMended n t damaged c → b ≡ c }
@@ -47,30 +47,32 @@ pub fn mended_blocks_are_one()
 
 /// A damaged block of at most 255 codewords, some of which may be erased, can be mended to at most one block. To
 /// correct an erased codeword, one error correction codeword is needed. To correct a misread codeword, two error
-/// correction codewords are needed. In total no more error correction codewords may be needed than the block has.
+/// correction codewords are needed. To correct all erased and misread codewords, no more error correction codewords may
+/// be needed than the block has.
 pub fn blocks_mended_with_erasures_are_one()
     ensures { (n spare : ℕ) (read : List (Option ℕ)) (b c : List ℕ) → length read ≤ 255 → spare ≤ n
         → IsMendedWithErasures n spare read b → IsMendedWithErasures n spare read c → b ≡ c }
 {}
 
-/// If no codeword of a block is erased, mending with erasures has the same results as mending without erasures. In
-/// mending with erasures, at most `spare` error correction codewords may be needed. In mending without erasures, at
-/// most `spare` / 2 codewords, rounded down, may be wrong.
+/// If no codeword of a block is erased, mending with erasures has the same results as mending without erasures. Mending
+/// with erasures corrects damage for which at most `spare` error correction codewords are needed. Mending without
+/// erasures corrects at most `spare` / 2 wrong codewords, rounded down.
 pub fn blocks_without_erasures_are_mended_alike()
     ensures { (n spare k : ℕ) (damaged mended : List ℕ)
         → IsMendedWithErasures n spare (read_of damaged (replicate k false)) mended ↔ IsMended n (spare / 2) damaged mended }
 {}
 
-/// At most one pair of level and mask is near to a given copy of the format information in a symbol. A pair is near to
-/// the copy if its format information differs from the copy in at most three modules.
+/// At most one pair of level and mask is near to a given copy of the format information in a symbol. A pair of level
+/// and mask is near to a copy if the format information of the pair differs from the copy in at most three modules.
 pub fn near_format_is_one()
     ensures { (copy : FormatCopy) (g : Grid) (l k : Level) (m n : ℕ) → IsNearFormat copy g l m → IsNearFormat copy g k n
         → (l ≡ k) × (m ≡ n) }
 {}
 
 /// In seven combinations of version and level, the number of codewords that can be corrected in a block agrees with
-/// Table 9 of the standard. In six of these combinations, some error correction codewords of a block are kept unused.
-/// The number of these unused codewords agrees with Table 9 too.
+/// Table 9 of the standard. In six combinations of version and level, some error correction codewords of a block are
+/// not used to correct errors, only to detect them. The number of codewords that only detect errors agrees with Table 9
+/// of the standard.
 pub fn tolerances_compute()
     ensures one { tolerance_of 1 Level.L ≡ 2 × tolerance_of 1 Level.M ≡ 4 }
     ensures one_more { tolerance_of 1 Level.Q ≡ 6 × tolerance_of 1 Level.H ≡ 8 }
@@ -83,46 +85,46 @@ pub fn tolerances_compute()
 {}
 
 /// The codewords that were read from a damaged symbol can be mended to at most one message, which is the data codewords
-/// of the symbol. The number of changed codewords in each block is unique too.
+/// of the symbol. A damaged symbol determines the number of changed codewords in each block.
 pub fn mended_messages_are_one(version: Version, level: Level)
     ensures { (cw m n x y : List ℕ) → IsMendedIn version level cw m x → IsMendedIn version level cw n y
         → (m ≡ n) × (x ≡ y) }
 {}
 
-/// A damaged symbol is read as at most one content after its damage is mended. The version, the level, the mask and the
-/// number of changed codewords in each block are unique too. This law holds whether or not all modules of the symbol
-/// were read.
+/// A damaged symbol is read as at most one content after its damage is mended. A damaged symbol determines the version,
+/// the level, the mask and the number of changed codewords in each block. The law holds for symbols whose modules were
+/// all read, and for symbols with modules that were not read.
 pub fn mended_readings_are_one()
     ensures { (unknown : Option Grid) (g : Grid) (v w : ℕ) (l k : Level) (m n : ℕ) (p q : Content) (x y : List ℕ)
         → IsMendedReadingWithout unknown g v l m p x → IsMendedReadingWithout unknown g w k n q y
         → (v ≡ w) × (l ≡ k) × (m ≡ n) × (p ≡ q) × (x ≡ y) }
 {}
 
-/// The number of wrong modules of a damaged symbol is unique. A module is wrong if it was not read, or if it does not
+/// A damaged symbol determines the number of its wrong modules. A module is wrong if it was not read, or if it does not
 /// have the colour that it has in the undamaged symbol.
 pub fn wrong_modules_are_one()
     ensures { (unknown : Option Grid) (g : Grid) (v w : ℕ) (l k : Level) (m n : ℕ) (x y : List ℕ) (a b : ℕ)
         → HasWrongModulesWithout unknown g v l m x a → HasWrongModulesWithout unknown g w k n y b → a ≡ b }
 {}
 
-/// If a square of modules is a damaged form of a symbol and has no wrong module, the square is equal to this symbol. If
-/// the square is equal to the symbol, it has no wrong module.
+/// If a square of modules is a damaged form of a symbol and has no wrong module, the square is equal to this symbol.
+/// Conversely, a square that is equal to the symbol has no wrong module.
 pub fn sound_squares_are_symbols()
     ensures { (g : Grid) (v : ℕ) (l : Level) (mask : ℕ) (changed : List ℕ) (wrong : ℕ)
         → IsSquare g.side g → (w : HasWrongModules g v l mask changed wrong)
         → (wrong ≡ 0) ↔ (g ≡ grid_of v l mask w.differs.codewords) }
 {}
 
-/// If a square of modules can be read without mending, mending leads to the same content. In this case mending changes
-/// no codeword.
+/// If a square of modules can be read without mending, the content that is read is also the result of mending. Mending
+/// a square that can be read without mending changes no codeword.
 pub fn readings_are_mended_readings()
     ensures { (g : Grid) (p : Content) → (h : IsReading g p)
         → IsMendedReading g h.version h.level h.mask p (replicate (blocks_in h.version h.level) 0) }
 {}
 
-/// For each block of a mended symbol, a list contains the number of changed codewords. This list has at least one item.
-/// No item is greater than the number of codewords that can be corrected in a block. For every version and level, the
-/// number of codewords that can be corrected is at least 2 and at most 15.
+/// The result of mending a symbol contains a list with the number of changed codewords of each block. The list of the
+/// numbers of changed codewords has at least one item. No block has more changed codewords than can be corrected in a
+/// block. For every version and level, the number of codewords that can be corrected is at least 2 and at most 15.
 pub fn changes_are_bounded()
     ensures some { (unknown : Option Grid) (g : Grid) (v : ℕ) (l : Level) (m : ℕ) (p : Content) (x : List ℕ)
         → IsMendedReadingWithout unknown g v l m p x → 1 ≤ length x }
@@ -137,16 +139,16 @@ pub fn mended_readings_are_not_refused()
         → IsMendedReadingWithout unknown g v l m p x → IsUnmendedWithout unknown g e → e ≡ ReadFault.Memory }
 {}
 
-/// There is at most one fault other than lack of memory for which a damaged symbol is refused.
+/// Apart from lack of memory, there is at most one fault for which a given damaged symbol is refused.
 pub fn mending_refusals_are_one()
     ensures { (unknown : Option Grid) (g : Grid) (e f : ReadFault) → IsUnmendedWithout unknown g e
         → IsUnmendedWithout unknown g f
         → (e ≡ ReadFault.Memory) ⊎ (f ≡ ReadFault.Memory) ⊎ (e ≡ f) }
 {}
 
-/// The definition `IsUnmended` lists the reasons for each fault. If `mend_symbol` returns a fault other than `Memory`,
-/// `IsUnmended` holds for the damaged symbol and this fault. If `IsUnmended` holds for the damaged symbol and such a
-/// fault, and memory is not refused, `mend_symbol` returns this fault.
+/// The definition `IsUnmended` lists the reasons for each fault of mending a symbol. If `mend_symbol` returns a fault
+/// other than `Memory`, `IsUnmended` holds for the damaged symbol and this fault. Conversely, if `IsUnmended` holds for
+/// the damaged symbol and a fault other than `Memory`, `mend_symbol` returns this fault unless memory is refused.
 pub fn mendings_are_refused_exactly(alloc: Global, damaged: &Matrix) -> Result<Mended, ReadFault>
     ensures { (e : ReadFault) → e ≢ ReadFault.Memory
         → (result ≡ Err e) ↔ ((result ≢ Err ReadFault.Memory) × IsUnmended damaged.now e) }
@@ -154,10 +156,11 @@ pub fn mendings_are_refused_exactly(alloc: Global, damaged: &Matrix) -> Result<M
     mend_symbol(alloc, damaged)
 }
 
-/// The definition `IsUnmendedWithout` lists the reasons for each fault. If `mend_symbol_without` returns a fault other
-/// than `Memory`, `IsUnmendedWithout` holds for the damaged symbol and this fault. If `IsUnmendedWithout` holds for the
-/// damaged symbol and such a fault, and memory is not refused, `mend_symbol_without` returns this fault. A module was
-/// not read if it is dark in `unknown`.
+/// The definition `IsUnmendedWithout` lists the reasons for each fault of mending a symbol in which some modules could
+/// not be read. If `mend_symbol_without` returns a fault other than `Memory`, `IsUnmendedWithout` holds for the damaged
+/// symbol and this fault. Conversely, if `IsUnmendedWithout` holds for the damaged symbol and a fault other than
+/// `Memory`, `mend_symbol_without` returns this fault unless memory is refused. A module was not read if it is dark in
+/// the square `unknown`.
 pub fn mendings_without_are_refused_exactly(
     alloc: Global,
     damaged: &Matrix,
@@ -171,8 +174,9 @@ pub fn mendings_without_are_refused_exactly(
 }
 
 /// Two symbols of the same version differ in many modules or codewords if their data codewords or their levels are
-/// different. Either the symbols differ in at least seven modules of each copy of the format information, or they
-/// differ widely in some block. In this block, more than twice as many codewords differ as can be corrected in a block.
+/// different. Either the two symbols differ in at least seven modules of each copy of the format information, or they
+/// differ in many codewords of some block. The number of codewords of this block that differ is more than twice the
+/// number of codewords that can be corrected in a block.
 pub fn symbols_lie_apart(version: Version)
     ensures { SymbolsLieApart version }
 {}
@@ -180,9 +184,10 @@ pub fn symbols_lie_apart(version: Version)
 /// If the symbol of an input is damaged, mending the symbol yields exactly this input, or memory is refused. `damaged`
 /// may be any square of modules with as many rows as the symbol, under two conditions. The first condition is that in
 /// each block at most `changed_max` codewords are wrong. The second condition is that at most three modules of the
-/// first copy of the format information are wrong. If the symbol cannot be mended with the first copy, it is enough
-/// that at most three modules of the second copy are wrong. All other modules may have any colour. The result contains
-/// the exact numbers of changed codewords and of wrong modules.
+/// first copy of the format information are wrong. If the symbol cannot be mended with the first copy of the format
+/// information, it is enough that at most three modules of the second copy are wrong. The modules of the function
+/// patterns, the version information and the remainder bits may have any colour. The result contains the exact numbers
+/// of changed codewords and of wrong modules.
 pub fn damaged_symbols_are_mended(alloc: Global, damaged: &Matrix) -> Result<Mended, ReadFault>
     ensures { (smallest : ℕ) (l : Level) (rule : Rule) (x : List ℕ) (v mask : ℕ) (g : Grid) (changed : List ℕ)
         → 1 ≤ smallest → (s : IsSymbol smallest l rule x v mask g) → damaged.now.side ≡ g.side
@@ -197,12 +202,13 @@ pub fn damaged_symbols_are_mended(alloc: Global, damaged: &Matrix) -> Result<Men
 }
 
 /// If the symbol of an input is damaged and some modules could not be read, mending the symbol yields exactly this
-/// input, or memory is refused. `damaged` may be any square of modules with as many rows as the symbol, under two
-/// conditions. A module that could not be read is dark in `unknown`. The first condition is that in each block the
-/// number of erased codewords, plus twice the number of misread codewords, is at most twice `changed_max`. The second
-/// condition is that in `damaged` at most three modules of the first copy of the format information have a wrong
-/// colour. If the symbol cannot be mended with the first copy, the same condition for the second copy is enough. The
-/// result contains the exact numbers of misread codewords and of wrong modules.
+/// input, or memory is refused. A module that could not be read is dark in the square `unknown`, and its codeword is
+/// called erased. `damaged` may be any square of modules with as many rows as the symbol, under two conditions. The
+/// first condition is that in each block the number of erased codewords, plus twice the number of misread codewords, is
+/// at most twice `changed_max`. The second condition is that in `damaged` at most three modules of the first copy of
+/// the format information have a wrong colour. If the symbol cannot be mended with the first copy, it is enough that at
+/// most three modules of the second copy have a wrong colour in `damaged`. The result contains the exact numbers of
+/// misread codewords and of wrong modules.
 pub fn damaged_symbols_without_modules_are_mended(
     alloc: Global,
     damaged: &Matrix,
@@ -224,9 +230,10 @@ pub fn damaged_symbols_without_modules_are_mended(
 }
 
 /// If few modules of the symbol of an input are wrong, mending the symbol yields exactly this input, or memory is
-/// refused. In each block at most `changed_max` modules may be wrong. `changed_max` is the number of codewords that can
-/// be corrected in a block. In the first copy of the format information at most three modules may be wrong. All other
-/// modules may have any colour.
+/// refused. In each block at most `changed_max` modules may be wrong. The function `changed_max` returns the number of
+/// codewords that can be corrected in a block. In the first copy of the format information at most three modules may be
+/// wrong. The modules of the function patterns, the second copy of the format information, the version information and
+/// the remainder bits may have any colour.
 pub fn few_wrong_modules_are_mended(alloc: Global, damaged: &Matrix) -> Result<Mended, ReadFault>
     ensures { (smallest : ℕ) (l : Level) (rule : Rule) (x : List ℕ) (v mask : ℕ) (g : Grid) → 1 ≤ smallest
         → (s : IsSymbol smallest l rule x v mask g) → damaged.now.side ≡ g.side → DifferInFewModules v l damaged.now g
@@ -237,9 +244,10 @@ pub fn few_wrong_modules_are_mended(alloc: Global, damaged: &Matrix) -> Result<M
     mend_symbol(alloc, damaged)
 }
 
-/// The definition `IsUnmendedSeries` lists the reasons for each fault. If `mend_series` returns a fault other than
-/// `Memory`, `IsUnmendedSeries` holds for the damaged symbols and this fault. If `IsUnmendedSeries` holds for the
-/// damaged symbols and such a fault, and memory is not refused, `mend_series` returns this fault.
+/// The definition `IsUnmendedSeries` lists the reasons for each fault of mending a series. If `mend_series` returns a
+/// fault other than `Memory`, `IsUnmendedSeries` holds for the damaged symbols and this fault. Conversely, if
+/// `IsUnmendedSeries` holds for the damaged symbols and a fault other than `Memory`, `mend_series` returns this fault
+/// unless memory is refused.
 pub fn series_mendings_are_refused_exactly(
     alloc: Global,
     damaged: &[Matrix],
@@ -251,8 +259,9 @@ pub fn series_mendings_are_refused_exactly(
 }
 
 /// If the symbols of a series for an input are damaged, mending the symbols yields exactly this input, or memory is
-/// refused. Each symbol may have only as much damage as can be mended. The law also holds for symbols that another
-/// encoder made. Mending then yields the bytes to which the undamaged symbols are joined.
+/// refused. The law holds if each symbol has no more damage than can be mended. The law also holds for symbols that
+/// another encoder made. Mending symbols of another encoder yields the bytes that result from reading and joining the
+/// undamaged symbols.
 pub fn damaged_series_are_mended(alloc: Global, damaged: &[Matrix]) -> Result<Vec<u8>, ReadFault>
     ensures series { (v : ℕ) (l : Level) (rule : Rule) (x : List ℕ) (ss : List Symbol) → 1 ≤ v → v ≤ 40
         → IsSeries v l rule x ss → AreDamagedSquares damaged.now (squares_of ss)

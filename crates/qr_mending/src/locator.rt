@@ -1,7 +1,8 @@
-//! Finds the error locator polynomial of a damaged block by Gaussian elimination. This polynomial has a root for each
-//! wrong codeword of the block. The elimination begins with a list of powers of x. The number of powers in this list is
-//! one more than the number of equations. For each equation, at most one polynomial is removed from the list, and other
-//! polynomials are changed. After this step, all polynomials in the list solve the equation.
+//! Finds the error locator polynomial of a damaged block by Gaussian elimination. The error locator polynomial has a
+//! root for each wrong codeword of the block. The elimination begins with a list of powers of x. The number of powers
+//! in the list is one more than the number of equations. For each equation, at most one polynomial is removed from the
+//! list, and the polynomials after it are changed. After the step for an equation, all polynomials in the list solve
+//! this equation.
 
 ghost use Rattle.std.specs.Prelude.{◌≡◌, ◌≢◌, ℕ, ◌+◌, ◌*◌, ◌<◌, ◌≤◌, List, length, drop};
 ghost use Rattle.qr_mending.specs.Steps.Polynomial.{at, all_of, miss_of, IsMonic, IsRelieved, HasDegrees, IsPool};
@@ -21,10 +22,10 @@ fn monomials(t: usize) -> ArrayVec<Polynomial, 16>
     pool
 }
 
-// Returns the index of the first polynomial in `pool` that does not solve the equation of `window`. To test this
-// equation, each coefficient of a polynomial is multiplied by the value in `window` with the same index. The polynomial
-// solves the equation if the sum of these products is 0. If every polynomial in `pool` solves the equation, returns the
-// number of polynomials.
+// Returns the index of the first polynomial in `pool` that does not solve the equation of `window`. To test a
+// polynomial, each of its coefficients is multiplied by the value in `window` with the same index. A polynomial solves
+// the equation of `window` if the sum of the products is 0. If every polynomial in `pool` solves the equation of
+// `window`, returns the number of polynomials in `pool`.
 fn first_miss(pool: &[Polynomial], window: &[u8], t: usize) -> usize
     requires degrees { HasDegrees t pool.now }
     requires small { t ≤ 15 }
@@ -42,8 +43,8 @@ fn first_miss(pool: &[Polynomial], window: &[u8], t: usize) -> usize
 }
 
 // Changes the polynomials in `pool` from index `first` on so that they solve the equation of `window`. A polynomial
-// solves this equation if its method `miss` returns 0 for `window`. A multiple of `pivot` is added to each of the
-// changed polynomials. The polynomial `pivot` does not solve the equation.
+// solves the equation of `window` if its method `miss` returns 0 for `window`. To change a polynomial, a multiple of
+// the polynomial `pivot` is added to it. The polynomial `pivot` does not solve the equation of `window`.
 fn relieve(pool: &mut [Polynomial], first: usize, pivot: &Polynomial, window: &[u8], t: usize)
     requires degrees { HasDegrees t pool.old }
     requires small { t ≤ 15 }
@@ -59,10 +60,10 @@ fn relieve(pool: &mut [Polynomial], first: usize, pivot: &Polynomial, window: &[
     }
 }
 
-// Changes the list `pool` so that its polynomials solve equation `i`. Before the change, these polynomials solve
-// equations 0 to `i` - 1, and they still solve these equations afterwards. In equation `i`, the coefficients of a
-// polynomial are multiplied by the syndromes from index `i` on. The polynomial solves the equation if the sum of these
-// products is 0. At most one polynomial is removed from `pool`.
+// Changes the list `pool` so that its polynomials solve equation `i`. Before the call, the polynomials in `pool` solve
+// equations 0 to `i` - 1, and they still solve these equations after the call. A polynomial solves equation `i` if the
+// sum of the products of its coefficients and the syndromes from index `i` on is 0. At most one polynomial is removed
+// from `pool`.
 fn solve(pool: &mut ArrayVec<Polynomial, 16>, syndromes: &[u8], i: usize, t: usize)
     requires pool { IsPool t i syndromes.now pool.old.items }
     requires small { t ≤ 15 }
@@ -78,9 +79,8 @@ fn solve(pool: &mut ArrayVec<Polynomial, 16>, syndromes: &[u8], i: usize, t: usi
     }
 }
 
-// Returns a polynomial of degree at most `t`, with leading coefficient 1, that solves equations 0 to `t` - 1. In
-// equation i, the coefficients of a polynomial are multiplied by the syndromes from index i on. The polynomial solves
-// the equation if the sum of these products is 0.
+// Returns a polynomial of degree at most `t`, with leading coefficient 1, that solves equations 0 to `t` - 1. A
+// polynomial solves equation i if the sum of the products of its coefficients and the syndromes from index i on is 0.
 pub(crate) fn locator(syndromes: &[u8], t: usize) -> Polynomial
     requires small { t ≤ 15 }
     requires long { 2 * t ≤ length syndromes.now }

@@ -31,10 +31,11 @@ pub(crate) struct MendedSquare {
 }
 
 // Mends the symbol in `matrix` by means of one copy of its format information. The symbol is read with the level and
-// the mask whose format information differs from this copy in at most three modules. `marks` contains a mark for each
-// codeword, or is empty. An erased codeword is known to be unreadable. A codeword is erased if its mark is not 0. If
-// `marks` is empty, no codeword is erased. Returns `None` if there is no such level and mask. Returns `None` also if
-// some block has more erased and misread codewords than can be corrected.
+// the mask whose format information differs from this copy in at most three modules. `marks` is empty, or contains for
+// each codeword a mark that shows which modules of the codeword were not read. An erased codeword is known to be
+// unreadable. A codeword is erased if its mark is not 0. If `marks` is empty, no codeword is erased. Returns `None` if
+// the format information of every level and mask differs from this copy in more than three modules. If some block has
+// more erased and misread codewords than can be corrected, `None` is returned.
 fn mend_by(
     alloc: Global,
     version: Version,
@@ -68,9 +69,10 @@ fn mend_by(
 }
 
 // Mends the symbol in `matrix` by means of the first copy of its format information. If the symbol cannot be mended
-// with the first copy, the second copy is used. `marks` contains a mark for each codeword, or is empty. An erased
-// codeword is known to be unreadable. A codeword is erased if its mark is not 0. If `marks` is empty, no codeword is
-// erased. Returns `None` if the symbol can be mended with neither copy.
+// with the first copy, the second copy of the format information is used. `marks` is empty, or contains for each
+// codeword a mark that shows which modules of the codeword were not read. An erased codeword is known to be unreadable.
+// A codeword is erased if its mark is not 0. If `marks` is empty, no codeword is erased. Returns `None` if the symbol
+// can be mended with neither copy of its format information.
 pub(crate) fn mend_by_either(
     alloc: Global,
     version: Version,
@@ -143,8 +145,8 @@ pub struct Mended {
     /// The number of wrong modules among the 30 modules of the two copies of the format information.
     pub wrong_format_modules: u8,
     /// The number of wrong modules in the whole symbol. A module is wrong if it could not be read, or if it does not
-    /// have the colour that it has in the undamaged symbol. The modules of function patterns, version information and
-    /// remainder bits are counted too.
+    /// have the colour that it has in the undamaged symbol. The number includes wrong modules of function patterns,
+    /// version information and remainder bits.
     pub wrong_modules: u32,
     /// For each block, the number of codewords that were misread. Codewords that are known to be unreadable are not
     /// counted.
@@ -153,18 +155,19 @@ pub struct Mended {
 
 /// Reads a damaged symbol and corrects its wrong codewords (ISO/IEC 18004:2015, 7.5.1, 7.9.1 and 12). The version
 /// follows from the number of rows of `matrix`. The level and the mask are found by means of the copy of the format
-/// information beside the top left finder pattern. Their format information differs from this copy in at most three
-/// modules. If there is no such level and mask, or if some block cannot be mended with them, the other copy is used in
-/// the same way. In each block up to `changed_max` wrong codewords are corrected. The function patterns, the version
-/// information and the remainder bits have no effect on the content that is read. Wrong modules of these parts are
+/// information beside the top left finder pattern. The format information of the level and mask that are found differs
+/// from the copy that is used in at most three modules. If no level and mask are found, or if some block cannot be
+/// mended, the second copy of the format information is used in the same way. In each block up to `changed_max` wrong
+/// codewords are corrected. The function patterns, the version information and the remainder bits have no effect on the
+/// content that is read. Wrong modules of the function patterns, the version information and the remainder bits are
 /// counted in `Mended::wrong_modules`.
 ///
 /// # Errors
 ///
 /// Returns `Side` if no version has as many rows as `matrix`. Returns `Format` if the format information of every level
-/// and mask differs from both copies in more than three modules. Returns `Check` if, whichever copy is used, some block
-/// has more wrong codewords than can be corrected. Returns `Segments` if the mended data codewords cannot be parsed.
-/// Returns `Memory` if memory is refused.
+/// and mask differs from both copies in more than three modules. Returns `Check` if some block has more wrong codewords
+/// than can be corrected, whichever copy of the format information is used. Returns `Segments` if the mended data
+/// codewords cannot be parsed. Returns `Memory` if memory is refused.
 pub fn mend_symbol(alloc: Global, matrix: &Matrix) -> Result<Mended, ReadFault>
     ensures mended { MatchResult result
         (λ m. IsMendedReading matrix.now m.version m.level m.mask m.parsed m.changed.items) (IsUnmended matrix.now) }

@@ -26,8 +26,8 @@ pub(crate) struct MendedBlock {
 }
 
 // Mends a damaged block in which at most `t` codewords are wrong. `message` contains the data codewords that were read,
-// and `checks` contains the error correction codewords that were read. Returns `ReadFault::Check` if every block
-// differs from these codewords in more than `t` codewords.
+// and `checks` contains the error correction codewords that were read. Returns `ReadFault::Check` if the codewords that
+// were read differ from every block in more than `t` codewords.
 fn mend_block(
     alloc: Global,
     divisor: &Divisor,
@@ -69,8 +69,8 @@ pub(crate) struct MendedMessage {
 }
 
 // Mends all blocks of a symbol. In each block at most `t` codewords may be wrong. `codewords` contains the data
-// codewords that were read, and `checks` contains the error correction codewords that were read. In both lists, the
-// codewords of one block follow those of the previous block.
+// codewords that were read, and `checks` contains the error correction codewords that were read. In `codewords` and in
+// `checks`, the codewords of one block follow those of the previous block.
 fn mend_parts(
     alloc: Global,
     blocks: Blocks,
@@ -111,8 +111,8 @@ fn mend_parts(
 }
 
 // Returns the mended message of a damaged symbol. The message is the data codewords in the order of the blocks.
-// `codewords` contains the interleaved codewords that were read from the symbol. In each block at most `t` of these
-// codewords may be wrong.
+// `codewords` contains the interleaved codewords that were read from the symbol. At most `t` codewords of each block
+// may be wrong.
 fn mend_blocks(
     alloc: Global,
     blocks: Blocks,
@@ -136,9 +136,9 @@ fn mend_blocks(
     mend_parts(alloc, blocks, t, &received, &checks)
 }
 
-// Returns the number of error correction codewords of a block that are kept unused
-// (ISO/IEC 18004:2015, 7.5.1, Table 9). Unused error correction codewords make it less likely that a damaged block is
-// mended to a wrong block.
+// Returns the number of error correction codewords of a block that are not used to correct errors (ISO/IEC 18004:2015,
+// 7.5.1, Table 9). Error correction codewords that are not used to correct errors make it less likely that a damaged
+// block is mended to a wrong block.
 fn protection(version: Version, level: Level) -> u8
     ensures { result ≡ protection_of version level }
 {
@@ -150,8 +150,8 @@ fn protection(version: Version, level: Level) -> u8
     }
 }
 
-// In a symbol of this version and level, returns how many error correction codewords of a block may be used to correct
-// wrong codewords.
+// Returns how many error correction codewords of a block may be used to correct wrong codewords. The block belongs to a
+// symbol of this version and level.
 pub(crate) fn spare(version: Version, level: Level) -> u8
     ensures { result ≡ spare_of version level }
 {
@@ -160,9 +160,9 @@ pub(crate) fn spare(version: Version, level: Level) -> u8
 }
 
 /// Returns the largest number of wrong codewords that can be corrected in each block of a symbol of this version and
-/// level (ISO/IEC 18004:2015, 7.5.1, Table 9). The returned number is at least 2 and at most 15. In general, it is half
-/// the number of error correction codewords of a block. For some levels of versions 1 to 3, it is less than half this
-/// number.
+/// level (ISO/IEC 18004:2015, 7.5.1, Table 9). The returned number is at least 2 and at most 15. In general, the
+/// returned number is half the number of error correction codewords of a block. For some levels of versions 1 to 3, the
+/// returned number is less than half the number of error correction codewords of a block.
 pub fn changed_max(version: Version, level: Level) -> u8
     ensures { result ≡ tolerance_of version level }
 {

@@ -49,8 +49,8 @@ impl Polynomial {
         &self.terms[..self.degree + 1]
     }
 
-    // Multiplies each coefficient by the value in `window` with the same index, and returns the sum of these products.
-    // If this sum is 0, the polynomial is said to solve the equation of `window`.
+    // Multiplies each coefficient by the value in `window` with the same index, and returns the sum of the products. If
+    // the returned sum is 0, the polynomial is said to solve the equation of `window`.
     pub(crate) fn miss(&self, window: &[u8]) -> u8
         requires fits { self.now.degree < 16 }
         requires long { self.now.degree < length window.now }
@@ -81,8 +81,8 @@ impl Polynomial {
     }
 
     // Returns the sum of this polynomial and a multiple of the polynomial `pivot`, which has a lower degree. The
-    // multiple is chosen so that the returned polynomial solves the equation of `window`: `miss` returns 0 for this
-    // polynomial and `window`.
+    // multiple of `pivot` is chosen so that the returned polynomial solves the equation of `window`: `miss` returns 0
+    // for this polynomial and `window`.
     pub(crate) fn relieved(&self, pivot: &Polynomial, window: &[u8]) -> Polynomial
         requires lower { pivot.now.degree < self.now.degree }
         requires fits { self.now.degree < 16 }

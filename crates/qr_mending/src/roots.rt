@@ -17,8 +17,8 @@ pub(crate) fn count_erased(erased: &[bool]) -> usize
     erased.iter().filter(|place| **place).count()
 }
 
-// Returns the product of the polynomial `polynomial` and x + `root`. In each list of coefficients, the coefficient of
-// the lowest power of x comes first.
+// Returns the product of the polynomial `polynomial` and x + `root`. The lists of coefficients of the two polynomials
+// begin with the coefficient of the lowest power of x.
 fn with_root(polynomial: &[u8], root: u8) -> ArrayVec<u8, 31>
     requires { length polynomial.now < 31 }
     ensures { result.items ≡ times_root root 0 polynomial.now }

@@ -24,17 +24,17 @@ fn mend_all(alloc: Global, damaged: &[Matrix]) -> Result<Vec<Parsed>, ReadFault>
 }
 
 /// Reads damaged symbols, corrects their wrong codewords, and joins the bytes of the symbols in their order
-/// (ISO/IEC 18004:2015, 8 and 12). `damaged` must contain one symbol without a structured append header, or all symbols
-/// of a series in their order. In a series, the structured append header of each symbol must contain three numbers. The
-/// first number is the position of the symbol, counted from 0. The second number is the number of symbols, less 1. The
-/// third number is the parity of all bytes of the series.
+/// (ISO/IEC 18004:2015, 8 and 12). The bytes are joined only if `damaged` contains one symbol without a structured
+/// append header, or all symbols of a series in their order. In a series, the structured append header of each symbol
+/// contains three numbers. The first number in a header is the position of the header's symbol, counted from 0. The
+/// second number in each header is the number of symbols, less 1. The third number in each header is the parity data of
+/// all bytes of the series.
 ///
 /// # Errors
 ///
 /// If some symbol cannot be mended, returns the fault of the first such symbol, whatever the headers of the symbols
-/// contain. Returns `Series` if all symbols are mended, but do not fit together. The symbols fit together if they are
-/// one symbol without a header or a whole series. Returns `Series` also if `damaged` is empty, and `Memory` if memory
-/// is refused.
+/// contain. Returns `Series` if all symbols are mended, but are neither one symbol without a header nor a whole series.
+/// If `damaged` is empty, returns `Series`. If memory is refused, returns `Memory`.
 ///
 /// # Notes
 ///

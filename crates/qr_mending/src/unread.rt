@@ -23,8 +23,8 @@ use qr_symbol::{BlockSizes, ReadFault};
 use std::alloc::{AllocError, Global};
 
 // Returns a mark for each codeword of a symbol. The mark of a codeword is a byte with one bit for each of the eight
-// modules of the codeword. The bit is 1 if the module is dark in `unknown`, which means that the module was not read.
-// So the mark of a codeword is 0 if all its modules were read, and only then.
+// modules of the codeword. The bit of a module is 1 if the module is dark in the square `unknown`, which means that the
+// module was not read. So the mark of a codeword is 0 if all its modules were read, and only then.
 pub(crate) fn read_marks(
     alloc: Global,
     version: Version,
@@ -70,7 +70,7 @@ fn in_blocks(alloc: Global, blocks: Blocks, interleaved: &[u8]) -> Result<InBloc
 }
 
 // Returns the block with index `block`: its data codewords, followed by its error correction codewords. If `parts`
-// contains marks instead of codewords, returns the marks of the codewords of this block.
+// contains marks instead of codewords, returns the marks of the codewords of the block.
 fn block_of(
     alloc: Global,
     blocks: Blocks,
@@ -106,8 +106,8 @@ fn erased_of(alloc: Global, marks: &[u8]) -> Result<Vec<bool>, AllocError>
 
 // Mends a damaged block in which some codewords are erased and other codewords may be misread. `erased` is true at the
 // index of each erased codeword. To correct an erased codeword, one error correction codeword is needed. To correct a
-// misread codeword, two error correction codewords are needed. Returns `None` if in total more than `spare` error
-// correction codewords are needed.
+// misread codeword, two error correction codewords are needed. Returns `None` if more than `spare` error correction
+// codewords are needed to mend the block.
 fn mend_block(
     divisor: &Divisor,
     spare: usize,
@@ -180,8 +180,8 @@ fn mend_parts(
 }
 
 // Returns the mended message of a damaged symbol. The message is the data codewords in the order of the blocks.
-// `codewords` contains the interleaved codewords that were read. `marks` contains the marks of these codewords in the
-// same order. A codeword is erased if its mark is not 0; any other codeword may be misread.
+// `codewords` contains the interleaved codewords that were read. `marks` contains the mark of each codeword, in the
+// order of `codewords`. A codeword is erased if its mark is not 0; any other codeword may be misread.
 fn mend_blocks(
     alloc: Global,
     blocks: Blocks,
@@ -206,8 +206,8 @@ fn mend_blocks(
 }
 
 // Returns the mended message of a damaged symbol of this version and level. The message is the data codewords in the
-// order of the blocks. `codewords` contains the interleaved codewords that were read. `marks` contains the marks of
-// these codewords in the same order. A codeword is erased if its mark is not 0; any other codeword may be misread.
+// order of the blocks. `codewords` contains the interleaved codewords that were read. `marks` contains the mark of each
+// codeword, in the order of `codewords`. A codeword is erased if its mark is not 0; any other codeword may be misread.
 pub(crate) fn mend_message_without(
     alloc: Global,
     version: Version,
@@ -232,7 +232,7 @@ pub(crate) fn mend_message_without(
 
 // Returns the mended message of a damaged symbol of this version and level. The message is the data codewords in the
 // order of the blocks. `codewords` contains the interleaved codewords that were read; some of these codewords may be
-// misread. `marks` contains the marks of these codewords, or is empty. A codeword is erased if its mark is not 0. If
+// misread. `marks` contains the mark of each codeword, or is empty. A codeword is erased if its mark is not 0. If
 // `marks` is empty, no codeword is erased.
 pub(crate) fn mend_codewords(
     alloc: Global,

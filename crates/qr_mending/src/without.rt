@@ -20,7 +20,7 @@ use qr_matrix::Matrix;
 use qr_symbol::{ReadFault, draw_symbol, interleave};
 use std::alloc::{AllocError, Global};
 
-// Mends the symbol in `matrix`. Some modules of the symbol were not read; these modules are dark in `unknown`. A
+// Mends the symbol in `matrix`. The modules of the symbol that were not read are dark in the square `unknown`. A
 // codeword is erased if one of its modules was not read. Returns `None` if the symbol can be mended with neither copy
 // of its format information.
 fn mend_square_without(
@@ -43,7 +43,7 @@ fn mend_square_without(
 }
 
 // Returns the number of wrong modules in row `row` of `matrix`. A module is wrong if it was not read, or if it does not
-// have the colour that it has in `symbol`. A module was not read if it is dark in `unknown`.
+// have the colour that it has in `symbol`. A module was not read if it is dark in the square `unknown`.
 fn wrong_in_row(unknown: &Matrix, matrix: &Matrix, symbol: &Matrix, row: u8) -> u32
     requires unknown_side { unknown.now.side ≡ matrix.now.side }
     requires side { symbol.now.side ≡ matrix.now.side }
@@ -62,7 +62,7 @@ fn wrong_in_row(unknown: &Matrix, matrix: &Matrix, symbol: &Matrix, row: u8) -> 
 }
 
 // Returns the number of wrong modules in `matrix`. A module is wrong if it was not read, or if it does not have the
-// colour that it has in `symbol`. A module was not read if it is dark in `unknown`.
+// colour that it has in `symbol`. A module was not read if it is dark in the square `unknown`.
 fn count_wrong(unknown: &Matrix, matrix: &Matrix, symbol: &Matrix) -> u32
     requires unknown_side { unknown.now.side ≡ matrix.now.side }
     requires side { symbol.now.side ≡ matrix.now.side }
@@ -77,7 +77,7 @@ fn count_wrong(unknown: &Matrix, matrix: &Matrix, symbol: &Matrix) -> u32
 
 // Draws the undamaged symbol with the data codewords `message`, and returns the number of wrong modules in `matrix`. A
 // module is wrong if it was not read, or if it does not have the colour that it has in the undamaged symbol. A module
-// was not read if it is dark in `unknown`.
+// was not read if it is dark in the square `unknown`.
 fn count_wrong_modules_without(
     alloc: Global,
     version: Version,
@@ -99,21 +99,22 @@ fn count_wrong_modules_without(
 }
 
 /// Reads a damaged symbol in which some modules could not be read, and corrects its wrong codewords
-/// (ISO/IEC 18004:2015, 7.5.1, 7.9.1 and 12). `unknown` has as many rows as `matrix`. A module could not be read if it
-/// is dark in `unknown`. A codeword with a module that could not be read is called erased. To correct an erased
-/// codeword, half as much error correction is needed as to correct a misread codeword. In each block, the number of
-/// erased codewords plus twice the number of misread codewords may be at most twice `changed_max`. Here `changed_max`
-/// is the number of misread codewords that can be corrected in a block without erased codewords. The level and the mask
-/// are found as `mend_symbol` finds them. For this purpose, every module of the format information is used with its
-/// colour in `matrix`, even if the module could not be read.
+/// (ISO/IEC 18004:2015, 7.5.1, 7.9.1 and 12). The square `unknown` has as many rows as `matrix`. The modules that could
+/// not be read are dark in the square `unknown`. A codeword with a module that could not be read is called erased. To
+/// correct an erased codeword, half as much error correction is needed as to correct a misread codeword. In each block,
+/// the number of erased codewords plus twice the number of misread codewords may be at most twice `changed_max`. The
+/// number `changed_max` is the number of misread codewords that can be corrected in a block that has no erased
+/// codeword. The level and the mask are found as `mend_symbol` finds them. To find the level and the mask, every module
+/// of the format information is used with its colour in `matrix`, even if the module could not be read.
 ///
 /// The field `Mended::changed` counts only the misread codewords. A module that could not be read counts as a wrong
-/// module, whatever colour it has in `matrix`. In all other respects, `mend_symbol_without` works like `mend_symbol`.
+/// module, whatever colour it has in `matrix`. Apart from the treatment of modules that could not be read,
+/// `mend_symbol_without` works like `mend_symbol`.
 ///
 /// # Errors
 ///
 /// Returns the same faults as `mend_symbol`. Returns `Check` if some block has more erased and misread codewords than
-/// can be corrected.
+/// can be corrected, whichever copy of the format information is used.
 pub fn mend_symbol_without(
     alloc: Global,
     matrix: &Matrix,

@@ -1,7 +1,7 @@
 //! Draws symbols on a canvas, which is two squares of modules that all symbols of a series share (ISO/IEC 18004:2015,
 //! 7.7 and 7.8). The function patterns and the version information are drawn once for all symbols of the series. The
 //! codewords are drawn once for each symbol. The mask pattern and the format information are drawn for each mask
-//! pattern that is tried, and again for the best one.
+//! pattern that is tried, and again for the best mask pattern.
 
 ghost use Rattle.std.specs.Prelude.{◌≡◌, ◌<◌, IfOk};
 ghost use Rattle.qr_layout.specs.Version.{side_of};
@@ -17,9 +17,9 @@ use qr_matrix::Matrix;
 use std::alloc::{AllocError, Global};
 use std::mem;
 
-// The format information that is drawn in the square `plain` of a canvas: only bit 7 is dark. So the modules outside
-// the encoding region are the same when rows and columns are exchanged. The exchange swaps the dark module with a
-// module of bit 7, which is dark too.
+// The format information that is drawn in the square `plain` of a canvas: only bit 7 is dark. With this format
+// information, the modules outside the encoding region stay the same when rows and columns are exchanged. The exchange
+// of rows and columns swaps the dark module with a module of bit 7, so bit 7 has to be dark.
 const SYMMETRIC_FORMAT: u32 = 1 << 7;
 
 /// Two squares of modules from which the symbols of a series are made. The square `plain` is a symbol without a mask
@@ -56,11 +56,11 @@ impl Canvas {
         })
     }
 
-    // Draws the codewords into the square `plain`, over the codewords of the previous symbol. First `plain` and
-    // `across` are swapped. The codewords are drawn into `across` in transposed form, which means that rows and columns
-    // are exchanged; the modules outside the encoding region are the same in both forms. Then `across` is transposed
-    // into `plain`, and this replaces all colours of `plain`. Afterwards `across` contains the transposed form of
-    // `plain`.
+    // Draws the codewords into the square `plain`, over the codewords of the previous symbol. First the squares `plain`
+    // and `across` are swapped. The codewords are drawn into `across` in transposed form, which means that rows and
+    // columns are exchanged. The modules outside the encoding region are the same in the transposed form. At the end,
+    // the transposed form of `across` replaces all colours of `plain`. After the call, `across` contains the transposed
+    // form of `plain`.
     #[inline(never)]
     pub(crate) fn draw_data(&mut self, across: &mut Matrix, codewords: &[u8])
         requires { IsSquare (side_of self.old.version) across.old }
@@ -76,9 +76,9 @@ impl Canvas {
         self.plain.set_transposed(across);
     }
 
-    // Draws the symbol into `matrix`. First the modules of `plain` are copied, and the mask pattern `mask` is applied
-    // to those of the encoding region. Then the format information of the level and this mask pattern is drawn over
-    // them.
+    // Draws the symbol of this canvas into `matrix` under the mask pattern `mask`. First the modules of `plain` are
+    // copied, and the mask pattern `mask` is applied to the modules of the encoding region. Then the format information
+    // of the canvas's level and of the mask pattern `mask` is drawn over the copied modules.
     pub(crate) fn draw_masked(&self, matrix: &mut Matrix, mask: u8)
         requires mask_in { mask < 8 }
         requires square { IsSquare (side_of self.now.version) matrix.old }

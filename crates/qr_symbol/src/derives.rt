@@ -1,4 +1,4 @@
-//! This file contains laws about `==` and `clone`, which are derived for the two types of faults.
+//! This file contains laws about `==` and `clone`, which are derived for the two types `EncodeFault` and `ReadFault`.
 
 ghost use Rattle.std.specs.Prelude.{◌≡◌, ◌↔◌, IsTrue, IfOk};
 

@@ -15,15 +15,15 @@ use crate::patterns::is_bit_set;
 use qr_layout::{Module, Strip, Version, all_strips, walk};
 use qr_matrix::{BitRow, Matrix};
 
-// Returns the codeword with the index `place`, or 0 if `place` is after the last codeword. So the remainder bits, which
-// are in the modules after those of the last codeword, are 0 (light) before a mask pattern inverts some of them.
+// Returns the codeword with the index `place`, or 0 if `place` is after the last codeword. Since 0 is returned after
+// the last codeword, the remainder bits are 0 (light) before a mask pattern inverts some of them.
 fn codeword_at(codewords: &[u8], place: usize) -> u8
     ensures { result ≡ slice_index codewords.now place }
 {
     codewords.get(place).copied().unwrap_or(0)
 }
 
-// Returns the eight codewords from index `place` on as one integer of 64 bits. The first of these codewords is the
+// Returns the eight codewords from index `place` on as one integer of 64 bits. The first of the eight codewords is the
 // highest byte of the integer.
 fn eight_codewords(codewords: &[u8], place: usize) -> u64
     requires { place + 8 ≤ length codewords.now }
@@ -37,8 +37,8 @@ fn eight_codewords(codewords: &[u8], place: usize) -> u64
 }
 
 // Returns the eight codewords from index `place` on as one integer of 64 bits, as `eight_codewords` does. If there are
-// fewer than eight codewords from this index on, zeros follow the last codeword. So the remainder bits, which fill the
-// modules after the last codeword, are 0 (light) before a mask pattern inverts some of them.
+// fewer than eight codewords from index `place` on, zeros follow the last codeword. Because of the zeros after the last
+// codeword, the remainder bits are 0 (light) before a mask pattern inverts some of them.
 #[inline(never)]
 fn last_codewords(codewords: &[u8], place: usize) -> u64
     requires { place ≤ 5000 }
@@ -51,9 +51,9 @@ fn last_codewords(codewords: &[u8], place: usize) -> u64
     bits
 }
 
-// Eight codewords as one integer of 64 bits, `bits`. The first codeword is the highest byte of this integer. The bits
-// of all codewords are numbered from 0, and `first` is the number of the codeword bit that is the highest bit of
-// `bits`.
+// Eight codewords, which are stored in one integer `bits` of 64 bits. The first of the eight codewords is the highest
+// byte of `bits`. The bits of all codewords are numbered from 0, and `first` is the number of the codeword bit that is
+// the highest bit of `bits`.
 #[derive(Clone, Copy)]
 struct CodewordBits {
     bits: u64,
@@ -91,12 +91,12 @@ fn eight_bits(next: CodewordBits, number: usize) -> u8
 }
 
 // Two tables that divide eight codeword bits between the two columns of a strip, which are filled together. The eight
-// bits are the index of an entry. They fill four rows of the strip, and alternate between the right and the left
-// column. In each entry, the higher four bits belong to the right column: they are the first, third, fifth and seventh
-// of the eight bits. The lower four bits belong to the left column. In each half of an entry, the lowest bit belongs to
-// the topmost of the four rows. The first table is for strips that are filled downward: there the first two of the
-// eight bits are in the topmost row. The second table is for strips that are filled upward: there the last two of the
-// eight bits are in the topmost row.
+// bits are the index of an entry. The eight bits fill four rows of the strip, and alternate between the right and the
+// left column. The higher four bits of an entry belong to the right column, and are the first, third, fifth and seventh
+// of the eight bits. The lower four bits of an entry belong to the left column. In each half of an entry, the lowest
+// bit belongs to the topmost of the four rows. The first table is for strips that are filled downward, where the first
+// two of the eight bits are in the topmost row. The second table is for strips that are filled upward, where the last
+// two of the eight bits are in the topmost row.
 static SPLITS: [[u8; 256]; 2] = [
     [
         0x00, 0x08, 0x80, 0x88, 0x04, 0x0C, 0x84, 0x8C, 0x40, 0x48, 0xC0, 0xC8, 0x44, 0x4C, 0xC4,
@@ -141,7 +141,7 @@ static SPLITS: [[u8; 256]; 2] = [
 ];
 
 // The right and the left column of a strip, which is two columns of the symbol that are filled together. In the
-// transposed square of modules, where rows and columns are exchanged, these two columns are two rows.
+// transposed square of modules, where rows and columns are exchanged, the two columns of a strip are two rows.
 #[derive(Clone, Copy)]
 struct Columns {
     right: BitRow,
@@ -163,8 +163,8 @@ fn columns_of(across: &Matrix, right: u8) -> Columns
     }
 }
 
-// Returns the columns `columns` of a strip after all their modules in the encoding region were made light. In the
-// columns `region`, a bit is 1 if the module in its row is in the encoding region.
+// Returns the columns `columns` of a strip, with all modules of the encoding region made light. In each column of
+// `region`, the bit of a row is 1 if the module in this row is in the encoding region.
 fn with_light_region(columns: Columns, region: &Columns) -> Columns
     ensures right { (row : ℕ) → has result.right row ≡ (has columns.right row && not (has region.now.right row)) }
     ensures left { (row : ℕ) → has result.left row ≡ (has columns.left row && not (has region.now.left row)) }
@@ -177,7 +177,7 @@ fn with_light_region(columns: Columns, region: &Columns) -> Columns
 
 // Draws the next of the eight bits `bits` in row `row` of a column, if the module there is in the encoding region.
 // Before the call, `taken` of the eight bits were drawn already. Returns how many of the eight bits are drawn when the
-// call ends. In `region`, a bit is 1 if the module in its row of the column is in the encoding region.
+// call ends. In `region`, the bit of a row is 1 if the column's module in this row is in the encoding region.
 fn draw_module(column: &mut BitRow, region: &BitRow, bits: u8, taken: u8, row: u8) -> u8
     requires row_in { row < 192 }
     requires taken { taken < 8 }
@@ -193,10 +193,10 @@ fn draw_module(column: &mut BitRow, region: &BitRow, bits: u8, taken: u8, row: u
     taken + 1
 }
 
-// Draws the first bits of `bits` in `count` rows of a strip (two columns that are filled together). Each module of
-// these rows that is in the encoding region gets the next bit. `passed` is the number of rows of the strip that come
-// before these rows. Returns the number of bits that were drawn. In a large symbol, most rows are drawn by `draw_four`
-// without a call of this function.
+// Draws the first bits of `bits` in `count` rows of a strip (two columns that are filled together). Each module of the
+// `count` rows that is in the encoding region gets the next bit. `passed` is the number of rows of the strip that are
+// filled before the `count` rows. Returns the number of bits that were drawn. In a large symbol, most rows are drawn by
+// `draw_four` without a call of `draw_rows`.
 #[inline(never)]
 fn draw_rows(
     columns: &mut Columns,
@@ -230,11 +230,12 @@ fn draw_rows(
     taken
 }
 
-// Draws the first bits of `bits` in four rows of a strip (two columns that are filled together). Each module of these
-// rows that is in the encoding region gets the next bit. `passed` is the number of rows of the strip that come before
-// these rows. Returns the number of bits that were drawn. In `both`, the bit of a row is 1 if both modules of the strip
-// in this row are in the encoding region. If all eight modules are in the encoding region, four modules of each column
-// are drawn at once. All eight modules are still light, so it is enough to make the modules dark whose bits are 1.
+// Draws the first bits of `bits` in four rows of a strip (two columns that are filled together). Each module of the
+// four rows that is in the encoding region gets the next bit. `passed` is the number of rows of the strip that are
+// filled before the four rows. Returns the number of bits that were drawn. In `both`, the bit of a row is 1 if both
+// modules of the strip in this row are in the encoding region. If all eight modules of the four rows are in the
+// encoding region, four modules of each column are drawn at once. Before the call the eight modules are light, so it is
+// enough to make the modules dark whose bits are 1.
 #[inline(always)]
 fn draw_four(
     columns: &mut Columns,
@@ -274,9 +275,9 @@ fn draw_four(
 }
 
 // Draws the bits of the codewords, from bit `first` on, in a strip (two columns that are filled together). Each module
-// of the strip that is in the encoding region gets the next bit. Returns the number of the next bit to be drawn. The
-// number of rows of a symbol is one more than a multiple of four. So the bottom row is drawn by itself, and the rows
-// above the bottom row are drawn in groups of four.
+// of the strip that is in the encoding region gets the next bit. Returns the number of the next bit to be drawn. Since
+// the number of rows of a symbol is one more than a multiple of four, the bottom row is drawn by itself. The rows above
+// the bottom row are drawn in groups of four.
 #[inline(always)]
 fn draw_columns(
     columns: &mut Columns,
@@ -315,7 +316,8 @@ fn draw_columns(
 
 // Draws the bits of the codewords, from bit `first` on, in a strip (two columns that are filled together). Each module
 // of the strip that is in the encoding region gets the next bit. Returns the number of the next bit to be drawn. The
-// code calls `draw_columns` twice, so that the compiler compiles it once for each direction in which a strip is filled.
+// code contains two calls of `draw_columns`, so that the compiler compiles this function once for each direction in
+// which a strip is filled.
 fn draw_strip(
     across: &mut Matrix,
     v: Version,
@@ -354,9 +356,9 @@ fn draw_strip(
 }
 
 // Draws the codeword bits in the modules of the encoding region, strip by strip; a strip is two neighbouring columns
-// that are filled together. The square `across` is transposed, which means that rows and columns are exchanged. So the
-// two columns of a strip are two rows of `across`. The two columns are also two rows of `region`, since the encoding
-// region is the same when rows and columns are exchanged.
+// that are filled together. The square `across` is transposed, which means that rows and columns are exchanged. In the
+// transposed square `across`, the two columns of a strip are two rows. The two columns of a strip are also two rows of
+// `region`, since the encoding region is the same when rows and columns are exchanged.
 pub(crate) fn draw_codewords(across: &mut Matrix, v: Version, region: &Matrix, codewords: &[u8])
     requires square { IsSquare (side_of v) across.old }
     requires region { region.now ≡ region_grid v }
@@ -370,8 +372,8 @@ pub(crate) fn draw_codewords(across: &mut Matrix, v: Version, region: &Matrix, c
     }
 }
 
-// Returns bit `number` of the codewords, where bit 0 is the highest bit of the first codeword. If there is no such bit,
-// returns `false`.
+// Returns bit `number` of the codewords, where bit 0 is the highest bit of the first codeword. If the codewords have no
+// bit `number`, returns `false`.
 fn bit_at(codewords: &[u8], number: usize) -> bool
     ensures { result ≡ codeword_bit codewords.now number }
 {
@@ -380,8 +382,8 @@ fn bit_at(codewords: &[u8], number: usize) -> bool
 }
 
 // Draws the codeword bits under the mask pattern `mask` in the modules of the encoding region, one module after the
-// other in the order of `walk`. The remainder bits are 0 before the mask pattern is applied. The mask pattern inverts
-// the remainder bits too.
+// other in the order of `walk`. The remainder bits are 0 before the mask pattern is applied. The mask pattern is
+// applied to the codeword bits and to the remainder bits.
 pub(crate) fn draw_along_walk(matrix: &mut Matrix, v: Version, codewords: &[u8], mask: u8)
     requires { IsSquare (side_of v) matrix.old }
     ensures { matrix.new ≡ square (side_of v) (walked_colour v codewords.now mask (colour matrix.old)) }

@@ -27,23 +27,23 @@ pub(crate) const SYMBOL_BYTES_MAX: usize = 7089;
 
 /// Encodes the input as one symbol (ISO/IEC 18004:2015, 7.1). The symbol has the least version, from `smallest` on,
 /// that the input fits. `rule` determines which modes the segments may have. The input is cut into the segments that
-/// need the fewest bits in these modes. The symbol contains the codewords that the standard requires for these
-/// segments, and has the mask pattern with the least penalty. If several mask patterns have the least penalty, the one
-/// with the smallest number is chosen.
+/// need the fewest bits in these modes. The symbol contains the codewords that the standard requires for the segments
+/// of the input, and has the mask pattern with the least penalty. If several mask patterns have the least penalty, the
+/// one with the smallest number is chosen.
 ///
 /// If the modules of the symbol are read in the standard's order, unmasked, deinterleaved and parsed, the result is
-/// exactly the input, in the same segments.
+/// exactly the input. The segments that are read are the segments with which the symbol was made.
 ///
 /// # Errors
 ///
 /// Returns `Empty` exactly if the input has no byte. Returns `TooLong` if the input fits no version from `smallest` on.
-/// Returns `Memory` if an allocation is refused; then `TooLong` is not returned. An input of more than 7,089 bytes fits
-/// no version; for such an input, `TooLong` is returned before any allocation.
+/// Returns `Memory` if an allocation is refused; in this case `TooLong` is not returned. An input of more than 7,089
+/// bytes fits no version; for such an input, `TooLong` is returned before any allocation.
 ///
 /// # Notes
 ///
-/// Among the parameters of `encode`, the level comes before the version. In `encode_series`, the version comes before
-/// the level.
+/// Among the parameters of `encode`, the level comes before the version. Among the parameters of `encode_series`, the
+/// version comes before the level.
 pub fn encode(
     alloc: Global,
     input: &[u8],

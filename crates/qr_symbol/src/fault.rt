@@ -1,4 +1,4 @@
-//! Defines the faults of encoding an input and of reading symbols.
+//! Defines the faults that are returned if an input cannot be encoded or if symbols cannot be read.
 
 ghost use Rattle.std.specs.Prelude.{◌≡◌};
 
@@ -6,7 +6,7 @@ use qr_bits::{BitFault, ParseFault};
 use std::alloc::{AllocError, AllocFailed};
 use thiserror::Error;
 
-/// The reason why an input is not encoded. The faults `Empty`, `TooLong` and `TooMany` are checked in this order.
+/// The reason why an input is not encoded. The causes of `Empty`, `TooLong` and `TooMany` are checked in this order.
 /// Memory may be refused at any step after the check for `Empty`.
 #[derive(Clone, Copy, Debug, PartialEq, Eq, Error)]
 pub enum EncodeFault {
@@ -60,8 +60,9 @@ impl From<BitFault> for EncodeFault {
     }
 }
 
-/// The reason why symbols are not read. The faults from `Side` to `Series` are checked in the order of this list.
-/// `Memory` has no fixed position in this order, since memory may be refused at several steps.
+/// The reason why symbols are not read. The causes of the faults from `Side` to `Series` are checked in the order in
+/// which `ReadFault` lists these faults. The fault `Memory` has no fixed position in the order of the checks, since
+/// memory may be refused at several steps.
 #[derive(Clone, Copy, Debug, PartialEq, Eq, Error)]
 pub enum ReadFault {
     /// An allocation was refused.
@@ -76,7 +77,7 @@ pub enum ReadFault {
     /// The error correction codewords of a block do not belong to its data codewords.
     #[error("a codeword is damaged")]
     Check,
-    /// The data codewords cannot be parsed. The fault of parsing that this variant contains is never
+    /// The data codewords cannot be parsed. The fault of parsing that `Segments` contains is never
     /// `ParseFault::Memory`.
     #[error("the data codewords cannot be parsed: {0}")]
     Segments(ParseFault),
@@ -92,7 +93,7 @@ impl ReadFault {
     ///
     /// # Notes
     ///
-    /// The number stays the same in later versions of this crate.
+    /// The number of a fault stays the same in later versions of this crate.
     pub fn number(&self) -> u8
         ensures { result ≡ read_fault_number self.now }
     {

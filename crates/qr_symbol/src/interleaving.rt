@@ -1,5 +1,6 @@
 //! Computes the final sequence of codewords, which contains the interleaved data codewords and then the interleaved
-//! error correction codewords (ISO/IEC 18004:2015, 7.5.2 and 7.6). Also undoes the interleaving.
+//! error correction codewords (ISO/IEC 18004:2015, 7.5.2 and 7.6). This file also undoes the interleaving, and so
+//! returns the data codewords of a final sequence.
 
 ghost use Rattle.std.specs.Prelude.{◌≡◌, ◌≢◌, ◌↔◌, ℕ, ◌+◌, ◌<◌, ◌≤◌, ◌⊎◌, List, length, Err, IfOk, IfErr};
 ghost use Rattle.qr_layout.specs.Blocks.{data_codewords_of};
@@ -14,7 +15,8 @@ use qr_layout::{Blocks, Level, Version};
 use std::alloc::{AllocError, Global};
 
 /// The sizes of the blocks into which a list of codewords is divided. The first `short` blocks contain `short_len`
-/// codewords each. Each of the `long` blocks after them contains one codeword more (ISO/IEC 18004:2015, 7.5.1).
+/// codewords each. After the short blocks come `long` blocks, which contain `short_len` + 1 codewords each
+/// (ISO/IEC 18004:2015, 7.5.1).
 #[derive(Clone, Copy)]
 pub struct BlockSizes {
     /// The number of short blocks.
@@ -26,7 +28,7 @@ pub struct BlockSizes {
 }
 
 impl BlockSizes {
-    /// Returns the sizes of the blocks, when only their data codewords are counted.
+    /// Returns the sizes of the blocks; only the data codewords of each block are counted.
     pub fn of_data(blocks: Blocks) -> BlockSizes
         ensures { result ≡ data_sizes blocks }
     {
@@ -37,8 +39,8 @@ impl BlockSizes {
         }
     }
 
-    /// Returns the sizes of the blocks, when only their error correction codewords are counted. All blocks have the
-    /// same number of error correction codewords.
+    /// Returns the sizes of the blocks; only the error correction codewords of each block are counted. All blocks have
+    /// the same number of error correction codewords.
     pub fn of_corrections(blocks: Blocks) -> BlockSizes
         ensures { result ≡ correction_sizes blocks }
     {
@@ -86,10 +88,10 @@ impl BlockSizes {
         &codewords[start..start + self.len(block)]
     }
 
-    /// Undoes the interleaving of `codewords`, and returns the codewords of all blocks, one block after the other. In
-    /// interleaved order, the first codeword of each block comes first, then the second codeword of each block, and so
-    /// on (ISO/IEC 18004:2015, 7.6). If `codewords` contains more codewords than the blocks have, the additional
-    /// codewords at the end are ignored.
+    /// Undoes the interleaving of `codewords`, and returns the codewords of all blocks, one block after the other.
+    /// Interleaved order begins with the first codeword of each block, continues with the second codeword of each
+    /// block, and so on (ISO/IEC 18004:2015, 7.6). If `codewords` contains more codewords than the blocks have, the
+    /// additional codewords at the end are ignored.
     pub fn gather(self, alloc: Global, codewords: &[u8]) -> Result<Vec<u8>, AllocError>
         requires { codeword_count self ≤ length codewords.now }
         ensures { IfOk result (λ d. IsGathered self codewords.now d.items) }
@@ -101,7 +103,7 @@ impl BlockSizes {
 }
 
 // Appends the codewords of all blocks to `interleaved`: the first codeword of each block, then the second codeword of
-// each block, and so on. In `codewords`, the codewords of one block follow those of the previous block.
+// each block, and so on. In `codewords`, the blocks come one after the other.
 fn interleave_into(
     interleaved: &mut Vec<u8>,
     sizes: BlockSizes,
@@ -163,7 +165,8 @@ fn interleave_blocks(alloc: Global, blocks: Blocks, message: &[u8]) -> Result<Ve
 
 /// Returns the final sequence of codewords for the data codewords `message` (ISO/IEC 18004:2015, 7.5.2 and 7.6). The
 /// sequence begins with the data codewords: the first data codeword of each block, then the second data codeword of
-/// each block, and so on. The error correction codewords follow in the same order.
+/// each block, and so on. After the data codewords come the error correction codewords: the first one of each block,
+/// then the second one of each block, and so on.
 pub fn interleave(
     alloc: Global,
     version: Version,
@@ -196,7 +199,7 @@ fn deinterleave_into(message: &mut Vec<u8>, sizes: BlockSizes, codewords: &[u8])
 }
 
 // Undoes the interleaving of `codewords`, and returns the data codewords. Returns the fault `Check` if the error
-// correction codewords in `codewords` do not belong to these data codewords.
+// correction codewords in `codewords` do not belong to the data codewords in `codewords`.
 fn deinterleave_blocks(
     alloc: Global,
     blocks: Blocks,
@@ -225,7 +228,7 @@ fn deinterleave_blocks(
 
 /// Returns the data codewords of a final sequence of codewords (ISO/IEC 18004:2015, 7.6 and 12). Returns the fault
 /// `Check` if the error correction codewords of some block do not belong to its data codewords. Returns `Memory` if an
-/// allocation is refused; then `Check` is not returned.
+/// allocation is refused; in this case `Check` is not returned.
 pub fn deinterleave(
     alloc: Global,
     version: Version,

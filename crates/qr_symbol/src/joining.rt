@@ -24,7 +24,7 @@ fn read_all(alloc: Global, symbols: &[Symbol]) -> Result<Vec<Parsed>, ReadFault>
     Ok(contents)
 }
 
-// Returns the bytes of all contents, in the order of the contents. A content is what one symbol is read as.
+// Returns the bytes of all contents, in the order of the contents. A content is the result of reading one symbol.
 fn joined_bytes(alloc: Global, contents: &[Parsed]) -> Result<Vec<u8>, AllocError>
     ensures { IfOk result (λ bytes. bytes.items ≡ bytes_of_all contents.now) }
 {
@@ -35,8 +35,8 @@ fn joined_bytes(alloc: Global, contents: &[Parsed]) -> Result<Vec<u8>, AllocErro
     Ok(bytes)
 }
 
-// Returns whether `contents` is one single content without a structured append header. A content is what one symbol is
-// read as.
+// Returns whether `contents` is one single content without a structured append header. A content is the result of
+// reading one symbol.
 fn is_plain(contents: &[Parsed]) -> bool
     ensures { Decides result (IsPlain contents.now) }
 {
@@ -47,7 +47,7 @@ fn is_plain(contents: &[Parsed]) -> bool
 }
 
 // Returns whether the content has a structured append header that contains the numbers `position`, `last` and `parity`.
-// The number `last` is the number of symbols, less 1.
+// The number `last` is the number of symbols of the series, less 1.
 fn has_header(content: &Parsed, position: usize, last: usize, parity: u8) -> bool
     ensures { Decides result (content.now.header
         ≡ Some (record { position = position; last = last; parity = parity })) }
@@ -62,9 +62,9 @@ fn has_header(content: &Parsed, position: usize, last: usize, parity: u8) -> boo
     }
 }
 
-// Returns whether `contents` contains the contents of a whole series of symbols, in the order of the series. There must
-// be at least one content, and each content must have a structured append header. The header must contain three
-// numbers: the position of the content, the number of contents less 1, and `parity` (8.1 to 8.3).
+// Returns whether `contents` contains the contents of a whole series of symbols, in the order of the series. A whole
+// series has at least one content, and each content has a structured append header. Each header contains three numbers:
+// the position of its content, the number of contents less 1, and the number `parity` (8.1 to 8.3).
 fn are_in_series(contents: &[Parsed], parity: u8) -> bool
     ensures { Decides result ((0 < length contents.now)
         × HaveHeaders (length contents.now - 1) parity 0 contents.now) }
@@ -81,16 +81,16 @@ fn are_in_series(contents: &[Parsed], parity: u8) -> bool
     true
 }
 
-/// Joins the bytes of the contents of symbols, in the order of `contents` (ISO/IEC 18004:2015, 8). The list `contents`
-/// must be one content without a structured append header, or the contents of a whole series. In a series, the
-/// structured append header of each content must contain three numbers. The first number is the position of the
-/// content, counted from 0. The second number is the number of symbols, less 1. The third number is the parity data of
-/// all bytes.
+/// Joins the bytes of the contents of symbols, in the order of `contents` (ISO/IEC 18004:2015, 8). The bytes are joined
+/// only if `contents` is one content without a structured append header, or the contents of a whole series. In a whole
+/// series, the structured append header of each content contains three numbers. The first number in a header is the
+/// position of the header's content, counted from 0. The second number in each header is the number of symbols, less 1.
+/// The third number in each header is the parity data of the bytes of all contents.
 ///
 /// # Errors
 ///
 /// Returns `Series` if the contents are neither one content without a structured append header nor the contents of a
-/// whole series. Returns `Series` also if there is no content. Returns `Memory` if an allocation is refused.
+/// whole series. If there is no content, `Series` is returned. Returns `Memory` if an allocation is refused.
 pub fn join(alloc: Global, contents: &[Parsed]) -> Result<Vec<u8>, ReadFault>
     ensures { MatchResult result
         (λ bytes. BelongTogether contents.now × (bytes.items ≡ bytes_of_all contents.now))
@@ -105,17 +105,18 @@ pub fn join(alloc: Global, contents: &[Parsed]) -> Result<Vec<u8>, ReadFault>
     }
 }
 
-/// Reads the symbols and joins their bytes, in the order of `symbols` (ISO/IEC 18004:2015, 8). The list `symbols` must
-/// be one symbol without a structured append header, or the symbols of a whole series. In a series, the structured
-/// append header of each symbol must contain three numbers. The first number is the position of the symbol, counted
-/// from 0. The second number is the number of symbols, less 1. The third number is the parity data of all bytes. Only
-/// the field `matrix` of each symbol is read, not its other fields.
+/// Reads the symbols and joins their bytes, in the order of `symbols` (ISO/IEC 18004:2015, 8). The bytes are joined
+/// only if `symbols` is one symbol without a structured append header, or the symbols of a whole series. In a whole
+/// series, the structured append header of each symbol contains three numbers. The first number in a header is the
+/// position of the header's symbol, counted from 0. The second number in each header is the number of symbols, less 1.
+/// The third number in each header is the parity data of the bytes of all symbols. Only the field `matrix` of each
+/// symbol is used; all its other fields are ignored.
 ///
 /// # Errors
 ///
 /// If some symbol cannot be read, returns the fault of the first such symbol. The structured append headers are checked
 /// only if all symbols can be read. Returns `Series` if all symbols can be read, but are neither one symbol without a
-/// structured append header nor a whole series. Returns `Series` also if there is no symbol. Returns `Memory` if an
+/// structured append header nor a whole series. If there is no symbol, `Series` is returned. Returns `Memory` if an
 /// allocation is refused.
 pub fn read_series(alloc: Global, symbols: &[Symbol]) -> Result<Vec<u8>, ReadFault>
     ensures { MatchResult result

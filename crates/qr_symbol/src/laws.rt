@@ -1,6 +1,6 @@
 //! This file contains the laws of mask patterns, of interleaving, of reading and of series of symbols. Most functions
-//! of this file contain no code: their contract is the law. The other functions build, read, compare or clone values,
-//! and their contract is a law about the result.
+//! of this file contain no code: their contract is the law. Some functions of this file contain code: they build, read,
+//! compare or clone values, and the contract of each is a law about its result.
 
 ghost use Rattle.std.specs.Prelude.{◌≡◌, ◌<◌, ◌≤◌, ◌+◌, ◌%◌, ◌⊎◌, ℕ, false, List, length, map, None, ◌∷◌, IfOk, IfErr, ◌≢◌, ◌↔◌, Err};
 ghost use Rattle.std.specs.List.{All};
@@ -47,16 +47,16 @@ use qr_matrix::Matrix;
 use std::alloc::Global;
 
 /// Each mask pattern repeats every twelve rows and every six columns. The first twelve rows of each mask pattern, in
-/// the first six columns, were worked out by hand from Table 10. The definition of the mask patterns agrees with these
-/// rows.
+/// the first six columns, were worked out by hand from Table 10. The definition of the mask patterns agrees with the
+/// rows that were worked out by hand.
 pub fn masks_compute()
     ensures repeated { (mask r c : ℕ) → mask < 8 → inverts mask r c ≡ inverts mask (r % 12) (c % 6) }
     ensures rows { map first_rows all_masks ≡ computed_rows }
 {}
 
 /// `build_masked` draws module by module, and `build` draws several modules at once, but the two functions make the
-/// same symbol. If `build_masked` is called with the mask pattern that `build` has chosen, the two symbols have the
-/// same fields.
+/// same symbol. If `build_masked` is called with the mask pattern that `build` has chosen, all fields of the two
+/// symbols are equal.
 pub fn plain_and_fast_symbols_are_one(
     alloc: Global,
     version: Version,
@@ -99,31 +99,31 @@ pub fn interleaving_is_one(version: Version, level: Level)
         → IsInterleaved version level d xs → IsInterleaved version level e xs → d ≡ e }
 {}
 
-/// If two squares of modules of the same version and level contain different data codewords, they differ widely in some
-/// block. In this block, the number of codewords that differ is greater than the number of error correction codewords
-/// of the block.
+/// If two squares of modules of the same version and level contain different data codewords, they differ in many
+/// codewords of some block. The number of codewords of this block that differ is greater than the number of error
+/// correction codewords of the block.
 pub fn messages_lie_apart(version: Version, level: Level)
     ensures { MessagesLieApart version level }
 {}
 
 /// The codewords that were read from a damaged symbol belong to at most one message, which is a list of data codewords.
-/// An erased codeword is known to be unreadable, and a misread codeword was read with a wrong value. The damage to each
-/// block must be limited: the number of erased codewords, plus twice the number of misread codewords, is at most the
-/// number of error correction codewords of the block.
+/// An erased codeword is known to be unreadable, and a misread codeword was read with a wrong value. The law holds if
+/// the damage to each block is limited. Limited damage means that the number of erased codewords, plus twice the number
+/// of misread codewords, is at most the number of the block's error correction codewords.
 pub fn damaged_messages_are_one(version: Version, level: Level)
     ensures { DamagedMessagesAreOne version level }
 {}
 
 /// If codewords are drawn as a square of modules, and the codeword bits of this square are then read, the result is the
-/// bits of the same codewords.
+/// bits of the codewords that were drawn.
 pub fn squares_give_their_bits(version: Version)
     ensures { (l : Level) (mask : ℕ) (cw : List ℕ) (ms : List Module) → IsOrder version ms
         → length cw ≡ total_codewords_of version
         → read_bits version mask (grid_of version l mask cw) ms ≡ bits_of cw }
 {}
 
-/// Under each mask pattern, every square of modules contains exactly one list of codewords of the version. These
-/// codewords are the final sequence for at most one list of data codewords.
+/// If the mask pattern is given, exactly one list of codewords can be read from a square of modules. The list of
+/// codewords in a square is the final sequence for at most one list of data codewords.
 pub fn reading_is_one(version: Version, level: Level)
     ensures some { (mask : ℕ) (g : Grid) → (cw : List ℕ) × IsRead version mask g cw }
     ensures codewords { (mask : ℕ) (g : Grid) (cw ds : List ℕ) → IsRead version mask g cw
@@ -143,8 +143,8 @@ pub fn contents_are_one()
     ensures { (g : Grid) (p q : Content) → IsReading g p → IsReading g q → p ≡ q }
 {}
 
-/// If a square of modules can be read as a content, it is refused only for lack of memory. There is at most one fault
-/// other than lack of memory for which a square is refused.
+/// If a square of modules can be read, it is refused only for lack of memory. Apart from lack of memory, there is at
+/// most one fault for which a given square is refused.
 pub fn refusals_are_one()
     ensures read { (g : Grid) (p : Content) (e : ReadFault) → IsReading g p → IsUnread g e
         → e ≡ ReadFault.Memory }
@@ -152,9 +152,9 @@ pub fn refusals_are_one()
         → (e ≡ ReadFault.Memory) ⊎ (f ≡ ReadFault.Memory) ⊎ (e ≡ f) }
 {}
 
-/// The definition `IsUnread` lists the reasons for each fault. If `read_symbol` returns a fault other than `Memory`,
-/// `IsUnread` holds for the square of modules and this fault. If `IsUnread` holds for the square and such a fault, and
-/// no allocation is refused, `read_symbol` returns this fault.
+/// The definition `IsUnread` lists the reasons for each fault of reading a symbol. If `read_symbol` returns a fault
+/// other than `Memory`, `IsUnread` holds for the square of modules and this fault. Conversely, if `IsUnread` holds for
+/// the square and a fault other than `Memory`, `read_symbol` returns this fault unless an allocation is refused.
 pub fn readings_are_refused_exactly(alloc: Global, matrix: &Matrix) -> Result<Parsed, ReadFault>
     ensures { (e : ReadFault) → e ≢ ReadFault.Memory
         → (result ≡ Err e) ↔ ((result ≢ Err ReadFault.Memory) × IsUnread matrix.now e) }
@@ -162,13 +162,13 @@ pub fn readings_are_refused_exactly(alloc: Global, matrix: &Matrix) -> Result<Pa
     read_symbol(alloc, matrix)
 }
 
-/// A list of squares of modules is joined to at most one list of bytes.
+/// If the squares of modules in a list are read and joined, at most one list of bytes is a possible result.
 pub fn joinings_are_one()
     ensures { (gs : List Grid) (x y : List ℕ) → IsJoined gs x → IsJoined gs y → x ≡ y }
 {}
 
-/// If squares of modules can be read and joined, they are refused only for lack of memory. There is at most one fault
-/// other than lack of memory for which a list of squares is refused.
+/// If the squares of modules in a list can be read and joined, they are refused only for lack of memory. Apart from
+/// lack of memory, there is at most one fault for which a given list of squares is refused.
 pub fn joining_refusals_are_one()
     ensures joined { (gs : List Grid) (x : List ℕ) (e : ReadFault) → IsJoined gs x
         → IsUnjoined gs e → e ≡ ReadFault.Memory }
@@ -176,9 +176,10 @@ pub fn joining_refusals_are_one()
         → (e ≡ ReadFault.Memory) ⊎ (f ≡ ReadFault.Memory) ⊎ (e ≡ f) }
 {}
 
-/// The definition `IsUnjoined` lists the reasons for each fault. If `read_series` returns a fault other than `Memory`,
-/// `IsUnjoined` holds for the squares of modules of the symbols and this fault. If `IsUnjoined` holds for the squares
-/// and such a fault, and no allocation is refused, `read_series` returns this fault.
+/// The definition `IsUnjoined` lists the reasons for each fault of reading a series. If `read_series` returns a fault
+/// other than `Memory`, `IsUnjoined` holds for the squares of modules of the symbols and this fault. Conversely, if
+/// `IsUnjoined` holds for the squares and a fault other than `Memory`, `read_series` returns this fault unless an
+/// allocation is refused.
 pub fn joinings_are_refused_exactly(alloc: Global, symbols: &[Symbol]) -> Result<Vec<u8>, ReadFault>
     ensures { (e : ReadFault) → e ≢ ReadFault.Memory
         → (result ≡ Err e) ↔ ((result ≢ Err ReadFault.Memory) × IsUnjoined (squares_of symbols.now) e) }
@@ -192,8 +193,8 @@ pub fn symbols_are_one()
     ensures { SymbolsAreOne }
 {}
 
-/// If the symbol of an input is read, the result is this input without a structured append header. The result contains
-/// the segments with the fewest bits.
+/// Reading the symbol of an input returns the bytes of the input, the segments with the fewest bits, and no structured
+/// append header.
 pub fn symbols_are_read(smallest: Version)
     ensures { (x : List ℕ) (l : Level) (rule : Rule) (v mask : ℕ) (g : Grid)
         → (s : IsSymbol smallest l rule x v mask g)
@@ -207,9 +208,9 @@ pub fn series_are_one()
         → IsSeries v l rule x ss → IsSeries v l rule x ts → ss ≡ ts }
 {}
 
-/// Each part into which an input is cut fits a symbol after a structured append header. Without kanji mode, the input
-/// cannot be cut into fewer parts that fit. So without kanji mode, the series of a nonempty input is the shortest
-/// possible.
+/// Each part into which an input is cut fits a symbol together with a structured append header. Without kanji mode, the
+/// input cannot be cut into fewer parts that all fit. Without kanji mode, the series of a nonempty input therefore has
+/// the least possible number of symbols.
 pub fn series_are_shortest()
     ensures fit { (v : ℕ) (l : Level) (rule : Rule) (x : List ℕ) (parts : List (List ℕ))
         → AreParts v l rule x parts → FitParts v l rule x parts }
@@ -226,13 +227,15 @@ pub fn parts_are_there(version: Version, level: Level)
     ensures { (rule : Rule) (x : List ℕ) → (parts : List (List ℕ)) × AreParts version level rule x parts }
 {}
 
-/// If an input is cut into parts, each part contains at least five bytes or all remaining bytes.
+/// If an input is cut into parts, each part contains at least five bytes, or all bytes of the input that are not in an
+/// earlier part.
 pub fn parts_are_long(version: Version, level: Level)
     ensures { (rule : Rule) (x p : List ℕ) (ps : List (List ℕ))
         → AreParts version level rule x (p ∷ ps) → (5 ≤ length p) ⊎ (p ≡ x) }
 {}
 
-/// All symbols of a series have as many rows as a symbol of the version of the series. A series has at most 16 symbols.
+/// All symbols of a series have the number of rows that belongs to the version of the series. A series has at most 16
+/// symbols.
 pub fn series_have_one_side(version: Version)
     ensures side { (x : List ℕ) (l : Level) (rule : Rule) (ss : List Symbol)
         → IsSeries version l rule x ss → All (λ g. g.side ≡ side_of version) (squares_of ss) }
@@ -246,8 +249,8 @@ pub fn series_are_joined(version: Version)
         → IsSeries version l rule x ss → IsJoined (squares_of ss) x }
 {}
 
-/// An input of `INPUT_MAX` bytes or more fits no version. Such an input has no series of symbols either, since it would
-/// be cut into more than 16 parts.
+/// An input of `INPUT_MAX` bytes or more fits no version. An input of `INPUT_MAX` bytes or more has no series of
+/// symbols, since it would be cut into more than 16 parts.
 pub fn long_inputs_have_none(version: Version)
     ensures symbol { (x : List ℕ) (l : Level) (rule : Rule) → INPUT_MAX ≤ length x
         → HasNoVersion version l rule x }
@@ -257,8 +260,9 @@ pub fn long_inputs_have_none(version: Version)
         → HasNoSeries version l rule x }
 {}
 
-/// The format information and the version information are drawn with the bits that the standard prints in its examples,
-/// from the highest bit to the lowest. The examples are level M with the mask pattern 101 (binary), and version 7.
+/// In two examples of the standard, the bits that are drawn are exactly the bits that the standard prints, from the
+/// highest bit to the lowest. The two examples are the format information of level M with the mask pattern 101
+/// (binary), and the version information of version 7.
 #[tactic(auto, unfolding(qr_layout::specs::Format::format_word_of, qr_layout::specs::Format::version_word_of, qr_layout::specs::Format::remainder_of))]
 pub fn drawn_bits_compute()
     ensures format { (v r c : ℕ) (cw : List ℕ) → bits_down 15 (λ i. colour_by v Level.M 5 cw r c (FormatBit i))

@@ -1,7 +1,7 @@
 //! Encodes an input as one symbol or as a series of symbols, and reads symbols back.
 //!
-//! `encode` makes one symbol. The following code writes the modules of the symbol as text, row by row, with `#` for
-//! each dark module:
+//! The function `encode` encodes an input as one symbol. The following code writes the modules of the symbol as text,
+//! row by row, with `#` for each dark module:
 //!
 //! ```text
 //! let symbol = encode(alloc, words, Level::M, Version::FIRST, Rule::Auto)?;
@@ -13,8 +13,8 @@
 //! }
 //! ```
 //!
-//! The crate `example_label` contains a function that does this, together with its contract. A symbol that is to be
-//! scanned needs a quiet zone, which is a light margin of four modules on each side.
+//! The crate `example_label` contains a function that writes a symbol as text in this way, together with its contract.
+//! A symbol that is to be scanned needs a quiet zone, which is a light margin of four modules on each side.
 #![tactic(auto)]
 
 mod canvas;

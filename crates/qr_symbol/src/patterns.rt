@@ -1,6 +1,6 @@
-//! Draws the function patterns, the format information and the version information of a symbol. Also draws a square in
-//! which only the modules of the encoding region are dark: the modules that the codewords fill (ISO/IEC 18004:2015,
-//! 6.3, 7.9 and 7.10).
+//! Draws the function patterns, the format information and the version information of a symbol. This file also draws a
+//! square in which only the encoding region (the modules that the codewords fill) is dark (ISO/IEC 18004:2015, 6.3, 7.9
+//! and 7.10).
 
 ghost use Rattle.std.specs.Prelude.{◌≡◌, ℕ, ◌%◌, ◌+◌, ◌<◌, ◌≤◌, ◌==◌, ◌&&◌, not, if◌then◌else◌, nat_le, nat_lt, false};
 ghost use Rattle.std.specs.List.{list_any, All};
@@ -29,7 +29,7 @@ pub(crate) fn is_bit_set(word: u32, i: u8) -> bool
     i < 32 && word >> i & 1 == 1
 }
 
-// Makes the modules of all these rectangles light.
+// Makes all modules in the rectangles of the list `rectangles` light.
 fn clear_rectangles(matrix: &mut Matrix, v: Version, rectangles: &[Rectangle])
     requires square { IsSquare (side_of v) matrix.old }
     requires inside { All (IsWithin (side_of v)) rectangles.now }
@@ -63,8 +63,8 @@ fn draw_finder(matrix: &mut Matrix, row: u8, col: u8)
     matrix.fill(row - 1, row + 2, col - 1, col + 2, true);
 }
 
-// Draws a finder pattern with the centre `centre`, and its separator. Both together are a square of eight by eight
-// modules with the top left module `block`.
+// Draws a finder pattern with the centre `centre`, and its separator. The finder pattern and its separator together are
+// a square of eight by eight modules with the top left module `block`.
 fn paint_finder(matrix: &mut Matrix, v: Version, block: Module, centre: Module)
     requires square { IsSquare (side_of v) matrix.old }
     requires bottom_in { block.row + 8 ≤ side_of v }
@@ -84,7 +84,7 @@ fn paint_finder(matrix: &mut Matrix, v: Version, block: Module, centre: Module)
 // The number of bits of the format information.
 pub(crate) const FORMAT_BITS: u8 = 15;
 
-// Draws the bits with the indices from `first` to `end - 1` of the format information over a symbol, each bit in both
+// Draws the bits from number `first` to number `end - 1` of the format information over a symbol, each bit in both
 // copies. The bits of the number `format` are the format information.
 #[inline(always)]
 fn draw_format_bits(matrix: &mut Matrix, v: Version, format: u32, first: u8, end: u8)
@@ -103,8 +103,8 @@ fn draw_format_bits(matrix: &mut Matrix, v: Version, format: u32, first: u8, end
 }
 
 // Draws both copies of the format information over a symbol. The bits of the number `format` are the format
-// information. The bits are drawn in three parts: in the first part and in the last part, the places of each copy are
-// in one row or in one column, so the compiler needs no tests to find them.
+// information. The bits are drawn in three parts. In the first part and in the last part, all places of a copy are in
+// one row or in one column, so the compiled code finds these places without tests.
 pub(crate) fn draw_format(matrix: &mut Matrix, v: Version, format: u32)
     requires { IsSquare (side_of v) matrix.old }
     ensures { matrix.new ≡ square (side_of v) (λ r c. format_or format (role_of v r c) (colour matrix.old r c)) }
@@ -115,8 +115,8 @@ pub(crate) fn draw_format(matrix: &mut Matrix, v: Version, format: u32)
 }
 
 // Draws the three corners of a symbol: the finder patterns, their separators, and the modules of row 8 and column 8
-// that are beside the finder patterns. Of these modules beside the finder patterns, two belong to the timing patterns,
-// one is the dark module, and the others are the format information.
+// that are beside the finder patterns. Of the modules of row 8 and column 8 that are drawn, two belong to the timing
+// patterns, one is the dark module, and all others contain the format information.
 fn paint_corners(matrix: &mut Matrix, v: Version, format: u32)
     requires { IsSquare (side_of v) matrix.old }
     ensures { matrix.new ≡ square (side_of v) (λ r c. if list_any (is_in_rectangle r c) (corner_rectangles (side_of v))
@@ -137,8 +137,8 @@ fn paint_corners(matrix: &mut Matrix, v: Version, format: u32)
 }
 
 // Returns whether the module with the index `at` in row 6, or in column 6, is dark. The first seven and the last seven
-// modules of this row or column belong to finder patterns. A timing pattern is between the separators of these two
-// finder patterns (ISO/IEC 18004:2015, 6.3.5).
+// modules of row 6, and of column 6, belong to finder patterns. In row 6 and in column 6, a timing pattern is between
+// the separators of the two finder patterns (ISO/IEC 18004:2015, 6.3.5).
 fn is_dark_in_six(side: u8, at: u8) -> bool
     ensures { result ≡ is_dark_in_six side at }
 {
@@ -163,7 +163,8 @@ fn paint_timing(matrix: &mut Matrix, v: Version)
 const VERSION_BITS: u8 = 18;
 
 // Draws the version information, which symbols have from version 7 on. Each bit is drawn beside the top right finder
-// pattern, and also with row and column exchanged, beside the bottom left finder pattern (ISO/IEC 18004:2015, 7.10).
+// pattern, and a second time beside the bottom left finder pattern, with row and column exchanged (ISO/IEC 18004:2015,
+// 7.10).
 fn paint_version(matrix: &mut Matrix, v: Version)
     requires { IsSquare (side_of v) matrix.old }
     ensures { (format : ℕ) → matrix.new ≡ square (side_of v) (λ r c. if list_any (is_in_rectangle r c)
@@ -194,7 +195,7 @@ fn fill_alignment(matrix: &mut Matrix, v: Version, centres: &[Module], dark: boo
     }
 }
 
-// Makes the eight modules round the module in row `row` and column `col` light.
+// Makes the eight modules light that surround the module in row `row` and column `col`.
 fn clear_ring(matrix: &mut Matrix, row: u8, col: u8)
     requires row_least { 1 ≤ row }
     requires row_most { row + 2 ≤ matrix.old.side }
@@ -210,7 +211,7 @@ fn clear_ring(matrix: &mut Matrix, row: u8, col: u8)
     matrix.fill(row, row + 1, col + 1, col + 2, false);
 }
 
-// Makes the eight modules round the centre of each alignment pattern light.
+// Makes the eight modules light that surround the centre of each alignment pattern.
 fn clear_rings(matrix: &mut Matrix, v: Version, centres: &[Module])
     requires square { IsSquare (side_of v) matrix.old }
     requires centres { centres.now ≡ alignment_places (side_of v) (centres_of v) }

@@ -1,6 +1,7 @@
 //! Reads one symbol (ISO/IEC 18004:2015, 12). The number of rows of the symbol determines its version. The format
-//! information contains the level and the mask pattern. Then the codewords are read and deinterleaved. In the end the
-//! data codewords are parsed: the results are the segments and the bytes of the segments.
+//! information contains the level and the mask pattern. After the version, the level and the mask pattern are known,
+//! the codewords are read and deinterleaved. At the end, the data codewords are parsed: the results are the segments
+//! and the bytes of the segments.
 
 ghost use Rattle.std.specs.Prelude.{◌≡◌, ℕ, ◌<◌, ◌≤◌, Err, length, IfOk, MatchOption, MatchResult};
 ghost use Rattle.std.specs.Bool.{Decides};
@@ -36,7 +37,7 @@ fn has_format(matrix: &Matrix, level: Level, mask: u8) -> bool
 }
 
 // If the format information of `matrix` belongs to the level `level` and some mask pattern, returns this mask pattern.
-// Otherwise returns `None`.
+// If the format information belongs to another level, or to no level, returns `None`.
 fn mask_of(matrix: &Matrix, level: Level) -> Option<u8>
     requires { 21 ≤ matrix.now.side }
     ensures { MatchOption result
@@ -100,18 +101,19 @@ pub fn read_codewords(
 /// pattern. The function patterns, the dark module, the second copy of the format information, the version information
 /// and the remainder bits are ignored.
 ///
-/// A square of modules is read if four conditions are true and no allocation is refused; no other square is read. The
-/// first condition is that some version has as many rows as the square. The second condition is that the format
-/// information belongs to a level and a mask pattern. The third condition is that the error correction codewords of
-/// each block belong to the data codewords of the block. The fourth condition is that the data codewords can be parsed;
-/// their segments may have any mode, even kanji mode.
+/// A square of modules is read exactly if four conditions are true and no allocation is refused. The first condition is
+/// that some version has as many rows as the square. The second condition is that the format information belongs to a
+/// level and a mask pattern. The third condition is that the error correction codewords of each block belong to the
+/// data codewords of the block. The fourth condition is that the data codewords can be parsed; the segments may have
+/// any of the four modes, including kanji mode.
 ///
 /// # Errors
 ///
-/// The causes are checked in the following order. Returns `Side` if no version has as many rows as the square. Returns
-/// `Format` if the format information belongs to no level and mask pattern. Returns `Check` if the error correction
-/// codewords of some block do not belong to its data codewords. Returns `Segments` if the data codewords cannot be
-/// parsed. Returns `Memory` if an allocation is refused; `Side` and `Format` are returned before any allocation.
+/// The causes of a refusal are checked in the following order: `Side`, `Format`, `Check`, `Segments`. Returns `Side` if
+/// no version has as many rows as the square. Returns `Format` if the format information belongs to no level and mask
+/// pattern. Returns `Check` if the error correction codewords of some block do not belong to its data codewords.
+/// Returns `Segments` if the data codewords cannot be parsed. Returns `Memory` if an allocation is refused; `Side` and
+/// `Format` are returned before any allocation.
 pub fn read_symbol(alloc: Global, matrix: &Matrix) -> Result<Parsed, ReadFault>
     ensures read { MatchResult result (IsReading matrix.now) (IsUnread matrix.now) }
     ensures side { IsUnread matrix.now ReadFault.Side → result ≡ Err ReadFault.Side }

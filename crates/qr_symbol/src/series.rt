@@ -23,27 +23,27 @@ use qr_layout::{Level, Version};
 use std::alloc::Global;
 
 /// Encodes the input as a series of symbols, all of the same version and level (ISO/IEC 18004:2015, 8). If the input
-/// fits one symbol without a structured append header, the series is this one symbol. Otherwise the input is cut into
-/// parts, and each part is encoded as a symbol with a structured append header. Each part is the longest prefix of the
-/// remaining input that fits a symbol after the header, even if some shorter prefix does not fit. `rule` determines
-/// which modes the segments may have. Without kanji mode, the series is the shortest possible: the input cannot be cut
-/// into fewer parts that fit.
+/// fits one symbol without a structured append header, the series is this one symbol. If the input does not fit one
+/// symbol, it is cut into parts, and each part is encoded as a symbol with a structured append header. Each part is the
+/// longest prefix of the remaining input that fits a symbol together with the header, even if some shorter prefix does
+/// not fit. `rule` determines which modes the segments may have. Without kanji mode, the series is the shortest
+/// possible: the input cannot be cut into fewer parts that fit.
 ///
 /// A series has at most 16 symbols. Each structured append header contains three numbers: the position of its symbol,
-/// the number of symbols less 1, and the parity data of the whole input. If the symbols are read and joined, the result
-/// is exactly the input.
+/// the number of symbols less 1, and the parity data of the whole input. If the symbols of the series are read and
+/// their bytes are joined, the result is exactly the input.
 ///
 /// # Errors
 ///
 /// Returns `Empty` exactly if the input has no byte. Returns `TooMany` if the input has no series, since it would be
-/// cut into more than 16 parts. Returns `Memory` if an allocation is refused; then `TooMany` is not returned. If kanji
-/// mode is not allowed, `TooMany` also means that every other cut of the input into parts that fit has more than 16
-/// parts.
+/// cut into more than 16 parts. Returns `Memory` if an allocation is refused; in this case `TooMany` is not returned.
+/// If kanji mode is not allowed, `TooMany` means that there is no way at all to cut the input into at most 16 parts
+/// that fit.
 ///
 /// # Notes
 ///
-/// Among the parameters of `encode_series`, the version comes before the level. In `encode`, the level comes before the
-/// version.
+/// Among the parameters of `encode_series`, the version comes before the level. Among the parameters of `encode`, the
+/// level comes before the version.
 pub fn encode_series(
     alloc: Global,
     input: &[u8],
@@ -75,7 +75,7 @@ pub fn encode_series(
 }
 
 // Returns the symbol that contains the input without a structured append header. Returns `None` if the input does not
-// fit such a symbol.
+// fit a symbol without a structured append header.
 fn plain_symbol(
     alloc: Global,
     input: &[u8],
@@ -101,7 +101,8 @@ fn plain_symbol(
 }
 
 // Returns the lengths of the parts into which the input is cut. Each part is the longest prefix of the remaining input
-// that fits a symbol after a structured append header. Returns the fault `TooMany` if there are more than 16 parts.
+// that fits a symbol together with a structured append header. Returns the fault `TooMany` if there are more than 16
+// parts.
 fn part_lengths(
     alloc: Global,
     input: &[u8],
@@ -131,9 +132,9 @@ fn part_lengths(
     Ok(lengths)
 }
 
-// Returns the length of the longest prefix of `rest` that fits a symbol after a structured append header. `rest` is the
-// part of the input that is not yet encoded. Only the first 7,089 bytes of `rest` are read, since no symbol can contain
-// more bytes.
+// Returns the length of the longest prefix of `rest` that fits a symbol together with a structured append header.
+// `rest` is the part of the input that is not yet encoded. Only the first 7,089 bytes of `rest` are read, since no
+// symbol can contain more bytes.
 fn prefix_len(
     alloc: Global,
     rest: &[u8],
@@ -153,8 +154,8 @@ fn prefix_len(
 }
 
 // Cuts the input into parts that have the lengths `lengths`, and returns a symbol for each part. Each symbol contains a
-// structured append header and then its part (8.1 to 8.3). The symbols are drawn one after the other on the same
-// `Canvas`. So the function patterns and the encoding region are drawn only once.
+// structured append header and then its part (8.1 to 8.3). All symbols are drawn, one after the other, on one value of
+// the type `Canvas`. Therefore the function patterns and the encoding region are drawn only once for all symbols.
 fn part_symbols(
     alloc: Global,
     input: &[u8],

@@ -1,9 +1,10 @@
-//! Finds the least version that an input fits. Also cuts the input into segments for this version
-//! (ISO/IEC 18004:2015, 7.1 and 7.4.1).
+//! Finds the least version that an input fits. This file also cuts the input into segments for the version that was
+//! found (ISO/IEC 18004:2015, 7.1 and 7.4.1).
 //!
 //! The length of a segment in bits depends on the version only because the character count indicator is wider in larger
-//! versions. The width of the indicator changes only after version 9 and after version 26. So there are three ranges of
-//! versions: 1 to 9, 10 to 26 and 27 to 40. An input is cut into segments at most once for each of these ranges.
+//! versions. The width of the character count indicator changes only after version 9 and after version 26. So there are
+//! three ranges of versions with equally wide indicators: 1 to 9, 10 to 26 and 27 to 40. An input is cut into segments
+//! at most once for each of the three ranges of versions.
 
 ghost use Rattle.std.specs.Prelude.{◌≡◌, ◌≤◌, ◌<◌, ℕ, length, IfOk, MatchOption};
 ghost use Rattle.qr_bits.specs.declared.modes.Rule.{Rule};
@@ -51,9 +52,9 @@ fn last_of_width(version: Version) -> u8
 }
 
 // Returns 1, 10 or 27, which are the first versions of the three ranges in which character count indicators are equally
-// wide. The input fits no version before the returned version. Two numbers may show that the input fits no version of a
-// range: the length of the input in bytes, and a lower bound on its length in bits. If only byte mode is allowed, the
-// lower bound is not computed, since that would save little time.
+// wide. The input fits no version that is less than the returned version. Two numbers may show that the input fits no
+// version of a range: the length of the input in bytes, and a lower bound on its length in bits. If only byte mode is
+// allowed, the lower bound on the length in bits is not computed, since it would save little time.
 fn first_for(input: &[u8], rule: Rule) -> u8
     requires { length input.now ≤ INPUT_MAX }
     ensures first { 1 ≤ result }
@@ -77,8 +78,9 @@ fn first_for(input: &[u8], rule: Rule) -> u8
     }
 }
 
-// Looks at the versions from `first` to `last`, both included. Returns the least of these versions in which the data
-// codewords at level `level` have at least `bits` bits. Returns `None` if there is no such version.
+// Looks at the versions from `first` to `last`, both included. Returns the least version from `first` to `last` in
+// which the data codewords at level `level` have at least `bits` bits. If the data codewords have fewer bits in all
+// versions from `first` to `last`, returns `None`.
 fn first_with_room(level: Level, first: Version, last: u8, bits: u64) -> Option<Version>
     requires { last ≤ 40 }
     ensures { MatchOption result
@@ -95,8 +97,8 @@ fn first_with_room(level: Level, first: Version, last: u8, bits: u64) -> Option<
     None
 }
 
-// Returns the least version, from `smallest` on, that the input fits. Also returns the segments of the input that need
-// the fewest bits in this version.
+// Returns the least version, from `smallest` on, that the input fits. The result also contains the segments of the
+// input that need the fewest bits in the returned version.
 pub(crate) fn least_fit(
     alloc: Global,
     input: &[u8],

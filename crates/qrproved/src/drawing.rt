@@ -1,4 +1,5 @@
-//! The function `qrproved_draw` for C, which draws squares of modules as text or as SVG (ISO/IEC 18004:2015, 6.3.8).
+//! Defines the function `qrproved_draw` for C, which draws squares of modules as text or as SVG (ISO/IEC 18004:2015,
+//! 6.3.8).
 
 ghost use Rattle.std.specs.Prelude.{◌≡◌, ◌≢◌, ◌*◌, ◌<◌, ◌≤◌, ◌↔◌, ◌⊎◌, length, IfOk, SomeIff};
 ghost use Rattle.qr_drawing.specs.Drawing.{drawn};
@@ -38,8 +39,8 @@ fn drawing_of(number: u32) -> Option<Drawing>
     }
 }
 
-// Returns the settings of a drawing with these numbers. Returns `None` if at least one of the four numbers is out of
-// range.
+// Returns the settings of a drawing that have the four given numbers. Returns `None` if at least one of the four
+// numbers is out of range.
 fn drawing_settings_of(side: u32, count: u32, drawing: u32, margin: u32) -> Option<DrawingSettings>
     ensures { SomeIff result (AreDrawingSettings side count drawing margin)
         (record { side = side; count = count; drawing = drawing_of drawing; margin = margin }) }
@@ -52,8 +53,8 @@ fn drawing_settings_of(side: u32, count: u32, drawing: u32, margin: u32) -> Opti
     })
 }
 
-// Returns `count` squares of modules, each with `side` rows. Their modules are the bytes of `modules`, one square after
-// the other.
+// Returns `count` squares of modules, each with `side` rows. The modules of the squares are the bytes of `modules`, one
+// square after the other.
 fn squares_of(alloc: Global, modules: &[u8], side: u8, count: u8) -> Result<Vec<Matrix>, AllocError>
     requires least { 1 ≤ side }
     requires most { side ≤ 177 }
@@ -70,8 +71,7 @@ fn squares_of(alloc: Global, modules: &[u8], side: u8, count: u8) -> Result<Vec<
 }
 
 // Returns the drawing of the squares whose modules are the bytes of `modules`, one square after the other. `asked`
-// contains the number of squares and the number of rows of each square. `asked` also contains the type and the margin
-// of the drawing.
+// contains the number of squares, the number of rows of each square, and the type and the margin of the drawing.
 fn drawn(alloc: Global, modules: &[u8], asked: DrawingSettings) -> Result<Vec<u8>, AllocError>
     requires least { 1 ≤ asked.side }
     requires most { asked.side ≤ 177 }
@@ -90,15 +90,16 @@ fn drawn(alloc: Global, modules: &[u8], asked: DrawingSettings) -> Result<Vec<u8
 }
 
 /// Draws squares of modules as the command `qrencode` draws symbols, and writes the drawing to the buffer `text`. All
-/// squares have `side` rows, and need not be symbols. The buffer `modules` contains their modules in the order in which
-/// `qrproved_encode_series` writes modules. The byte 0 is a light module, and any other byte is a dark module. The
-/// numbers 0 to 3 of `drawing` are the types ASCII, ASCIIi, UTF8 and SVG in this order.
+/// squares have `side` rows, and need not be symbols. The buffer `modules` contains the modules of the squares, in the
+/// order in which `qrproved_encode_series` writes the modules of symbols. The byte 0 is a light module, and any other
+/// byte is a dark module. The values 0 to 3 of the parameter `drawing` are the types ASCII, ASCIIi, UTF8 and SVG in
+/// this order.
 ///
 /// The causes of a refusal are checked in this order: a number out of range, too few modules in `modules`, and a buffer
 /// `text` that is shorter than the drawing. The numbers are in range if each square has 1 to 177 rows, there are 1 to
-/// 16 squares, the type is one of the four types, and the margin is at most 100 modules. If there are too few modules,
-/// `written` becomes 0. If `text` is too short, `written` becomes the length of the drawing. The first two causes are
-/// found before any allocation.
+/// 16 squares, `drawing` is at most 3, and the margin is at most 100 modules. If there are too few modules in
+/// `modules`, `written` becomes 0. If `text` is too short, `written` becomes the length of the drawing. A number out of
+/// range and too few modules are found before any allocation.
 ///
 /// On status 0 the first bytes of `text` are the drawing of the squares in `modules`. The drawing has the type
 /// `drawing` and a margin of `margin` modules. The number `written` is the length of the drawing in bytes.

@@ -1,4 +1,4 @@
-//! The function `qrproved_encode` for C, which encodes an input as one symbol (ISO/IEC 18004:2015, 7.1).
+//! Defines the function `qrproved_encode` for C, which encodes an input as one symbol (ISO/IEC 18004:2015, 7.1).
 
 ghost use Rattle.std.specs.Prelude.{◌≡◌, ◌≢◌, ◌<◌, ◌↔◌, ◌⊎◌, [], length};
 ghost use Rattle.qr_symbol.specs.VersionChoice.{HasNoVersion};
@@ -27,16 +27,17 @@ pub struct QrprovedSymbol {
 
 /// Encodes `input` as one symbol, and writes the modules of the symbol to the buffer `modules`. The symbol has the
 /// least version, from `version` on, that the input fits. The byte of a module is at index `row * side + column` of the
-/// buffer, where `side` is the number of rows. The numbers 0 to 3 of `level` are the levels L, M, Q and H in this
-/// order. The number 0 of `rule` allows every mode except kanji mode. The number 1 allows byte mode only, and the
-/// number 2 allows every mode.
+/// buffer, where `side` is the number of rows. The values 0 to 3 of the parameter `level` are the levels L, M, Q and H
+/// in this order. The value 0 of the parameter `rule` allows every mode except kanji mode. The value 1 of `rule` allows
+/// byte mode only, and the value 2 allows every mode.
 ///
 /// The causes of a refusal are checked in this order: a number out of range, an empty input, an input that is too long,
 /// a buffer that is too short. Numbers out of range, an empty input and an input of more than 7,089 bytes are refused
 /// before any allocation.
 ///
-/// On status 0 the buffer begins with exactly the symbol of the input, row by row. If this symbol is read, the result
-/// is the input. The struct `symbol` contains the version, the number of rows and the mask pattern of the symbol.
+/// On status 0 the buffer begins with exactly the modules of the symbol of the input, row by row. If the symbol in the
+/// buffer is read, the result is the input. The struct `symbol` contains the version, the number of rows and the mask
+/// pattern of the symbol.
 #[unsafe(no_mangle)]
 pub extern "C" fn qrproved_encode(
     alloc: Global,

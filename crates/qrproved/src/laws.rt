@@ -1,4 +1,5 @@
-//! Contains laws about the functions of the library. Each function here exists only for its contract, which is the law.
+//! Contains laws about the functions of the library. Each function of this file exists only for its contract, which is
+//! the law.
 
 ghost use Rattle.std.specs.Prelude.{◌≡◌, [], ◌∷◌, map, true, false, IfOk};
 ghost use Rattle.qr_layout.specs.declared.level.Level.{Level};
@@ -36,9 +37,9 @@ pub fn statuses()
     ensures segments { SEGMENTS ≡ 10 }
 {}
 
-/// The numbers 0 to 3 are the levels L, M, Q and H in this order. A rule determines which modes may be used. The
-/// numbers 0 to 2 are the rules `Auto`, `BytesOnly` and `WithKanji` in this order. The byte of a dark module is 1, and
-/// the byte of a light module is 0.
+/// In calls of the library, the numbers 0 to 3 stand for the levels L, M, Q and H in this order. A rule determines
+/// which modes may be used. The numbers 0 to 2 stand for the rules `Auto`, `BytesOnly` and `WithKanji` in this order. A
+/// dark module is written as the byte 1, and a light module is written as the byte 0.
 pub fn numbers()
     ensures levels { map level_of (0 ∷ 1 ∷ 2 ∷ 3 ∷ []) ≡ Level.L ∷ Level.M ∷ Level.Q ∷ Level.H ∷ [] }
     ensures rules { map rule_of (0 ∷ 1 ∷ 2 ∷ []) ≡ Rule.Auto ∷ Rule.BytesOnly ∷ Rule.WithKanji ∷ [] }

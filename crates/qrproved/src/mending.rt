@@ -1,5 +1,5 @@
-//! The function `qrproved_mend` for C, which reads a damaged symbol and reports its damage
-//! (ISO/IEC 18004:2015, 7.5.1, 7.9.1 and 12).
+//! Defines the function `qrproved_mend` for C, which reads a damaged symbol and reports its damage (ISO/IEC 18004:2015,
+//! 7.5.1, 7.9.1 and 12).
 
 ghost use Rattle.std.specs.Prelude.{◌≡◌, ◌≢◌, ◌*◌, ◌<◌, ◌≤◌, ◌==◌, ◌↔◌, ◌⊎◌, length, IfOk, MatchBool, MatchResult};
 ghost use Rattle.std.specs.List.{All, Any, count_by};
@@ -31,13 +31,13 @@ pub struct QrprovedMended {
     /// The number of bytes that the symbol contains.
     pub len: usize,
     /// The number of wrong modules in the whole square. A module is wrong if it is not known, or if it does not have
-    /// the colour that it has in the undamaged symbol. So the number is 0 if the square is the undamaged symbol and all
-    /// its modules are known, and only then.
+    /// the colour that it has in the undamaged symbol. So `wrong_modules` is 0 if the square is the undamaged symbol
+    /// and all its modules are known, and only then.
     pub wrong_modules: u32,
     /// The version, from 1 to 40.
     pub version: u8,
-    /// This number is 1 if the symbol has a structured append header, and so is part of a series. Without such a
-    /// header, the four fields `has_header`, `position`, `last` and `parity` are 0.
+    /// The number `has_header` is 1 if the symbol has a structured append header, and so is part of a series. Without a
+    /// structured append header, the four fields `has_header`, `position`, `last` and `parity` are 0.
     pub has_header: u8,
     /// The position of the symbol in its series, from 0 to 15.
     pub position: u8,
@@ -50,10 +50,10 @@ pub struct QrprovedMended {
     /// The number of the mask pattern, from 0 to 7.
     pub mask: u8,
     /// The number of modules of the format information that are wrong or not known. The two copies of the format
-    /// information have 30 modules together.
+    /// information have 30 modules in total.
     pub wrong_format_modules: u8,
-    /// For each block, the codewords that were corrected are counted; this field is the greatest of these numbers.
-    /// Codewords with a module that is not known are not counted.
+    /// The greatest number of codewords that were corrected in one block. Codewords with a module that is not known are
+    /// not counted.
     pub changed_most: u8,
     /// The largest number of wrong codewords that can be corrected in a block, from 2 to 15.
     pub changed_allowed: u8,
@@ -62,8 +62,8 @@ pub struct QrprovedMended {
 // The byte for a module that is not known.
 const NOT_KNOWN: u8 = 2;
 
-// Returns whether each byte of `modules` is 0, 1 or 2. These bytes are a light module, a dark module and a module that
-// is not known.
+// Returns whether each byte of `modules` is 0, 1 or 2. The byte 0 is a light module, the byte 1 is a dark module, and
+// the byte 2 is a module that is not known.
 fn are_modules(modules: &[u8]) -> bool
     ensures { MatchBool result (All (λ b. b ≤ 2) modules.now) (Any (λ b. 2 < b) modules.now) }
 {
@@ -80,8 +80,8 @@ fn count_unknown(modules: &[u8]) -> usize
         .count()
 }
 
-// Returns a square with `side` rows that shows which modules are not known. A module of this square is dark if its byte
-// in `modules` is 2, and light otherwise.
+// Returns a square with `side` rows that shows which modules are not known. A module of the returned square is dark if
+// its byte in `modules` is 2, and light otherwise.
 fn unknown_of(alloc: Global, modules: &[u8], side: u8) -> Result<Matrix, AllocError>
     requires least { 1 ≤ side }
     requires most { side ≤ 177 }
@@ -171,19 +171,19 @@ fn mended_of(len: usize, mended: &Mended) -> QrprovedMended
 /// Writes the bytes that the symbol contains to the buffer `bytes`. Writes the structured append header and the damage
 /// of the symbol to the struct `mended`.
 ///
-/// The causes of a refusal are checked in the order in which this paragraph lists them. The first three causes are
+/// The causes of a refusal are checked in the order in which this paragraph lists them. Three causes of a refusal are
 /// found before any allocation: a number of rows that no version has, too few modules in `modules`, and a byte of more
-/// than 2. The other causes are damaged format information, damaged codewords, data codewords that cannot be parsed,
-/// and a buffer `bytes` that is too short.
+/// than 2. Four causes are found after an allocation: damaged format information, damaged codewords, data codewords
+/// that cannot be parsed, and a buffer `bytes` that is too short.
 ///
-/// On status 0 the modules in the buffer are a damaged form of a symbol. The call wrote the bytes and the header that
-/// this symbol contains, and the version, the level and the mask pattern of the symbol.
+/// On status 0 the modules in the buffer are a damaged form of a symbol. On status 0 the call wrote the bytes and the
+/// header of the undamaged symbol, and its version, level and mask pattern.
 ///
-/// The struct also contains four numbers about the damage. `wrong_modules` is the number of wrong or unknown modules in
-/// the whole square. `wrong_format_modules` is the number of wrong or unknown modules among the 30 modules of the
-/// format information. To compute `changed_most`, the corrected codewords of each block are counted. Codewords with a
-/// module that is not known are left out. `changed_most` is the greatest of these numbers. `changed_allowed` is the
-/// largest number of wrong codewords that can be corrected in a block.
+/// The struct `mended` also contains four numbers that describe the damage of the symbol. `wrong_modules` is the number
+/// of wrong or unknown modules in the whole square. `wrong_format_modules` is the number of wrong or unknown modules
+/// among the 30 modules of the format information. `changed_most` is the greatest number of codewords that were
+/// corrected in one block. Codewords with a module that is not known are not counted in `changed_most`.
+/// `changed_allowed` is the largest number of wrong codewords that can be corrected in a block.
 #[unsafe(no_mangle)]
 pub extern "C" fn qrproved_mend(
     alloc: Global,
@@ -273,7 +273,8 @@ mod tests {
         Ok(modules)
     }
 
-    // The places of modules of the encoding region in version 1-M. Each module belongs to a different codeword.
+    // The places of five modules of the encoding region in version 1-M; the five modules belong to five different
+    // codewords.
     static CODEWORDS: [(u8, u8); 5] = [(20, 20), (16, 20), (12, 20), (9, 18), (13, 18)];
 
     // The places of four modules of the first copy of the format information, and then of four modules of the second
@@ -289,7 +290,7 @@ mod tests {
         (8, 17),
     ];
 
-    // In version 1-M four of the 26 codewords may be changed.
+    // In version 1-M four of the 26 codewords may be wrong.
     #[test]
     fn eight_digits_are_mended(rt: HostRuntime) -> Result<(), Fail> {
         let drawn = eight_digits(&rt)?;
@@ -330,8 +331,8 @@ mod tests {
         Ok(())
     }
 
-    // In version 1-M eight of the ten error correction codewords may be used. Five unknown codewords need five error
-    // correction codewords, and one misread codeword needs two.
+    // In version 1-M eight of the ten error correction codewords may be used to correct errors. Five codewords that are
+    // not known need five error correction codewords, and one misread codeword needs two error correction codewords.
     #[test]
     fn modules_that_are_not_known(rt: HostRuntime) -> Result<(), Fail> {
         let drawn = eight_digits(&rt)?;
@@ -390,7 +391,7 @@ mod tests {
             &mut series,
         );
         assert_eq!(rt; status, DONE);
-        // Inverts the bottom right module of the second symbol, which contains a bit of its first codeword.
+        // Inverts the bottom right module of the second symbol, which contains a bit of the symbol's first codeword.
         modules[881] = 1 - modules[881].min(1);
         let mut bytes = [7u8; 3];
         let mut mended = nothing();

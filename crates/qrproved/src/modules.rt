@@ -1,6 +1,6 @@
 //! Writes squares of modules to a buffer of bytes, and reads squares from such a buffer. The buffer contains one square
-//! after the other, each row by row and without a quiet zone. A dark module is written as the byte 1, and a light
-//! module as the byte 0. When a buffer is read, any byte except 0 is a dark module.
+//! after the other, each square row by row and without a quiet zone. A dark module is written as the byte 1, and a
+//! light module as the byte 0. When a buffer is read, any byte except 0 is a dark module.
 
 ghost use Rattle.std.specs.Prelude.{◌≡◌, ℕ, ◌+◌, ◌*◌, ◌<◌, ◌≤◌, ◌⊎◌, length, slice_index_or, IfOk};
 ghost use Rattle.std.specs.List.{All};
@@ -45,8 +45,8 @@ fn four_bytes(bits: u8) -> [u8; 4]
     }
 }
 
-// Writes the modules of row `row` of `matrix` as bytes to `modules`, from index `start` on. Most bytes are written four
-// at once.
+// Writes the modules of row `row` of `matrix` as bytes to `modules`, from index `start` on. Most bytes are written in
+// groups of four.
 fn write_row(matrix: &Matrix, row: u8, start: usize, modules: &mut [u8])
     requires row_in { row < matrix.now.side }
     requires room { start + matrix.now.side ≤ length modules.old }

@@ -1,4 +1,4 @@
-//! The function `qrproved_read` for C, which reads a symbol without error correction (ISO/IEC 18004:2015, 12).
+//! Defines the function `qrproved_read` for C, which reads a symbol without error correction (ISO/IEC 18004:2015, 12).
 
 ghost use Rattle.std.specs.Prelude.{◌≡◌, ◌≢◌, ◌*◌, ◌<◌, ◌≤◌, ◌↔◌, ◌⊎◌, length, MatchOption};
 ghost use Rattle.qr_layout.specs.Version.{side_of};
@@ -23,8 +23,8 @@ pub struct QrprovedContent {
     pub len: usize,
     /// The version, from 1 to 40.
     pub version: u8,
-    /// This number is 1 if the symbol has a structured append header, and so is part of a series. Without such a
-    /// header, the four fields `has_header`, `position`, `last` and `parity` are 0.
+    /// The number `has_header` is 1 if the symbol has a structured append header, and so is part of a series. Without a
+    /// structured append header, the four fields `has_header`, `position`, `last` and `parity` are 0.
     pub has_header: u8,
     /// The position of the symbol in its series, from 0 to 15.
     pub position: u8,
@@ -34,7 +34,7 @@ pub struct QrprovedContent {
     pub parity: u8,
 }
 
-/// Returns the version whose symbols have `side` rows. Returns `None` if there is no such version.
+/// Returns the version whose symbols have `side` rows. Returns `None` if no version has symbols with `side` rows.
 pub(crate) fn version_of_side(side: u32) -> Option<Version>
     ensures { MatchOption result (IsSide side → ⊥)
         (λ v. (1 ≤ v) × (v ≤ 40) × (side ≡ side_of v)) }
@@ -67,16 +67,18 @@ pub(crate) fn content_of(len: usize, version: Version, header: Option<Header>) -
 
 /// Reads the symbol whose modules are in the buffer `modules`, in the order in which `qrproved_encode` writes them. The
 /// byte 0 is a light module, and any other byte is a dark module. Writes the bytes that the symbol contains to the
-/// buffer `bytes`. Writes the version and the structured append header of the symbol to the struct `content`. No errors
-/// are corrected.
+/// buffer `bytes`. Writes the version and the structured append header of the symbol to the struct `content`. The
+/// function `qrproved_read` corrects no errors.
 ///
-/// The causes of a refusal are checked in the order in which this paragraph lists them. The first two causes are found
-/// before any allocation: a number of rows that no version has, and too few modules in `modules`. The other causes are
-/// wrong format information, wrong codewords, data codewords that cannot be parsed, and a buffer `bytes` that is too
-/// short.
+/// The causes of a refusal are checked in the order in which this paragraph lists them. Two causes of a refusal are
+/// found before any allocation: a number of rows that no version has, and too few modules in `modules`. Four causes are
+/// found after an allocation: wrong format information, wrong codewords, data codewords that cannot be parsed, and a
+/// buffer `bytes` that is too short.
 ///
-/// On status 0 the first copy of the format information and the codewords in `modules` belong to a symbol. The call
-/// wrote the bytes and the header that this symbol contains. The contract promises nothing about the other modules.
+/// On status 0 the first copy of the format information and the codewords in `modules` belong to a symbol. On status 0
+/// the call wrote the bytes and the header that the symbol contains. The contract promises nothing about the function
+/// patterns, the dark module, the second copy of the format information, the version information and the remainder bits
+/// in `modules`.
 #[unsafe(no_mangle)]
 pub extern "C" fn qrproved_read(
     alloc: Global,

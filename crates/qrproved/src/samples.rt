@@ -23,8 +23,8 @@ pub(crate) fn eight_digits(rt: &HostRuntime) -> Result<[u8; 441], Fail> {
     Ok(modules)
 }
 
-/// Returns the modules of a symbol of version 1 and level M, a byte for each module. Its data codewords begin with the
-/// mode indicator 0111, which the parser does not know.
+/// Returns the modules of a symbol of version 1 and level M, a byte for each module. The data codewords of the symbol
+/// begin with the mode indicator 0111, which the parser does not know.
 pub(crate) fn another_mode(rt: &HostRuntime) -> Result<[u8; 441], Fail> {
     let version = Version::FIRST;
     let message = [0x70u8; 16];

@@ -1,4 +1,5 @@
-//! The function `qrproved_encode_series` for C, which encodes an input as a series of symbols (ISO/IEC 18004:2015, 8).
+//! Defines the function `qrproved_encode_series` for C, which encodes an input as a series of symbols
+//! (ISO/IEC 18004:2015, 8).
 
 ghost use Rattle.std.specs.Prelude.{◌≡◌, ◌≢◌, ◌<◌, ◌↔◌, ◌⊎◌, [], length};
 ghost use Rattle.qr_symbol.specs.Series.{HasNoSeries};
@@ -25,17 +26,18 @@ pub struct QrprovedSeries {
 
 /// Encodes `input` as a series of symbols, and writes the modules of these symbols to the buffer `modules`. All symbols
 /// have the version `version`. The byte of a module is at index `number * side * side + row * side + column` of the
-/// buffer. Here `number` is the number of the module's symbol, counted from 0, and `side` is the number of rows of a
-/// symbol. If the input fits one symbol without a structured append header, the series is this one symbol. The numbers
-/// of levels and rules are the same as in `qrproved_encode`.
+/// buffer. In the index of a byte, `number` is the number of the module's symbol, counted from 0, and `side` is the
+/// number of rows of a symbol. If the input fits one symbol without a structured append header, the series is this one
+/// symbol. The parameters `level` and `rule` have the same meaning as in `qrproved_encode`.
 ///
 /// The causes of a refusal are checked in this order: a number out of range, an empty input, an input that needs more
 /// than 16 symbols, a buffer that is too short. Numbers out of range, an empty input and an input of more than 113,425
 /// bytes are refused before any allocation.
 ///
-/// On status 0 the buffer begins with exactly the series of the input, one symbol after the other. If the symbols are
-/// read and their bytes are joined, the result is the input. Without kanji mode no shorter series exists. The struct
-/// `series` contains the number of symbols and the number of rows of each symbol.
+/// On status 0 the buffer begins with exactly the modules of the series of the input, one symbol after the other. If
+/// the symbols in the buffer are read and their bytes are joined, the result is the input. If kanji mode is not
+/// allowed, no series with fewer symbols exists for the input. The struct `series` contains the number of symbols and
+/// the number of rows of each symbol.
 #[unsafe(no_mangle)]
 pub extern "C" fn qrproved_encode_series(
     alloc: Global,

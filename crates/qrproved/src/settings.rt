@@ -18,7 +18,8 @@ pub(crate) struct Settings {
     pub rule: Rule,
 }
 
-/// Returns `number` if it is at least `least` and at most `most`. Otherwise returns `None`.
+/// Returns `number` if it is at least `least` and at most `most`. If `number` is less than `least` or more than `most`,
+/// returns `None`.
 pub(crate) fn between(number: u32, least: u8, most: u8) -> Option<u8>
     ensures { SomeIff result ((least ≤ number) × (number ≤ most)) number }
 {
@@ -29,8 +30,8 @@ pub(crate) fn between(number: u32, least: u8, most: u8) -> Option<u8>
     Some(byte)
 }
 
-/// Returns the version, the level and the rule with these numbers. Returns `None` if at least one of the three numbers
-/// is out of range.
+/// Returns the version, the level and the rule with the numbers `version`, `level` and `rule`. Returns `None` if at
+/// least one of the three numbers is out of range.
 pub(crate) fn settings_of(version: u32, level: u32, rule: u32) -> Option<Settings>
     ensures { SomeIff result (AreSettings version level rule)
         (record { version = version; level = level_of level; rule = rule_of rule }) }

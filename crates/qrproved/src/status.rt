@@ -14,7 +14,7 @@ pub(crate) const EMPTY: u8 = 1;
 /// The input fits no version from the smallest allowed version on.
 pub(crate) const TOO_LONG: u8 = 2;
 
-/// The input needs more than 16 symbols of the version.
+/// The input needs more than 16 symbols of the given version.
 pub(crate) const TOO_MANY: u8 = 3;
 
 /// An allocation was refused.
@@ -27,16 +27,16 @@ pub(crate) const SETTINGS: u8 = 5;
 /// A buffer of the caller is too short.
 pub(crate) const ROOM: u8 = 6;
 
-/// No version has symbols with this number of rows.
+/// No version has symbols with the given number of rows.
 pub(crate) const SIDE: u8 = 7;
 
-/// The format information belongs to no level and mask pattern. For a damaged symbol that is mended, this status has
-/// another meaning. Then the format information of every level and mask pattern differs from both copies in more than
-/// three modules.
+/// The format information belongs to no level and mask pattern. If a damaged symbol is mended, the status `FORMAT` has
+/// another meaning: the format information of every level and mask pattern differs from both copies in more than three
+/// modules.
 pub(crate) const FORMAT: u8 = 8;
 
-/// The error correction codewords of a block do not belong to its data codewords. For a damaged symbol that is mended,
-/// this status has another meaning: some block has more damage than can be corrected.
+/// The error correction codewords of a block do not belong to its data codewords. If a damaged symbol is mended, the
+/// status `CHECK` has another meaning: some block has more damage than can be corrected.
 pub(crate) const CHECK: u8 = 9;
 
 /// The data codewords cannot be parsed.

@@ -1,4 +1,4 @@
-//! The function `qrproved_version` for C, which returns the version number of the library.
+//! Defines the function `qrproved_version` for C, which returns the version number of the library.
 
 ghost use Rattle.std.specs.Prelude.{◌≡◌};
 
