@@ -37,9 +37,9 @@ pub fn settings(alloc: Global) -> Result<Answer, AllocError> {
     Ok(answer.given(are(&list, &words)))
 }
 
-// Runs the command, and compares the results with those that are expected if no memory is refused. The expected exit
-// status is `status`. Standard output is expected to begin with `prefix`, and standard error is expected to contain
-// `part`.
+// Runs the command, and returns whether the run gave the expected results, or reported lack of memory. If no memory is
+// refused, the expected exit status is `status`. If no memory is refused, standard output is expected to begin with
+// `prefix`, and standard error is expected to contain `part`.
 fn ran(
     alloc: Global,
     words: &[&str],
