@@ -6,7 +6,7 @@ pub enum Answer {
     /// The call returned the expected value: the value that it returns if no memory is refused.
     Ordinary,
     /// The call failed because memory was refused. The text in `Memory` names the error, and states that the arguments
-    /// are unchanged. The program prints this text.
+    /// are unchanged. The program prints the text in `Memory`.
     Memory(&'static str),
     /// The call returned an unexpected value, or failed with an error that is not lack of memory.
     Other,

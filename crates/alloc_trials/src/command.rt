@@ -1,5 +1,5 @@
-//! Trials (test calls) of the functions of `qrencode_cli` that allocate memory. In these trials, the command reads its
-//! input from memory and writes its output to memory.
+//! Trials (test calls) of the functions of `qrencode_cli` that allocate memory. In the trials of this file, the command
+//! reads its input from memory and writes its output to memory.
 
 use crate::answer::Answer;
 use qrencode_cli::{Faults, Trial, UsageFault, options, run};

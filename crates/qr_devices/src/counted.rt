@@ -20,8 +20,8 @@ fn trouble_of(error: io::Error) -> Trouble
 }
 
 /// A device that passes its calls on to `inner`, a reader or a writer of the standard library, and counts these calls.
-/// Contracts state the bytes of the device if the bytes of `inner` are known to contracts. The bytes of a reader or
-/// writer in memory are known. A contract cannot know the bytes of a file, a pipe or a terminal.
+/// A contract states the bytes of the device if it can know the bytes of `inner`. A contract can know the bytes of a
+/// reader or writer in memory. A contract cannot know the bytes of a file, a pipe or a terminal.
 #[derive(Drop)]
 pub struct Counted<T> {
     inner: T,

@@ -25,7 +25,8 @@ pub enum Trouble {
     Failed,
 }
 
-/// The counts of the reads of a device, by their results. A count that reaches `u64::MAX` stays at this value.
+/// Counts of the reads of a device: how many there were, how many failed or were interrupted, and how many bytes they
+/// returned. A count that reaches `u64::MAX` stays at this value.
 #[derive(Clone, Copy, Debug, PartialEq, Eq)]
 pub struct ReadCounts {
     /// The number of all reads, including failed and interrupted reads.
@@ -76,8 +77,8 @@ impl ReadCounts {
     }
 }
 
-/// The counts of the writes and flushes of a device, by their results. A count that reaches `u64::MAX` stays at this
-/// value.
+/// Counts of the writes and flushes of a device: how many there were, how many failed or were interrupted, and how many
+/// bytes were accepted. A count that reaches `u64::MAX` stays at this value.
 #[derive(Clone, Copy, Debug, PartialEq, Eq)]
 pub struct WriteCounts {
     /// The number of all writes and flushes, including failed and interrupted writes and flushes.
@@ -145,8 +146,8 @@ impl WriteCounts {
 }
 
 /// A device from which bytes are read. A read returns at most as many bytes as the buffer has room for. If the
-/// remaining bytes of the device are known, a read removes from them the bytes that it returns. Each read is added to
-/// the counts of the device, with its result.
+/// remaining bytes of the device are known, a read removes from them the bytes that it returns. The device adds each
+/// read, with its result, to its counts.
 pub trait Source {
     ghost use Rattle.qr_devices.specs.Device.{Reader};
 
@@ -163,8 +164,8 @@ pub trait Source {
 }
 
 /// A device to which bytes are written. In each write, the device accepts at most as many bytes as the write offers. If
-/// the bytes that the device has accepted are known, a write appends to them the bytes that the device accepts. Each
-/// write and each flush is added to the counts of the device, with its result.
+/// the bytes that the device has accepted are known, a write appends to them the bytes that the device accepts. The
+/// device adds each write and each flush, with its result, to its counts.
 pub trait Sink {
     ghost use Rattle.qr_devices.specs.Device.{Writer};
 

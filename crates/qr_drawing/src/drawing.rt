@@ -104,8 +104,8 @@ fn put_drawing<S: HasSquare, W: Sink>(
 }
 
 /// Draws 1 to 16 symbols or other squares of modules. All squares must have the same side (number of rows). A drawing
-/// of a type of text consists of the texts of the symbols, one after the other. An SVG document shows the symbols one
-/// below the other. Each symbol has a light margin of `margin` modules on all sides (ISO/IEC 18004:2015, 6.3.8).
+/// as text consists of the texts of all symbols, one after the other. An SVG document shows the symbols one below the
+/// other. Each symbol has a light margin of `margin` modules on all sides (ISO/IEC 18004:2015, 6.3.8).
 ///
 /// The drawing depends only on the type of drawing and on the squares with their margins. The definitions in the
 /// contract describe a text line by line, and an SVG document run by run. A run is a group of dark modules side by side

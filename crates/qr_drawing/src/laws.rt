@@ -9,9 +9,9 @@ pub use crate::derives::{
     draw_fault_clones, draw_faults_are_equal, drawing_clones, drawings_are_equal,
 };
 
-/// The definition `CharactersOfModules` lists the characters that show modules in two styles. In the style `Plain`, two
-/// characters show one module. In the style `HalfBlocks`, one character shows two modules, one above the other. In the
-/// style `HalfBlocks`, 29 rows of modules need 15 lines of text, so the last line shows only one row.
+/// Modules are drawn with the characters that the definition `CharactersOfModules` lists for two styles of text. In the
+/// style `Plain`, two characters show one module. In the style `HalfBlocks`, one character shows two modules, one above
+/// the other. In the style `HalfBlocks`, 29 rows of modules need 15 lines of text, so the last line shows only one row.
 pub fn characters_of_modules()
     ensures { CharactersOfModules }
 {}

@@ -25,8 +25,8 @@ const HEAD_MAX: usize = 300;
 // The number of bytes of an SVG document after the last box of its path.
 const TAIL: usize = 11;
 
-// Appends `digit`, which is from 0 to 9, to `text`. The numbers of the path are appended digit by digit, since with the
-// crate `itoa`, to draw the largest symbol would take 36 % more instructions than it does.
+// Appends `digit`, which is from 0 to 9, to `text`. The numbers of the path are appended digit by digit, since the
+// crate `itoa` would need 36 % more instructions to draw the largest symbol.
 fn push_digit(text: &mut ArrayVec<u8, 1200>, digit: u16)
     requires digit { digit < 10 }
     requires room { array_vec_len text.old < 1200 }
@@ -126,7 +126,7 @@ fn push_opening(text: &mut ArrayVec<u8, 1200>, width: u16, height: u16)
     push_all(text, b"\" shape-rendering=\"crispEdges\">\n");
 }
 
-// Appends to `text` the line that makes the background of a document of `width` by `height` modules white.
+// Appends to `text` the line that draws the white background of an SVG document of `width` by `height` modules.
 #[tactic(auto, unfolding(crate::specs::Svg::background))]
 fn push_background(text: &mut ArrayVec<u8, 1200>, width: u16, height: u16)
     requires room { array_vec_len text.old + 80 ≤ 1200 }

@@ -73,7 +73,7 @@ fn push_module(text: &mut ArrayVec<u8, 1200>, dark: bool)
     push_all(text, &[character; 2]);
 }
 
-// Appends one character, which shows two modules, one above the other, to `text`. The filled parts of this character
+// Appends one character, which shows two modules, one above the other, to `text`. The filled parts of a block character
 // are light modules.
 fn push_half_block(text: &mut ArrayVec<u8, 1200>, upper: bool, lower: bool)
     requires room { array_vec_len text.old + 3 ≤ 1200 }
@@ -123,9 +123,9 @@ fn square_row(matrix: &Matrix, margin: u8, row: u16) -> Option<u8>
     Some((row - first) as u8)
 }
 
-// Returns the colours of eight modules of row `row` of `matrix`, from column `col` on, as the bits of a number. Bit 0
-// is column `col`, which must be a multiple of eight, and a set bit is a dark module. Bits of columns outside the
-// square may have any value. If `row` is `None`, all eight bits are 0.
+// Returns the colours of eight modules of row `row` of `matrix`, from column `col` on, as the bits of a number. `col`
+// must be a multiple of eight. Bit 0 is the module in column `col`, and a set bit is a dark module. Bits of columns
+// outside the square may have any value. If `row` is `None`, all eight bits are 0.
 #[inline(always)]
 #[tactic(auto, using(crate::proofs::lemmas::text::CellLemmas::dark_none))]
 fn dark_bits(matrix: &Matrix, row: Option<u8>, col: u8) -> u8
@@ -258,7 +258,8 @@ fn push_eight(text: &mut ArrayVec<u8, 1200>, style: TextStyle, upper: u8, lower:
     }
 }
 
-// Appends `count` cells to `text`. Each cell shows one light module, or two light modules, one above the other.
+// Appends `count` cells, in which all modules are light, to `text`. Each cell shows one light module, or two light
+// modules, one above the other.
 #[inline(always)]
 fn push_light(text: &mut ArrayVec<u8, 1200>, style: TextStyle, count: u16)
     requires room { array_vec_len text.old + count * cell_room style ≤ 1200 }
@@ -329,8 +330,9 @@ fn push_columns(
 }
 
 // Writes line `y` of the text through the buffer `pen`, in three parts. The first part of the line is the left margin.
-// The second part of the line shows the columns of the symbol up to the last multiple of four. The third part of the
-// line shows the last columns of the symbol, fewer than four, and then has the right margin and the newline.
+// The second part of the line shows all columns of the symbol but the last ones, eight or four columns at a time. The
+// third part of the line shows the last columns of the symbol, fewer than four, and then the right margin and the
+// newline.
 #[inline(always)]
 fn put_line<W: Sink>(
     pen: &mut Pen,
@@ -386,9 +388,9 @@ fn put_lines<W: Sink>(
     }
 }
 
-// Draws the symbol `matrix` as lines of text, as the function `put_lines` does. In `put_lines`, each style has its own
-// call of this function. The compiler inlines this function at each call, together with the functions that it calls. In
-// each inlined copy the style is fixed, so no loop has to test the style.
+// Draws the symbol `matrix` as lines of text, as the function `put_lines` does. The function `put_lines` contains one
+// call of this function for each style. The compiler inlines this function at each call, together with the functions
+// that it calls. In each inlined copy the style is fixed, so no loop has to test the style.
 #[inline(always)]
 fn put_lines_of<W: Sink>(
     pen: &mut Pen,

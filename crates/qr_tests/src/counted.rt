@@ -14,7 +14,7 @@ struct Rough<'a> {
 }
 
 impl Rough<'_> {
-    // Counts a call. Returns the error with which the call fails, or `None` if the call succeeds.
+    // Counts a call, and returns the error with which the call fails, or `None` if the call succeeds.
     fn error(&mut self) -> Option<io::Error> {
         *self.calls = self.calls.saturating_add(1);
         match *self.calls {

@@ -152,8 +152,8 @@ fn svg_of_two_symbols(rt: HostRuntime) -> Result<(), Fail> {
 }
 
 // A run is a group of neighbouring modules of one colour in a row. The first row begins with the dark run of a finder
-// pattern and then a light run. The first row ends with the dark run of a second finder pattern. For each of the three
-// runs, the test checks the column after the last module of the run.
+// pattern and then a light run. The first row ends with the dark run of a second finder pattern. For both dark runs and
+// the light run, the test checks the column after the last module of the run.
 #[test]
 fn runs_of_the_first_row(rt: HostRuntime) -> Result<(), Fail> {
     let symbol = symbol(rt.alloc())?;

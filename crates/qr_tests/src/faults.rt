@@ -149,7 +149,7 @@ fn of_length(rt: HostRuntime) -> Result<(), Fail> {
 }
 
 // At level L, the longest inputs of capital letters and of small letters that fit a symbol are drawn. Inputs that have
-// one letter more than these longest inputs are refused.
+// one letter more than the longest inputs are refused.
 #[test]
 fn of_length_in_other_modes(rt: HostRuntime) -> Result<(), Fail> {
     for (byte, most) in [(b'A', 4296usize), (b'a', 2953)] {

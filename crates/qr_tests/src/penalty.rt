@@ -9,7 +9,7 @@ enum Pattern {
     Dark,
     Chequered,
     // The first row contains dark and light modules in the ratio 1:1:3:1:1 of a finder pattern, and then four light
-    // modules. The number is the column in which the first of these modules is.
+    // modules. The number in `WindowFrom` is the column of the first dark module.
     WindowFrom(u8),
 }
 

@@ -68,8 +68,8 @@ fn eight_digits_with_a_module_inverted(rt: HostRuntime) -> Result<(), Fail> {
 }
 
 // Inverts each module of a symbol of version 1, one module at a time. The first copy of the format information has 15
-// modules, and the codewords have 208 modules. The colours of modules outside this copy and outside the codewords have
-// no effect.
+// modules, and the codewords have 208 modules. The modules outside the first copy of the format information and outside
+// the codewords have no effect.
 #[test]
 fn each_module_inverted(rt: HostRuntime) -> Result<(), Fail> {
     let version = Version::FIRST;

@@ -160,8 +160,8 @@ fn command_line<'a>(alloc: Global) -> Result<Command<'a>, AllocError>
 
 /// Parses the command line `words` with `clap`, and returns the matches: the arguments that `clap` found, with their
 /// values. The first text of `words` is the program's name. If `clap` refuses the command line, returns
-/// `UsageFault::Words` with the message of `clap`. `clap` refuses a command line that asks for help, and its message is
-/// the help text. Returns `UsageFault::Memory` if memory is refused.
+/// `UsageFault::Words` with the message of `clap`. If a command line asks for help, `clap` refuses the command line,
+/// and the message of `clap` is the help text. Returns `UsageFault::Memory` if memory is refused.
 pub(crate) fn matches<'a>(alloc: Global, words: &'a [String]) -> Result<ArgMatches<'a>, UsageFault>
     ensures taken { IfOk result (λ m. faults_for (map string_bytes words.entry.now) ≡ []) }
     ensures rows { IfOk result (λ m. rows_of (found_of m) ≡ rows_for (map string_bytes words.entry.now)) }

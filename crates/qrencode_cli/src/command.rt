@@ -158,7 +158,7 @@ fn run_to_result<R: Source, W: Sink>(
 /// write fault is reported exactly if one of four events occurred: a failed write of the drawing, a write that accepted
 /// no byte, the 1,000th interrupted write, or a failed flush.
 ///
-/// If the input is read from `input`, the input consists of all bytes of `input`, but of at most its first 113,425
+/// If the input is read from `input`, the input is all bytes of `input`, or its first 113,425 bytes if `input` has more
 /// bytes. A run makes at most 114,424 reads from `input`. After a read has reached the end of `input`, the run makes no
 /// further read, not even a read into an empty buffer.
 ///

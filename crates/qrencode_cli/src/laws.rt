@@ -7,7 +7,7 @@ ghost use Rattle.qr_drawing.specs.declared.pen.TheConstants.{WRITE_MAX};
 ghost use Rattle.qrencode_cli.specs.Laws.{AnswersAreOne, FoldingFollowsTheRule, LinesOfFaults, NumbersOfUsageFaults, RefusalsAreOne, RefusalsExcludeDrawings, CommandLines, RulesOfModes, StatusesAreTwo};
 
 /// The definition `CommandLines` lists 45 command lines, each with its settings or with a reason to refuse it. Each
-/// command line in this list has the settings, or is refused for the reason, that the list states.
+/// command line in the list `CommandLines` has the settings, or is refused for the reason, that the list states.
 pub fn command_lines()
     ensures { CommandLines }
 {}
@@ -31,8 +31,8 @@ pub fn answers_are_one()
     ensures reason { RefusalsAreOne }
 {}
 
-/// With `-8` only byte mode is allowed, even if `-k` is given too. Without `-8` and `-k`, numeric, alphanumeric and
-/// byte mode are allowed. With `-k` and without `-8`, all four modes are allowed.
+/// With `-8` only byte mode is allowed, even if `-k` is given too. If neither `-8` nor `-k` is given, numeric,
+/// alphanumeric and byte mode are allowed. If `-k` is given and `-8` is not given, all four modes are allowed.
 pub fn rules_of_modes()
     ensures { RulesOfModes }
 {}
@@ -50,8 +50,8 @@ pub fn statuses_are_two()
     ensures { StatusesAreTwo }
 {}
 
-/// The definition `LinesOfFaults` lists the line that the command writes to standard error for each fault. Only the
-/// fault of arguments that the crate `clap` refuses is not in the list `LinesOfFaults`.
+/// The definition `LinesOfFaults` lists the line that the command writes to standard error for each fault. The list
+/// `LinesOfFaults` has no line for arguments that the crate `clap` refuses, since the text of `clap` is then written.
 pub fn lines_of_faults()
     ensures { LinesOfFaults }
 {}

@@ -196,8 +196,8 @@ fn drawing_in(matches: &ArgMatches<'_>) -> Option<Drawing>
     text_in(matches, "type").and_then(drawing_named)
 }
 
-// Returns whether the option `id`, an option without a value, is given. The code looks for the text `true`, because the
-// contracts of `clap` describe every value as a text.
+// Returns whether the option `id`, an option without a value, is given. The contracts of `clap` describe every value as
+// a text, so the value of an option that is given is the text `true`.
 fn flag_in(matches: &ArgMatches<'_>, id: &str) -> bool
     ensures { result ≡ flag_at (first_of id.now (rows_of (found_of matches.now))) }
 {
