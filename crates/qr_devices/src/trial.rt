@@ -14,8 +14,8 @@ pub struct Faults {
     pub at_most: usize,
     /// Each read or write with a number below `interruptions` is interrupted.
     pub interruptions: u64,
-    /// Each read or write with the number `fails_from` or a greater number fails. But a read or write that is
-    /// interrupted because of `interruptions` does not fail.
+    /// Each read or write with the number `fails_from` or a greater number fails. A read or write that is interrupted
+    /// because of `interruptions` does not fail.
     pub fails_from: u64,
     /// Each write with the number `stops_from` or a greater number returns 0, if it is not interrupted and does not
     /// fail.

@@ -102,8 +102,8 @@ impl Pen {
         Ok(())
     }
 
-    /// Makes room for `room` bytes in the pen, which is the buffer of a drawing. If the pen has room for fewer bytes,
-    /// writes the bytes in the pen to the writer `out`, and empties the pen.
+    /// Makes room for `room` bytes in the pen, which is the buffer of a drawing. If the pen has room for fewer than
+    /// `room` bytes, writes the bytes in the pen to the writer `out`, and empties the pen.
     #[inline(always)]
     pub(crate) fn reserve<W: Sink>(&mut self, out: &mut W, room: usize) -> Result<(), DrawFault>
         requires { room ≤ 1200 }

@@ -213,8 +213,8 @@ fn push_half_block_quad(text: &mut ArrayVec<u8, 1200>, upper: u8, lower: u8)
     push_half_block_pair(text, upper / 4 % 4 + lower / 4 % 4 * 4);
 }
 
-// Appends four cells, each of which shows one or two modules, to `text`. Cell i shows the module of bit i of `upper`,
-// and in the style `HalfBlocks` also the module of bit i of `lower`. A set bit is a dark module.
+// Appends four cells, each of which shows one or two modules, to `text`. Cell i (counted from 0) shows the module of
+// bit i of `upper`, and in the style `HalfBlocks` also the module of bit i of `lower`. A set bit is a dark module.
 #[inline(always)]
 #[tactic(auto, using(crate::proofs::lemmas::text::CellLemmas::quad_plain, crate::proofs::lemmas::text::CellLemmas::quad_inverse))]
 fn push_quad(text: &mut ArrayVec<u8, 1200>, style: TextStyle, upper: u8, lower: u8)
@@ -240,8 +240,8 @@ fn ascii_eight(bits: u8) -> [u8; 16]
     text
 }
 
-// Appends eight cells, each of which shows one or two modules, to `text`. Cell i shows the module of bit i of `upper`,
-// and in the style `HalfBlocks` also the module of bit i of `lower`. A set bit is a dark module.
+// Appends eight cells, each of which shows one or two modules, to `text`. Cell i (counted from 0) shows the module of
+// bit i of `upper`, and in the style `HalfBlocks` also the module of bit i of `lower`. A set bit is a dark module.
 #[inline(always)]
 #[tactic(auto, using(crate::proofs::lemmas::text::CellLemmas::eight_quads, crate::proofs::lemmas::text::CellLemmas::eight_plain, crate::proofs::lemmas::text::CellLemmas::eight_inverse))]
 fn push_eight(text: &mut ArrayVec<u8, 1200>, style: TextStyle, upper: u8, lower: u8)

@@ -138,16 +138,16 @@ fn run_to_result<R: Source, W: Sink>(
 /// was flushed once, after the last byte of the drawing. After success, `err` has received no byte, and the exit status
 /// is 0.
 ///
-/// If the drawn symbols are read and their bytes are joined, the result is exactly the input. No byte of the input is
+/// Without `-i`, reading the drawn symbols and joining their bytes yields exactly the input. No byte of the input is
 /// missing from the drawn symbols. With `-i`, reading the drawn symbols yields the folded input, in which small letters
 /// are changed to capitals as far as the options `-k` and `-8` allow.
 ///
 /// With `-8` the whole input is encoded in byte mode. Kanji mode may be used only if `-k` is given and `-8` is not
 /// given.
 ///
-/// With `-i` alone, the letters `a` to `z` are encoded as capitals. With `-i` and `-k`, kanji pairs (two bytes that are
-/// one character of kanji mode) are unchanged. With `-i` and `-8`, all bytes are unchanged. Without `-i` no letter is
-/// changed.
+/// With `-i`, and without `-k` and `-8`, the letters `a` to `z` are encoded as capitals. With `-i` and `-k`, kanji
+/// pairs (two bytes that are one character of kanji mode) are unchanged. With `-i` and `-8`, all bytes are unchanged.
+/// Without `-i` no letter is changed.
 ///
 /// After a fault, the exit status is 1, and `err` has received the line that reports the fault. If the line of a fault
 /// could not be written completely, `err` has received a prefix of this line. After a write fault, `out` has received a
