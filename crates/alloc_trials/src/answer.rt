@@ -1,14 +1,14 @@
 //! Defines the results of trials. A trial is one call of a function that allocates memory.
 
-/// Whether a call returned the expected result.
+/// The result of a trial: whether the call returned what it should return.
 #[derive(Clone, Copy)]
 pub enum Answer {
     /// The call returned the expected value: the value that it returns if no memory is refused.
     Ordinary,
-    /// The call failed because memory was refused. The text contains the error, and notes that the arguments are
-    /// unchanged. The text is printed.
+    /// The call failed because memory was refused. The text in `Memory` names the error, and states that the arguments
+    /// are unchanged. The program prints the text in `Memory`.
     Memory(&'static str),
-    /// The call returned another value, or failed with another error.
+    /// The call returned an unexpected value, or failed with an error that is not lack of memory.
     Other,
     /// The call changed its arguments.
     Changed,

@@ -1,5 +1,5 @@
-//! Trials (test calls) of the functions of `qrencode_cli` that allocate memory. In these trials, the command reads its
-//! input from memory and writes its output to memory.
+//! Trials (test calls) of the functions of `qrencode_cli` that allocate memory. In the trials of this file, the command
+//! reads its input from memory and writes its output to memory.
 
 use crate::answer::Answer;
 use qrencode_cli::{Faults, Trial, UsageFault, options, run};
@@ -37,9 +37,9 @@ pub fn settings(alloc: Global) -> Result<Answer, AllocError> {
     Ok(answer.given(are(&list, &words)))
 }
 
-// Runs the command, and compares the results with those that are expected if no memory is refused. The expected exit
-// status is `status`. Standard output is expected to begin with `prefix`, and standard error is expected to contain
-// `part`.
+// Runs the command, and returns whether the run gave the expected results, or reported lack of memory. If no memory is
+// refused, the expected exit status is `status`. If no memory is refused, standard output is expected to begin with
+// `prefix`, and standard error is expected to contain `part`.
 fn ran(
     alloc: Global,
     words: &[&str],

@@ -1,10 +1,11 @@
 //! A test program for the public functions that allocate memory. The program takes the name of a trial as its argument.
-//! A trial is one call of such a function. The program runs this trial, and prints a line with the result. Without an
-//! argument, the program runs all trials. The script `tests/refused_growths` runs each trial many times. In each run,
-//! the script refuses another request for memory.
+//! A trial is one call of a public function that allocates memory. The program runs the trial that its argument names,
+//! and prints a line with the result. Without an argument, the program runs all trials. The script
+//! `tests/refused_growths` runs each trial many times. In each run of a trial, the script refuses a different request
+//! for memory.
 //!
-//! The arguments of the call are made before the call. After the call, the program checks that these arguments are
-//! unchanged.
+//! In a trial, the program makes the arguments of the call before the call. After the call, the program checks that the
+//! arguments of the call are unchanged.
 #![tactic(auto)]
 
 mod answer;

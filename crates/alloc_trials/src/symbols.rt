@@ -42,8 +42,8 @@ fn are_equal(a: &Matrix, b: &Matrix) -> bool {
     true
 }
 
-// Returns whether the series `a` and `b` have the same number of symbols, and symbols with the same index have the same
-// modules.
+// Returns whether the series `a` and `b` have the same number of symbols, and whether their symbols with the same index
+// have the same modules.
 fn are_equal_series(a: &[Symbol], b: &[Symbol]) -> bool {
     a.len() == b.len()
         && a.iter()

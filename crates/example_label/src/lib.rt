@@ -1,6 +1,6 @@
 //! An example of a crate that uses `qr_symbol`. The crate makes labels. A label is a symbol that is drawn with
-//! characters, followed by the text that the symbol contains. The contract of `label` determines every character of the
-//! label.
+//! characters, followed by the text that the symbol contains. The contract of the function `label` determines every
+//! character of a label.
 #![tactic(auto)]
 
 ghost use Rattle.std.specs.Prelude.{◌≡◌, ◌≢◌, ◌<◌, ◌≤◌, ◌↔◌, ◌⊎◌, ◌++◌, [], length, Err, IfErr, IfOk, IsOk};
@@ -14,13 +14,13 @@ use std::alloc::{AllocError, Global};
 
 /// Returns a label, which consists of the symbol of `words` and, below the symbol, a line with `words`. The label
 /// contains a line of text for each row of modules, with `#` for a dark module and a space for a light module. The
-/// symbol has the level `level`, and the least version, from `smallest` on, that `words` fits. The label has no quiet
-/// zone, so the paper around the label has to be light.
+/// symbol has the level `level`. The symbol has the least version that `words` fits and that is not less than
+/// `smallest`. The label has no quiet zone, so the paper around the label has to be light.
 ///
 /// # Errors
 ///
-/// Returns `Empty` if `words` is empty, and `TooLong` if `words` fits no version from `smallest` on. Returns `Memory`
-/// if memory is refused.
+/// Returns `Empty` if `words` is empty, and `TooLong` if `words` fits no version that is at least `smallest`. Returns
+/// `Memory` if memory is refused.
 pub fn label(
     alloc: Global,
     words: &[u8],

@@ -1,4 +1,4 @@
-//! Makes a device from a reader or a writer of the standard library. The device counts its calls.
+//! Makes a device from a reader or a writer of the standard library. The device counts its reads, writes and flushes.
 
 ghost use Rattle.std.specs.Prelude.{◌≡◌, ◌↔◌};
 ghost use Rattle.std.specs.IoError.{error_kind};
@@ -20,8 +20,8 @@ fn trouble_of(error: io::Error) -> Trouble
 }
 
 /// A device that passes its calls on to `inner`, a reader or a writer of the standard library, and counts these calls.
-/// Contracts state the bytes of the device if the bytes of `inner` are known. Bytes in memory are known. The bytes of a
-/// file, a pipe or a terminal are not known.
+/// A contract states the bytes of the device if it can know the bytes of `inner`. A contract can know the bytes of a
+/// reader or writer in memory. A contract cannot know the bytes of a file, a pipe or a terminal.
 #[derive(Drop)]
 pub struct Counted<T> {
     inner: T,

@@ -11,8 +11,9 @@ ghost use Rattle.qr_devices.specs.declared.device.ReadCounts.{ReadCounts};
 ghost use Rattle.qr_devices.specs.declared.device.WriteCounts.{WriteCounts};
 
 /// The greatest number of interrupted calls (EINTR) that are tried again while one input is read or one text is
-/// written. Two loops use this limit: `read_input` in `input.rt` of `qrencode_cli`, and `send` in `pen.rt` of
-/// `qr_drawing`. If a call is interrupted after 999 calls were interrupted, the loop ends with a fault.
+/// written. Two functions use the limit `INTERRUPTIONS_MAX`: `read_input` in `input.rt` of `qrencode_cli`, and `send`
+/// in `pen.rt` of `qr_drawing`. If 999 calls were interrupted and a further call is interrupted, the function ends with
+/// a fault.
 pub const INTERRUPTIONS_MAX: u16 = 999;
 
 /// The two ways in which a read, a write or a flush of a device can fail.
@@ -24,22 +25,23 @@ pub enum Trouble {
     Failed,
 }
 
-/// Counts that show how the reads of a device went. A count that reaches `u64::MAX` stays there.
+/// Counts of the reads of a device: how many there were, how many failed or were interrupted, and how many bytes they
+/// returned. A count that reaches `u64::MAX` stays at this value.
 #[derive(Clone, Copy, Debug, PartialEq, Eq)]
 pub struct ReadCounts {
-    /// The number of all reads, also of those that failed or were interrupted.
+    /// The number of all reads, including failed and interrupted reads.
     pub calls: u64,
-    /// The number of reads that failed. Interrupted reads are not counted here.
+    /// The number of reads that failed. An interrupted read is not counted as a failed read.
     pub failed: u64,
     /// The number of reads that were interrupted (EINTR).
     pub interrupted: u64,
     /// The number of bytes that all reads returned together.
     pub given: u64,
-    /// The number of reads that returned 0 bytes although their buffer was not empty. Such a read has reached the end
-    /// of the input.
+    /// The number of reads that returned 0 bytes although their buffer was not empty. A read that returns 0 bytes into
+    /// a buffer that is not empty has reached the end of the input.
     pub ends: u64,
-    /// The number of reads that were made after an earlier read had reached the end of the input. Reads into an empty
-    /// buffer are counted too.
+    /// The number of reads that were made after an earlier read had reached the end of the input. The count `past_end`
+    /// includes reads into an empty buffer.
     pub past_end: u64,
 }
 
@@ -54,7 +56,7 @@ impl ReadCounts {
         past_end: 0,
     };
 
-    /// Adds a read into a buffer of `room` bytes to the counts. `answer` is what the read returned.
+    /// Adds a read into a buffer of `room` bytes to the counts. `answer` is the result that the read returned.
     pub fn add(&mut self, room: usize, answer: Result<usize, Trouble>)
         ensures { self.new ≡ read_counted room answer self.old }
     {
@@ -75,10 +77,11 @@ impl ReadCounts {
     }
 }
 
-/// Counts that show how the writes and flushes of a device went. A count that reaches `u64::MAX` stays there.
+/// Counts of the writes and flushes of a device: how many there were, how many failed or were interrupted, and how many
+/// bytes were accepted. A count that reaches `u64::MAX` stays at this value.
 #[derive(Clone, Copy, Debug, PartialEq, Eq)]
 pub struct WriteCounts {
-    /// The number of all writes and flushes, also of those that failed or were interrupted.
+    /// The number of all writes and flushes, including failed and interrupted writes and flushes.
     pub calls: u64,
     /// The number of writes that failed, plus the number of flushes that failed or were interrupted.
     pub failed: u64,
@@ -92,7 +95,7 @@ pub struct WriteCounts {
     pub offered: usize,
     /// The number of all flushes.
     pub flushes: u64,
-    /// Whether the last call was a flush, and this flush succeeded.
+    /// Whether the last call of the device was a flush that succeeded.
     pub settled: bool,
 }
 
@@ -109,7 +112,7 @@ impl WriteCounts {
         settled: false,
     };
 
-    /// Adds a write of `len` bytes to the counts. `answer` is what the write returned.
+    /// Adds a write of `len` bytes to the counts. `answer` is the result that the write returned.
     pub fn add(&mut self, len: usize, answer: Result<usize, Trouble>)
         ensures { self.new ≡ write_counted len answer self.old }
     {
@@ -128,7 +131,8 @@ impl WriteCounts {
         }
     }
 
-    /// Adds a flush to the counts. `answer` is what the flush returned. An interrupted flush counts as failed.
+    /// Adds a flush to the counts. `answer` is the result that the flush returned. An interrupted flush counts as
+    /// failed.
     pub fn add_flush(&mut self, answer: Result<(), Trouble>)
         ensures { self.new ≡ flush_counted answer self.old }
     {
@@ -141,8 +145,9 @@ impl WriteCounts {
     }
 }
 
-/// A device from which bytes are read. A read returns at most as many bytes as the buffer has room for. If the bytes of
-/// the device are known, a read removes the bytes that it returns. The counts of the device show how each read went.
+/// A device from which bytes are read. A read returns at most as many bytes as the buffer has room for. If the
+/// remaining bytes of the device are known, a read removes from them the bytes that it returns. The device adds each
+/// read, with its result, to its counts.
 pub trait Source {
     ghost use Rattle.qr_devices.specs.Device.{Reader};
 
@@ -159,8 +164,8 @@ pub trait Source {
 }
 
 /// A device to which bytes are written. In each write, the device accepts at most as many bytes as the write offers. If
-/// the bytes of the device are known, a write adds the bytes that the device accepts. The counts of the device show how
-/// each write and each flush went.
+/// the bytes that the device has accepted are known, a write appends to them the bytes that the device accepts. The
+/// device adds each write and each flush, with its result, to its counts.
 pub trait Sink {
     ghost use Rattle.qr_devices.specs.Device.{Writer};
 
@@ -168,8 +173,8 @@ pub trait Sink {
     // counts of the writes and flushes so far.
     ghost device: { Self → Writer };
 
-    /// Offers the bytes of `buf` to the device, which accepts some of the first bytes. Returns the number of bytes that
-    /// the device accepted.
+    /// Offers the bytes of `buf` to the device, which accepts a prefix of `buf`. Returns the number of bytes that the
+    /// device accepted.
     fn write(&mut self, buf: &[u8]) -> Result<usize, Trouble>
         ensures bound { IfOk result (λ n. n ≤ length buf.now) }
         ensures bytes { WriteAppends (device self.old).taken (device self.new).taken result buf.now }

@@ -10,9 +10,9 @@ pub use crate::derives::{
 };
 use crate::trial::Faults;
 
-/// Returns the `Faults` of a device that is never interrupted and never fails. A read from such a device returns as
-/// many bytes as remain and as the buffer has room for. In a write, such a device accepts as many bytes as are offered
-/// and as the device has room for.
+/// Returns the `Faults` of a device that is never interrupted and never fails. A read from a device without faults
+/// returns as many bytes as remain and as the buffer has room for. In a write, a device without faults accepts as many
+/// bytes as are offered and as the device has room for.
 pub fn no_faults() -> Faults
     ensures at_most { result.at_most ≡ 2 ^ 64 - 1 }
     ensures interruptions { result.interruptions ≡ 0 }

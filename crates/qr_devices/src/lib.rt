@@ -1,5 +1,5 @@
-//! Defines devices, which are readers and writers that count how their calls went. A device for tests reads or writes
-//! bytes in memory, and is interrupted or fails where the test requires this.
+//! Defines devices, which are readers and writers that count their calls and the results of their calls. A device for
+//! tests reads or writes bytes in memory, and a test determines which of its calls are interrupted or fail.
 #![tactic(auto)]
 
 mod counted;

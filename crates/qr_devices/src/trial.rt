@@ -7,15 +7,15 @@ use crate::device::{ReadCounts, Sink, Source, Trouble, WriteCounts};
 use std::alloc::{AllocError, Global};
 
 /// The ways in which a device for tests misbehaves. The reads of a device are numbered, beginning with 0. The writes
-/// and flushes of a device are numbered together, also beginning with 0.
+/// and flushes of a device are numbered together, in one sequence that begins with 0.
 #[derive(Clone, Copy, Debug, PartialEq, Eq)]
 pub struct Faults {
-    /// The greatest number of bytes that one read or write moves, where 0 means the same as 1.
+    /// The greatest number of bytes that one read or write moves. The value 0 has the same effect as the value 1.
     pub at_most: usize,
     /// Each read or write with a number below `interruptions` is interrupted.
     pub interruptions: u64,
-    /// Each read or write with the number `fails_from` or a greater number fails. A call that is interrupted does not
-    /// fail.
+    /// Each read or write with the number `fails_from` or a greater number fails. A read or write that is interrupted
+    /// because of `interruptions` does not fail.
     pub fails_from: u64,
     /// Each write with the number `stops_from` or a greater number returns 0, if it is not interrupted and does not
     /// fail.
@@ -25,7 +25,7 @@ pub struct Faults {
 }
 
 impl Faults {
-    /// The value for a device that is never interrupted and never fails.
+    /// The `Faults` of a device that is never interrupted and never fails.
     pub const NONE: Faults = Faults {
         at_most: usize::MAX,
         interruptions: 0,
@@ -128,7 +128,7 @@ impl Trial {
     }
 
     // Returns the result of the read or write with the number `call`: the number of bytes that are moved, or the error.
-    // At most `there` bytes can be moved.
+    // `there` is the greatest number of bytes that can be moved.
     fn moved(&self, call: u64, there: usize) -> Result<usize, Trouble>
         ensures value { result ≡ moved self.now.faults call there }
         ensures bound { IfOk result (λ n. n ≤ there) }

@@ -21,7 +21,7 @@ pub enum Drawing {
     Ascii,
     /// A text with two spaces for a dark module, and two `#` for a light module.
     AsciiInverse,
-    /// A text in UTF-8 with one character for two modules, one above the other: a space or a block character.
+    /// A text in UTF-8, in which one character (a space or a block character) shows two modules, one above the other.
     Utf8,
     /// A Scalable Vector Graphics document.
     Svg,
@@ -31,10 +31,10 @@ pub enum Drawing {
 pub trait HasSquare {
     ghost use Rattle.qr_matrix.specs.Grid.{Grid};
 
-    // The colours of the modules, as contracts describe them.
+    // The colours of the modules of the square, as contracts describe them.
     ghost grid: { Self → Grid };
 
-    /// Returns the square of modules.
+    /// Returns the square of modules of this value.
     fn square(&self) -> &Matrix
         ensures { result.now ≡ grid self.now };
 }
@@ -55,8 +55,8 @@ impl HasSquare for Symbol {
     }
 }
 
-// Returns the width of the raster of `matrix`, which is the square of modules with its margin. The width is counted in
-// modules, and is also the height.
+// Returns the width of the raster of `matrix`, which is the square of modules with its margin. The width of a raster is
+// counted in modules, and is equal to the height.
 pub(crate) fn raster_width(matrix: &Matrix, margin: u8) -> u16
     ensures value { result ≡ raster_width margin matrix.now }
     ensures most { result < 1000 }
@@ -103,16 +103,17 @@ fn put_drawing<S: HasSquare, W: Sink>(
     }
 }
 
-/// Draws 1 to 16 symbols, or other squares of modules, which must all have the same side. A drawing as text contains
-/// the texts of the symbols, one after the other. An SVG document shows the symbols one below the other. Each symbol
-/// has a light margin of `margin` modules on all sides (ISO/IEC 18004:2015, 6.3.8).
+/// Draws 1 to 16 symbols or other squares of modules. All squares must have the same side (number of rows). A drawing
+/// as text consists of the texts of all symbols, one after the other. An SVG document shows the symbols one below the
+/// other. Each symbol has a light margin of `margin` modules on all sides (ISO/IEC 18004:2015, 6.3.8).
 ///
-/// The drawing depends only on the type of drawing and on the squares with their margins. The definitions describe a
-/// text line by line, and an SVG document run by run. A run is a group of dark modules side by side in a row.
+/// The drawing depends only on the type of drawing and on the squares with their margins. The definitions in the
+/// contract describe a text line by line, and an SVG document run by run. A run is a group of dark modules side by side
+/// in a row.
 ///
 /// Allocates no memory, and offers the writer `out` at most 1,200 bytes at a time. Interrupted writes (EINTR) are tried
-/// again, at most 999 times in all. The call fails only if the writer fails. In this case the writer has accepted a
-/// prefix of the drawing. The writer is not flushed.
+/// again, at most 999 times in all. The call fails only if the writer fails. If the call fails, the writer has accepted
+/// a prefix of the drawing. The function does not flush the writer.
 pub fn draw<S: HasSquare, W: Sink>(
     symbols: &[S],
     kind: Drawing,

@@ -1,4 +1,4 @@
-//! States laws of drawings: which characters modules have, how many bytes one write offers, and how values of the
+//! States laws of drawings: which characters show modules, how many bytes one write offers, and how values of the
 //! public types are compared and cloned.
 
 ghost use Rattle.std.specs.Prelude.{◌≡◌};
@@ -9,8 +9,9 @@ pub use crate::derives::{
     draw_fault_clones, draw_faults_are_equal, drawing_clones, drawings_are_equal,
 };
 
-/// The characters for one module, and for two modules one above the other, are those that `CharactersOfModules` lists.
-/// If each line of a text shows two rows of modules and the number of rows is odd, the last line shows only one row.
+/// Modules are drawn with the characters that the definition `CharactersOfModules` lists for two styles of text. In the
+/// style `Plain`, two characters show one module. In the style `HalfBlocks`, one character shows two modules, one above
+/// the other. In the style `HalfBlocks`, 29 rows of modules need 15 lines of text, so the last line shows only one row.
 pub fn characters_of_modules()
     ensures { CharactersOfModules }
 {}

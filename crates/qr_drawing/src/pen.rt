@@ -30,10 +30,10 @@ pub(crate) struct Pen {
     ghost few: { interrupted < 1000 },
 }
 
-// Offers `bytes` to the writer `out`, at most 1,200 bytes at a time, until the writer has accepted all of them. An
-// interrupted write (EINTR) is tried again, up to 999 times in one drawing or one text. `interrupted` is the number of
-// writes that were interrupted before this call. Returns the number of writes that were interrupted before and during
-// this call.
+// Offers `bytes` to the writer `out`, at most 1,200 bytes at a time, until the writer has accepted all of them.
+// Interrupted writes (EINTR) are tried again, at most 999 times in one drawing or one text. `interrupted` is the number
+// of writes that were interrupted before this call. Returns `interrupted` plus the number of writes that were
+// interrupted during this call.
 fn send<W: Sink>(out: &mut W, bytes: &[u8], interrupted: u16) -> Result<u16, DrawFault>
     requires { interrupted < 1000 }
     ensures writes { MatchResult result
@@ -90,7 +90,7 @@ impl Pen {
         }
     }
 
-    /// Writes the bytes that wait in the pen to the writer `out`, and empties the pen.
+    /// Writes all bytes in the pen, which is the buffer of a drawing, to the writer `out`, and empties the pen.
     #[inline(never)]
     pub(crate) fn empty<W: Sink>(&mut self, out: &mut W) -> Result<(), DrawFault>
         ensures writes { Reserves (W.device out.old) (W.device out.new)
@@ -102,8 +102,8 @@ impl Pen {
         Ok(())
     }
 
-    /// Makes room for `room` more bytes in the pen. If there is too little room, writes the bytes that wait in the pen
-    /// to the writer `out`, and empties the pen.
+    /// Makes room for `room` bytes in the pen, which is the buffer of a drawing. If the pen has room for fewer than
+    /// `room` bytes, writes the bytes in the pen to the writer `out`, and empties the pen.
     #[inline(always)]
     pub(crate) fn reserve<W: Sink>(&mut self, out: &mut W, room: usize) -> Result<(), DrawFault>
         requires { room ≤ 1200 }
@@ -119,8 +119,8 @@ impl Pen {
 }
 
 /// Writes `text` to the writer `out`, at most 1,200 bytes at a time. The writer accepts the whole text, or a prefix of
-/// the text if the writer fails. Interrupted writes (EINTR) are tried again, at most 999 times in one call. The writer
-/// is not flushed.
+/// the text if the writer fails. Interrupted writes (EINTR) are tried again, at most 999 times in one call. The
+/// function does not flush the writer.
 pub fn write_text<W: Sink>(text: &[u8], out: &mut W) -> Result<(), DrawFault>
     ensures ok { OnOk result (Appends (W.device out.old).taken (W.device out.new).taken text.now) }
     ensures err { OnErr result (AppendsBeginning (W.device out.old).taken (W.device out.new).taken text.now) }

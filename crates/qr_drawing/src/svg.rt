@@ -15,17 +15,18 @@ use itoa::Buffer;
 use qr_devices::Sink;
 use qr_symbol::Matrix;
 
-// Every box has at most this number of bytes. A box is the part of the path that surrounds one run of dark modules.
+// The greatest number of bytes of a box. A box is the part of the path that surrounds one run of dark modules (dark
+// modules side by side in a row).
 const BOX_MAX: usize = 32;
 
-// Before the first box, the document has at most this number of bytes.
+// The greatest number of bytes of an SVG document before the first box of its path.
 const HEAD_MAX: usize = 300;
 
-// The number of bytes of the document after the last box.
+// The number of bytes of an SVG document after the last box of its path.
 const TAIL: usize = 11;
 
-// Appends `digit`, which is from 0 to 9, to `text`. The numbers of the path are appended digit by digit: with the crate
-// `itoa`, drawing the largest symbol would take 36 % more instructions.
+// Appends `digit`, which is from 0 to 9, to `text`. The numbers of the path are appended digit by digit, since the
+// crate `itoa` would need 36 % more instructions to draw the largest symbol.
 fn push_digit(text: &mut ArrayVec<u8, 1200>, digit: u16)
     requires digit { digit < 10 }
     requires room { array_vec_len text.old < 1200 }
@@ -83,8 +84,8 @@ fn push_number(text: &mut ArrayVec<u8, 1200>, number: u16)
     }
 }
 
-// Appends to `text` the box around a run of `modules` dark modules. The run begins in row `y` and column `x` of the
-// document.
+// Appends to `text` the box (part of the path) around a run of `modules` dark modules side by side. The run begins in
+// row `y` and column `x` of the document.
 #[tactic(auto, unfolding(crate::specs::Svg::box_path, crate::specs::Svg::numbered))]
 fn push_box(text: &mut ArrayVec<u8, 1200>, x: u16, y: u16, modules: u16)
     requires room { array_vec_len text.old + 32 ≤ 1200 }
@@ -125,7 +126,7 @@ fn push_opening(text: &mut ArrayVec<u8, 1200>, width: u16, height: u16)
     push_all(text, b"\" shape-rendering=\"crispEdges\">\n");
 }
 
-// Appends to `text` the line that makes a whole document of `width` by `height` modules white.
+// Appends to `text` the line that draws the white background of an SVG document of `width` by `height` modules.
 #[tactic(auto, unfolding(crate::specs::Svg::background))]
 fn push_background(text: &mut ArrayVec<u8, 1200>, width: u16, height: u16)
     requires room { array_vec_len text.old + 80 ≤ 1200 }
@@ -137,8 +138,8 @@ fn push_background(text: &mut ArrayVec<u8, 1200>, width: u16, height: u16)
     push_all(text, b"\" fill=\"#ffffff\"/>\n");
 }
 
-// Appends to `text` all lines before the path of an SVG document, and the beginning of the line with the path. The
-// document has `width` by `height` modules.
+// Appends to `text` all lines before the path of an SVG document, and the beginning of the line with the path. The SVG
+// document is `width` modules wide and `height` modules high.
 fn push_head(text: &mut ArrayVec<u8, 1200>, width: u16, height: u16)
     requires room { array_vec_len text.old + 300 ≤ 1200 }
     ensures { text.new.items ≡ text.old.items ++ head width height }
@@ -150,7 +151,7 @@ fn push_head(text: &mut ArrayVec<u8, 1200>, width: u16, height: u16)
 }
 
 // Writes the boxes around the runs of dark modules in row `row` of `matrix` through the buffer `pen`. `top` is the
-// number of rows of the document above this symbol and its margin.
+// number of rows of modules that the document has above the symbol `matrix` and its margin.
 fn put_row<W: Sink>(
     pen: &mut Pen,
     out: &mut W,
@@ -179,7 +180,7 @@ fn put_row<W: Sink>(
 }
 
 // Writes the boxes around all runs of dark modules of `matrix` through the buffer `pen`. `top` is the number of rows of
-// the document above this symbol and its margin.
+// modules that the document has above the symbol `matrix` and its margin.
 fn put_symbol<W: Sink>(
     pen: &mut Pen,
     out: &mut W,
@@ -219,8 +220,8 @@ fn put_stack<S: HasSquare, W: Sink>(
     Ok(())
 }
 
-/// Writes the SVG document of `symbols` through the buffer `pen`. The symbols have the same side, and are drawn one
-/// below the other.
+/// Writes the SVG document of `symbols` through the buffer `pen`. All symbols have the same side (number of rows), and
+/// are drawn one below the other.
 pub(crate) fn put_document<S: HasSquare, W: Sink>(
     pen: &mut Pen,
     out: &mut W,

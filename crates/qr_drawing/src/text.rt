@@ -1,5 +1,5 @@
-//! Draws symbols as lines of text. A line consists of cells. A cell is two characters that show one module, or one
-//! character that shows two modules, one above the other.
+//! Draws symbols as lines of text. A line of text consists of cells. A cell is two characters that show one module, or
+//! one character that shows two modules, one above the other.
 
 ghost use Rattle.std.specs.Prelude.{◌≡◌, ℕ, ◌≤◌, ◌<◌, ◌+◌, ◌-◌, ◌*◌, ◌/◌, ◌%◌, ◌++◌, ◌∷◌, [], false, map, IfSome};
 ghost use Rattle.std.specs.List.{flat_map};
@@ -19,16 +19,16 @@ use qr_symbol::Matrix;
 /// The ways in which a text shows modules.
 #[derive(Clone, Copy)]
 pub(crate) enum TextStyle {
-    /// Each cell shows one module: two `#` for a dark module, and two spaces for a light module.
+    /// A cell is two characters that show one module: two `#` for a dark module, and two spaces for a light module.
     Plain,
-    /// Each cell shows one module: two spaces for a dark module, and two `#` for a light module.
+    /// A cell is two characters that show one module: two spaces for a dark module, and two `#` for a light module.
     Inverse,
-    /// Each cell shows two modules, one above the other, as one character: a space or a block character.
+    /// A cell is one character that shows two modules, one above the other: a space or a block character.
     HalfBlocks,
 }
 
-// Returns the greatest number of bytes of a cell. A cell is the text for one module, or for two modules, one above the
-// other.
+// Returns the greatest number of bytes of a cell in the style `style`. A cell is the text that shows one module, or two
+// modules, one above the other.
 fn cell_room(style: TextStyle) -> usize
     ensures value { result ≡ cell_room style }
     ensures most { result ≤ 3 }
@@ -39,8 +39,8 @@ fn cell_room(style: TextStyle) -> usize
     }
 }
 
-// Returns the first row of modules that line `y` of the text shows. In the style `HalfBlocks` a line shows two rows,
-// and in the other styles one row.
+// Returns the first row of modules that line `y` of the text shows. In the style `HalfBlocks` a line of text shows two
+// rows of modules, and in the styles `Plain` and `Inverse` one row.
 fn top_row(style: TextStyle, y: u16) -> u16
     requires { y < 1000 }
     ensures value { result ≡ top_row style y }
@@ -52,7 +52,7 @@ fn top_row(style: TextStyle, y: u16) -> u16
     }
 }
 
-// Returns the number of lines of text that are needed to show `rows` rows of modules.
+// Returns the number of lines of text that show `rows` rows of modules in the style `style`.
 fn line_count(style: TextStyle, rows: u16) -> u16
     requires { rows < 1000 }
     ensures value { result ≡ line_count style rows }
@@ -64,7 +64,7 @@ fn line_count(style: TextStyle, rows: u16) -> u16
     }
 }
 
-// Appends one module as two characters to `text`.
+// Appends two characters, which show one module, to `text`.
 fn push_module(text: &mut ArrayVec<u8, 1200>, dark: bool)
     requires room { array_vec_len text.old + 2 ≤ 1200 }
     ensures { text.new.items ≡ text.old.items ++ ascii_module dark }
@@ -73,8 +73,8 @@ fn push_module(text: &mut ArrayVec<u8, 1200>, dark: bool)
     push_all(text, &[character; 2]);
 }
 
-// Appends two modules, one above the other, as one character to `text`. The filled parts of the character are light
-// modules.
+// Appends one character, which shows two modules, one above the other, to `text`. The filled parts of a block character
+// are light modules.
 fn push_half_block(text: &mut ArrayVec<u8, 1200>, upper: bool, lower: bool)
     requires room { array_vec_len text.old + 3 ≤ 1200 }
     ensures items { text.new.items ≡ text.old.items ++ half_blocks upper lower }
@@ -94,8 +94,8 @@ fn push_half_block(text: &mut ArrayVec<u8, 1200>, upper: bool, lower: bool)
     text.push(last);
 }
 
-// Appends a cell to `text`. In the style `HalfBlocks` the cell shows the module `upper` and the module `lower` below
-// it. In the other styles the cell shows only the module `upper`.
+// Appends a cell, which shows one or two modules, to `text`. In the style `HalfBlocks` the cell shows the module
+// `upper` and the module `lower` below it. In the styles `Plain` and `Inverse` the cell shows only the module `upper`.
 fn push_cell(text: &mut ArrayVec<u8, 1200>, style: TextStyle, upper: bool, lower: bool)
     requires room { array_vec_len text.old + cell_room style ≤ 1200 }
     ensures { text.new.items ≡ text.old.items ++ cell_text style upper lower }
@@ -107,8 +107,8 @@ fn push_cell(text: &mut ArrayVec<u8, 1200>, style: TextStyle, upper: bool, lower
     }
 }
 
-// Returns the row of `matrix` that row `row` of the raster shows, or `None` if `row` is in the margin or below the
-// raster. The raster is the square of modules with its margin.
+// Returns the row of `matrix` that row `row` of the raster shows. Returns `None` if `row` is a row of the margin or
+// below the raster. The raster is the square of modules with its margin.
 #[tactic(auto, using(crate::proofs::lemmas::svg::PathLemmas::is_dark_at_above, crate::proofs::lemmas::svg::PathLemmas::is_dark_at_below))]
 fn square_row(matrix: &Matrix, margin: u8, row: u16) -> Option<u8>
     ensures { ShowsRow margin matrix.now row result }
@@ -123,9 +123,9 @@ fn square_row(matrix: &Matrix, margin: u8, row: u16) -> Option<u8>
     Some((row - first) as u8)
 }
 
-// Returns the colours of eight modules of row `row` of `matrix`, from column `col` on, as the bits of a number. The
-// lowest bit is column `col`, which is a multiple of eight, and a set bit is a dark module. Bits of columns outside the
-// square may have any value. If `row` is `None`, all eight bits are 0.
+// Returns the colours of eight modules of row `row` of `matrix`, from column `col` on, as the bits of a number. `col`
+// must be a multiple of eight. Bit 0 is the module in column `col`, and a set bit is a dark module. Bits of columns
+// outside the square may have any value. If `row` is `None`, all eight bits are 0.
 #[inline(always)]
 #[tactic(auto, using(crate::proofs::lemmas::text::CellLemmas::dark_none))]
 fn dark_bits(matrix: &Matrix, row: Option<u8>, col: u8) -> u8
@@ -140,8 +140,8 @@ fn dark_bits(matrix: &Matrix, row: Option<u8>, col: u8) -> u8
     }
 }
 
-// The texts of four modules, with two characters for each module. The bits of the index are the modules: bit 0 is the
-// first module, and a set bit is a dark module.
+// The 16 texts that show four modules side by side, with two characters for each module. The index of a text has one
+// bit for each module: bit 0 is the first module, and a set bit is a dark module.
 static ASCII_QUADS: [[u8; 8]; 16] = [
     *b"        ",
     *b"##      ",
@@ -161,8 +161,8 @@ static ASCII_QUADS: [[u8; 8]; 16] = [
     *b"########",
 ];
 
-// Returns the text of four modules, with two characters for each module. Bit 0 of `bits` is the first module, and a set
-// bit is a dark module.
+// Returns the text that shows four modules side by side, with two characters for each module. Bit 0 of `bits` is the
+// first module, and a set bit is a dark module.
 fn ascii_quad(bits: u8) -> &'static [u8; 8]
     requires { bits < 16 }
     ensures { result.now ≡ bits_text 4 Plain bits 0 }
@@ -170,7 +170,7 @@ fn ascii_quad(bits: u8) -> &'static [u8; 8]
     &ASCII_QUADS[usize::from(bits)]
 }
 
-// Appends two modules, and the two modules below them, as two block characters to `text`. Bits 0 and 1 of `pair` are
+// Appends two characters, which show two modules and the two modules below them, to `text`. Bits 0 and 1 of `pair` are
 // the upper modules, and bits 2 and 3 are the lower modules. A set bit is a dark module.
 #[inline(always)]
 #[tactic(auto, unfolding(qr_matrix::specs::BitRow::has_bit, crate::specs::Raster::texts_below))]
@@ -200,8 +200,8 @@ fn push_half_block_pair(text: &mut ArrayVec<u8, 1200>, pair: u8)
     }
 }
 
-// Appends four modules, and the four modules below them, as four block characters to `text`. Bit 0 of `upper` is the
-// first upper module, and bit 0 of `lower` is the module below it. A set bit is a dark module.
+// Appends four characters, which show four modules and the four modules below them, to `text`. Bit 0 of `upper` is the
+// first upper module, and bit 0 of `lower` is the module below the first upper module. A set bit is a dark module.
 #[inline(always)]
 #[tactic(auto, using(crate::proofs::lemmas::text::CellLemmas::half_block_pairs))]
 fn push_half_block_quad(text: &mut ArrayVec<u8, 1200>, upper: u8, lower: u8)
@@ -213,8 +213,8 @@ fn push_half_block_quad(text: &mut ArrayVec<u8, 1200>, upper: u8, lower: u8)
     push_half_block_pair(text, upper / 4 % 4 + lower / 4 % 4 * 4);
 }
 
-// Appends four cells to `text`. Each cell shows one bit of `upper`, and in the style `HalfBlocks` also the same bit of
-// `lower`. The first cell shows bit 0, and a set bit is a dark module.
+// Appends four cells, each of which shows one or two modules, to `text`. Cell i (counted from 0) shows the module of
+// bit i of `upper`, and in the style `HalfBlocks` also the module of bit i of `lower`. A set bit is a dark module.
 #[inline(always)]
 #[tactic(auto, using(crate::proofs::lemmas::text::CellLemmas::quad_plain, crate::proofs::lemmas::text::CellLemmas::quad_inverse))]
 fn push_quad(text: &mut ArrayVec<u8, 1200>, style: TextStyle, upper: u8, lower: u8)
@@ -229,8 +229,8 @@ fn push_quad(text: &mut ArrayVec<u8, 1200>, style: TextStyle, upper: u8, lower: 
     }
 }
 
-// Returns the text of eight modules, with two characters for each module. Bit 0 of `bits` is the first module, and a
-// set bit is a dark module.
+// Returns the text that shows eight modules side by side, with two characters for each module. Bit 0 of `bits` is the
+// first module, and a set bit is a dark module.
 fn ascii_eight(bits: u8) -> [u8; 16]
     ensures { result ≡ bits_text 8 Plain bits 0 }
 {
@@ -240,8 +240,8 @@ fn ascii_eight(bits: u8) -> [u8; 16]
     text
 }
 
-// Appends eight cells to `text`. Each cell shows one bit of `upper`, and in the style `HalfBlocks` also the same bit of
-// `lower`. The first cell shows bit 0, and a set bit is a dark module.
+// Appends eight cells, each of which shows one or two modules, to `text`. Cell i (counted from 0) shows the module of
+// bit i of `upper`, and in the style `HalfBlocks` also the module of bit i of `lower`. A set bit is a dark module.
 #[inline(always)]
 #[tactic(auto, using(crate::proofs::lemmas::text::CellLemmas::eight_quads, crate::proofs::lemmas::text::CellLemmas::eight_plain, crate::proofs::lemmas::text::CellLemmas::eight_inverse))]
 fn push_eight(text: &mut ArrayVec<u8, 1200>, style: TextStyle, upper: u8, lower: u8)
@@ -258,7 +258,8 @@ fn push_eight(text: &mut ArrayVec<u8, 1200>, style: TextStyle, upper: u8, lower:
     }
 }
 
-// Appends `count` cells of light modules to `text`.
+// Appends `count` cells, in which all modules are light, to `text`. Each cell shows one light module, or two light
+// modules, one above the other.
 #[inline(always)]
 fn push_light(text: &mut ArrayVec<u8, 1200>, style: TextStyle, count: u16)
     requires room { array_vec_len text.old + count * cell_room style ≤ 1200 }
@@ -269,8 +270,8 @@ fn push_light(text: &mut ArrayVec<u8, 1200>, style: TextStyle, count: u16)
     }
 }
 
-// Appends `count` cells of row `row` of the raster to `text`, from column `first` on. The raster is the square of
-// modules with its margin. In the style `HalfBlocks` each cell also shows the module in the row below.
+// Appends `count` cells to `text`, which show row `row` of the raster from column `first` on. The raster is the square
+// of modules with its margin. In the style `HalfBlocks` each cell also shows the module in row `row + 1`.
 #[inline(always)]
 fn push_cells(
     text: &mut ArrayVec<u8, 1200>,
@@ -294,10 +295,10 @@ fn push_cells(
     }
 }
 
-// Appends the cells of row `row` of the raster to `text`, without the margin. The raster is the square of modules with
-// its margin. In the style `HalfBlocks` each cell also shows the module in the row below. Eight cells are appended at a
-// time, and then four cells if at least four columns remain. The remaining columns, of which there are fewer than four,
-// are not appended.
+// Appends cells to `text`, which show row `row` of the raster without the margin. The raster is the square of modules
+// with its margin. In the style `HalfBlocks` each cell also shows the module in row `row + 1`. Eight cells are appended
+// at a time, and then four cells if at least four columns remain. The last columns of the square, fewer than four, are
+// not appended.
 #[inline(always)]
 fn push_columns(
     text: &mut ArrayVec<u8, 1200>,
@@ -328,9 +329,10 @@ fn push_columns(
     }
 }
 
-// Writes line `y` of the text through the buffer `pen`, in three parts. The first part is the left margin. The second
-// part is the columns of the symbol, eight or four at a time, up to a multiple of four. The third part is the remaining
-// columns, of which there are fewer than four, then the right margin and the newline.
+// Writes line `y` of the text through the buffer `pen`, in three parts. The first part of the line is the left margin.
+// The second part of the line shows all columns of the symbol but the last ones, eight or four columns at a time. The
+// third part of the line shows the last columns of the symbol, fewer than four, and then the right margin and the
+// newline.
 #[inline(always)]
 fn put_line<W: Sink>(
     pen: &mut Pen,
@@ -367,7 +369,7 @@ fn put_line<W: Sink>(
     Ok(())
 }
 
-// Writes the lines of text of the symbol `matrix` through the buffer `pen`.
+// Draws the symbol `matrix` as lines of text, which are written through the buffer `pen`.
 #[inline(never)]
 fn put_lines<W: Sink>(
     pen: &mut Pen,
@@ -386,9 +388,9 @@ fn put_lines<W: Sink>(
     }
 }
 
-// Writes the lines of text of the symbol `matrix`, as `put_lines` does. `put_lines` calls this function once for each
-// style. The compiler inlines the function at each call, together with the functions that it calls. So no loop has to
-// test the style.
+// Draws the symbol `matrix` as lines of text, as the function `put_lines` does. The function `put_lines` contains one
+// call of this function for each style. The compiler inlines this function at each call, together with the functions
+// that it calls. In each inlined copy the style is fixed, so no loop has to test the style.
 #[inline(always)]
 fn put_lines_of<W: Sink>(
     pen: &mut Pen,
@@ -406,7 +408,7 @@ fn put_lines_of<W: Sink>(
     Ok(())
 }
 
-/// Writes the lines of text of all symbols through the buffer `pen`, one symbol after the other.
+/// Draws all symbols as lines of text, one symbol after the other. The lines are written through the buffer `pen`.
 pub(crate) fn put_texts<S: HasSquare, W: Sink>(
     pen: &mut Pen,
     out: &mut W,

@@ -1,4 +1,4 @@
-//! Tests of data codewords: they are made from segments, and they are parsed.
+//! Tests of the functions that make data codewords from segments, and that parse data codewords.
 
 ghost use Rattle.std.specs.Prelude.{◌<◌, ◌≤◌, length};
 ghost use Rattle.std.specs.Option.{ForSome};

@@ -1,11 +1,12 @@
-//! Tests of `Counted`, which makes a device from a reader or a writer of the standard library. The device forwards each
-//! call and each flush to the reader or the writer, and returns its errors.
+//! Tests of `Counted`, which makes a device from a reader or a writer of the standard library. The tests check that the
+//! device forwards each call and each flush to the reader or the writer, and returns the errors of the reader or the
+//! writer.
 
 use qrencode_cli::{Counted, Sink, Source, Trouble};
 use std::io::{self, ErrorKind, Read, Write};
 
-// A reader and writer for these tests. The first call is interrupted, the second call fails, and all later calls
-// succeed. The calls and the flushes are counted in variables of the test.
+// A reader and writer for the tests of this file. The first call of a `Rough` is interrupted, the second call fails,
+// and all later calls succeed. A `Rough` counts its calls and its flushes in variables of the test.
 #[derive(Drop)]
 struct Rough<'a> {
     calls: &'a mut u8,
@@ -13,7 +14,7 @@ struct Rough<'a> {
 }
 
 impl Rough<'_> {
-    // Counts a call. Returns the error with which the call fails, or `None` if the call succeeds.
+    // Counts a call, and returns the error with which the call fails, or `None` if the call succeeds.
     fn error(&mut self) -> Option<io::Error> {
         *self.calls = self.calls.saturating_add(1);
         match *self.calls {

@@ -56,8 +56,8 @@ fn interrupted_too_often(rt: HostRuntime) -> Result<(), Fail> {
 }
 
 // The command runs three times with a reader that returns one byte in a call. In the first run the first call of the
-// reader fails, in the second run the second call, and in the third run the third call. The third call would find the
-// end of the input.
+// reader fails, in the second run the second call, and in the third run the third call. In the third run, the call that
+// fails is the one that would have reached the end of the input.
 #[test]
 fn readers_fail_in_turn(rt: HostRuntime) -> Result<(), Fail> {
     for call in 0..3u64 {
@@ -81,9 +81,9 @@ fn readers_fail_in_turn(rt: HostRuntime) -> Result<(), Fail> {
     Ok(())
 }
 
-// The writer accepts at most 100 bytes in a call. From a certain call on, the writer fails or accepts no byte. In the
-// first runs this is call 0, in the next runs it is call 1, and so on. In the last runs the drawing needs so few calls
-// that no call fails, and the command succeeds.
+// The writer accepts at most 100 bytes in a call. From the call with the number `call` on, the writer fails or accepts
+// no byte. The number `call` is 0 in the first two runs, 1 in the next two runs, and so on. In the last runs the
+// drawing needs so few calls that no call fails, and the command succeeds.
 #[test]
 fn writers_fail_in_turn(rt: HostRuntime) -> Result<(), Fail> {
     let want = drawing(rt.alloc())?;

@@ -152,8 +152,8 @@ fn svg_of_two_symbols(rt: HostRuntime) -> Result<(), Fail> {
 }
 
 // A run is a group of neighbouring modules of one colour in a row. The first row begins with the dark run of a finder
-// pattern and then a light run. The row ends with the dark run of another finder pattern. For each of these runs, the
-// test checks the column after the end of the run.
+// pattern and then a light run. The first row ends with the dark run of a second finder pattern. For both dark runs and
+// the light run, the test checks the column after the last module of the run.
 #[test]
 fn runs_of_the_first_row(rt: HostRuntime) -> Result<(), Fail> {
     let symbol = symbol(rt.alloc())?;
@@ -204,9 +204,9 @@ fn by_words(rt: HostRuntime) -> Result<(), Fail> {
     Ok(())
 }
 
-// The writer accepts at most 100 bytes in a call, and fails from a certain call on. In the first run this is call 0, in
-// the next run it is call 1, and so on. In each run, the bytes that the writer received are a prefix of the drawing. In
-// the last run the drawing needs so few calls that no call fails.
+// The writer accepts at most 100 bytes in a call, and fails from the call with the number `call` on. The number `call`
+// is 0 in the first run, 1 in the next run, and so on. In each run, the bytes that the writer received are a prefix of
+// the drawing. In the last run the drawing needs so few calls that no call fails.
 #[test]
 fn writers_fail_in_turn(rt: HostRuntime) -> Result<(), Fail> {
     let symbols = [symbol(rt.alloc())?];

@@ -182,8 +182,8 @@ fn four_blocks_of_two_lengths(rt: HostRuntime) -> Result<(), Fail> {
     Ok(())
 }
 
-// Makes each symbol with `build` and with `build_masked`, and compares the modules of the two symbols. Some of the
-// versions have no remainder bits; other versions have three, four or seven remainder bits. Version 7 and later
+// Makes each symbol with `build` and with `build_masked`, and compares the modules of the two symbols. Of the versions
+// in this test, some have no remainder bits, and some have three, four or seven remainder bits. Version 7 and later
 // versions have version information.
 #[test]
 fn plain_and_fast_symbols(rt: HostRuntime) -> Result<(), Fail> {

@@ -7,7 +7,7 @@ use qr_symbol::{EncodeFault, ReadFault};
 use qrencode_cli::{DrawFault, UsageFault};
 use std::test::Fail;
 
-// Each fault of each crate has the number that is listed here.
+// Each fault of each crate has the number that this test lists.
 #[test]
 fn numbers_of_faults(rt: HostRuntime) {
     assert_eq!(rt; (BitFault::Memory as u8, BitFault::TooLong as u8), (1, 2));

@@ -59,7 +59,7 @@ fn of_words_and_input(rt: HostRuntime) -> Result<(), Fail> {
     Ok(())
 }
 
-// If the crate `clap` refuses the arguments, its text is written to standard error, and no input is read.
+// If the crate `clap` refuses the arguments, the text of `clap` is written to standard error, and no input is read.
 #[test]
 fn faults_of_arguments(rt: HostRuntime) -> Result<(), Fail> {
     let rows = [
@@ -123,7 +123,8 @@ fn faults_of_arguments(rt: HostRuntime) -> Result<(), Fail> {
     Ok(())
 }
 
-// At each level, the longest input of digits that fits a symbol is drawn. An input with one more digit is refused.
+// At each level, the longest input of digits that fits a symbol is drawn. An input that has one digit more than the
+// longest input is refused.
 #[test]
 fn of_length(rt: HostRuntime) -> Result<(), Fail> {
     let digits = vec![in rt.alloc(); b'7'; 7090]?;
@@ -147,8 +148,8 @@ fn of_length(rt: HostRuntime) -> Result<(), Fail> {
     Ok(())
 }
 
-// At level L, the longest inputs of capital letters and of small letters that fit a symbol are drawn. Inputs with one
-// more letter are refused.
+// At level L, the longest inputs of capital letters and of small letters that fit a symbol are drawn. Inputs that have
+// one letter more than the longest inputs are refused.
 #[test]
 fn of_length_in_other_modes(rt: HostRuntime) -> Result<(), Fail> {
     for (byte, most) in [(b'A', 4296usize), (b'a', 2953)] {
@@ -211,8 +212,8 @@ fn fault_line_on_a_full_device(rt: HostRuntime) -> Result<(), Fail> {
     Ok(())
 }
 
-// The line of a fault is written even if standard error is interrupted 999 times. After 1,000 interruptions, the line
-// is not written.
+// The line of a fault is written even if standard error is interrupted 999 times. If standard error is interrupted
+// 1,000 times, the line of a fault is not written.
 #[test]
 fn fault_line_on_an_interrupted_device(rt: HostRuntime) -> Result<(), Fail> {
     for (interruptions, line) in [(999, "qrencode: input is empty\n"), (1000, "")] {

@@ -46,7 +46,7 @@ fn kanji_by_an_option(rt: HostRuntime) -> Result<(), Fail> {
     );
     assert!(rt; draw_alike(&rt, &in_bytes, &draw, pairs)?, "in byte mode");
     // Each input is a kanji pair (two bytes that are one character of kanji mode) and a letter. The second byte of the
-    // pair is the code of the letter `a`.
+    // kanji pair is the code of the letter `a`.
     let (small, large) = (b"\x93\x61a", b"\x93\x61A");
     for words in [&kanji[..], &folded[..]] {
         let a = run_with(rt.alloc(), &folded, small, Devices::WITHOUT_FAULTS)?;

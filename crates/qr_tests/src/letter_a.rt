@@ -81,8 +81,8 @@ fn is_drawn(rt: HostRuntime) -> Result<(), Fail> {
     Ok(())
 }
 
-// The last row of the symbol is the fifth line from the bottom of the drawing. This line ends with three single dark
-// modules, three dark modules side by side, and the margin.
+// The last row of the symbol is the fifth line from the bottom of the drawing. The fifth line from the bottom ends with
+// three single dark modules, three dark modules side by side, and the margin.
 #[test]
 fn ends_in_three_lone_modules(rt: HostRuntime) -> Result<(), Fail> {
     let r = run_with(rt.alloc(), &DRAW, b"A", Devices::WITHOUT_FAULTS)?;

@@ -1,5 +1,6 @@
-//! Tests of the public functions of most crates. The tests of the command run it with devices in memory. The tests are
-//! in a crate of their own, since a crate that contains tests is proved twice: with its tests, and without its tests.
+//! Tests of the public functions of most crates. The tests of the command run the command with devices in memory. The
+//! tests are in a crate of their own, since a crate that contains tests is proved twice: with its tests, and without
+//! its tests.
 #![tactic(auto)]
 
 #[cfg(test)]

@@ -62,7 +62,8 @@ fn a_row_is_masked_within(rt: HostRuntime) -> Result<(), Fail> {
     Ok(())
 }
 
-// Transposes two squares. In one square a row is one word of 64 bits, and in the other square a row is three words.
+// Transposes two squares. In the first square a row is stored in one word of 64 bits, and in the second square a row is
+// stored in three words.
 #[test]
 fn a_square_is_transposed(rt: HostRuntime) -> Result<(), Fail> {
     let places = [
@@ -147,7 +148,8 @@ fn runs_over_the_border_of_words(rt: HostRuntime) -> Result<(), Fail> {
     Ok(())
 }
 
-// Counts the modules in which two squares differ. Only the listed modules are dark. A row is three words of 64 bits.
+// Counts the modules in which two squares differ. In each square, only the modules that the test lists are dark. A row
+// of each square is stored in three words of 64 bits.
 #[test]
 fn differences_are_counted(rt: HostRuntime) -> Result<(), Fail> {
     let rows = [

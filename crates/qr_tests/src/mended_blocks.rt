@@ -5,7 +5,7 @@ use qr_field::Divisor;
 use qr_mending::{mend, mend_with_erasures};
 use std::process::Abort;
 
-// Replaces codewords in the block of `01234567`, as `damage` lists them, and corrects the block. Returns the number of
+// Replaces the codewords that `damage` lists in the block of `01234567`, and corrects the block. Returns the number of
 // codewords that were corrected. Returns `None` if the block could not be corrected.
 fn mended_count(rt: &impl Abort, t: usize, damage: &[(usize, u8)]) -> Option<usize> {
     let mut damaged = EIGHT_DIGITS;
@@ -26,7 +26,7 @@ fn mended_count(rt: &impl Abort, t: usize, damage: &[(usize, u8)]) -> Option<usi
     None
 }
 
-// The expected results come from another decoder, which uses the algorithm of Berlekamp and Massey.
+// The expected results come from an independent decoder, which uses the algorithm of Berlekamp and Massey.
 #[test]
 fn block_of_eight_digits_damaged(rt: HostRuntime) {
     let five = [(0, 0x41u8), (3, 0), (7, 0x22), (20, 1), (25, 0)];
@@ -46,9 +46,9 @@ fn block_of_eight_digits_damaged(rt: HostRuntime) {
     }
 }
 
-// Replaces codewords in the block of `01234567`, as `unread` and `misread` list them, and corrects the block. The
-// codewords in `unread` are passed as erased, which means that they could not be read. Returns the number of misread
-// codewords. Returns `None` if the block could not be corrected.
+// Replaces the codewords that `unread` and `misread` list in the block of `01234567`, and corrects the block. The
+// codewords in `unread` are marked as erased, that is, as codewords that could not be read. Returns the number of
+// misread codewords. Returns `None` if the block could not be corrected.
 fn mended_with_erasures(
     rt: &impl Abort,
     spare: usize,
@@ -79,8 +79,8 @@ fn mended_with_erasures(
     None
 }
 
-// The expected results were found by a search. For every set of positions of codewords, the search solved the linear
-// equations for the codewords at these positions.
+// The expected results were found by a search, which tried every set of positions of codewords. For each set of
+// positions, the search solved the linear equations for the codewords at these positions.
 #[test]
 fn block_of_eight_digits_with_erasures(rt: HostRuntime) {
     let unread = [

@@ -40,7 +40,7 @@ fn mend_inverted(
 }
 
 // In version 1 and level M, at most four of the 26 codewords can be corrected. Two of the ten error correction
-// codewords are kept unused.
+// codewords are not used to correct errors, only to detect them.
 #[test]
 fn eight_digits_damaged(rt: HostRuntime) -> Result<(), Fail> {
     let first = [(0u8, 8u8), (1, 8), (2, 8), (3, 8)];
@@ -85,7 +85,8 @@ fn eight_digits_damaged(rt: HostRuntime) -> Result<(), Fail> {
     Ok(())
 }
 
-// The rows and columns of nine modules in version 1 and level M. Each module belongs to another codeword.
+// The rows and columns of nine modules in version 1 and level M. Each of the nine modules belongs to a different
+// codeword.
 static CODEWORDS: [(u8, u8); 9] = [
     (20, 20),
     (16, 20),
@@ -99,9 +100,9 @@ static CODEWORDS: [(u8, u8); 9] = [
 ];
 
 // Inverts the modules `modules` in the symbol of `01234567` in version 1 and level M, and corrects the symbol. The
-// first `unread` of these modules are marked as not read. Returns three numbers: the number of misread codewords, the
-// number of wrong modules of the format information, and the number of all wrong modules. Returns the fault if the
-// symbol could not be corrected.
+// first `unread` items of `modules` are marked as modules that could not be read. Returns three numbers: the number of
+// misread codewords, the number of wrong modules of the format information, and the number of all wrong modules.
+// Returns the fault if the symbol could not be corrected.
 fn mend_inverted_without(
     rt: &HostRuntime,
     modules: &[(u8, u8)],
@@ -178,7 +179,7 @@ fn eight_digits_with_unread_modules(rt: HostRuntime) -> Result<(), Fail> {
 }
 
 // Returns the two symbols of the series of `ABCDEFGH` in version 1 and level H. The first symbol contains `ABCDE`, and
-// the second symbol contains `FGH`. One module of each symbol is inverted. In this version and level, at most eight
+// the second symbol contains `FGH`. One module of each symbol is inverted. In version 1 and level H, at most eight
 // wrong codewords can be corrected.
 fn damaged_parts(rt: &HostRuntime) -> Result<Vec<Matrix>, Fail> {
     let symbols = encode_series(

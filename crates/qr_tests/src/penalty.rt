@@ -8,8 +8,8 @@ enum Pattern {
     Light,
     Dark,
     Chequered,
-    // The column of the first row at which dark and light modules in the ratio 1:1:3:1:1 of a finder pattern begin.
-    // Four light modules follow.
+    // The first row contains dark and light modules in the ratio 1:1:3:1:1 of a finder pattern, and then four light
+    // modules. The number in `WindowFrom` is the column of the first dark module.
     WindowFrom(u8),
 }
 
@@ -31,8 +31,9 @@ fn is_dark(pattern: Pattern, row: u8, col: u8) -> bool {
 
 #[test]
 fn penalties(rt: HostRuntime) -> Result<(), Fail> {
-    // In the squares of this test, a row is one, two or three words of 64 bits. Some runs of modules of one colour
-    // begin in one word and end in the next word. One pattern with the ratio 1:1:3:1:1 does so too.
+    // In the squares of this test, a row is stored in one, two or three words of 64 bits. Some runs of modules of one
+    // colour begin in one word and end in the next word. One pattern with the ratio 1:1:3:1:1 begins in one word and
+    // ends in the next word.
     let rows = [
         ("all light", 21u8, Pattern::Light, 2098),
         ("a chequered square", 21, Pattern::Chequered, 0),

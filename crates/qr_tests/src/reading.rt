@@ -7,8 +7,8 @@ use qr_matrix::Matrix;
 use qr_symbol::{ReadFault, build_masked, encode, read_symbol};
 use std::test::Fail;
 
-// Returns whether the content that is read from `matrix` is the bytes `bytes`. The content must have one segment of the
-// mode `mode`, and no structured append header.
+// Returns whether the symbol `matrix` contains exactly the bytes `bytes`, in one segment of the mode `mode` and without
+// a structured append header.
 fn says(rt: &HostRuntime, matrix: &Matrix, mode: Mode, bytes: &[u8]) -> Result<bool, Fail> {
     let parsed = read_symbol(rt.alloc(), matrix)?;
     let segment = Segment {
@@ -68,7 +68,8 @@ fn eight_digits_with_a_module_inverted(rt: HostRuntime) -> Result<(), Fail> {
 }
 
 // Inverts each module of a symbol of version 1, one module at a time. The first copy of the format information has 15
-// modules, and the codewords have 208 modules. The colours of all other modules have no effect.
+// modules, and the codewords have 208 modules. The modules outside the first copy of the format information and outside
+// the codewords have no effect.
 #[test]
 fn each_module_inverted(rt: HostRuntime) -> Result<(), Fail> {
     let version = Version::FIRST;
@@ -98,7 +99,7 @@ fn each_module_inverted(rt: HostRuntime) -> Result<(), Fail> {
     Ok(())
 }
 
-// Inverts the remainder bits of a symbol of version 2. They are the seven modules after the 44 codewords.
+// Inverts the remainder bits of a symbol of version 2. The remainder bits are the seven modules after the 44 codewords.
 #[test]
 fn remainder_bits_inverted(rt: HostRuntime) -> Result<(), Fail> {
     let version = Version::new(2).ok_or("version 2")?;

@@ -1,5 +1,5 @@
-//! Contains codewords and symbols for the tests. The symbols have version 1. They contain an optional structured append
-//! header, and then one segment in byte mode.
+//! Contains codewords and symbols for the tests. The symbols have version 1. Each symbol that a function of this file
+//! makes contains an optional structured append header, and then one segment in byte mode.
 
 ghost use Rattle.std.specs.Prelude.{◌<◌, ◌≤◌, length};
 ghost use Rattle.std.specs.Option.{ForSome};

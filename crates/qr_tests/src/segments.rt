@@ -194,7 +194,8 @@ fn kanji(rt: HostRuntime) -> Result<(), Fail> {
 }
 
 // The expected values were worked out by hand. The function `least_bits` counts 10 bits for three digits, 11 bits for
-// two other bytes up to `Z`, and 13 bits for two greater bytes. The sum is rounded down.
+// two other bytes that are not greater than `Z`, and 13 bits for two bytes greater than `Z`. The function `least_bits`
+// rounds the sum down.
 #[test]
 fn least_bits_of_inputs(rt: HostRuntime) -> Result<(), Fail> {
     let rows = [

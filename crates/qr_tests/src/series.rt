@@ -33,8 +33,8 @@ fn of_version_1_h(rt: HostRuntime) -> Result<(), Fail> {
     Ok(())
 }
 
-// The largest series in byte mode has 16 symbols of version 40-L with 2,951 bytes each. An input with one more byte is
-// refused.
+// The largest series in byte mode has 16 symbols of version 40-L with 2,951 bytes each. An input with one byte more
+// than the largest series can contain is refused.
 #[test]
 fn of_version_40_l(rt: HostRuntime) -> Result<(), Fail> {
     let letters = vec![in rt.alloc(); b'a'; 47_217]?;

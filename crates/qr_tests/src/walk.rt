@@ -94,8 +94,8 @@ fn lengths_of_the_region(rt: HostRuntime) -> Result<(), Fail> {
     Ok(())
 }
 
-// A strip is two columns that are filled together, and column 6 belongs to no strip. So after the last module of column
-// 7, the walk over the encoding region continues in column 5, in the same row.
+// A strip is two columns that are filled together, and column 6 belongs to no strip. After the last module of column 7,
+// the walk over the encoding region continues in column 5, in the same row.
 #[test]
 fn walk_over_column_6(rt: HostRuntime) -> Result<(), Fail> {
     let version = Version::FIRST;

@@ -1,4 +1,5 @@
-//! The program `qrencode` passes its arguments and its standard streams to `qrencode_cli::run`.
+//! The program `qrencode` passes its arguments and its standard streams to the function `qrencode_cli::run`, and exits
+//! with its status.
 #![tactic(auto)]
 
 ghost use Rattle.std.specs.Prelude.{map};

@@ -14,9 +14,9 @@ use clap::error::ErrorKind;
 use clap::{Arg, ArgAction, ArgMatches, Command};
 use std::alloc::{AllocError, Global};
 
-// The texts of an option of the command line. `id` is the option's name in the code, and `short` is its letter on the
-// command line. In the help text, `value` is the name of the option's value, and `help` is the line that describes the
-// option.
+// The names and the help texts of an option of the command line. `id` is the option's name in the code, and `short` is
+// its letter on the command line. In the help text, `value` is the name of the option's value, and `help` is the line
+// that describes the option.
 #[derive(Clone, Copy)]
 struct OptionText<'a> {
     id: &'a str,
@@ -25,7 +25,7 @@ struct OptionText<'a> {
     help: &'a str,
 }
 
-// Returns an option for `clap` that has a text as its value.
+// Returns the declaration, for the crate `clap`, of an option whose value is a text.
 fn text_option<'a>(alloc: Global, option: OptionText<'a>) -> Arg<'a>
     ensures rule { rule_of result ≡ text_rule option.entry.id.now option.entry.short }
     ensures local { result.global ≡ false }
@@ -36,7 +36,8 @@ fn text_option<'a>(alloc: Global, option: OptionText<'a>) -> Arg<'a>
         .help(option.help)
 }
 
-// Returns an option for `clap` that has a number as its value. The number is at least 0 and at most `most`.
+// Returns the declaration, for the crate `clap`, of an option whose value is a number. `clap` accepts only numbers that
+// are at least 0 and at most `most`.
 fn number_option<'a>(alloc: Global, option: OptionText<'a>, most: i64) -> Arg<'a>
     ensures rule { rule_of result ≡ number_rule option.entry.id.now option.entry.short most }
     ensures local { result.global ≡ false }
@@ -44,7 +45,8 @@ fn number_option<'a>(alloc: Global, option: OptionText<'a>, most: i64) -> Arg<'a
     text_option(alloc, option).value_parser(ValueParser::Signed(0, most))
 }
 
-// Returns an option for `clap` that has a text as its value. The command line must contain this option.
+// Returns the declaration, for the crate `clap`, of a required option whose value is a text. `clap` refuses a command
+// line that does not contain a required option.
 fn required_option<'a>(alloc: Global, option: OptionText<'a>) -> Arg<'a>
     ensures rule { rule_of result ≡ required_rule option.entry.id.now option.entry.short }
     ensures local { result.global ≡ false }
@@ -52,7 +54,7 @@ fn required_option<'a>(alloc: Global, option: OptionText<'a>) -> Arg<'a>
     text_option(alloc, option).required(true)
 }
 
-// Returns an option for `clap` that has no value.
+// Returns the declaration, for the crate `clap`, of an option that has no value.
 fn flag_option<'a>(alloc: Global, option: OptionText<'a>) -> Arg<'a>
     ensures rule { rule_of result ≡ flag_rule option.entry.id.now option.entry.short }
     ensures local { result.global ≡ false }
@@ -63,8 +65,9 @@ fn flag_option<'a>(alloc: Global, option: OptionText<'a>) -> Arg<'a>
         .action(ArgAction::SetTrue)
 }
 
-// Returns a positional argument for `clap`, that is, an argument that is not part of an option. `id` is the name of the
-// argument in the code. In the help text, `value` is the name of the argument, and `help` describes the argument.
+// Returns the declaration, for the crate `clap`, of a positional argument (an argument that is not part of an option).
+// `id` is the name of the argument in the code. In the help text, `value` is the name of the argument, and `help`
+// describes the argument.
 fn positional<'a>(alloc: Global, id: &'a str, value: &'a str, help: &'a str) -> Arg<'a>
     ensures rule { rule_of result ≡ positional_rule id.entry.now }
     ensures local { result.global ≡ false }
@@ -72,7 +75,7 @@ fn positional<'a>(alloc: Global, id: &'a str, value: &'a str, help: &'a str) -> 
     Arg::new(alloc, id).value_name(value).help(help)
 }
 
-// Returns the command `qrencode` for `clap`, before its arguments are added.
+// Returns the declaration, for the crate `clap`, of the command `qrencode` without its arguments.
 fn empty_command<'a>(alloc: Global) -> Command<'a>
     ensures { app_of result ≡ new_app (codes "qrencode") }
 {
@@ -135,7 +138,7 @@ const STRUCTURED: OptionText<'static> = OptionText {
     help: "Draw a series of up to 16 symbols where one does not hold the input; needs -v",
 };
 
-// Returns the command `qrencode` for `clap`, with all its arguments.
+// Returns the declaration, for the crate `clap`, of the command `qrencode` with all its arguments.
 fn command_line<'a>(alloc: Global) -> Result<Command<'a>, AllocError>
     ensures { IfOk result (λ c. app_of c ≡ command) }
 {
@@ -157,8 +160,8 @@ fn command_line<'a>(alloc: Global) -> Result<Command<'a>, AllocError>
 
 /// Parses the command line `words` with `clap`, and returns the matches: the arguments that `clap` found, with their
 /// values. The first text of `words` is the program's name. If `clap` refuses the command line, returns
-/// `UsageFault::Words` with the message of `clap`. A command line that asks for help is refused too, and the message is
-/// then the help text. Returns `UsageFault::Memory` if memory is refused.
+/// `UsageFault::Words` with the message of `clap`. If a command line asks for help, `clap` refuses the command line,
+/// and the message of `clap` is the help text. Returns `UsageFault::Memory` if memory is refused.
 pub(crate) fn matches<'a>(alloc: Global, words: &'a [String]) -> Result<ArgMatches<'a>, UsageFault>
     ensures taken { IfOk result (λ m. faults_for (map string_bytes words.entry.now) ≡ []) }
     ensures rows { IfOk result (λ m. rows_of (found_of m) ≡ rows_for (map string_bytes words.entry.now)) }

@@ -1,5 +1,5 @@
-//! Runs the command: parses the arguments, reads the input, encodes it, and draws the symbols. After a fault, writes
-//! the fault's line to standard error.
+//! Runs the command: parses the arguments, reads the input, encodes it, and draws the symbols. If a fault occurs,
+//! writes the line of this fault to standard error.
 
 ghost use Rattle.std.specs.Prelude.{◌≡◌, ◌≤◌, ◌<◌, ◌↔◌, Err, OnOk, IfErr, IsErrOf, IsTrue, max, length, map};
 ghost use Rattle.std.specs.Prelude.{MatchResult, Result};
@@ -21,8 +21,8 @@ use qr_layout::Version;
 use qr_symbol::{Symbol, encode, encode_series};
 use std::alloc::Global;
 
-// Encodes `input` with the level, the version and the modes of `settings`, and returns the symbols. With `-S` the
-// result is a series of symbols, and without `-S` it is one symbol.
+// Encodes `input` with the level, the version and the modes of `settings`, and returns the symbols. Without the option
+// `-S` the result is one symbol. With `-S` the result is one symbol or a series of symbols.
 fn symbols_for(alloc: Global, input: &[u8], settings: &Settings) -> Result<Vec<Symbol>, Fault>
     requires { length input.now ≤ INPUT_MAX }
     ensures { MatchResult result (λ symbols. AreDrawnFor settings.now input.now symbols.items)
@@ -39,8 +39,8 @@ fn symbols_for(alloc: Global, input: &[u8], settings: &Settings) -> Result<Vec<S
     Ok(symbols)
 }
 
-// Encodes `input` as it is, without changing small letters to capitals. Returns the drawing job: the symbols, and how
-// they are drawn.
+// Encodes `input` as it is, without changing small letters to capitals. Returns the drawing job: the symbols, and the
+// type and the margin of their drawing.
 fn job_of(alloc: Global, input: &[u8], settings: &Settings) -> Result<DrawingJob, Fault>
     requires { length input.now ≤ INPUT_MAX }
     ensures { MatchResult result (λ p. IsDrawing settings.now input.now (drawing_of_job p))
@@ -53,8 +53,8 @@ fn job_of(alloc: Global, input: &[u8], settings: &Settings) -> Result<DrawingJob
     })
 }
 
-// Encodes `input`, and returns the drawing job: the symbols, and how they are drawn. If `-i` is given, first changes
-// the small letters of `input` to capitals (`fold`).
+// Encodes `input`, and returns the drawing job: the symbols, and the type and the margin of their drawing. If the
+// option `-i` is given, the function `fold` first changes the small letters of `input` to capitals.
 fn make_job(alloc: Global, input: &[u8], settings: &Settings) -> Result<DrawingJob, Fault>
     requires { length input.now ≤ INPUT_MAX }
     ensures { MatchResult result (λ p. IsDrawing settings.now (held settings.now input.now) (drawing_of_job p))
@@ -67,9 +67,9 @@ fn make_job(alloc: Global, input: &[u8], settings: &Settings) -> Result<DrawingJ
     job_of(alloc, input, settings)
 }
 
-// Parses the command line `words`, encodes the input, and returns the drawing job: the symbols, and how they are drawn.
-// The input is the string among the arguments. If there is no string, the input is read from `input`. Bytes of the
-// input after the first `INPUT_MAX` are not used.
+// Parses the command line `words`, encodes the input, and returns the drawing job: the symbols, and the type and the
+// margin of their drawing. If the arguments contain a string, the string is the input. If the arguments contain no
+// string, the input is read from `input`. Only the first `INPUT_MAX` bytes of the input are used.
 fn job_for<R: Source>(alloc: Global, words: &[String], input: &mut R) -> Result<DrawingJob, Fault>
     ensures prepares { Prepares (map string_bytes words.now) (R.device input.old)
         (R.device input.new) result }
@@ -104,7 +104,8 @@ fn write_drawing<W: Sink>(job: &DrawingJob, out: &mut W) -> Result<(), Fault>
     out.flush().map_err(|_| Fault::Write)
 }
 
-// Runs the command as `run` does, but returns a fault and does not write the fault's line.
+// Does the work of the function `run`, but does not write the line of a fault to standard error. If a fault occurs,
+// returns this fault.
 fn run_to_result<R: Source, W: Sink>(
     alloc: Global,
     words: &[String],
@@ -124,41 +125,48 @@ fn run_to_result<R: Source, W: Sink>(
     write_drawing(&job, out)
 }
 
-/// Runs the command: parses the arguments `words`, reads the input, and writes the drawing to `out`. The first of
-/// `words` is the program's name. If the arguments contain a string, the string is the input. Otherwise the input is
-/// read from `input`. After a fault, writes the fault's line to `err`. Returns the exit status, which is 0 or 1.
+/// Runs the command: parses the arguments `words`, reads the input, and writes the drawing to `out`. The first text of
+/// `words` is the program's name. If the arguments contain a string, the string is the input. If the arguments contain
+/// no string, the input is read from `input`. If a fault occurs, writes the line that reports the fault to `err`.
+/// Returns the exit status, which is 0 after success and 1 after a fault.
 ///
-/// An interrupted read of the input is tried again, at most 999 times in all. The same limit holds for interrupted
-/// writes of the drawing, and separately for interrupted writes of a fault's line.
+/// While the input is read, interrupted reads are tried again, at most 999 times in all. While the drawing is written,
+/// interrupted writes are tried again, at most 999 times in all. While a fault's line is written, interrupted writes
+/// are tried again, at most 999 times in all.
 ///
-/// After success, `out` received the whole drawing of the input's symbol, or of its series of symbols. Then `out` was
-/// flushed once, after the last byte. `err` received nothing, and the status is 0.
+/// After success, `out` has received the whole drawing of the input's symbol or series of symbols. After success, `out`
+/// was flushed once, after the last byte of the drawing. After success, `err` has received no byte, and the exit status
+/// is 0.
 ///
-/// If the drawn symbols are read and their bytes are joined, the result is exactly the input. No byte of the input was
-/// cut off. With `-i` the result is the folded input, in which small letters are changed to capitals as described
-/// below.
+/// Without `-i`, reading the drawn symbols and joining their bytes yields exactly the input. No byte of the input is
+/// missing from the drawn symbols. With `-i`, reading the drawn symbols yields the folded input, in which small letters
+/// are changed to capitals as far as the options `-k` and `-8` allow.
 ///
-/// With `-8` the whole input is encoded in byte mode. Without `-8`, kanji mode may be used only if `-k` is given.
+/// With `-8` the whole input is encoded in byte mode. Kanji mode may be used only if `-k` is given and `-8` is not
+/// given.
 ///
-/// With `-i` the letters `a` to `z` are encoded as capitals. If `-k` is given too, kanji pairs (two bytes that are one
-/// character of kanji mode) are unchanged. If `-8` is given too, all bytes are unchanged. Without `-i` no letter is
-/// changed.
+/// With `-i`, and without `-k` and `-8`, the letters `a` to `z` are encoded as capitals. With `-i` and `-k`, kanji
+/// pairs (two bytes that are one character of kanji mode) are unchanged. With `-i` and `-8`, all bytes are unchanged.
+/// Without `-i` no letter is changed.
 ///
-/// After a fault the status is 1, and `err` received the fault's line. If the line could not be written completely,
-/// `err` received a prefix of the line. After a write fault, `out` received a prefix of the drawing, or the whole
-/// drawing if only the flush failed. After any other fault, nothing was written to `out`, and `out` was not flushed.
+/// After a fault, the exit status is 1, and `err` has received the line that reports the fault. If the line of a fault
+/// could not be written completely, `err` has received a prefix of this line. After a write fault, `out` has received a
+/// prefix of the drawing, or the whole drawing if only the flush failed. After a fault that is not a write fault,
+/// nothing was written to `out`, and `out` was not flushed.
 ///
 /// A read fault is reported exactly if one of two events occurred: a failed read, or the 1,000th interrupted read. A
-/// write fault is reported exactly if one of four events occurred. These events are a failed write of the drawing, a
-/// write that accepted no byte, the 1,000th interrupted write, and a failed flush.
+/// write fault is reported exactly if one of four events occurred: a failed write of the drawing, a write that accepted
+/// no byte, the 1,000th interrupted write, or a failed flush.
 ///
-/// The input is every byte of `input` up to its end, but at most 113,425 bytes are read. At most 114,424 calls read
-/// from `input`. After the end of `input` no further read is made, not even a read into an empty buffer.
+/// If the input is read from `input`, the input is all bytes of `input`, or its first 113,425 bytes if `input` has more
+/// bytes. A run makes at most 114,424 reads from `input`. After a read has reached the end of `input`, the run makes no
+/// further read, not even a read into an empty buffer.
 ///
 /// If a run has to read the input, it reads `input` to its end, or until it has 113,425 bytes. Only a read fault or
-/// lack of memory can stop the reading earlier. After a write fault, the number of bytes that `out` received is at most
-/// the length of the drawing. The number of bytes that `err` received is at most the length of the fault's line. The
-/// counts of the devices show these facts, so the facts hold for files, pipes and terminals too.
+/// lack of memory can end the reading of `input` before its end and before 113,425 bytes are read. After a write fault,
+/// the number of bytes that `out` received is at most the length of the drawing. After a fault, the number of bytes
+/// that `err` received is at most the length of the fault's line. The counts of a device show how many bytes were read
+/// or written, so the promises about numbers of bytes hold for files, pipes and terminals too.
 ///
 /// No single write of the drawing offers more than 1,200 bytes to `out`.
 ///
@@ -167,8 +175,8 @@ fn run_to_result<R: Source, W: Sink>(
 ///
 /// The promises about bytes hold for readers and writers whose bytes a contract can know, such as buffers in memory.
 /// The counts of a device show how many bytes were read and written, whether the end of the input was reached, and
-/// which faults occurred. The promises about these counts hold for devices whose counts are 0 before the run. For the
-/// standard streams, only the promises about counts hold.
+/// which faults occurred. The promises about the counts of a device hold if all counts of the device are 0 before the
+/// run. For the standard streams, whose bytes a contract cannot know, only the promises about counts hold.
 ///
 /// # Notes
 ///

@@ -1,4 +1,4 @@
-//! The faults of the command, and the line that each fault writes to standard error.
+//! Defines the faults of the command, and the line that the command writes to standard error for each fault.
 
 ghost use Rattle.std.specs.Prelude.{◌≡◌};
 ghost use Rattle.qrencode_cli.specs.Fault.{fault_line};
@@ -8,8 +8,8 @@ use qr_drawing::DrawFault;
 use qr_symbol::EncodeFault;
 use std::alloc::{AllocError, AllocFailed};
 
-/// The reason why a run of the command fails. Lack of memory is always reported as `Memory`, never as `Usage` or
-/// `Encode`.
+/// The reason why a run of the command fails. Lack of memory is always reported as the fault `Memory`, never as the
+/// fault `Usage` or `Encode`.
 #[derive(Debug, Drop)]
 pub(crate) enum Fault {
     Usage(UsageFault),
@@ -20,8 +20,8 @@ pub(crate) enum Fault {
 }
 
 impl Fault {
-    /// Returns the line that reports this fault on standard error. If `clap` refused the arguments, returns the text of
-    /// `clap`.
+    /// Returns the line that reports this fault on standard error. If the crate `clap` refused the arguments, the line
+    /// is the text of `clap`.
     pub(crate) fn line(&self) -> &[u8]
         ensures { result.now ≡ fault_line self.now }
     {

@@ -1,6 +1,6 @@
 //! This crate is the command `qrencode`: the function `run` parses the arguments, reads the input, and draws the
-//! symbols. The crate re-exports the devices of `qr_devices`, and from `qr_drawing` the types of drawing and the
-//! function `draw`.
+//! symbols. The crate re-exports the devices of the crate `qr_devices`, and the types of drawing and the function
+//! `draw` of the crate `qr_drawing`.
 #![tactic(auto)]
 
 mod arguments;

@@ -27,8 +27,8 @@ const QUIET_ZONE: u8 = 4;
 pub struct Settings {
     /// The error correction level.
     pub level: Level,
-    /// The smallest version that may be chosen, or `None` if every version may be chosen. In a series, all symbols have
-    /// exactly this version.
+    /// The smallest version that may be chosen, or `None` if every version may be chosen. All symbols of a series have
+    /// exactly the version `smallest`.
     pub smallest: Option<Version>,
     /// The type of the drawing.
     pub kind: Drawing,
@@ -36,13 +36,15 @@ pub struct Settings {
     pub margin: u8,
     /// Whether the whole input is encoded in byte mode.
     pub bytes_only: bool,
-    /// Whether kanji mode may be used. The value has no effect if `bytes_only` is true.
+    /// Whether kanji mode may be used. If `bytes_only` is true, the value of `kanji` has no effect.
     pub kanji: bool,
-    /// Whether the letters `a` to `z` are encoded as capitals. The value has no effect if `bytes_only` is true.
+    /// Whether the letters `a` to `z` are encoded as capitals. If `bytes_only` is true, the value of `fold` has no
+    /// effect.
     pub fold: bool,
     /// Whether a series of symbols is drawn if the input does not fit one symbol.
     pub structured: bool,
-    /// The input, if the command line contains it as an argument. The value is `None` if standard input is read.
+    /// The input, if the command line contains the input as an argument. If the input is read from standard input, the
+    /// value of `string` is `None`.
     pub string: Option<String>,
 }
 
@@ -81,11 +83,13 @@ impl Settings {
     }
 }
 
-/// The reason why a command line is refused. If several of the first four reasons apply, `options` returns the first of
-/// them, in the order of this list. If memory is refused before `options` returns another reason, it returns `Memory`.
+/// The reason why a command line is refused. If several of the reasons `Words`, `Level`, `Kind` and `NeedsVersion`
+/// apply, the function `options` returns the first of them in this order. If memory is refused before `options` finds
+/// another reason, `options` returns `Memory`.
 #[derive(Debug, Drop, Error)]
 pub enum UsageFault {
-    /// `clap` refuses the arguments. The text is the message of `clap`, or the help text if the arguments ask for help.
+    /// The crate `clap` refuses the arguments. The text of `Words` is the message of `clap`, or the help text if the
+    /// arguments ask for help.
     #[error("{0}")]
     Words(String),
     /// The error correction level is not L, M, Q or H.
@@ -141,8 +145,8 @@ fn text_in<'a>(matches: &ArgMatches<'a>, id: &str) -> Option<&'a str>
     matches.get_str(id)
 }
 
-// Returns the type of drawing that has the name `name`, or `None` if no type has this name. Small and capital letters
-// are treated alike.
+// Returns the type of drawing that has the name `name`, or `None` if no type has this name. In the name of a type,
+// small letters and capitals are treated alike.
 fn drawing_named(name: &str) -> Option<Drawing>
     ensures { result ≡ drawing_named name.now }
 {
@@ -167,8 +171,8 @@ fn level_in(matches: &ArgMatches<'_>) -> Option<Level>
     text_in(matches, "level").map_or(Some(Level::L), level_named)
 }
 
-// Returns the error correction level that has the letter `name`, or `None` if no level has this letter. Small and
-// capital letters are treated alike.
+// Returns the error correction level that has the letter `name`, or `None` if no level has this letter. A small letter
+// names the same level as the capital.
 fn level_named(name: &str) -> Option<Level>
     ensures { result ≡ level_named name.now }
 {
@@ -192,8 +196,8 @@ fn drawing_in(matches: &ArgMatches<'_>) -> Option<Drawing>
     text_in(matches, "type").and_then(drawing_named)
 }
 
-// Returns whether the option `id`, an option without a value, is given. The option is read as a text, because the
-// contracts of `clap` describe every value as a text.
+// Returns whether the option `id`, an option without a value, is given. The contracts of `clap` describe every value as
+// a text, so the value of an option that is given is the text `true`.
 fn flag_in(matches: &ArgMatches<'_>, id: &str) -> bool
     ensures { result ≡ flag_at (first_of id.now (rows_of (found_of matches.now))) }
 {
@@ -207,8 +211,8 @@ fn number_in(matches: &ArgMatches<'_>, id: &str, otherwise: u8) -> u8
     match matches.try_get_one::<u8>(id) {
         Ok(Some(number)) => number,
         Ok(None) => otherwise,
-        // `clap` accepts the text `-0`, which means 0, as a number in the range. But `-0` does not parse as a `u8`, so
-        // `clap` returns an error here.
+        // The crate `clap` accepts the text `-0`, which means 0, as a number in the range. But the text `-0` does not
+        // parse as a `u8`, so the call of `clap` returns an error.
         Err(_) => 0,
     }
 }
@@ -261,12 +265,12 @@ fn settings_in(alloc: Global, matches: &ArgMatches<'_>) -> Result<Settings, Usag
 
 /// Parses the command line `words`, and returns its settings. The first text of `words` is the program's name. The
 /// crate `clap` decides which arguments are valid and which values the options have. For commands without subcommands,
-/// the contract of `clap` states these decisions.
+/// the contract of `clap` states which arguments are valid and which values the options have.
 ///
 /// # Errors
 ///
 /// Returns the first fault that applies, in the order `Words`, `Level`, `Kind`, `NeedsVersion`. Returns `Words` only if
-/// `clap` refuses the arguments. Returns `Memory` if memory is refused before another fault is returned.
+/// `clap` refuses the arguments. Returns `Memory` if memory is refused before another fault is found.
 pub fn options(alloc: Global, words: &[String]) -> Result<Settings, UsageFault>
     ensures settings { MatchResult result (λ s. settings_for (map string_bytes words.now) ≡ Ok s)
         (IsUsageFault (settings_for (map string_bytes words.now))) }
