@@ -80,11 +80,11 @@ IsLeastSegmentation v r xs segs = (ms : List Mode) × IsBestAssignment v r xs ms
 abbrev pub HasFit : ℕ → Rule → List ℕ → ℕ → Type 0
 HasFit v r xs n = (ms : List Mode) × IsAssignment r xs ms × (bits v (runs_of ms) ≤ n)
 
--- `least_sixths b` is a lower bound on what the byte `b` takes in any mode, in sixths of a bit. A digit takes at least
--- 20 sixths of a bit, since three digits take 10 bits. Any other byte that is not greater than `Z` takes at least 33
--- sixths of a bit, since two characters of alphanumeric mode take 11 bits. No character of alphanumeric mode is greater
--- than `Z`. So a byte that is greater than `Z` takes at least 39 sixths of a bit, since a kanji pair of two bytes takes
--- 13 bits (ISO/IEC 18004:2015, 7.4.3 to 7.4.6)
+-- In any mode, the byte `b` takes at least `least_sixths b` sixths of a bit. A digit takes at least 20 sixths of a bit,
+-- since three digits take 10 bits. Any other byte that is not greater than `Z` takes at least 33 sixths of a bit, since
+-- two characters of alphanumeric mode take 11 bits. No character of alphanumeric mode is greater than `Z`. So a byte
+-- that is greater than `Z` takes at least 39 sixths of a bit, since a kanji pair of two bytes takes 13 bits (ISO/IEC
+-- 18004:2015, 7.4.3 to 7.4.6)
 abbrev pub least_sixths : ℕ → ℕ
 least_sixths b = if is_digit b then 20 else (if nat_le b 90 then 33 else 39)
 
