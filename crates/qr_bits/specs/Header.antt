@@ -16,8 +16,8 @@ abbrev pub header_bits : Option Header → ℕ
 header_bits header = option_map_or (λ _. 20) header 0
 
 -- `HeaderFits header` holds if there is no structured append header, or if each number of the header fits the bits of
--- its field. The field for the position of the symbol has 4 bits, the field for the number of symbols less 1 has 4
--- bits, and the field for the parity has 8 bits (ISO/IEC 18004:2015, 8.2, 8.3)
+-- its field. The position of the symbol and the number of symbols less 1 have fields of 4 bits, and the parity has a
+-- field of 8 bits (ISO/IEC 18004:2015, 8.2, 8.3)
 abbrev pub HeaderFits : Option Header → Type 0
 HeaderFits header = ForSome header (λ h. (h.position < 16) × (h.last < 16) × (h.parity < 256))
 

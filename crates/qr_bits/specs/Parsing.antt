@@ -72,10 +72,11 @@ unfoldable pub bytes_of : ℕ → List Bool → List ℕ
 bytes_of zero bits = []
 bytes_of (suc n) bits = value (take 8 bits) ∷ bytes_of n (drop 8 bits)
 
--- `kanji_pair n` is the kanji pair that has the value `n`, as a number of 16 bits. The value is divided by C0. The
--- quotient is the high byte of a number of 16 bits, and the remainder is the low byte of this number. If the quotient
--- is at most 1E, the kanji pair is this number plus 8140. If the quotient is greater than 1E, the kanji pair is this
--- number plus C140. The numbers C0, 8140, 1E and C140 are hexadecimal (ISO/IEC 18004:2015, 7.4.6)
+-- `kanji_pair n` is the kanji pair that has the value `n`, as a number of 16 bits. To compute the kanji pair, the value
+-- `n` is divided by C0. The quotient is the high byte of a number of 16 bits, and the remainder is the low byte of this
+-- number. If the quotient is at most 1E, the kanji pair is this number of 16 bits plus 8140. If the quotient is greater
+-- than 1E, the kanji pair is this number of 16 bits plus C140. The numbers C0, 8140, 1E and C140 are hexadecimal
+-- (ISO/IEC 18004:2015, 7.4.6)
 unfoldable pub kanji_pair : ℕ → ℕ
 kanji_pair n =
     let rest = 256 * (n / 0xC0) + n % 0xC0 in
@@ -99,8 +100,8 @@ values_of Alphanumeric n bits = characters_of n bits
 values_of Byte n bits = Ok (bytes_of n bits)
 values_of Kanji n bits = pairs_of n bits
 
--- `mode_of n` is the mode that has the mode indicator `n`. If none of the four modes has this indicator, the result is
--- the fault `BadMode` (ISO/IEC 18004:2015, 7.4.1, Table 2)
+-- `mode_of n` is the mode that has the mode indicator `n`. If none of the four modes has this mode indicator, the
+-- result is the fault `BadMode` (ISO/IEC 18004:2015, 7.4.1, Table 2)
 unfoldable pub mode_of : ℕ → Result Mode ParseFault
 mode_of n =
     if n == indicator Numeric then Ok Numeric else

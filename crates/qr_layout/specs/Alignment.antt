@@ -25,7 +25,8 @@ abbrev pub is_corner_pair : ℕ → ℕ → ℕ → Bool
 is_corner_pair s a b = (a == 6 && b == 6) || (a == 6 && b == s - 7) || (a == s - 7 && b == 6)
 
 -- `alignment_places s cs` lists the centres of the alignment patterns of a symbol with s modules on a side. The list cs
--- contains the rows of centres, which are also the columns of centres. A centre is at each place whose row and column
--- are in cs, except for the three places in corners with a finder pattern (ISO/IEC 18004:2015, 6.3.6)
+-- contains the numbers of the rows of centres, which are also the numbers of the columns of centres. A centre is at
+-- each place whose row and column are in cs, except for the three places in corners with a finder pattern (ISO/IEC
+-- 18004:2015, 6.3.6)
 abbrev pub alignment_places : ℕ → List ℕ → List Module
 alignment_places s cs = flat_map (λ a. flat_map (λ b. if is_corner_pair s a b then [] else record { row = a; col = b } ∷ []) cs) cs

@@ -52,9 +52,9 @@ printed_correction l v = 2 * slice_index_or (printed_errors l) (v - 1) 0 + slice
 abbrev pub gap_between : ℕ → ℕ → ℕ
 gap_between v k = if v == 32 then 26 else 2 * ((side_of v - 13 + 2 * (k - 1) - 1) / (2 * (k - 1)))
 
--- `spaced_centres v` lists the rows that contain centres of alignment patterns in version v, from version 2 on. The
+-- `spaced_centres v` lists the rows that contain centres of alignment patterns in version v, where v is at least 2. The
 -- first of these rows is row 6. The index of the last of these rows is the number of modules on a side less 7. From the
--- second row on, all distances between neighbouring rows are equal (ISO/IEC 18004:2015, Annex E)
+-- second of these rows on, all distances between neighbouring rows are equal (ISO/IEC 18004:2015, Annex E)
 abbrev pub spaced_centres : ℕ → List ℕ
 spaced_centres v = 6 ∷ map (λ i. side_of v - 7 - gap_between v (v / 7 + 2) * (v / 7 - i)) (range_with_len 0 (v / 7 + 1))
 
@@ -69,9 +69,9 @@ alignment_size k = if nat_lt k 2 then 0 else 25 * (k ^ 2 - 3) - 10 * (k - 2)
 abbrev pub version_size : ℕ → ℕ
 version_size v = if nat_lt v 7 then 0 else 36
 
--- `region_size v` is the number of modules of a symbol of version v that are left over if four parts of the symbol are
--- taken away. The four parts are the three corners, the timing patterns between the corners, the alignment patterns and
--- the version information (ISO/IEC 18004:2015, 6.3.7, 7.7.3)
+-- `region_size v` is the number of modules of a symbol of version v that are outside four parts of the symbol. The four
+-- parts are the three corners, the timing patterns between the corners, the alignment patterns and the version
+-- information (ISO/IEC 18004:2015, 6.3.7, 7.7.3)
 abbrev pub region_size : ℕ → ℕ
 region_size v =
     side_of v ^ 2 - 225 - 2 * (side_of v - 17) - alignment_size (length (centres_of v)) - version_size v

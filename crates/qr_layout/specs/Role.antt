@@ -17,7 +17,8 @@ abbrev pub finder_ring : ℕ → ℕ → ℕ → ℕ
 finder_ring s r c = min (ring_of 3 3 r c) (min (ring_of 3 (s - 4) r c) (ring_of (s - 4) 3 r c))
 
 -- `is_alignment_light v r c` holds if the place (r, c) of a symbol of version v is on the light ring of an alignment
--- pattern. This ring is between the centre and the outer ring of the pattern (ISO/IEC 18004:2015, 6.3.6)
+-- pattern. The light ring is between the centre and the dark outer ring of an alignment pattern (ISO/IEC 18004:2015,
+-- 6.3.6)
 unfoldable pub is_alignment_light : ℕ → ℕ → ℕ → Bool
 is_alignment_light v r c = list_any (λ m. ring_of m.row m.col r c == 1) (alignment_places (side_of v) (centres_of v))
 

@@ -25,8 +25,8 @@ places_of s (x ∷ xs) = both_of (rows_from s x 0 s) ++ places_of s xs
 
 -- `strip_at p` is the strip with the number p, if the strips are numbered from left to right, beginning with 1. A strip
 -- is two neighbouring columns that are filled together. No strip contains column 6, which contains a timing pattern. So
--- the right column of the strip is column 2 * p - 1 if this number is below 6, and otherwise column 2 * p. The code
--- skips column 6 in the function `strip_at` of the file strips.rt, which the walk through the strips calls (ISO/IEC
+-- the right column of the strip has the index c = 2 * p - 1 if c is below 6, and otherwise the index c + 1. The code
+-- skips column 6 in the function `strip_at` of the file strips.rt, which the walk through the modules calls (ISO/IEC
 -- 18004:2015, 7.7.3)
 abbrev pub strip_at : ℕ → Strip
 strip_at p = record { right = (let c = 2 * p - 1 in if nat_lt c 6 then c else c + 1); upward = p % 2 == 0 }

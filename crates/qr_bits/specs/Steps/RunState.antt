@@ -36,8 +36,8 @@ state_on HalfPair = WholePair
 state_on WholePair = HalfPair
 
 -- `byte_cost v p m` is the number of bits that the next byte adds in the mode `m` after the state `p`, in a symbol of
--- version `v`. The first byte of a segment also adds the mode indicator and the character count indicator. The first
--- byte of a kanji pair adds all bits of the pair, and the second byte adds no bits.
+-- version `v`. The first byte of a segment also adds the bits of the mode indicator and of the character count
+-- indicator. The first byte of a kanji pair adds all bits of the pair, and the second byte adds no bits.
 unfoldable pub byte_cost : ℕ → RunState → Mode → ℕ
 byte_cost v Digit1 Numeric = 3
 byte_cost v Digit2 Numeric = 3

@@ -27,8 +27,8 @@ abbrev pub bits_at : PerState ℕ → RunState → ℕ
 bits_at numbers p = in_state numbers p / 4
 
 -- `IsSmall n` holds if each of the nine numbers in `n`, one for each state, is below 40,000,000. For an input of at
--- most `INPUT_MAX` bytes, all numbers that represent the choice of a mode are below this bound. So sums of such numbers
--- do not overflow 32 bits.
+-- most `INPUT_MAX` bytes, all numbers that represent the choice of a mode are below this bound. So adding the bits of
+-- one more byte to a number of a choice does not overflow 32 bits.
 abbrev pub IsSmall : PerState ℕ → Type 0
 IsSmall n =
     (n.start < 40000000) × (n.digit1 < 40000000) × (n.digit2 < 40000000) × (n.digit3 < 40000000) × (n.character1 < 40000000)

@@ -28,7 +28,8 @@ abbrev pub square_round : Module → Rectangle
 square_round m = record { top = m.row - 2; bottom = m.row + 3; left = m.col - 2; right = m.col + 3 }
 
 -- `alignment_squares s cs` lists the alignment patterns of a symbol with s modules on a side, as rectangles. The list
--- cs contains the rows of the centres, and the same numbers are the columns of the centres (ISO/IEC 18004:2015, 6.3.6)
+-- cs contains the numbers of the rows of centres, which are also the numbers of the columns of centres (ISO/IEC
+-- 18004:2015, 6.3.6)
 abbrev pub alignment_squares : ℕ → List ℕ → List Rectangle
 alignment_squares s cs = map square_round (alignment_places s cs)
 
