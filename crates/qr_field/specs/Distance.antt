@@ -31,8 +31,8 @@ erasures (Some x ∷ rs) = erasures rs
 
 -- `errors rs ys` is the number of codewords of the block ys that were misread. A codeword was misread if the list rs,
 -- which contains what was read, has another codeword at the codeword's index. A codeword that could not be read, which
--- is `None` in rs, was not misread. Each index that exists only in the longer of the two lists counts as a misread
--- codeword [own]
+-- is `None` in rs, was not misread. Each index that exists only in the longer of the two lists counts as the index of a
+-- misread codeword [own]
 abbrev pub errors : List (Option ℕ) → List ℕ → ℕ
 errors [] ys = length ys
 errors (r ∷ rs) [] = length (r ∷ rs)

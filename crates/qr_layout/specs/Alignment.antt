@@ -19,8 +19,8 @@ unfoldable pub centres_of : ℕ → List ℕ
 centres_of v = slice_index_or centre_table (v - 1) []
 
 -- `is_corner_pair s a b` holds if the place in row a and column b is in a corner with a finder pattern. The symbol has
--- s modules on a side, and row a and column b contain centres of alignment patterns. In a corner with a finder pattern,
--- no alignment pattern has its centre (ISO/IEC 18004:2015, 6.3.6)
+-- s modules on a side, and row a and column b contain centres of alignment patterns. No alignment pattern has its
+-- centre in a corner with a finder pattern (ISO/IEC 18004:2015, 6.3.6)
 abbrev pub is_corner_pair : ℕ → ℕ → ℕ → Bool
 is_corner_pair s a b = (a == 6 && b == 6) || (a == 6 && b == s - 7) || (a == s - 7 && b == 6)
 

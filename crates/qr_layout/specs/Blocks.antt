@@ -52,10 +52,10 @@ blocks_of v l = record {
 abbrev pub longest_of : Blocks → ℕ
 longest_of b = b.short_len + min b.long 1 + b.ec_len
 
--- `damage_of l` is a percentage for the error correction level l. Let t be half the number of error correction
--- codewords of a block, rounded down. In every version, t is at least this percentage of the number of codewords in the
--- block. If at most this percentage of the codewords of a block is misread, only one block can have been damaged in
--- this way [own]
+-- `damage_of l` is a percentage of misread codewords in a block at the error correction level l. Let t be half the
+-- number of error correction codewords of a block, rounded down. In every version, t is at least this percentage of the
+-- number of codewords in the block. If at most this percentage of the codewords of a block is misread, only one block
+-- can have been damaged in this way [own]
 abbrev pub damage_of : Level → ℕ
 damage_of L = 9
 damage_of M = 17
@@ -63,8 +63,9 @@ damage_of Q = 23
 damage_of H = 30
 
 -- `AreWhole v l b` holds if blocks with the sizes b together have all codewords of a symbol of version v at level l.
--- These codewords are the data codewords and the error correction codewords. At least one block is not a long block.
--- Each block has at least one data codeword, and from 1 to 30 error correction codewords (ISO/IEC 18004:2015, 7.5.1)
+-- These codewords are the data codewords and the error correction codewords. At least one block is a short block, which
+-- has one data codeword less than a long block. Each block has at least one data codeword, and from 1 to 30 error
+-- correction codewords (ISO/IEC 18004:2015, 7.5.1)
 pub record AreWhole (v : ℕ) (l : Level) (b : Blocks) : Type 0 where
   pub some : 1 ≤ b.short
   pub some_len : 1 ≤ b.short_len

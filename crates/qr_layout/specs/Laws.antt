@@ -40,8 +40,8 @@ printed_protection Q = 1 ∷ []
 printed_protection H = 1 ∷ []
 
 -- `printed_correction l v` is the number of error correction codewords of a block of version v at level l. The block
--- has two error correction codewords for each misread codeword that can be corrected. Added to these codewords are the
--- misdecode protection codewords of the block (ISO/IEC 18004:2015, 7.5.1, Table 9)
+-- has two error correction codewords for each misread codeword that can be corrected. The block also has misdecode
+-- protection codewords, which are not used to correct errors (ISO/IEC 18004:2015, 7.5.1, Table 9)
 abbrev pub printed_correction : Level → ℕ → ℕ
 printed_correction l v = 2 * slice_index_or (printed_errors l) (v - 1) 0 + slice_index_or (printed_protection l) (v - 1) 0
 
@@ -59,8 +59,8 @@ abbrev pub spaced_centres : ℕ → List ℕ
 spaced_centres v = 6 ∷ map (λ i. side_of v - 7 - gap_between v (v / 7 + 2) * (v / 7 - i)) (range_with_len 0 (v / 7 + 1))
 
 -- `alignment_size k` is the number of modules of alignment patterns that are outside the timing patterns, in a symbol
--- with k rows of centres. Each alignment pattern has 25 such modules, or 20 if the pattern lies across a timing pattern
--- (ISO/IEC 18004:2015, 6.3.5, 6.3.6)
+-- with k rows of centres. An alignment pattern has 25 modules outside the timing patterns, or 20 if it lies across a
+-- timing pattern (ISO/IEC 18004:2015, 6.3.5, 6.3.6)
 abbrev pub alignment_size : ℕ → ℕ
 alignment_size k = if nat_lt k 2 then 0 else 25 * (k ^ 2 - 3) - 10 * (k - 2)
 

@@ -1,4 +1,4 @@
--- Defines what an iterator returns that goes through the runs of dark modules of a row. A run is a longest possible
+-- Defines how an iterator returns the runs of dark modules of a row, one after the other. A run is a longest possible
 -- sequence of neighbouring modules of one colour.
 use Rattle.std.specs.Prelude.{◌≡◌, ◌<◌, ◌≤◌, ◌&&◌, ℕ, true, false, nat_le, Option, None, Some}
 use Rattle.qr_matrix.specs.Grid.{Grid, colour}
@@ -8,8 +8,8 @@ use Rattle.qr_matrix.specs.declared.dark_runs.DarkRuns.{DarkRuns}
 use Rattle.qr_matrix.specs.declared.dark_runs.Run.{Run}
 
 -- `AreRunsFrom g row runs` holds if the iterator `runs` still has to return the runs of dark modules in row `row` of
--- the square of modules `g`, from column `runs.col` on. A bit of `runs.changes` is 1 if the column with its index has
--- another colour than the column before. All columns before `runs.col` count as light. The square has at most 177
+-- the square of modules `g`, from column `runs.col` on. Bit `c` of `runs.changes` is 1 if module `c` of the row has
+-- another colour than the module before it. All columns before `runs.col` count as light. The square has at most 177
 -- columns, and columns outside the square are light [own]
 pub record AreRunsFrom (g : Grid) (row : ℕ) (runs : DarkRuns) : Type 0 where
   pub few : g.side ≤ 177

@@ -17,8 +17,8 @@ abbrev pub chequered : ℕ → ℕ → Bool
 chequered r c = (r + c) % 2 == 0
 
 -- `ratio_from k c` is the colour of module `c` of a row or column. The seven modules from module `k` on have the
--- colours of the ratio 1:1:3:1:1: dark, light, three times dark, light, dark. All modules except for these seven
--- modules are light [own]
+-- colours of the ratio 1:1:3:1:1: one dark, one light, three dark, one light, one dark. All modules except for these
+-- seven modules are light [own]
 abbrev pub ratio_from : ℕ → ℕ → Bool
 ratio_from k c = c == k || (nat_le (k + 2) c && nat_le c (k + 4)) || c == k + 6
 
