@@ -1,5 +1,5 @@
--- Worked examples: values that the standard prints, or that were worked out by hand. The laws in `src/laws.rt` compare
--- the definitions of this crate with these values.
+-- Defines examples: values that the standard prints, and values that were worked out by hand. The laws in the file
+-- `src/laws.rt` compare the definitions of this crate with these values.
 use Rattle.std.specs.Prelude.{ℕ, List, [], ◌∷◌}
 use Rattle.qr_bits.specs.declared.modes.Mode.{Mode}
 use Rattle.qr_bits.specs.declared.modes.Mode.TheVariants.{Numeric, Alphanumeric, Byte, Kanji}
@@ -31,8 +31,8 @@ eleven_characters = 0x20 ∷ 0x5B ∷ 0x0B ∷ 0x78 ∷ 0xD1 ∷ 0x72 ∷ 0xDC �
 abbrev pub two_kanji : List ℕ
 two_kanji = 0x93 ∷ 0x5F ∷ 0xE4 ∷ 0xAA ∷ []
 
--- `two_kanji_data` is the list of the 9 data codewords of the bytes `two_kanji`, in a symbol of version 1 and level H.
--- The last three codewords are pad codewords [own]
+-- `two_kanji_data` is the list of the 9 data codewords of a symbol of level H and version 1 that contains the bytes
+-- `two_kanji`. The last three codewords are pad codewords [own]
 abbrev pub two_kanji_data : List ℕ
 two_kanji_data = 0x80 ∷ 0x26 ∷ 0xCF ∷ 0xEA ∷ 0xA8 ∷ 0x00 ∷ 0xEC ∷ 0x11 ∷ 0xEC ∷ []
 
@@ -41,17 +41,19 @@ two_kanji_data = 0x80 ∷ 0x26 ∷ 0xCF ∷ 0xEA ∷ 0xA8 ∷ 0x00 ∷ 0xEC ∷ 
 abbrev pub middle : Header
 middle = record { position = 1; last = 2; parity = 0x48 }
 
--- `middle_data` is the list of the 9 data codewords of a symbol of version 1 and level H. The symbol contains the
+-- `middle_data` is the list of the 9 data codewords of a symbol of level H and version 1. The symbol contains the
 -- header `middle` and the bytes `FGH` in byte mode [own]
 abbrev pub middle_data : List ℕ
 middle_data = 0x31 ∷ 0x24 ∷ 0x84 ∷ 0x03 ∷ 0x46 ∷ 0x47 ∷ 0x48 ∷ 0x00 ∷ 0xEC ∷ []
 
--- `unreadable` is a list of rows. Each row contains a list of codewords that cannot be parsed in version 1, and the
--- fault of the parse. In the first five rows, a number is too large: 1000 for three digits, 100 for two digits, 10 for
--- one digit, 2025 for two characters, and 45 for one character. In the sixth row, a value in kanji mode is BD
--- (hexadecimal), which belongs to no kanji pair. In the next three rows, the codewords end within the data of a
--- segment, within a character count indicator, and within a structured append header. In the last two rows, a mode
--- indicator belongs to none of the four modes, and a second header follows the first [own].
+-- `unreadable` lists eleven examples of codewords that cannot be read. Each example consists of a list of codewords,
+-- and the fault that reading these codewords in version 1 returns. In the first five examples, a number in the data of
+-- a segment is too large. This number is 1000 for three digits, 100 for two digits, 10 for one digit, 2025 for two
+-- characters, and 45 for one character. In the sixth example, a value in kanji mode is BD (hexadecimal), which is the
+-- value of no kanji pair. In the seventh example the codewords end within the data of a segment, in the eighth within a
+-- character count indicator, and in the ninth within a structured append header. In the tenth example, a mode indicator
+-- belongs to none of the four modes. In the eleventh example, a second structured append header follows the first
+-- [own].
 abbrev pub unreadable : List (List ℕ × ParseFault)
 unreadable =
     (0x10 ∷ 0x0F ∷ 0xE8 ∷ [], BadValue)

@@ -1,5 +1,5 @@
--- Defines the four modes of segments. Each mode has a mode indicator and a character count indicator. Each mode can
--- write certain bytes, and writes them in a certain number of bits.
+-- Defines the four modes of segments. Each mode has a mode indicator and a character count indicator. The mode of a
+-- segment determines which bytes the segment can contain, and how many bits they take.
 use Rattle.std.specs.Prelude.{ℕ, ◌+◌, ◌*◌, ◌/◌, ◌%◌, Bool, true, false, ◌&&◌, ◌||◌, if◌then◌else◌, nat_le, ◌==◌, List, [], ◌∷◌, codes, ◌-◌}
 use Rattle.std.specs.List.{list_all, list_any, position_or_len}
 use Rattle.qr_bits.specs.declared.modes.Mode.{Mode}
@@ -14,8 +14,8 @@ indicator Alphanumeric = 2
 indicator Byte = 4
 indicator Kanji = 8
 
--- `terminator` is the terminator, as a number. The terminator follows the last segment, where the mode indicator of
--- another segment would otherwise be (ISO/IEC 18004:2015, 7.4.1, Table 2)
+-- `terminator` is the value of the terminator's four bits, as a number. After the last segment, the terminator takes
+-- the place that the mode indicator of another segment would have (ISO/IEC 18004:2015, 7.4.1, Table 2)
 abbrev pub terminator : ℕ
 terminator = 0
 
@@ -44,7 +44,7 @@ abbrev pub is_digit : ℕ → Bool
 is_digit b = nat_le 48 b && nat_le b 57
 
 -- `characters` is the list of the 45 characters of alphanumeric mode, as ASCII codes. The characters are in the order
--- of their values (ISO/IEC 18004:2015, 7.4.4, Table 5)
+-- of their values in alphanumeric mode (ISO/IEC 18004:2015, 7.4.4, Table 5)
 unfoldable pub characters : List ℕ
 characters = codes "0123456789ABCDEFGHIJKLMNOPQRSTUVWXYZ $%*+-./:"
 
@@ -59,9 +59,9 @@ unfoldable pub character_value : ℕ → ℕ
 character_value b = position_or_len (λ c. c == b) characters
 
 -- `is_kanji_pair high low` holds if the bytes `high` and `low` are a kanji pair: two bytes that kanji mode writes as
--- one character. As a number of 16 bits, a kanji pair is from 8140 to 9FFC or from E040 to EBBF (hexadecimal). The
--- second byte of a kanji pair is from 40 to FC (hexadecimal) (ISO/IEC 18004:2015, 7.3.6, 7.4.6; that 7F is accepted is
--- own)
+-- one character. The two bytes, read as a number of 16 bits, are from 8140 to 9FFC or from E040 to EBBF (hexadecimal).
+-- The second byte of a kanji pair is from 40 to FC (hexadecimal) (ISO/IEC 18004:2015, 7.3.6, 7.4.6; that 7F is accepted
+-- is own)
 unfoldable pub is_kanji_pair : ℕ → ℕ → Bool
 is_kanji_pair high low =
     let pair = 256 * high + low in
@@ -74,10 +74,10 @@ in_twos test [] = true
 in_twos test (x ∷ []) = false
 in_twos test (x ∷ y ∷ xs) = test x y && in_twos test xs
 
--- `kanji_value high low` is the value of the kanji pair with the bytes `high` and `low`. Kanji mode writes this number
--- in 13 bits. The pair is read as a number of 16 bits. If this number is at most 9FFC, 8140 is subtracted from it, and
--- otherwise C140 is subtracted. The value is C0 times the high byte of the difference, plus the low byte of the
--- difference. The numbers 8140, 9FFC, C140 and C0 are hexadecimal (ISO/IEC 18004:2015, 7.4.6)
+-- `kanji_value high low` is the value of the kanji pair with the bytes `high` and `low`. Kanji mode writes this value
+-- in 13 bits. The pair is read as a number of 16 bits. If this number is at most 9FFC, 8140 is subtracted from it. If
+-- it is greater than 9FFC, C140 is subtracted from it. The value is C0 times the high byte of the difference, plus the
+-- low byte of the difference. The numbers 8140, 9FFC, C140 and C0 are hexadecimal (ISO/IEC 18004:2015, 7.4.6)
 unfoldable pub kanji_value : ℕ → ℕ → ℕ
 kanji_value high low =
     let pair = 256 * high + low in
@@ -96,7 +96,8 @@ suits Kanji xs = in_twos is_kanji_pair xs
 -- the end take 7 bits, and one digit that remains takes 4 bits. In alphanumeric mode, two characters take 11 bits, and
 -- one character that remains at the end takes 6 bits. In byte mode, a byte takes 8 bits. In kanji mode, a kanji pair of
 -- two bytes takes 13 bits (ISO/IEC 18004:2015, 7.4.3 to 7.4.6). If a single byte remains at the end in kanji mode, this
--- byte counts as a whole pair. No valid assignment of modes to bytes leads to such a segment.
+-- byte counts as a whole kanji pair. No valid assignment of modes to bytes leads to a segment in kanji mode with such a
+-- single byte.
 abbrev pub payload_bits : Mode → ℕ → ℕ
 payload_bits Numeric n = 10 * (n / 3) + (if n % 3 == 0 then 0 else (if n % 3 == 1 then 4 else 7))
 payload_bits Alphanumeric n = 11 * (n / 2) + 6 * (n % 2)

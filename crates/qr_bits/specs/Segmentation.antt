@@ -9,8 +9,8 @@ use Rattle.qr_bits.specs.declared.segment.Segment.{Segment}
 use Rattle.qr_bits.specs.Modes.{count_width, is_digit, payload_bits, may_use}
 use Rattle.qr_bits.specs.Stream.{Suits}
 
--- `segment_bits v s` is the number of bits of the segment `s` in a symbol of version `v`. This number includes the mode
--- indicator, the character count indicator and the data (ISO/IEC 18004:2015, 7.4.1)
+-- `segment_bits v s` is the number of bits of the segment `s` in a symbol of version `v`. This number includes the bits
+-- of the mode indicator, of the character count indicator and of the data (ISO/IEC 18004:2015, 7.4.1)
 abbrev pub segment_bits : ℕ → Segment → ℕ
 segment_bits v s = 4 + count_width v s.mode + payload_bits s.mode s.len
 
@@ -20,9 +20,9 @@ abbrev pub bits : ℕ → List Segment → ℕ
 bits v [] = 0
 bits v (s ∷ ss) = segment_bits v s + bits v ss
 
--- `Covers xs segs` holds if the segments `segs` cover the bytes `xs`. No segment may be empty, and the lengths of the
--- segments must add up to the length of `xs`. The mode of each segment must be able to write the bytes of the segment
--- [own]
+-- `Covers xs segs` holds if the segments `segs`, one after the other, contain exactly the bytes `xs`. No segment is
+-- empty, and the lengths of the segments add up to the length of `xs`. The mode of each segment can write the bytes of
+-- the segment [own]
 unfoldable pub Covers : List ℕ → List Segment → Type 0
 Covers xs segs = All (λ s. 0 < s.len) segs × Suits xs segs
 
@@ -41,21 +41,21 @@ abbrev pub prepend_mode : Mode → List Segment → List Segment
 prepend_mode m [] = record { mode = m; len = 1 } ∷ []
 prepend_mode m (s ∷ ss) = if rank m == rank s.mode then record { mode = m; len = 1 + s.len } ∷ ss else record { mode = m; len = 1 } ∷ s ∷ ss
 
--- `runs_of ms` is the list of the segments of an assignment. The list `ms` contains the mode of each byte, and
--- neighbouring bytes with equal modes form one segment [own]
+-- `runs_of ms` is the list of the segments of the assignment `ms`, which contains a mode for each byte. Neighbouring
+-- bytes with equal modes form one segment [own]
 unfoldable pub runs_of : List Mode → List Segment
 runs_of [] = []
 runs_of (m ∷ ms) = prepend_mode m (runs_of ms)
 
--- `IsAssignment r xs ms` holds if the list `ms`, with a mode for each of the bytes `xs`, is a valid assignment. The
--- rule `r` must allow all modes of the list. Neighbouring bytes with equal modes form one segment, and the mode of each
--- segment must be able to write its bytes [own].
+-- `IsAssignment r xs ms` holds if the list `ms`, with a mode for each of the bytes `xs`, is a valid assignment. An
+-- assignment is valid if the rule `r` allows all its modes, and if the mode of each segment can write the segment's
+-- bytes. Neighbouring bytes with equal modes form one segment [own].
 abbrev pub IsAssignment : Rule → List ℕ → List Mode → Type 0
 IsAssignment r xs ms = IsTrue (list_all (may_use r) ms) × Covers xs (runs_of ms)
 
 -- `IsNotAfter ms ks` holds if the list of modes `ms` does not come after the list of modes `ks` in lexicographic order.
--- At the first index where the lists differ, either `ms` has the mode of the lower rank, or `ms` has already ended
--- [own]
+-- If the lists differ, then at the first index where they differ, `ms` has the mode of the lower rank, or `ms` has
+-- ended [own]
 abbrev pub IsNotAfter : List Mode → List Mode → Type 0
 IsNotAfter [] ks = Unit {0}
 IsNotAfter (m ∷ ms) [] = ⊥
@@ -63,8 +63,8 @@ IsNotAfter (m ∷ ms) (k ∷ ks) = (rank m < rank k) ⊎ ((m ≡ k) × IsNotAfte
 
 -- `IsBestAssignment v r xs ms` holds if `ms` is the best of all valid assignments of modes to the bytes `xs` under the
 -- rule `r`. The best assignment takes the fewest bits in a symbol of version `v`. If several valid assignments take the
--- fewest bits, the best is the first of these assignments in lexicographic order. The ranks of the modes determine this
--- order [own].
+-- fewest bits, the best is the first of these assignments in lexicographic order. The ranks of the modes determine the
+-- lexicographic order [own].
 pub record IsBestAssignment (v : ℕ) (r : Rule) (xs : List ℕ) (ms : List Mode) : Type 0 where
   pub assignment : IsAssignment r xs ms
   pub least : (ks : List Mode) → IsAssignment r xs ks → bits v (runs_of ms) ≤ bits v (runs_of ks)
@@ -81,16 +81,16 @@ IsLeastSegmentation v r xs segs = (ms : List Mode) × IsBestAssignment v r xs ms
 abbrev pub HasFit : ℕ → Rule → List ℕ → ℕ → Type 0
 HasFit v r xs n = (ms : List Mode) × IsAssignment r xs ms × (bits v (runs_of ms) ≤ n)
 
--- `least_sixths b` is a lower bound on the number of bits that the byte `b` takes in any mode, in sixths of a bit. A
--- digit takes at least 20 sixths of a bit, since three digits take 10 bits. Another byte up to `Z` takes at least 33
--- sixths of a bit, since two characters of alphanumeric mode take 11 bits. No character of alphanumeric mode is greater
--- than `Z`. So a byte greater than `Z` takes at least 39 sixths of a bit, since a kanji pair of two bytes takes 13 bits
--- (ISO/IEC 18004:2015, 7.4.3 to 7.4.6)
+-- In any mode, the byte `b` takes at least `least_sixths b` sixths of a bit. A digit takes at least 20 sixths of a bit,
+-- since three digits take 10 bits. Any other byte that is not greater than `Z` takes at least 33 sixths of a bit, since
+-- two characters of alphanumeric mode take 11 bits. No character of alphanumeric mode is greater than `Z`. So a byte
+-- that is greater than `Z` takes at least 39 sixths of a bit, since a kanji pair of two bytes takes 13 bits (ISO/IEC
+-- 18004:2015, 7.4.3 to 7.4.6)
 abbrev pub least_sixths : ℕ → ℕ
 least_sixths b = if is_digit b then 20 else (if nat_le b 90 then 33 else 39)
 
 -- `least_bits xs` is a lower bound on the number of bits that the bytes `xs` take, however they are split into
--- segments. The bound is the sum of the lower bounds of all bytes, rounded down to whole bits (ISO/IEC 18004:2015,
+-- segments. This bound is the sum of `least_sixths` over all bytes, rounded down to whole bits (ISO/IEC 18004:2015,
 -- 7.4.3 to 7.4.6)
 unfoldable pub least_bits : List ℕ → ℕ
 least_bits xs = sum_by least_sixths xs / 6

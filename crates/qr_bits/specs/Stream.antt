@@ -1,5 +1,5 @@
 -- Defines the bit stream of segments: how digits, characters, bytes and kanji pairs are written as bits. The
--- definitions of this file do not use the definitions of the parser in `Parsing.antt`.
+-- definitions of this file do not use the definitions in the file `Parsing.antt`, which read bits.
 use Rattle.std.specs.Prelude.{◌≡◌, ℕ, ◌+◌, ◌*◌, ◌<◌, ◌≤◌, Bool, List, [], ◌∷◌, length, take, drop, IsTrue, ◌-◌, ◌^◌, ◌++◌, All, Option}
 use Rattle.qr_bits.specs.declared.modes.Mode.{Mode}
 use Rattle.qr_bits.specs.declared.modes.Mode.TheVariants.{Numeric, Alphanumeric, Byte, Kanji}
@@ -27,7 +27,7 @@ character_bits (a ∷ []) = field 6 (character_value a)
 character_bits (a ∷ b ∷ xs) = field 11 (45 * character_value a + character_value b) ++ character_bits xs
 
 -- `kanji_bits xs` is the list of the bits of the bytes `xs` in kanji mode. Each group of two bytes is a kanji pair, and
--- the value of the pair is written in 13 bits (ISO/IEC 18004:2015, 7.4.6)
+-- the value of each pair is written in 13 bits (ISO/IEC 18004:2015, 7.4.6)
 unfoldable pub kanji_bits : List ℕ → List Bool
 kanji_bits [] = []
 kanji_bits (a ∷ []) = []
@@ -48,15 +48,15 @@ unfoldable pub segment_stream : ℕ → Mode → List ℕ → List Bool
 segment_stream v m xs = field 4 (indicator m) ++ (field (count_width v m) (character_count m (length xs)) ++ payload m xs)
 
 -- `segments_stream v xs segs` is the list of the bits of the segments `segs`, one segment after the other, in a symbol
--- of version `v`. The first segment writes the first bytes of `xs`, and each later segment writes the bytes that follow
--- (ISO/IEC 18004:2015, 7.4.1)
+-- of version `v`. Each segment contains the next bytes of `xs`, as many as the length of the segment (ISO/IEC
+-- 18004:2015, 7.4.1)
 unfoldable pub segments_stream : ℕ → List ℕ → List Segment → List Bool
 segments_stream v xs [] = []
 segments_stream v xs (s ∷ ss) = segment_stream v s.mode (take s.len xs) ++ segments_stream v (drop s.len xs) ss
 
--- `Suits xs segs` holds if the lengths of the segments `segs` add up to the length of the bytes `xs`. In addition, the
--- mode of each segment must be able to write the bytes of the segment. The first segment has the first bytes of `xs`,
--- and each later segment has the bytes that follow. Segments may be empty [own]
+-- `Suits xs segs` holds if the segments `segs`, one after the other, contain exactly the bytes `xs`. The lengths of the
+-- segments add up to the length of `xs`. The mode of each segment can write the bytes of the segment. A segment may be
+-- empty [own]
 unfoldable pub Suits : List ℕ → List Segment → Type 0
 Suits xs [] = xs ≡ []
 Suits xs (s ∷ ss) = (s.len ≤ length xs) × IsTrue (suits s.mode (take s.len xs)) × Suits (drop s.len xs) ss
@@ -69,8 +69,9 @@ CountsFit v (s ∷ ss) = (character_count s.mode s.len < 2 ^ count_width v s.mod
 
 -- `IsStream v xs segs h stream` holds if `stream` is the bit stream of the bytes `xs` in the segments `segs`, in a
 -- symbol of version `v`. The bit stream begins with the structured append header `h`, if there is one, and then
--- contains the bits of the segments. The bytes of each segment can be written in the mode of the segment. The character
--- counts and the numbers of the header fit their fields (ISO/IEC 18004:2015, 7.4.1, 8.1).
+-- contains the bits of the segments. The bytes of each segment can be written in the mode of the segment. Each
+-- character count fits its character count indicator, and each number of the header fits its field (ISO/IEC 18004:2015,
+-- 7.4.1, 8.1).
 pub record IsStream (v : ℕ) (xs : List ℕ) (segs : List Segment) (h : Option Header) (stream : List Bool) : Type 0 where
   pub bytes : All (λ b. b < 256) xs
   pub suit : Suits xs segs

@@ -1,5 +1,5 @@
--- The number of codewords in which two blocks differ, and the numbers of unread and misread codewords of a damaged
--- block.
+-- Defines in how many codewords two blocks differ, and how many codewords of a damaged block could not be read or were
+-- misread.
 use Rattle.std.specs.Prelude.{◌≡◌, ℕ, ◌+◌, ◌*◌, ◌≤◌, ◌==◌, if◌then◌else◌, Option, None, Some, List, [], ◌∷◌, ◌++◌, length}
 use Rattle.qr_field.specs.Polynomial.{IsCorrection}
 
@@ -7,16 +7,16 @@ use Rattle.qr_field.specs.Polynomial.{IsCorrection}
 abbrev pub difference : ℕ → ℕ → ℕ
 difference x y = if x == y then 0 else 1
 
--- `differences xs ys` is the number of indices at which the lists xs and ys differ. An index that exists only in the
--- longer list counts as a difference [own]
+-- `differences xs ys` is the number of indices at which the lists xs and ys differ. Each index that exists only in the
+-- longer of the two lists counts as a difference [own]
 abbrev pub differences : List ℕ → List ℕ → ℕ
 differences [] ys = length ys
 differences (x ∷ xs) [] = length (x ∷ xs)
 differences (x ∷ xs) (y ∷ ys) = difference x y + differences xs ys
 
--- `BlocksLieApart` holds if two blocks with different data codewords always differ in at least n + 1 codewords. Both
--- blocks have the same number of data codewords. Each block has n error correction codewords, and at most 255 codewords
--- in all [own]
+-- `BlocksLieApart` holds if any two blocks with different data codewords differ in at least n + 1 codewords. The two
+-- blocks have equally many data codewords. Each block has n error correction codewords, and at most 255 codewords in
+-- all [own]
 abbrev pub BlocksLieApart : Type 0
 BlocksLieApart =
     (n : ℕ) (d e d' e' : List ℕ) → IsCorrection d n e → IsCorrection d' n e' → length d ≡ length d' →
@@ -29,19 +29,20 @@ erasures [] = 0
 erasures (None ∷ rs) = 1 + erasures rs
 erasures (Some x ∷ rs) = erasures rs
 
--- `errors rs ys` is the number of codewords of the block ys that were misread. A codeword was misread if the list rs
--- contains another codeword at the same index. An unread codeword, which is `None` in rs, does not count. Each index
--- that exists only in the longer list counts [own]
+-- `errors rs ys` is the number of codewords of the block ys that were misread. A codeword was misread if the list rs,
+-- which contains what was read, has another codeword at the codeword's index. A codeword that could not be read, which
+-- is `None` in rs, was not misread. Each index that exists only in the longer of the two lists counts as the index of a
+-- misread codeword [own]
 abbrev pub errors : List (Option ℕ) → List ℕ → ℕ
 errors [] ys = length ys
 errors (r ∷ rs) [] = length (r ∷ rs)
 errors (None ∷ rs) (y ∷ ys) = errors rs ys
 errors (Some x ∷ rs) (y ∷ ys) = difference x y + errors rs ys
 
--- `ErasuresAreUnambiguous` holds if what was read of a damaged block always fits only one list of data codewords. The
--- block has a known number of data codewords, n error correction codewords, and at most 255 codewords in all. In this
--- block, k codewords are unread and at most t codewords are misread. The sum k + 2t is at most n (ISO/IEC 18004:2015,
--- 7.5.1)
+-- `ErasuresAreUnambiguous` holds if what was read of a damaged block always determines the block's data codewords. The
+-- block has a known number of data codewords, n error correction codewords, and at most 255 codewords in all. In the
+-- damaged block, k codewords could not be read, and at most t codewords were misread. The sum k + 2t is at most n
+-- (ISO/IEC 18004:2015, 7.5.1)
 abbrev pub ErasuresAreUnambiguous : Type 0
 ErasuresAreUnambiguous =
     (n t : ℕ) (d e d' e' : List ℕ) (read : List (Option ℕ)) → IsCorrection d n e → IsCorrection d' n e' →

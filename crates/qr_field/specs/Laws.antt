@@ -1,14 +1,15 @@
--- Defines examples of generator polynomials and of error correction codewords. The laws of this crate compare the
--- examples with the values that the other definitions yield.
+-- Defines examples of generator polynomials and of error correction codewords. The laws of this crate compare these
+-- examples with the values that the crate's definitions yield.
 use Rattle.std.specs.Prelude.{ℕ, List, [], ◌∷◌}
 
--- `lengths_in_use` lists the numbers of error correction codewords that a block can have in the versions of QR Code
--- (ISO/IEC 18004:2015, 7.5.1)
+-- `lengths_in_use` lists the possible numbers of error correction codewords in a block of a QR Code symbol (ISO/IEC
+-- 18004:2015, 7.5.1)
 abbrev pub lengths_in_use : List ℕ
 lengths_in_use = 7 ∷ 10 ∷ 13 ∷ 15 ∷ 16 ∷ 17 ∷ 18 ∷ 20 ∷ 22 ∷ 24 ∷ 26 ∷ 28 ∷ 30 ∷ []
 
--- `printed_exponents` lists the generator polynomials for the numbers in `lengths_in_use`, each with the highest power
--- of x first. Each coefficient is written as the exponent of a power of 2 (ISO/IEC 18004:2015, Annex A)
+-- `printed_exponents` lists the generator polynomial for each number in `lengths_in_use`. Each polynomial is a list of
+-- coefficients, with the coefficient of the highest power of x first. Each coefficient is a power of 2 in the field of
+-- 256 elements, and is written as the exponent of this power (ISO/IEC 18004:2015, Annex A)
 abbrev pub printed_exponents : List (List ℕ)
 printed_exponents =
     (0 ∷ 87 ∷ 229 ∷ 146 ∷ 149 ∷ 238 ∷ 102 ∷ 21 ∷ []) ∷

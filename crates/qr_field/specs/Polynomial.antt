@@ -1,5 +1,5 @@
--- Polynomials over the field of 256 elements. A polynomial is the list of its coefficients, with the coefficient of the
--- highest power first.
+-- Defines polynomials over the field of 256 elements. A polynomial is the list of its coefficients, with the
+-- coefficient of the highest power first.
 use Rattle.std.specs.Prelude.{◌≡◌, ℕ, ◌-◌, ◌<◌, List, [], ◌∷◌, ◌++◌, length, map, bit_xor}
 use Prim.Native.Nat.{zero, suc}
 use Rattle.std.specs.List.{All}
@@ -12,7 +12,7 @@ abbrev pub IsByte : ℕ → Type 0
 IsByte a = a < 256
 
 -- `plus xs ys` is the sum of two lists of coefficients. Coefficients with the same index, counted from the start of the
--- lists, are added. The shorter list is extended with zeros at its end [own]
+-- lists, are added. The shorter of the two lists is extended with zeros at its end [own]
 abbrev pub plus : List ℕ → List ℕ → List ℕ
 plus [] ys = ys
 plus (x ∷ xs) [] = x ∷ xs
@@ -38,8 +38,8 @@ abbrev pub power : ℕ → ℕ
 power zero = 1
 power (suc i) = product 2 (power i)
 
--- `generator_of n` is the generator polynomial for n error correction codewords. It is the product of the polynomials x
--- - 2^i for all numbers i below n (ISO/IEC 18004:2015, Annex A)
+-- `generator_of n` is the generator polynomial for n error correction codewords. This polynomial is the product of the
+-- polynomials x - 2^i for all i below n (ISO/IEC 18004:2015, Annex A)
 abbrev pub generator_of : ℕ → List ℕ
 generator_of zero = 1 ∷ []
 generator_of (suc n) = times (generator_of n) (1 ∷ power n ∷ [])
@@ -51,9 +51,9 @@ pub record IsMultiple (g p : List ℕ) : Type 0 where
   pub bytes : All IsByte quotient
   pub whole : times quotient g ≡ p
 
--- `IsCorrection d n e` holds if the list e contains the n error correction codewords of the data codewords d. This
--- means that e is a list of n bytes with the following property. The polynomial whose coefficients are d, followed by
--- e, is a multiple of the generator polynomial for n error correction codewords (ISO/IEC 18004:2015, 7.5.2)
+-- `IsCorrection d n e` holds if the list e contains the n error correction codewords of the data codewords d. The list
+-- e consists of n bytes. The polynomial whose coefficients are d, followed by e, is a multiple of the generator
+-- polynomial for n error correction codewords (ISO/IEC 18004:2015, 7.5.2)
 pub record IsCorrection (d : List ℕ) (n : ℕ) (e : List ℕ) : Type 0 where
   pub count : length e ≡ n
   pub bytes : All IsByte e

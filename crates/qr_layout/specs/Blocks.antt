@@ -1,4 +1,4 @@
--- The division of the codewords of a symbol into blocks, for each version and each error correction level.
+-- Defines how the codewords of a symbol are divided into blocks, for each version and each error correction level.
 use Rattle.std.specs.Prelude.{◌≡◌, ℕ, ◌≤◌, ◌-◌, ◌+◌, ◌*◌, ◌/◌, ◌%◌, min, List, [], ◌∷◌}
 use Rattle.std.specs.List.{slice_index_or}
 use Rattle.qr_layout.specs.declared.blocks.Blocks.{Blocks}
@@ -38,7 +38,7 @@ data_codewords_of v l = total_codewords_of v - block_count_of v l * correction_l
 
 -- `blocks_of v l` contains the sizes of the blocks of a symbol of version v at level l. The data codewords are divided
 -- evenly among the blocks. If the division leaves a remainder, the blocks at the end are long blocks, which have one
--- data codeword more (ISO/IEC 18004:2015, 7.5.1, Table 9)
+-- data codeword more than the blocks before them (ISO/IEC 18004:2015, 7.5.1, Table 9)
 abbrev pub blocks_of : ℕ → Level → Blocks
 blocks_of v l = record {
   short = block_count_of v l - data_codewords_of v l % block_count_of v l;
@@ -47,24 +47,25 @@ blocks_of v l = record {
   ec_len = correction_len_of v l;
 }
 
--- `longest_of b` is the number of codewords of the longest of the blocks with the sizes b. This number includes the
--- data codewords and the error correction codewords (ISO/IEC 18004:2015, 7.5.1, Table 9)
+-- `longest_of b` is the number of codewords of the longest block, if the blocks have the sizes b. This number includes
+-- the data codewords and the error correction codewords (ISO/IEC 18004:2015, 7.5.1, Table 9)
 abbrev pub longest_of : Blocks → ℕ
 longest_of b = b.short_len + min b.long 1 + b.ec_len
 
--- `damage_of l` is a percentage for the error correction level l. Let t be half the number of error correction
--- codewords of a block, rounded down. In every version, t is at least this percentage of the number of codewords of the
--- block. If at most this percentage of the codewords of a block is misread, the codewords that were read fit only one
--- block [own]
+-- `damage_of l` is a percentage of misread codewords in a block at the error correction level l. Let t be half the
+-- number of error correction codewords of a block, rounded down. In every version, t is at least this percentage of the
+-- number of codewords in the block. If at most this percentage of the codewords of a block is misread, only one block
+-- can have been damaged in this way [own]
 abbrev pub damage_of : Level → ℕ
 damage_of L = 9
 damage_of M = 17
 damage_of Q = 23
 damage_of H = 30
 
--- `AreWhole v l b` holds if the blocks with the sizes b together have all codewords of a symbol of version v at level
--- l. These are the data codewords and the error correction codewords. At least one block is short, and each block has
--- at least one data codeword and from 1 to 30 error correction codewords (ISO/IEC 18004:2015, 7.5.1)
+-- `AreWhole v l b` holds if blocks with the sizes b together have all codewords of a symbol of version v at level l.
+-- These codewords are the data codewords and the error correction codewords. At least one block is a short block, which
+-- has one data codeword less than a long block. Each block has at least one data codeword, and from 1 to 30 error
+-- correction codewords (ISO/IEC 18004:2015, 7.5.1)
 pub record AreWhole (v : ℕ) (l : Level) (b : Blocks) : Type 0 where
   pub some : 1 ≤ b.short
   pub some_len : 1 ≤ b.short_len

@@ -1,4 +1,4 @@
--- The bits of the format information and of the version information.
+-- Defines the bits of the format information and of the version information.
 use Rattle.std.specs.Prelude.{◌≡◌, ℕ, ◌+◌, ◌*◌, ◌^◌, ◌<◌, ◌≤◌, List, [], ◌∷◌, bit_xor}
 use Prim.Native.Nat.{zero, suc}
 use Rattle.std.specs.Int.{bit_at}
@@ -25,9 +25,9 @@ level_bits H = 2
 abbrev pub five_bits : Level → ℕ → ℕ
 five_bits level mask = 8 * level_bits level + mask
 
--- `format_with five` is a number of 15 bits. It consists of the five bits `five`, followed by the ten bits of the
--- remainder that Annex C defines. All 15 bits are combined with the bits 101010000010010 by exclusive or (ISO/IEC
--- 18004:2015, 7.9.1 and Annex C)
+-- `format_with five` is the format information with the five bits `five`, as a number of 15 bits. The five bits are
+-- followed by the ten bits of the remainder that Annex C defines. All 15 bits are then combined with the bits
+-- 101010000010010 by exclusive or (ISO/IEC 18004:2015, 7.9.1 and Annex C)
 abbrev pub format_with : ℕ → ℕ
 format_with five = bit_xor (five * 2 ^ 10 + remainder_of 10 0x537 5 (five * 2 ^ 10)) 0x5412
 
@@ -36,8 +36,8 @@ format_with five = bit_xor (five * 2 ^ 10 + remainder_of 10 0x537 5 (five * 2 ^ 
 unfoldable pub format_word_of : Level → ℕ → ℕ
 format_word_of level mask = format_with (five_bits level mask)
 
--- `version_word_of v` is the version information of version v. It consists of the six bits of the number v, followed by
--- the twelve bits of the remainder that Annex D defines (ISO/IEC 18004:2015, 7.10 and Annex D)
+-- `version_word_of v` is the version information of version v. The version information consists of the six bits of the
+-- number v, followed by the twelve bits of the remainder that Annex D defines (ISO/IEC 18004:2015, 7.10 and Annex D)
 unfoldable pub version_word_of : ℕ → ℕ
 version_word_of v = v * 2 ^ 12 + remainder_of 12 0x1F25 6 (v * 2 ^ 12)
 
@@ -48,18 +48,19 @@ sum_of_shifts divisor [] = 0
 sum_of_shifts divisor (k ∷ ks) = bit_xor (divisor * 2 ^ k) (sum_of_shifts divisor ks)
 
 -- `IsWordRemainder n divisor x r` holds if `divisor` has degree n and if dividing x by `divisor` leaves the remainder
--- r. The numbers are read as polynomials whose coefficients are bits. The number r must have at most n bits. In
--- addition, the exclusive or of x and r must be the exclusive or of some copies of `divisor` that are shifted left
--- (ISO/IEC 18004:2015, Annexes C and D)
+-- r. The numbers are read as polynomials whose coefficients are bits. The remainder r has at most n bits. The exclusive
+-- or of x and r is a multiple of `divisor`: the exclusive or of copies of `divisor` that are shifted left (ISO/IEC
+-- 18004:2015, Annexes C and D)
 pub record IsWordRemainder (n divisor x r : ℕ) : Type 0 where
   pub monic : (2 ^ n ≤ divisor) × (divisor < 2 ^ (n + 1))
   pub small : r < 2 ^ n
   pub shifts : List ℕ
   pub multiple : bit_xor x r ≡ sum_of_shifts divisor shifts
 
--- `IsFormatWord five word` holds if `word` consists of the five bits `five` and the ten bits of a remainder. All 15
--- bits are combined with the bits 101010000010010 by exclusive or. To compute the remainder, `five` is shifted left by
--- ten bits and divided by the polynomial x^10 + x^8 + x^5 + x^4 + x^2 + x + 1 (ISO/IEC 18004:2015, Annex C)
+-- `IsFormatWord five word` holds if `word` is the format information with the five bits `five`. These five bits are
+-- followed by the ten bits of a remainder, and all 15 bits are then combined with the bits 101010000010010 by exclusive
+-- or. To compute the remainder, `five` is shifted left by ten bits and divided by the polynomial x^10 + x^8 + x^5 + x^4
+-- + x^2 + x + 1 (ISO/IEC 18004:2015, Annex C)
 pub record IsFormatWord (five word : ℕ) : Type 0 where
   pub rest : ℕ
   pub remainder : IsWordRemainder 10 0x537 (five * 2 ^ 10) rest

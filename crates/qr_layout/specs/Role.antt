@@ -1,5 +1,5 @@
--- The role of each module of a symbol: a fixed colour, a bit of the format information or of the version information,
--- or a module of the encoding region.
+-- Defines the role of each module of a symbol: a fixed colour, a bit of the format information or of the version
+-- information, or a module of the encoding region.
 use Rattle.std.specs.Prelude.{ℕ, ◌+◌, ◌-◌, ◌/◌, ◌%◌, min, Bool, true, false, not, ◌&&◌, ◌||◌, nat_lt, ◌==◌, if◌then◌else◌, Option, None, Some}
 use Rattle.std.specs.List.{find, list_any, range_with_len}
 use Rattle.std.specs.Option.{option_map_or}
@@ -11,19 +11,20 @@ use Rattle.qr_layout.specs.Alignment.{centres_of, alignment_places}
 use Rattle.qr_layout.specs.Region.{is_alignment, ring_of}
 
 -- `finder_ring s r c` is the number of the square ring that contains the place (r, c), in a symbol with s modules on a
--- side. The rings lie around the centre of the nearest finder pattern, which is ring 0. Rings 0, 1 and 3 are dark, ring
--- 2 is light, and ring 4 is the separator (ISO/IEC 18004:2015, 6.3.3)
+-- side. The centre of the nearest finder pattern is ring 0, and the other rings surround it. Rings 0, 1 and 3 are dark,
+-- ring 2 is light, and ring 4 is the separator (ISO/IEC 18004:2015, 6.3.3)
 abbrev pub finder_ring : ℕ → ℕ → ℕ → ℕ
 finder_ring s r c = min (ring_of 3 3 r c) (min (ring_of 3 (s - 4) r c) (ring_of (s - 4) 3 r c))
 
 -- `is_alignment_light v r c` holds if the place (r, c) of a symbol of version v is on the light ring of an alignment
--- pattern. This ring is between the centre and the outer ring of the pattern (ISO/IEC 18004:2015, 6.3.6)
+-- pattern. The light ring is between the centre and the dark outer ring of an alignment pattern (ISO/IEC 18004:2015,
+-- 6.3.6)
 unfoldable pub is_alignment_light : ℕ → ℕ → ℕ → Bool
 is_alignment_light v r c = list_any (λ m. ring_of m.row m.col r c == 1) (alignment_places (side_of v) (centres_of v))
 
 -- `pattern_colour v r c` is the colour of the module at (r, c) of version v, if the module is part of a finder pattern,
--- separator, timing pattern or alignment pattern. The value `true` is dark. For any other module the value is `None`
--- (ISO/IEC 18004:2015, 6.3.3 to 6.3.6)
+-- separator, timing pattern or alignment pattern. The value `true` is dark. For any other module, the value of
+-- `pattern_colour` is `None` (ISO/IEC 18004:2015, 6.3.3 to 6.3.6)
 unfoldable pub pattern_colour : ℕ → ℕ → ℕ → Option Bool
 pattern_colour v r c =
     if nat_lt (finder_ring (side_of v) r c) 4 then Some (not (finder_ring (side_of v) r c == 2)) else
@@ -63,27 +64,28 @@ abbrev pub is_at : Module → ℕ → ℕ → Bool
 is_at m r c = m.row == r && m.col == c
 
 -- `format_bit_at s r c` is the index of the bit of the format information that the module at (r, c) contains. The value
--- is `None` if the module contains no such bit. The symbol has s modules on a side (ISO/IEC 18004:2015, 7.9.1)
+-- is `None` if the module contains no bit of the format information. The symbol has s modules on a side (ISO/IEC
+-- 18004:2015, 7.9.1)
 unfoldable pub format_bit_at : ℕ → ℕ → ℕ → Option ℕ
 format_bit_at s r c = find (λ i. is_at (first_place i) r c || is_at (second_place s i) r c) (range_with_len 0 15)
 
 -- `version_bit_at v r c` is the index of the bit of the version information that the module at (r, c) of version v
--- contains. The value is `None` if the module contains no such bit. Each bit is in two modules: at `version_place`, and
--- at the same place with row and column exchanged. Below version 7, no module contains such a bit (ISO/IEC 18004:2015,
--- 7.10)
+-- contains. The value is `None` if the module contains no bit of the version information. Each bit is in two modules:
+-- in the module at `version_place`, and in the module at this place with row and column exchanged. Below version 7,
+-- symbols contain no version information (ISO/IEC 18004:2015, 7.10)
 unfoldable pub version_bit_at : ℕ → ℕ → ℕ → Option ℕ
 version_bit_at v r c =
     if nat_lt v 7 then None else
     find (λ i. is_at (version_place (side_of v) i) r c || is_at (transposed (version_place (side_of v) i)) r c) (range_with_len 0 18)
 
--- `is_dark_module s r c` holds if (r, c) is the place of the dark module in a symbol with s modules on a side. This
+-- `is_dark_module s r c` holds if (r, c) is the place of the dark module in a symbol with s modules on a side. The dark
 -- module is beside the bottom left finder pattern, and is dark in every symbol (ISO/IEC 18004:2015, 7.9.1)
 abbrev pub is_dark_module : ℕ → ℕ → ℕ → Bool
 is_dark_module s r c = r == s - 8 && c == 8
 
--- `role_of v r c` is what the module at (r, c) of version v contains. This is a fixed colour, a bit of the format
--- information, or a bit of the version information. All other modules are in the encoding region (ISO/IEC 18004:2015,
--- 6.3 and 7.7.2)
+-- `role_of v r c` is what the module at (r, c) of version v contains. A module outside the encoding region contains a
+-- fixed colour, a bit of the format information, or a bit of the version information. A module in the encoding region
+-- has the role `Region` (ISO/IEC 18004:2015, 6.3 and 7.7.2)
 unfoldable pub role_of : ℕ → ℕ → ℕ → Role
 role_of v r c =
     option_map_or Fixed (pattern_colour v r c)

@@ -1,5 +1,5 @@
--- Definitions that describe how the program computes. Only proofs, contracts of private functions and the model of the
--- iterator `Steps` use these definitions. The model is the value of the iterator in contracts. A reader who judges the
--- promises of the public functions need not read these definitions.
+-- Defines the steps by which the code of this crate computes its results. Only proofs, contracts of private functions
+-- and the model of the iterator `Steps` use these definitions. The model of the iterator is the value by which
+-- contracts describe it. A reader who judges the promises of the public functions need not read these definitions.
 pub mod Order
 pub mod Rectangles

@@ -1,5 +1,5 @@
--- The strips of a symbol and their places. A strip is two neighbouring columns that are filled together. The places of
--- a strip include places outside the encoding region.
+-- Defines the strips of a symbol and their places. A strip is two neighbouring columns that are filled together. A
+-- strip also has places outside the encoding region.
 use Rattle.std.specs.Prelude.{ℕ, ◌+◌, ◌-◌, ◌*◌, ◌%◌, ◌==◌, nat_lt, if◌then◌else◌, List, [], ◌∷◌, ◌++◌}
 use Prim.Native.Nat.{zero, suc}
 use Rattle.qr_layout.specs.declared.region.Module.{Module}
@@ -24,9 +24,10 @@ places_of s [] = []
 places_of s (x ∷ xs) = both_of (rows_from s x 0 s) ++ places_of s xs
 
 -- `strip_at p` is the strip with the number p, if the strips are numbered from left to right, beginning with 1. A strip
--- is two neighbouring columns that are filled together. No strip contains column 6, which contains a timing pattern: if
--- 2 * p - 1 is 6 or more, the right column is one column further to the right. The code skips column 6 in `strip_at` of
--- strips.rt, and the walk calls that function (ISO/IEC 18004:2015, 7.7.3)
+-- is two neighbouring columns that are filled together. No strip contains column 6, which contains a timing pattern. So
+-- the right column of the strip has the index c = 2 * p - 1 if c is below 6, and otherwise the index c + 1. The code
+-- skips column 6 in the function `strip_at` of the file strips.rt, which the walk through the modules calls (ISO/IEC
+-- 18004:2015, 7.7.3)
 abbrev pub strip_at : ℕ → Strip
 strip_at p = record { right = (let c = 2 * p - 1 in if nat_lt c 6 then c else c + 1); upward = p % 2 == 0 }
 

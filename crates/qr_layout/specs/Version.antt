@@ -1,5 +1,5 @@
--- The number of modules on a side of a symbol, and the numbers of its codewords and remainder bits. The values have a
--- meaning for the versions 1 to 40 only.
+-- Defines the number of modules on a side of a symbol, and how many codewords and remainder bits a symbol has. These
+-- numbers have a meaning only for the versions 1 to 40.
 use Rattle.std.specs.Prelude.{ℕ, ◌-◌, ◌+◌, ◌*◌, List, [], ◌∷◌}
 use Rattle.std.specs.List.{slice_index_or}
 
@@ -23,8 +23,8 @@ remainder_table =
 unfoldable pub total_codewords_of : ℕ → ℕ
 total_codewords_of v = slice_index_or total_table (v - 1) 0
 
--- `remainder_bits_of v` is the number of remainder bits of a symbol of version v. Remainder bits are modules that are
--- left over when the codewords are placed (ISO/IEC 18004:2015, 7.1, Table 1)
+-- `remainder_bits_of v` is the number of remainder bits of a symbol of version v. Remainder bits fill the modules that
+-- are left over after all codewords are placed (ISO/IEC 18004:2015, 7.1, Table 1)
 unfoldable pub remainder_bits_of : ℕ → ℕ
 remainder_bits_of v = slice_index_or remainder_table (v - 1) 0
 

@@ -1,5 +1,5 @@
--- Defines bit rows, which are rows of 192 bits stored in three words of 64 bits. A square of modules is a list of bit
--- rows, one for each row of modules. Bit 0 is the lowest bit of the first word.
+-- Defines bit rows, which are rows of 192 bits stored in three words of 64 bits. A square of modules is stored as a
+-- list of bit rows, one for each row of modules. Bit 0 of a bit row is the lowest bit of its first word.
 use Rattle.std.specs.Prelude.{ℕ, ◌+◌, ◌*◌, ◌^◌, Bool, ◌==◌, List, slice_index, slice_index_or, []}
 use Rattle.std.specs.Int.{bit_at}
 
@@ -17,6 +17,6 @@ unfoldable pub has : List ℕ → ℕ → Bool
 has words c = has_bit (bit_row_number words) c
 
 -- `dark_in rows r c` is true if the module in row `r` and column `c` is dark. The list `rows` contains a bit row for
--- each row of modules, in which a bit that is 1 is a dark module. Modules below the last row are light [own]
+-- each row of modules, and each bit that is 1 is a dark module. Modules below the last row are light [own]
 unfoldable pub dark_in : List (List ℕ) → ℕ → ℕ → Bool
 dark_in rows r c = has (slice_index_or rows r []) c

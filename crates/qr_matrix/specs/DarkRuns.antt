@@ -1,4 +1,5 @@
--- Defines the runs of dark modules of a row, which an iterator returns one after the other.
+-- Defines how an iterator returns the runs of dark modules of a row, one after the other. A run is a longest possible
+-- sequence of neighbouring modules of one colour.
 use Rattle.std.specs.Prelude.{◌≡◌, ◌<◌, ◌≤◌, ◌&&◌, ℕ, true, false, nat_le, Option, None, Some}
 use Rattle.qr_matrix.specs.Grid.{Grid, colour}
 use Rattle.qr_matrix.specs.BitRow.{has}
@@ -6,10 +7,10 @@ use Rattle.qr_matrix.specs.Runs.{is_change}
 use Rattle.qr_matrix.specs.declared.dark_runs.DarkRuns.{DarkRuns}
 use Rattle.qr_matrix.specs.declared.dark_runs.Run.{Run}
 
--- `AreRunsFrom g row runs` holds if the iterator `runs` still has to return certain runs of dark modules: those in row
--- `row` of the square of modules `g`, from column `runs.col` on. The set bits of `runs.changes` are the columns in
--- which the colour changes, where all columns before `runs.col` count as light. The square has at most 177 columns, and
--- columns outside the square are light [own]
+-- `AreRunsFrom g row runs` holds if the iterator `runs` still has to return the runs of dark modules in row `row` of
+-- the square of modules `g`, from column `runs.col` on. Bit `c` of `runs.changes` is 1 if module `c` of the row has
+-- another colour than the module before it. All columns before `runs.col` count as light. The square has at most 177
+-- columns, and columns outside the square are light [own]
 pub record AreRunsFrom (g : Grid) (row : ℕ) (runs : DarkRuns) : Type 0 where
   pub few : g.side ≤ 177
   pub past : (c : ℕ) → g.side ≤ c → colour g row c ≡ false
@@ -26,10 +27,9 @@ pub record IsFirstRun (g : Grid) (row col : ℕ) (run : Run) : Type 0 where
   pub dark : (c : ℕ) → run.start ≤ c → c < run.end → colour g row c ≡ true
   pub stops : colour g row run.end ≡ false
 
--- `GivesRun old r new` describes one step of an iterator over the runs of dark modules of a row. It holds if the
--- iterator may return `r` and change from the state `old` to the state `new`. If `r` is a run, `r` is the first run
--- that `old` still has to return, and `new` still has to return the runs after it. If `r` is `None`, `old` has no run
--- left to return [own]
+-- `GivesRun old r new` describes one step of an iterator over the runs of dark modules of a row. In this step, the
+-- iterator returns `r` and changes from `old` to `new`. If `r` is a run, `r` is the first run that `old` still has to
+-- return, and `new` still has to return the runs after it. If `r` is `None`, `old` has no run left to return [own]
 abbrev pub GivesRun : DarkRuns → Option Run → DarkRuns → Type 0
 GivesRun old None new = (g : Grid) (row : ℕ) → AreRunsFrom g row old → (c : ℕ) → old.col ≤ c → colour g row c ≡ false
 GivesRun old (Some run) new = (g : Grid) (row : ℕ) → AreRunsFrom g row old

@@ -1,13 +1,14 @@
--- Defines where a run of modules of one colour ends, and where the colour changes. Also defines the penalty points for
--- runs, counted module by module. The parameter `line` is a row or a column of modules: `line c` is the colour of
--- module `c`, and `true` is dark.
+-- Defines where a run of modules of one colour ends, and where the colour changes. This file also defines the penalty
+-- points for runs of one colour, which it counts module by module. In these definitions, the parameter `line` is a row
+-- or a column of modules: `line c` is the colour of module `c`, and `true` is dark.
 use Rattle.std.specs.Prelude.{◌≡◌, ◌≢◌, ◌+◌, ◌-◌, ◌*◌, ◌<◌, ◌≤◌, ◌&&◌, not, ℕ, Bool, nat_lt}
 use Rattle.qr_matrix.specs.Grid.{Grid, colour}
 use Rattle.qr_matrix.specs.Penalty.{is_same, count_below}
 
--- `IsRunEnd g row col end` holds if `end` is the first column after a run of one colour. The run is in row `row` of the
--- square of modules `g`, from column `col` on. So `end` is the least column after `col` that has another colour than
--- column `col`. If there is no such column, `end` is the number of columns of the square [own]
+-- `IsRunEnd g row col end` holds if `end` is the first column after a run (neighbouring modules of one colour). The run
+-- is in row `row` of the square of modules `g`, and is considered from column `col` on. So `end` is the least column
+-- after `col` that has another colour than column `col`. If there is no such column, `end` is the number of columns of
+-- the square [own]
 pub record IsRunEnd (g : Grid) (row col end : ℕ) : Type 0 where
   pub after : col < end
   pub within : end ≤ g.side
@@ -19,25 +20,25 @@ pub record IsRunEnd (g : Grid) (row col end : ℕ) : Type 0 where
 unfoldable pub is_change : (ℕ → Bool) → ℕ → Bool
 is_change line c = not (is_same (line c) (nat_lt 0 c && line (c - 1)))
 
--- `joins s line c` is true if the modules `c` and `c + 1` have the same colour. Both modules must be in `line`, which
--- is a row or column of `s` modules [own]
+-- `joins s line c` is true if the modules `c` and `c + 1` are in `line` and have one colour. The parameter `line` is a
+-- row or column of `s` modules [own]
 unfoldable pub joins : ℕ → (ℕ → Bool) → ℕ → Bool
 joins s line c = nat_lt (c + 1) s && is_same (line c) (line (c + 1))
 
--- `begins_five s line c` is true if the five modules from index `c` on have one colour. All five modules must be in
--- `line`, which is a row or column of `s` modules [own]
+-- `begins_five s line c` is true if the five modules from index `c` on are in `line` and have one colour. The parameter
+-- `line` is a row or column of `s` modules [own]
 unfoldable pub begins_five : ℕ → (ℕ → Bool) → ℕ → Bool
 begins_five s line c = (joins s line c && joins s line (c + 1)) && (joins s line (c + 2) && joins s line (c + 3))
 
 -- `begins_long_run s line c` is true if a run of five or more modules of one colour begins at index `c` of `line`. The
--- parameter `line` is a row or column of `s` modules. So the module before index `c` has the other colour, or `c` is 0
--- [own]
+-- parameter `line` is a row or column of `s` modules. So the run's first module is module `c`: `c` is 0, or the module
+-- before module `c` has the other colour [own]
 unfoldable pub begins_long_run : ℕ → (ℕ → Bool) → ℕ → Bool
 begins_long_run s line c = begins_five s line c && not (nat_lt 0 c && joins s line (c - 1))
 
 -- `place_cost s line` is the number of penalty points for the runs of one colour in `line`, a row or column of `s`
--- modules. The points are counted module by module. Each module at which five modules of one colour begin costs 1
--- point. If this module is the first module of its run, it costs 2 points more. So a run of `5 + i` modules costs `3 +
--- i` points [own]
+-- modules. The points are counted module by module. A module costs 1 point if five modules of one colour begin at it.
+-- If this module is also the first module of its run, it costs 3 points instead of 1. So a run of `5 + i` modules costs
+-- `3 + i` points [own]
 unfoldable pub place_cost : ℕ → (ℕ → Bool) → ℕ
 place_cost s line = count_below s (begins_five s line) + 2 * count_below s (begins_long_run s line)

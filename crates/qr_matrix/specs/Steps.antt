@@ -1,6 +1,6 @@
 -- Defines what single steps of the code do with bit rows, with runs of modules of one colour, and with tiles of 64 by
--- 64 modules. Only proofs, contracts of private functions and the model of `BitRow` use these definitions. The model is
--- the value of a `BitRow` in contracts.
+-- 64 modules. Only proofs, contracts of private functions and the model of the type `BitRow` use these definitions. The
+-- model of a `BitRow` is the value by which contracts describe it.
 use Rattle.std.specs.Prelude.{◌≡◌, ℕ, ◌+◌, ◌-◌, ◌*◌, ◌%◌, ◌^◌, ◌<◌, ◌==◌, ◌&&◌, ◌||◌, not, true, false, Bool, List, Option, None, Some, length, slice_index, nat_lt, if◌then◌else◌}
 use Rattle.qr_matrix.specs.Penalty.{count_below}
 use Rattle.qr_matrix.specs.Runs.{begins_five}
@@ -15,20 +15,21 @@ unfoldable pub size_of : List ℕ → ℕ
 size_of words = count_below 192 (has words)
 
 -- `TakesFirst old p new` holds if `p` is the index of the first bit that is 1 in the bit row `old`. The bit row `new`
--- must be `old` with this bit set to 0. If no bit of `old` is 1, `p` is `None` and `new` is equal to `old`
+-- is equal to `old`, except that this bit is 0. If no bit of `old` is 1, `p` is `None` and `new` is equal to `old`
 abbrev pub TakesFirst : List ℕ → Option ℕ → List ℕ → Type 0
 TakesFirst old None new = (new ≡ old) × ((c : ℕ) → c < 192 → has old c ≡ false)
 TakesFirst old (Some p) new =
     (p < 192) × (has old p ≡ true) × ((c : ℕ) → c < p → has old c ≡ false) × ((c : ℕ) → has new c ≡ (has old c && not (c == p)))
 
 -- `is_charged s line c` is true if module `c` of `line`, a row or column of `s` modules, adds a penalty point for a run
--- of one colour. This is so if five modules of one colour begin at module `c`, at the module before it, or at the second
--- module before it. So a run of five or more modules adds a point for each of its modules except the last two
+-- of one colour. Module `c` adds a point if five modules of one colour begin at module `c` or at one of the two modules
+-- before it. So a run of five or more modules adds a point for each of its modules except the last two
 unfoldable pub is_charged : ℕ → (ℕ → Bool) → ℕ → Bool
 is_charged s line c = (begins_five s line c || (nat_lt 0 c && begins_five s line (c - 1))) || (nat_lt 1 c && begins_five s line (c - 2))
 
 -- `row_share s dark r` is the number of penalty points that the modules of row `r` add for the runs of one colour in
--- all columns. The symbol has `s` rows and columns, and `dark row col` is the colour of a module
+-- all columns. The symbol has `s` rows and columns, and `dark row col` is the colour of the module in row `row` and
+-- column `col`
 unfoldable pub row_share : ℕ → (ℕ → ℕ → Bool) → ℕ → ℕ
 row_share s dark r = count_below s (λ c. is_charged s (λ i. dark i c) r)
 

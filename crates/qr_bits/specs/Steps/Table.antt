@@ -1,5 +1,6 @@
--- Defines the table of best modes for an input. The table has a row for each byte. This row contains the best mode of
--- the byte for each state (`RunState`) before the byte.
+-- Defines the table of best modes for an input. The table has a row for each byte. The row of a byte contains the best
+-- mode of the byte for each state (`RunState`) before the byte. A state contains the mode of the last byte, and the
+-- number of bytes that its group (such as three digits) has so far.
 use Rattle.std.specs.Prelude.{ℕ, ◌<◌, ◌/◌, ◌%◌, ◌^◌, Bool, List, [], ◌∷◌, IsTrue}
 use Rattle.qr_bits.specs.declared.modes.Mode.{Mode}
 use Rattle.qr_bits.specs.declared.modes.Rule.{Rule}
@@ -8,7 +9,7 @@ use Rattle.qr_bits.specs.declared.run_state.RunState.TheVariants.{Start, Digit1,
 use Rattle.qr_bits.specs.declared.run_state.PerState.{PerState}
 use Rattle.qr_bits.specs.Steps.RunState.{state_after, allowed, ranked, IsBestRest, IsChoice}
 
--- `in_state b p` is the value that `b` contains for the state `p`
+-- `in_state b p` is the value for the state `p` in `b`, which contains a value for each state
 unfoldable pub in_state : {T : Type 0} → PerState T → RunState → T
 in_state b Start = b.start
 in_state b Digit1 = b.digit1
@@ -20,21 +21,21 @@ in_state b InBytes = b.in_bytes
 in_state b HalfPair = b.half_pair
 in_state b WholePair = b.whole_pair
 
--- `bits_at numbers p` is the number of bits that the choice for the state `p` takes. For each state, `numbers` contains
--- four times the number of bits of the choice, plus the rank of the chosen mode.
+-- `bits_at numbers p` is the number of bits to which the best mode for the state `p` leads. For each state, `numbers`
+-- contains four times the number of bits to which the best mode leads, plus the rank of this mode.
 abbrev pub bits_at : PerState ℕ → RunState → ℕ
 bits_at numbers p = in_state numbers p / 4
 
 -- `IsSmall n` holds if each of the nine numbers in `n`, one for each state, is below 40,000,000. For an input of at
--- most `INPUT_MAX` bytes, all numbers of choices are below this bound, so sums of 32 bits do not overflow.
+-- most `INPUT_MAX` bytes, all numbers that represent the choice of a mode are below this bound. So adding the bits of
+-- one more byte to a number of a choice does not overflow 32 bits.
 abbrev pub IsSmall : PerState ℕ → Type 0
 IsSmall n =
     (n.start < 40000000) × (n.digit1 < 40000000) × (n.digit2 < 40000000) × (n.digit3 < 40000000) × (n.character1 < 40000000)
     × (n.character2 < 40000000) × (n.in_bytes < 40000000) × (n.half_pair < 40000000) × (n.whole_pair < 40000000)
 
--- In a row of the table, two neighbouring bits contain the mode for the state `p`, and `shift_of p` is the index of the
--- lower of these bits. A row is a number that has two such bits for each state, and the bit with the index 0 is the
--- lowest bit
+-- A row of the table is a number that contains the rank of the best mode for each state, in two bits for each state.
+-- The lower of the two bits for the state `p` has the index `shift_of p`. The lowest bit of the number has the index 0
 abbrev pub shift_of : RunState → ℕ
 shift_of Start = 0
 shift_of Digit1 = 2
@@ -50,22 +51,21 @@ shift_of WholePair = 16
 unfoldable pub mode_at : ℕ → RunState → Mode
 mode_at row p = ranked (row / 2 ^ shift_of p % 4)
 
--- `IsRow v r x pair rest row numbers` holds if, for each state before the byte `x`, `row` contains the best mode of
--- `x`. For each of these states `p`, `bits_at numbers p` is the number of bits that `x` and all later bytes then add.
--- For each state `q` after `x`, `bits_at rest q` is the number of bits that the bytes after `x` add. The version is
--- `v`, the rule is `r`, and the flag `pair` is true if `x` may be the first byte of a kanji pair.
+-- `IsRow v r x pair rest row numbers` holds if the row `row` contains the best mode of the byte `x` for each state
+-- before `x`. If the state before `x` is `p`, `x` and all later bytes add `bits_at numbers p` bits. If the state after
+-- `x` is `q`, the bytes after `x` add `bits_at rest q` bits. The version is `v`, the rule is `r`, and the flag `pair`
+-- is true if `x` may be the first byte of a kanji pair.
 abbrev pub IsRow : ℕ → Rule → ℕ → Bool → PerState ℕ → ℕ → PerState ℕ → Type 0
 IsRow v r x pair rest row numbers = (p : RunState) → IsChoice v r p x pair (bits_at rest) (mode_at row p) (bits_at numbers p)
 
 -- `follow p rows` is the list of the modes that are read from the rows of a table, one mode from each row. The first
--- row is read for the state `p`. The mode that is read from a row leads to the state for which the next row is read
+-- row is read for the state `p`. The mode that is read from a row leads to a new state, for which the next row is read
 unfoldable pub follow : RunState → List ℕ → List Mode
 follow p [] = []
 follow p (row ∷ rows) = mode_at row p ∷ follow (state_after p (mode_at row p)) rows
 
--- `IsBestTable v r test xs rows` holds if `rows` is a table of the best modes for the bytes `xs`. Suppose that some
--- assignment of modes to `xs` is allowed after a state. Then `follow`, beginning with this state, reads the best of the
--- allowed assignments from the table. The version is `v`, the rule is `r`, and two bytes are a kanji pair if they pass
--- `test`.
+-- `IsBestTable v r test xs rows` holds if `rows` is a table of the best modes for the bytes `xs`. If any assignment of
+-- modes to `xs` is allowed after a state, then `follow`, beginning with this state, reads the best allowed assignment
+-- from the table. The version is `v`, the rule is `r`, and two bytes are a kanji pair if they pass `test`.
 abbrev pub IsBestTable : ℕ → Rule → (ℕ → ℕ → Bool) → List ℕ → List ℕ → Type 0
 IsBestTable v r test xs rows = (p : RunState) (ks : List Mode) → IsTrue (allowed r test p xs ks) → (n : ℕ) × IsBestRest v r test p xs (follow p rows) n

@@ -1,5 +1,5 @@
--- Positions of the walk, which visits the modules of the encoding region in the order in which the codewords fill them.
--- The walk goes through strips of two columns, from right to left.
+-- Defines the positions of the walk, which visits the modules of the encoding region in the order in which the
+-- codewords fill them. The walk goes through strips (two columns that are filled together), from right to left.
 use Rattle.std.specs.Prelude.{ℕ, ◌+◌, ◌-◌, ◌*◌, ◌/◌, ◌%◌, ◌<◌, ◌≤◌, Bool, true, false, ◌==◌, if◌then◌else◌, List, [], ◌∷◌}
 use Prim.Native.Nat.{zero, suc}
 use Rattle.qr_layout.specs.declared.region.Module.{Module}
@@ -23,14 +23,14 @@ place_of a = let right = (strip_at a.strips).right in record { row = a.row; col 
 abbrev pub rank_of : ℕ → Cursor → ℕ
 rank_of s a = if (strip_at a.strips).upward then s - 1 - a.row else a.row
 
--- `left_of s a` is the number of positions that the walk still visits, including the position a itself. The symbol has
--- s modules on a side
+-- `left_of s a` is the number of positions that the walk visits from the position a on, including the position a. The
+-- symbol has s modules on a side
 unfoldable pub left_of : ℕ → Cursor → ℕ
 left_of s a = a.strips * (2 * s) - (2 * rank_of s a + half_of a.at_left)
 
 -- `next_of s a` is the position that follows the position a in a symbol with s modules on a side. After the right
 -- module of a row comes the left module of this row. After the left module comes the right module of the next row of
--- the strip. After the last row of a strip comes the next strip, which begins in the same row
+-- the strip. After the left module of the strip's last row comes the next strip, which begins in this row
 unfoldable pub next_of : ℕ → Cursor → Cursor
 next_of s a =
     if a.at_left then
@@ -43,8 +43,8 @@ pub record IsCursor (v : ℕ) (a : Cursor) : Type 0 where
   pub strips_in : a.strips ≤ 8 + 2 * v
   pub row_in : a.row < side_of v
 
--- `places_within v n a` goes through n positions of the walk of version v, beginning with the position a. It lists
--- those modules at these positions that are in the encoding region
+-- `places_within v n a` goes through n positions of the walk of version v, beginning with the position a. The list
+-- contains those modules at these positions that are in the encoding region
 unfoldable pub places_within : ℕ → ℕ → Cursor → List Module
 places_within v zero a = []
 places_within v (suc n) a =
@@ -59,6 +59,7 @@ abbrev pub first_cursor : ℕ → Cursor
 first_cursor v = record { strips = 8 + 2 * v; row = 16 + 4 * v; at_left = false }
 
 -- `cursor_at m` is the position of the walk at the module m, if m is not in column 6. The position consists of the
--- strip of m, the row of m, and the half of the strip (left or right)
+-- strip of m (two columns that are filled together), the row of m, and whether m is in the left or the right column of
+-- the strip
 unfoldable pub cursor_at : Module → Cursor
 cursor_at m = let c = column_without_timing m.col in record { strips = c / 2 + 1; row = m.row; at_left = c % 2 == 0 }

@@ -1,4 +1,5 @@
--- All modules outside the encoding region as a list of rectangles, which the program draws one by one.
+-- Defines a list of rectangles that cover all modules outside the encoding region. The program draws these rectangles
+-- one by one.
 use Rattle.std.specs.Prelude.{ℕ, ◌≤◌, ◌+◌, ◌-◌, List, ◌++◌, map}
 use Rattle.qr_layout.specs.declared.region.Module.{Module}
 use Rattle.qr_layout.specs.declared.rectangles.Rectangle.{Rectangle}
@@ -6,8 +7,8 @@ use Rattle.qr_layout.specs.Version.{side_of}
 use Rattle.qr_layout.specs.Alignment.{centres_of, alignment_places}
 use Rattle.qr_layout.specs.Rectangles.{fixed_rectangles}
 
--- `IsWithin s b` holds if the rectangle b is inside a symbol with s modules on a side. The bound `top` must be at most
--- `bottom`, and the bound `left` must be at most `right`
+-- `IsWithin s b` holds if the rectangle b is inside a symbol with s modules on a side. The bound `top` of the rectangle
+-- is at most `bottom`, and the bound `left` is at most `right`
 pub record IsWithin (s : ℕ) (b : Rectangle) : Type 0 where
   pub rows : b.top ≤ b.bottom
   pub bottom : b.bottom ≤ s
@@ -27,7 +28,8 @@ abbrev pub square_round : Module → Rectangle
 square_round m = record { top = m.row - 2; bottom = m.row + 3; left = m.col - 2; right = m.col + 3 }
 
 -- `alignment_squares s cs` lists the alignment patterns of a symbol with s modules on a side, as rectangles. The list
--- cs contains the rows of the centres, and the same numbers are the columns of the centres (ISO/IEC 18004:2015, 6.3.6)
+-- cs contains the numbers of the rows of centres, which are also the numbers of the columns of centres (ISO/IEC
+-- 18004:2015, 6.3.6)
 abbrev pub alignment_squares : ℕ → List ℕ → List Rectangle
 alignment_squares s cs = map square_round (alignment_places s cs)
 
