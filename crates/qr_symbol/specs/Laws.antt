@@ -1,5 +1,5 @@
--- This file contains rows of the mask patterns that were worked out by hand. A law compares the definition of the mask
--- patterns with these rows.
+-- This file contains some rows of the mask patterns. The rows were worked out by hand. A law compares the definition of
+-- the mask patterns with these rows.
 use Rattle.std.specs.Prelude.{ℕ, ◌-◌, Bool, List, [], ◌∷◌, map}
 use Rattle.std.specs.List.{range_with_len}
 use Rattle.qr_bits.specs.Bits.{value}

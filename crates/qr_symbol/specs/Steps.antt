@@ -1,5 +1,5 @@
--- The definitions in these files describe how the program computes its results, step by step. Only the contracts of
--- private functions use these definitions. To judge the promises of public functions, a reader need not read these
+-- The definitions in the folder `Steps` describe how the program computes its results, step by step. Only the contracts
+-- of private functions use these definitions. To judge the promises of public functions, a reader need not read these
 -- definitions.
 pub mod Patterns
 pub mod Drawing
