@@ -29,8 +29,8 @@ symmetric_format = 128
 
 -- `is_dark_in_six s at` is true if the module with index `at` in row 6, or in column 6, is dark; s is the side of the
 -- symbol, in modules. The first seven and the last seven modules of this row or column are dark, since they belong to
--- finder patterns. The modules between the two finder patterns are a timing pattern, whose dark modules are at even
--- indices.
+-- finder patterns. Of the modules between the two finder patterns, those at even indices are dark, since they belong to
+-- a timing pattern.
 abbrev pub is_dark_in_six : ℕ → ℕ → Bool
 is_dark_in_six s at = nat_lt at 7 || nat_le (s - 7) at || at % 2 == 0
 
