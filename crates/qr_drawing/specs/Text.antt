@@ -11,7 +11,7 @@ abbrev pub ascii_module : Bool → List ℕ
 ascii_module dark = if dark then 35 ∷ 35 ∷ [] else 32 ∷ 32 ∷ []
 
 -- `half_blocks upper lower` is the character for two modules, one above the other, in UTF-8. The filled parts of the
--- character are light modules. The character is the space, U+2584, U+2580 or U+2588 [own]
+-- character show light modules. The character is the space, U+2584, U+2580 or U+2588 [own]
 abbrev pub half_blocks : Bool → Bool → List ℕ
 half_blocks upper lower =
     if upper then (if lower then 32 ∷ [] else 0xE2 ∷ 0x96 ∷ 0x84 ∷ [])

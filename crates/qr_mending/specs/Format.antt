@@ -55,9 +55,9 @@ wrong_bit false shown wanted = bit_difference shown wanted
 abbrev pub wrong_bits_without : Grid → FormatCopy → Grid → Level → ℕ → ℕ
 wrong_bits_without unknown copy g l mask = sum_below 15 (λ i. wrong_bit (copy_bit copy unknown i) (copy_bit copy g i) (word_bit (format_word_of l mask) i))
 
--- `IsNearFormat copy g l mask` holds if the square `g` of modules may have level `l` and mask `mask`, judged by the
--- copy `copy` of its format information. The format information of this level and mask differs from the copy in at most
--- three modules. The number `mask` is at most 7 (ISO/IEC 18004:2015, 7.9.1, Annex C).
+-- `IsNearFormat copy g l mask` holds if the format information of level `l` and mask `mask` is near to the copy `copy`
+-- in the square `g` of modules. This means that the two differ in at most three modules. The number `mask` is at most 7
+-- (ISO/IEC 18004:2015, 7.9.1, Annex C).
 pub record IsNearFormat (copy : FormatCopy) (g : Grid) (l : Level) (mask : ℕ) : Type 0 where
   pub in_range : mask < 8
   pub near : wrong_bits copy g l mask ≤ 3

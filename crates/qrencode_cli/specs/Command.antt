@@ -1,5 +1,5 @@
--- Defines what the command draws for a command line and an input. Also defines what a run of the command does to its
--- devices: the reader of the input, standard output and standard error.
+-- Defines what the command draws for a command line and an input. This file also defines what a run of the command does
+-- to its devices: the reader of the input, standard output and standard error.
 use Rattle.std.specs.Prelude.{◌≡◌, ◌↔◌, ◌≤◌, ◌<◌, ◌+◌, ◌⊎◌, ℕ, List, [], length, take, max, MatchOption, None, IfErr, IsErrOf, IsTrue, MatchResult, Result, Ok, Err, is_ok, true, false, if◌then◌else◌}
 use Rattle.std.specs.Option.{option_map_or}
 use Rattle.std.specs.Io.KnownBytes.{Appends, Consumes}
@@ -72,8 +72,9 @@ IsRefusal words given (fault.Encode encode.TooMany) = HasRefusal words given IsT
 IsRefusal words given _ = ⊥
 
 -- `IsFault words given f` holds if the fault `f` can occur for the command line `words` and for `given`, the bytes that
--- the reader returned. A refusal can occur if it is correct. A read fault can occur if the command line is not refused
--- and contains no string. A write fault can occur if there is a drawing. Lack of memory can always occur [own]
+-- the reader returned. A refusal can occur if it is correct for the command line and the input. A read fault can occur
+-- if the command line is not refused and contains no string. A write fault can occur if there is a drawing. Lack of
+-- memory can always occur [own]
 abbrev pub IsFault : List Text → List ℕ → Fault → Type 0
 IsFault words given fault.Read = HasSettingsWith words (λ s. s.string ≡ None)
 IsFault words given fault.Memory = Unit {0}
@@ -81,7 +82,7 @@ IsFault words given fault.Write = (drawing : List ℕ) × HasDrawing words given
 IsFault words given refusal = IsRefusal words given refusal
 
 -- `DrawnWhole old new drawing` holds if a writer changed from `old` to `new` because it received the whole `drawing`
--- and was then flushed once. The flush succeeded, and was the last call [own]
+-- and was then flushed once. The flush succeeded, and was the last call of the writer [own]
 pub record DrawnWhole (old new : Writer) (drawing : List ℕ) : Type 0 where
   pub grows : Appends old.taken new.taken drawing
   pub many : old.counts ≡ no_writes → new.counts.taken ≡ counted (length drawing)
@@ -111,17 +112,17 @@ AllRead old new given = Consumes old.remaining new.remaining given
     × (old.counts ≡ no_reads → new.counts.given ≡ length given)
     × (old.counts ≡ no_reads → (new.counts.ends ≡ 1) ⊎ (length given ≡ INPUT_MAX))
 
--- `InputConsumed old new given outcome` is about a run that has to read its input. It holds if the run read the whole
--- input `given`, and so changed the reader from `old` to `new`. If the `outcome` is a read fault or lack of memory,
--- `InputConsumed` always holds [own]
+-- `InputConsumed old new given outcome` holds if a run read the whole input `given`, and so changed the reader from
+-- `old` to `new`. The definition is about a run that has to read its input. If the `outcome` is a read fault or lack of
+-- memory, `InputConsumed` always holds [own]
 abbrev pub InputConsumed : Reader → Reader → List ℕ → {T : Type 0} → Result T Fault → Type 0
 InputConsumed old new given (Err fault.Read) = Unit {0}
 InputConsumed old new given (Err fault.Memory) = Unit {0}
 InputConsumed old new given _ = AllRead old new given
 
 -- `InputConsumedFor settings old new given outcome` holds if the reader changed from `old` to `new` as the `settings`
--- require. If the command line is refused, or if it contains the input as a string, the reader has to be unchanged.
--- Otherwise `InputConsumed` has to hold, which means that the whole input was read [own]
+-- require. If the command line is refused, or if it contains the input as a string, the reader is unchanged. Otherwise
+-- `InputConsumed` holds, which means that the whole input was read [own]
 abbrev pub InputConsumedFor : Result SettingsView Reason → Reader → Reader → List ℕ → {T : Type 0} → Result T Fault → Type 0
 InputConsumedFor (Err r) old new given outcome = new ≡ old
 InputConsumedFor (Ok s) old new given outcome = MatchOption s.string (InputConsumed old new given outcome) (λ _. new ≡ old)
@@ -141,10 +142,10 @@ ErrorHolds old new line = AppendsBeginning old.taken new.taken line
 -- `outcome` and this exit `status`. The outcome is success or a fault. The reader and the two writers are `in0`, `out0`
 -- and `err0` before the run, and `in1`, `out1` and `err1` after the run. Apart from lack of memory and faults of
 -- devices, the arguments and the input determine the outcome. If the counts of a device were 0 before the run, its
--- counts stay within their limits. For the reader and for standard output, these counts then also show whether the
--- outcome is a read fault or a write fault. No write of the drawing offers more than 1,200 bytes. After success,
--- standard error receives nothing, and the status is 0. After a fault, standard error receives the fault's line, and
--- the status is 1 [own]
+-- counts stay within their limits. If the counts of the reader were 0 before the run, they show whether the outcome is
+-- a read fault. If the counts of standard output were 0 before the run, they show whether the outcome is a write fault.
+-- No write of the drawing offers more than 1,200 bytes. After success, standard error receives nothing, and the status
+-- is 0. After a fault, standard error receives the fault's line, and the status is 1 [own]
 pub record Runs (words : List Text) (in0 in1 : Reader) (out0 out1 err0 err1 : Writer) (outcome : Result (Unit {0}) Fault) (status : ℕ) : Type 0 where
   pub given : List ℕ
   pub is_input : IsInputOf in0.remaining given

@@ -113,20 +113,22 @@ abbrev pub AreAlike : Fault → Fault → Type 0
 AreAlike (fault.Usage (usage.Words text)) (fault.Usage (usage.Words other)) = Unit {0}
 AreAlike r q = r ≡ q
 
--- `RefusalsAreOne` holds if all refusals that are correct for a command line and an input are alike [own].
+-- `RefusalsAreOne` holds if all refusals that are correct for a command line and an input are alike. Refusals are alike
+-- if they are equal, or if their lines are texts of `clap` [own].
 abbrev pub RefusalsAreOne : Type 0
 RefusalsAreOne = (words : List Text) (given : List ℕ) (r q : Fault) → IsRefusal words given r → IsRefusal words given q → AreAlike r q
 
 -- `RulesOfModes` holds if the options -8 and -k decide which modes are allowed. With -8 only byte mode is allowed, even
--- if -k is given too. Without -8, all modes but kanji mode are allowed, and kanji mode too if -k is given [own]
+-- if -k is also given. With -k and without -8, all modes are allowed. Without -8 and -k, all modes but kanji mode are
+-- allowed [own]
 pub record RulesOfModes : Type 0 where
   pub bytes : (s : SettingsView) → s.bytes_only ≡ true → rule_for s ≡ BytesOnly
   pub kanji : (s : SettingsView) → s.bytes_only ≡ false → s.kanji ≡ true → rule_for s ≡ WithKanji
   pub neither : (s : SettingsView) → s.bytes_only ≡ false → s.kanji ≡ false → rule_for s ≡ Auto
 
--- `FoldingFollowsTheRule` holds if -i folds the input, that is, changes small letters to capitals, as the allowed modes
--- require. Without -i the input is unchanged. With -i and -k, the second byte of a kanji pair is unchanged, even if it
--- is the code of a small letter [own].
+-- `FoldingFollowsTheRule` holds if the option -i folds the input as the allowed modes require. To fold an input is to
+-- change its small letters to capitals. Without -i the input is unchanged. With -i and -k, the second byte of a kanji
+-- pair is unchanged, even if it is the code of a small letter [own].
 pub record FoldingFollowsTheRule : Type 0 where
   pub folds : (s : SettingsView) (input : List ℕ) → s.fold ≡ true → held s input ≡ folded (rule_for s) input
   pub keeps : (s : SettingsView) (input : List ℕ) → s.fold ≡ false → held s input ≡ input

@@ -29,8 +29,8 @@ cell_text Inverse upper lower = ascii_module (not upper)
 cell_text HalfBlocks upper lower = half_blocks upper lower
 
 -- `cell_at style margin g row x` is the text of the cell for the module in row `row` and column `x` of a raster. The
--- raster is the square of modules `g` with its margin. In the style `HalfBlocks` the cell also shows the module in the
--- row below
+-- raster is the square of modules `g` with its margin. In the style `HalfBlocks` the cell also shows the module below
+-- this module
 abbrev pub cell_at : TextStyle → ℕ → Grid → ℕ → ℕ → List ℕ
 cell_at style margin g row x = cell_text style (is_dark_at margin g row x) (is_dark_at margin g (row + 1) x)
 
