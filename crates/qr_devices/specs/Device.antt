@@ -12,7 +12,7 @@ use Rattle.qr_devices.specs.declared.device.WriteCounts.{WriteCounts}
 abbrev pub counted : ℕ → ℕ
 counted n = min n (2 ^ 64 - 1)
 
--- `no_reads` is the counts of a device before its first read: each count is 0 [own]
+-- `no_reads` contains the counts of a device before its first read: each count is 0 [own]
 abbrev pub no_reads : ReadCounts
 no_reads = record { calls = 0; failed = 0; interrupted = 0; given = 0; ends = 0; past_end = 0 }
 
@@ -35,7 +35,7 @@ read_counted room returned c = read_returned room returned (record c {
   past_end = if nat_lt 0 c.ends then counted (c.past_end + 1) else c.past_end;
 })
 
--- `no_writes` is the counts of a device before its first write or flush: each count is 0 [own]
+-- `no_writes` contains the counts of a device before its first write or flush: each count is 0 [own]
 abbrev pub no_writes : WriteCounts
 no_writes = record {
   calls = 0;

@@ -6,11 +6,11 @@ use Rattle.qr_devices.specs.declared.device.Trouble.TheVariants.{Interrupted, Fa
 use Rattle.qr_devices.specs.declared.trial.Faults.{Faults}
 use Rattle.qr_devices.specs.declared.trial.Trial.{Trial}
 
--- `bytes_left t` is the bytes that are still to be read from the device `t` [own]
+-- `bytes_left t` lists the bytes that are still to be read from the device `t` [own]
 abbrev pub bytes_left : Trial → List ℕ
 bytes_left t = drop t.position t.bytes.items
 
--- `bytes_held t` is all bytes that the device `t` contains [own]
+-- `bytes_held t` lists all bytes that the device `t` contains [own]
 abbrev pub bytes_held : Trial → List ℕ
 bytes_held t = t.bytes.items
 

@@ -13,8 +13,8 @@ abbrev pub HaveOneSide : List Grid → Type 0
 HaveOneSide squares = All (λ g. g.side ≡ (square_at squares 0).side) squares
 
 -- `drawn type margin squares` is the drawing of symbols, where `squares` lists their squares of modules. If the type is
--- ASCII, ASCIIi or UTF8, the drawing is the texts of the symbols, one after the other. If the type is SVG, the drawing
--- is one SVG document of all symbols [own]
+-- ASCII, ASCIIi or UTF8, the drawing consists of the texts of the symbols, one after the other. If the type is SVG, the
+-- drawing is one SVG document of all symbols [own]
 abbrev pub drawn : Drawing → ℕ → List Grid → List ℕ
 drawn Ascii margin squares = flat_map (text_drawing Plain margin) squares
 drawn AsciiInverse margin squares = flat_map (text_drawing Inverse margin) squares

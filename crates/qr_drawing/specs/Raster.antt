@@ -3,7 +3,7 @@ use Rattle.std.specs.Prelude.{ℕ, ◌+◌, ◌-◌, ◌*◌, Bool, ◌&&◌, na
 use Rattle.std.specs.List.{flat_map, range_with_len}
 use Rattle.qr_matrix.specs.Grid.{Grid, colour}
 
--- `texts_below n text` is the texts `text 0`, `text 1` and so on up to `text (n - 1)`, joined in this order [own]
+-- `texts_below n text` joins the texts `text 0`, `text 1` and so on, up to `text (n - 1)`, in this order [own]
 unfoldable pub texts_below : ℕ → (ℕ → List ℕ) → List ℕ
 texts_below n text = flat_map text (range_with_len 0 n)
 

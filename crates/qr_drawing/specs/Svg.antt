@@ -35,14 +35,14 @@ unfoldable pub run_path : ℕ → ℕ → Grid → ℕ → ℕ → List ℕ
 run_path top margin g y x =
     if begins_run margin g y x then box_path x (top + y) (run_length margin g y x) else []
 
--- `row_path top margin g y` is the boxes around the runs of dark modules in row `y` of a raster, from left to right.
--- The raster is the square of modules `g` with its margin, and in the document there are `top` rows above the raster
--- [own]
+-- `row_path top margin g y` consists of the boxes around the runs of dark modules in row `y` of a raster, from left to
+-- right. The raster is the square of modules `g` with its margin, and in the document there are `top` rows above the
+-- raster [own]
 unfoldable pub row_path : ℕ → ℕ → Grid → ℕ → List ℕ
 row_path top margin g y = texts_below (raster_width margin g) (run_path top margin g y)
 
--- `symbol_path top margin g` is the boxes around all runs of dark modules in a raster, row by row. The raster is the
--- square of modules `g` with its margin, and in the document there are `top` rows above the raster [own]
+-- `symbol_path top margin g` consists of the boxes around all runs of dark modules in a raster, row by row. The raster
+-- is the square of modules `g` with its margin, and in the document there are `top` rows above the raster [own]
 unfoldable pub symbol_path : ℕ → ℕ → Grid → List ℕ
 symbol_path top margin g = texts_below (raster_width margin g) (row_path top margin g)
 
@@ -51,9 +51,9 @@ symbol_path top margin g = texts_below (raster_width margin g) (row_path top mar
 abbrev pub square_at : List Grid → ℕ → Grid
 square_at squares k = slice_index_or squares k (light 0)
 
--- `stack_path margin squares` is the boxes around all runs of dark modules of the symbols in the list `squares`. The
--- symbols are drawn one below the other. A raster is a square of modules with its margin. The raster with the index `k`
--- begins `k` times its own height below the top of the document [own]
+-- `stack_path margin squares` consists of the boxes around all runs of dark modules of the symbols in the list
+-- `squares`. The symbols are drawn one below the other. A raster is a square of modules with its margin. The raster
+-- with the index `k` begins `k` times its own height below the top of the document [own]
 unfoldable pub stack_path : ℕ → List Grid → List ℕ
 stack_path margin squares =
     texts_below (length squares) (λ k. symbol_path (k * raster_width margin (square_at squares k)) margin (square_at squares k))
@@ -75,7 +75,7 @@ background width height =
     ++ codes "\" fill=\"#ffffff\"/>\n"
 
 -- `foreground margin squares` is the line that makes the dark modules of all symbols black. The line contains one path,
--- which is the boxes around all runs of dark modules [own]
+-- which consists of the boxes around all runs of dark modules [own]
 unfoldable pub foreground : ℕ → List Grid → List ℕ
 foreground margin squares = codes "<path fill=\"#000000\" d=\"" ++ stack_path margin squares ++ codes "\"/>\n"
 

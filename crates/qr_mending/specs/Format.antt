@@ -50,7 +50,7 @@ wrong_bit false shown wanted = bit_difference shown wanted
 
 -- `wrong_bits_without unknown copy g l mask` is the number of wrong modules in one copy of the format information in
 -- the square `g` of modules. A module is wrong if it was not read, or if it does not have the colour that the format
--- information of level `l` and mask `mask` requires. A module was not read if it is dark in `unknown`
+-- information of level `l` and mask `mask` requires. The modules that were not read are dark in the square `unknown`
 -- (ISO/IEC 18004:2015, 7.9.1).
 abbrev pub wrong_bits_without : Grid → FormatCopy → Grid → Level → ℕ → ℕ
 wrong_bits_without unknown copy g l mask = sum_below 15 (λ i. wrong_bit (copy_bit copy unknown i) (copy_bit copy g i) (word_bit (format_word_of l mask) i))

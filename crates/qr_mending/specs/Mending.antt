@@ -1,7 +1,8 @@
--- Defines how a damaged symbol is read and its damage corrected. If the name of a definition ends with `Without` or
--- `without`, the definition is for symbols in which some modules may not have been read. The parameter `unknown` of
--- such a definition is an optional square of modules. The modules that were not read are dark in this square. The
--- definition that has the same name without this ending, if there is one, is for symbols whose modules were all read.
+-- Defines how the damage of a symbol is corrected, and how the symbol is read. If the name of a definition ends with
+-- `Without` or `without`, the definition is for symbols in which some modules may not have been read. The parameter
+-- `unknown` of such a definition is an optional square of modules. The modules that were not read are dark in this
+-- square. The definition that has the same name without this ending, if there is one, is for symbols whose modules were
+-- all read.
 use Rattle.std.specs.Prelude.{◌≡◌, ◌≢◌, ◌⊎◌, ℕ, ◌+◌, Option, None, Some, Result, Ok, Err, List}
 use Rattle.qr_layout.specs.declared.level.Level.{Level}
 use Rattle.qr_bits.specs.Bits.{bits_of}
@@ -67,7 +68,7 @@ HasFormatWithout unknown v g l mask = IsNearFormat First g l mask ⊎ (IsNearFor
 
 -- `HasFormat v g l mask` holds if the square `g` of modules, which has version `v`, has to be read with level `l` and
 -- mask `mask`. The format information of this level and mask differs from one copy in `g` in at most three modules.
--- This copy is the first copy in `g`, or it is the second copy in `g`, and the first copy is of no use for mending `g`
+-- This copy is the first copy or, if the first copy is of no use for mending `g`, the second copy
 -- (ISO/IEC 18004:2015, 7.9.1, 12).
 abbrev pub HasFormat : ℕ → Grid → Level → ℕ → Type 0
 HasFormat v g l mask = HasFormatWithout None v g l mask
@@ -173,7 +174,7 @@ abbrev pub HasWrongModules : Grid → ℕ → Level → ℕ → List ℕ → ℕ
 HasWrongModules g v l mask changed wrong = HasWrongModulesWithout None g v l mask changed wrong
 
 -- `IsBeyondMendingWithout unknown g` holds if the square `g` of modules cannot be mended, although its number of rows
--- is that of a version. At least one pair of level and mask is near to a copy of the format information in `g`. This
+-- belongs to a version. At least one pair of level and mask is near to a copy of the format information in `g`. This
 -- means that the format information of the pair differs from the copy in at most three modules. But under each pair
 -- that is near to a copy, some block has more erased and misread codewords than can be corrected. A codeword with a
 -- module that was not read is erased (ISO/IEC 18004:2015, 7.5.1, 7.9.1, 12).
@@ -187,12 +188,12 @@ pub record IsBeyondMendingWithout (unknown : Option Grid) (g : Grid) : Type 0 wh
   pub useless : (any : FormatCopy) → IsOfNoUseWithout unknown any version g
 
 -- `IsUnmendedWithout unknown g e` holds if mending the square `g` of modules may fail with the fault `e`. If `unknown`
--- contains a square, the modules that were not read are dark in this square. The fault is `Side` if `g` has the number
--- of rows of no version. The fault is `Format` if `g` has the rows of a version, but no level and mask has format
--- information that is within three modules of one of the two copies in `g`. The fault is `Check` if more codewords of a
--- block are erased or misread than can be corrected. The fault is `Segments` if the mended data codewords cannot be
--- parsed. The fault `Memory` is possible for every square of modules, and the fault `Series` is impossible
--- (ISO/IEC 18004:2015, 12).
+-- contains a square, the modules that were not read are dark in this square. The fault is `Side` if the number of rows
+-- of `g` belongs to no version. The fault is `Format` if the number of rows belongs to a version, but the format
+-- information of every level and mask differs in more than three modules from each of the two copies in `g`. The fault
+-- is `Check` if more codewords of a block are erased or misread than can be corrected. The fault is `Segments` if the
+-- mended data codewords cannot be parsed. The fault `Memory` is possible for every square of modules, and the fault
+-- `Series` is impossible (ISO/IEC 18004:2015, 12).
 abbrev pub IsUnmendedWithout : Option Grid → Grid → ReadFault → Type 0
 IsUnmendedWithout unknown g unread.Memory = Unit {0}
 IsUnmendedWithout unknown g unread.Side = (v : ℕ) → IsOfVersion g v → ⊥
@@ -201,11 +202,11 @@ IsUnmendedWithout unknown g unread.Check = IsBeyondMendingWithout unknown g
 IsUnmendedWithout unknown g (unread.Segments e) = (e ≢ unparsed.Memory) × (v : ℕ) × (l : Level) × (mask : ℕ) × (changed : List ℕ) × IsMendedAsWithout unknown g v l mask (Err e) changed
 IsUnmendedWithout unknown g unread.Series = ⊥
 
--- `IsUnmended g e` holds if mending the square `g` of modules may fail with the fault `e`. The fault is `Side` if `g`
--- has the number of rows of no version. The fault is `Format` if `g` has the rows of a version, but no level and mask
--- has format information that is within three modules of one of the two copies in `g`. The fault is `Check` if more
--- codewords of a block are wrong than can be corrected. The fault is `Segments` if the mended data codewords cannot be
--- parsed. The fault `Memory` is possible for every square of modules, and the fault `Series` is impossible
--- (ISO/IEC 18004:2015, 12).
+-- `IsUnmended g e` holds if mending the square `g` of modules may fail with the fault `e`. The fault is `Side` if the
+-- number of rows of `g` belongs to no version. The fault is `Format` if the number of rows belongs to a version, but
+-- the format information of every level and mask differs in more than three modules from each of the two copies in `g`.
+-- The fault is `Check` if more codewords of a block are wrong than can be corrected. The fault is `Segments` if the
+-- mended data codewords cannot be parsed. The fault `Memory` is possible for every square of modules, and the fault
+-- `Series` is impossible (ISO/IEC 18004:2015, 12).
 abbrev pub IsUnmended : Grid → ReadFault → Type 0
 IsUnmended g e = IsUnmendedWithout None g e

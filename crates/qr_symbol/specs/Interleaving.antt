@@ -27,13 +27,12 @@ start_of c i = c.short_len * i + (i - c.short)
 abbrev pub codeword_count : BlockSizes → ℕ
 codeword_count c = start_of c (block_count c)
 
--- `data_sizes b` contains the sizes of the blocks b, when only their data codewords are counted
--- (ISO/IEC 18004:2015, 7.5.1).
+-- `data_sizes b` contains the sizes of the blocks b, counted in data codewords (ISO/IEC 18004:2015, 7.5.1).
 abbrev pub data_sizes : Blocks → BlockSizes
 data_sizes b = record { short = b.short; short_len = b.short_len; long = b.long }
 
--- `correction_sizes b` contains the sizes of the blocks b, when only their error correction codewords are counted. All
--- blocks of a symbol have the same number of error correction codewords, so all blocks count as short blocks
+-- `correction_sizes b` contains the sizes of the blocks b, counted in error correction codewords. All blocks of a
+-- symbol have the same number of error correction codewords, so all blocks count as short blocks
 -- (ISO/IEC 18004:2015, 7.5.1).
 abbrev pub correction_sizes : Blocks → BlockSizes
 correction_sizes b = record { short = b.short + b.long; short_len = b.ec_len; long = 0 }

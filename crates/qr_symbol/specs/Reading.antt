@@ -98,12 +98,12 @@ abbrev pub IsReadBack : ℕ → Rule → List ℕ → Grid → Type 0
 IsReadBack v rule x g = (segments : List Segment) × IsLeastSegmentation v rule x segments
     × IsReading g (record { header = None; segments = segments; bytes = x })
 
--- `IsUnread g e` holds if reading the square of modules g may fail with the fault e. The fault is `Side` if g has the
--- number of rows of no version. The fault is `Format` if g has the number of rows of a version, but the format
--- information of g belongs to no level and mask pattern. The fault is `Check` if the number of rows and the format
--- information of g are valid, but the codewords in g are not the final sequence for any data codewords. The fault is
--- `Segments` if g contains data codewords that cannot be parsed. The fault `Memory` is possible for every square. The
--- fault `Series` is not possible for a single square (ISO/IEC 18004:2015, 12).
+-- `IsUnread g e` holds if reading the square of modules g may fail with the fault e. The fault is `Side` if the number
+-- of rows of g belongs to no version. The fault is `Format` if the number of rows of g belongs to a version, but the
+-- format information of g belongs to no level and mask pattern. The fault is `Check` if the number of rows and the
+-- format information of g are valid, but the codewords in g are not the final sequence for any data codewords. The
+-- fault is `Segments` if g contains data codewords that cannot be parsed. The fault `Memory` is possible for every
+-- square. The fault `Series` is not possible for a single square (ISO/IEC 18004:2015, 12).
 abbrev pub IsUnread : Grid → ReadFault → Type 0
 IsUnread g unread.Memory = Unit {0}
 IsUnread g unread.Side = (v : ℕ) → IsOfVersion g v → ⊥

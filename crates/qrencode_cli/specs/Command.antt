@@ -25,9 +25,9 @@ use Rattle.qr_symbol.specs.declared.fault.EncodeFault.TheVariants as encode
 abbrev pub input_for : SettingsView → List ℕ → List ℕ
 input_for s given = option_map_or (λ text. take INPUT_MAX text) s.string given
 
--- `held s input` is the bytes that the symbols contain for `input` under the settings `s`. Without -i these bytes are
--- `input` itself. With -i small letters become capitals. There are two exceptions: with -8 all bytes stay the same, and
--- with -k kanji pairs stay the same [own]
+-- `held s input` lists the bytes that the symbols contain for `input` under the settings `s`. Without -i these bytes
+-- are `input` itself. With -i small letters become capitals. There are two exceptions: with -8 all bytes stay the same,
+-- and with -k kanji pairs stay the same [own]
 abbrev pub held : SettingsView → List ℕ → List ℕ
 held s input = if s.fold then folded (rule_for s) input else input
 

@@ -16,7 +16,7 @@ use Rattle.qrencode_cli.specs.declared.fault.Fault.TheVariants as fault
 use Rattle.qr_symbol.specs.declared.fault.EncodeFault.TheVariants as encode
 use Rattle.qrencode_cli.specs.declared.settings.UsageFault.TheVariants as usage
 
--- `by_default` is the settings of the command line `-t ASCII`, in which every other setting has its default [own]
+-- `by_default` contains the settings of the command line `-t ASCII`, in which every other setting has its default [own]
 abbrev pub by_default : SettingsView
 by_default = record {
   level = L;

@@ -95,8 +95,8 @@ abbrev pub checked_series : SettingsView → Result SettingsView Reason
 checked_series s = if s.structured && is_none s.smallest then Err needs_version else Ok s
 
 -- `settings_of rows` is the settings that follow from `rows`, the arguments and values that `clap` found, or the reason
--- to refuse these arguments. First the level is checked. The default level, without -l, is L. Then the type of drawing
--- is checked. The last check is that a series has a version [own]
+-- to refuse these arguments. First the level is checked; without -l, L is the default level. The second check is that
+-- the type of drawing is known. The last check is that a series has a version [own]
 abbrev pub settings_of : List Row → Result SettingsView Reason
 settings_of rows =
     option_map_or (λ l. option_map_or (λ kind. checked_series (settings_with rows l kind))

@@ -70,8 +70,8 @@ pub record IsGivenMended (modules : List ℕ) (side : ℕ) (before after : List 
   pub header : TellsHeader content.header m.has_header m.position m.last m.parity
   pub damage : TellsDamage m changed side modules
 
--- `HasMoreMendedBytes modules side buffer` holds if `buffer` is too short for the content's bytes, which are read from
--- the square in `modules` after its damage is corrected. The square has `side` rows [own].
+-- `HasMoreMendedBytes modules side buffer` holds if `buffer` is too short for the bytes of the content, which is read
+-- from the square in `modules` after its damage is corrected. The square has `side` rows [own].
 pub record HasMoreMendedBytes (modules : List ℕ) (side : ℕ) (buffer : List ℕ) : Type 0 where
   pub all_modules : AreModules modules side
   pub content : Content

@@ -45,7 +45,7 @@ pub record IsRelieved (pivot : Polynomial) (window : List ℕ) (before after : P
 pub record HasDegrees (most : ℕ) (pool : List Polynomial) : Type 0 where
   pub each : (k : ℕ) → k < length pool → (at pool k).degree ≤ most
 
--- `IsPool t i syndromes pool` holds if `pool` is a list of polynomials that solve the first `i` of `t` equations. The
+-- `IsPool t i syndromes pool` holds if every polynomial in the list `pool` solves the first `i` of `t` equations. The
 -- degrees of the polynomials rise along the list and are at most `t`, and each leading coefficient is 1. In equation j,
 -- the coefficients of a polynomial are multiplied by the syndromes from index j on. The polynomial solves the equation
 -- if the sum of these products is 0. The list has at least `t` + 1 - `i` polynomials.

@@ -54,8 +54,8 @@ number_along v [] number = number
 number_along v (m ∷ ms) number = number_along v ms (number_after (is_in_region v m.row m.col) number)
 
 -- `placed_along v cw ms number g` is the square of modules g after the modules in the list ms were drawn in the order
--- of the list. Each module of ms that is in the encoding region of version v gets the colour of one bit of the
--- codewords cw, from bit `number` on. All other modules are unchanged.
+-- of the list. The modules of ms that are in the encoding region of version v get the colours of the codeword bits from
+-- bit `number` on, one bit for each module. Every other module is unchanged.
 abbrev pub placed_along : ℕ → List ℕ → List Module → ℕ → Grid → Grid
 placed_along v cw [] number g = g
 placed_along v cw (m ∷ ms) number g =
@@ -72,10 +72,10 @@ abbrev pub AreNext : List ℕ → ℕ → ℕ → Type 0
 AreNext cw number bits = (k : ℕ) → k < 8 → has_bit bits (7 - k) ≡ codeword_bit cw (number + k)
 
 -- `IsDrawnAcross v cw ms first before next after` holds if drawing the modules ms in their order changes the square of
--- modules `before` into the square `after`. Each module of ms that is in the encoding region of version v gets the
--- colour of one bit of the codewords cw, from bit `first` on. `next` is the number of the next bit to be drawn. The
--- squares `before` and `after` are transposed: their rows are the columns of the symbol. The modules in the list ms
--- have their rows and columns in the symbol, which are not transposed.
+-- modules `before` into the square `after`. The modules of ms that are in the encoding region of version v get the
+-- colours of the bits of the codewords cw from bit `first` on, one bit for each module. `next` is the number of the
+-- next bit to be drawn. The squares `before` and `after` are transposed: their rows are the columns of the symbol. The
+-- list ms gives each module by its row and its column in the symbol.
 pub record IsDrawnAcross (v : ℕ) (cw : List ℕ) (ms : List Module) (first : ℕ) (before : Grid) (next : ℕ) (after : Grid) : Type 0 where
   pub number : next ≡ number_along v ms first
   pub placed : transposed after ≡ placed_along v cw ms first (transposed before)
