@@ -42,7 +42,7 @@ HoldsDamaged v l mask g message changed = HoldsDamagedWithout None v l mask g me
 -- `IsOfNoUseWithout unknown copy v g` holds if the copy `copy` of the format information is of no use for mending the
 -- square `g` of modules, which has version `v`. For each level and mask, one of two conditions is true. The first
 -- condition is that the format information of this level and mask differs from the copy in more than three modules. The
--- second condition is that, under this level and mask, some block has more erased and misread codewords than can be
+-- second condition is that, with this level and mask, some block has more erased and misread codewords than can be
 -- corrected. If `unknown` contains a square, the modules that were not read are dark in this square. A codeword with a
 -- module that was not read is erased (ISO/IEC 18004:2015, 7.5.1, 7.9.1, 12).
 abbrev pub IsOfNoUseWithout : Option Grid → FormatCopy → ℕ → Grid → Type 0
@@ -52,7 +52,7 @@ IsOfNoUseWithout unknown copy v g = (l : Level) (mask : ℕ) → IsNearFormat co
 -- `IsOfNoUse copy v g` holds if the copy `copy` of the format information is of no use for mending the square `g` of
 -- modules, which has version `v`. For each level and mask, one of two conditions is true. The first condition is that
 -- the format information of this level and mask differs from the copy in more than three modules. The second condition
--- is that, under this level and mask, some block has more wrong codewords than can be corrected
+-- is that, with this level and mask, some block has more wrong codewords than can be corrected
 -- (ISO/IEC 18004:2015, 7.5.1, 7.9.1, 12).
 abbrev pub IsOfNoUse : FormatCopy → ℕ → Grid → Type 0
 IsOfNoUse copy v g = IsOfNoUseWithout None copy v g
@@ -175,9 +175,9 @@ HasWrongModules g v l mask changed wrong = HasWrongModulesWithout None g v l mas
 
 -- `IsBeyondMendingWithout unknown g` holds if the square `g` of modules cannot be mended, although its number of rows
 -- belongs to a version. At least one pair of level and mask is near to a copy of the format information in `g`. This
--- means that the format information of the pair differs from the copy in at most three modules. But under each pair
--- that is near to a copy, some block has more erased and misread codewords than can be corrected. A codeword with a
--- module that was not read is erased (ISO/IEC 18004:2015, 7.5.1, 7.9.1, 12).
+-- means that the format information of the pair differs from the copy in at most three modules. But with each pair that
+-- is near to a copy, some block has more erased and misread codewords than can be corrected. A codeword with a module
+-- that was not read is erased (ISO/IEC 18004:2015, 7.5.1, 7.9.1, 12).
 pub record IsBeyondMendingWithout (unknown : Option Grid) (g : Grid) : Type 0 where
   pub version : ℕ
   pub sized : IsOfVersion g version
@@ -191,9 +191,9 @@ pub record IsBeyondMendingWithout (unknown : Option Grid) (g : Grid) : Type 0 wh
 -- contains a square, the modules that were not read are dark in this square. The fault is `Side` if the number of rows
 -- of `g` belongs to no version. The fault is `Format` if the number of rows belongs to a version, but the format
 -- information of every level and mask differs in more than three modules from each of the two copies in `g`. The fault
--- is `Check` if more codewords of a block are erased or misread than can be corrected. The fault is `Segments` if the
--- mended data codewords cannot be parsed. The fault `Memory` is possible for every square of modules, and the fault
--- `Series` is impossible (ISO/IEC 18004:2015, 12).
+-- is `Check` if `IsBeyondMendingWithout` holds, which means that some block has more erased and misread codewords than
+-- can be corrected. The fault is `Segments` if the mended data codewords cannot be parsed. The fault `Memory` is
+-- possible for every square of modules, and the fault `Series` is impossible (ISO/IEC 18004:2015, 12).
 abbrev pub IsUnmendedWithout : Option Grid → Grid → ReadFault → Type 0
 IsUnmendedWithout unknown g unread.Memory = Unit {0}
 IsUnmendedWithout unknown g unread.Side = (v : ℕ) → IsOfVersion g v → ⊥
@@ -205,8 +205,8 @@ IsUnmendedWithout unknown g unread.Series = ⊥
 -- `IsUnmended g e` holds if mending the square `g` of modules may fail with the fault `e`. The fault is `Side` if the
 -- number of rows of `g` belongs to no version. The fault is `Format` if the number of rows belongs to a version, but
 -- the format information of every level and mask differs in more than three modules from each of the two copies in `g`.
--- The fault is `Check` if more codewords of a block are wrong than can be corrected. The fault is `Segments` if the
--- mended data codewords cannot be parsed. The fault `Memory` is possible for every square of modules, and the fault
--- `Series` is impossible (ISO/IEC 18004:2015, 12).
+-- The fault is `Check` if `IsBeyondMendingWithout` holds, which means that some block has more wrong codewords than can
+-- be corrected. The fault is `Segments` if the mended data codewords cannot be parsed. The fault `Memory` is possible
+-- for every square of modules, and the fault `Series` is impossible (ISO/IEC 18004:2015, 12).
 abbrev pub IsUnmended : Grid → ReadFault → Type 0
 IsUnmended g e = IsUnmendedWithout None g e
