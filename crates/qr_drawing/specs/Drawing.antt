@@ -8,7 +8,7 @@ use Rattle.qr_drawing.specs.Svg.{square_at, svg_document}
 use Rattle.qr_drawing.specs.Text.{text_drawing}
 use Rattle.qr_drawing.specs.declared.text.TextStyle.TheVariants.{Plain, Inverse, HalfBlocks}
 
--- `HaveOneSide squares` holds if all squares of modules in the list have the same side as the first square [own]
+-- `HaveOneSide squares` holds if all squares of modules in the list have as many rows as the first square [own]
 abbrev pub HaveOneSide : List Grid → Type 0
 HaveOneSide squares = All (λ g. g.side ≡ (square_at squares 0).side) squares
 

@@ -9,8 +9,8 @@ use Rattle.qr_drawing.specs.Raster.{is_dark_at, raster_width, texts_below}
 unfoldable pub numbered : List ℕ → ℕ → List ℕ
 numbered text number = text ++ decimal number
 
--- `begins_run margin g y x` is true if a run of dark modules begins in row `y` and column `x` of a raster. This means
--- that the module in this row and column is dark, and that the module to its left is light or outside the raster. The
+-- `begins_run margin g y x` is true if a run of dark modules begins in row `y` and column `x` of a raster. A run begins
+-- there if the module in this row and column is dark, and the module to its left is light or outside the raster. The
 -- raster is the square of modules `g` with its margin [own]
 unfoldable pub begins_run : ℕ → Grid → ℕ → ℕ → Bool
 begins_run margin g y x = is_dark_at margin g y x && (x == 0 || not (is_dark_at margin g y (x - 1)))
@@ -22,7 +22,7 @@ run_length margin g y x = prefix_len (is_dark_at margin g y) (range_with_len x (
 
 -- `box_path x y modules` is the box around a run of dark modules, as commands of an SVG path. The run consists of
 -- `modules` dark modules side by side. The path begins at the upper left corner of the run, in row `y` and column `x`.
--- Then the path goes right along the run, down by one module, left along the run, and is closed [own]
+-- From this corner, the path goes right along the run, down by one module, left along the run, and is closed [own]
 unfoldable pub box_path : ℕ → ℕ → ℕ → List ℕ
 box_path x y modules =
     numbered (codes "M") x ++ numbered (codes " ") y ++ numbered (codes "h") modules ++ numbered (codes "v1h-") modules
@@ -47,7 +47,7 @@ unfoldable pub symbol_path : ℕ → ℕ → Grid → List ℕ
 symbol_path top margin g = texts_below (raster_width margin g) (row_path top margin g)
 
 -- `square_at squares k` is the square of modules with the index `k` in the list `squares`, where indices begin at 0. If
--- the list has no such square, the value is a square without modules [own]
+-- the list has no square with this index, the value is a square without modules [own]
 abbrev pub square_at : List Grid → ℕ → Grid
 square_at squares k = slice_index_or squares k (light 0)
 

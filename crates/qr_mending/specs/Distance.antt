@@ -25,8 +25,8 @@ SomeBlockLiesApart v l k m n g h d e a b = (i : ℕ) × (i < blocks_in v l) × (
 -- `SymbolsLieApart v` holds if every two symbols of version `v` with different levels or different data codewords
 -- differ widely. Two symbols differ widely if one of two conditions is true. The first condition is that the symbols
 -- differ in at least seven modules of each copy of the format information. The second condition is that the symbols
--- have the same level and mask, but that in some block more than twice as many codewords differ as can be corrected in
--- a block [own].
+-- have the same level and mask, and that some block differs widely: the number of codewords that differ is more than
+-- twice the number of codewords that can be corrected in a block [own].
 abbrev pub SymbolsLieApart : ℕ → Type 0
 SymbolsLieApart v =
     (l k : Level) (m n : ℕ) (cw ds d e : List ℕ) → m < 8 → n < 8

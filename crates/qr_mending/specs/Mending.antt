@@ -1,8 +1,8 @@
 -- Defines how the damage of a symbol is corrected, and how the symbol is read. If the name of a definition ends with
 -- `Without` or `without`, the definition is for symbols in which some modules may not have been read. The parameter
--- `unknown` of such a definition is an optional square of modules. The modules that were not read are dark in this
--- square. The definition that has the same name without this ending, if there is one, is for symbols whose modules were
--- all read.
+-- `unknown` of a definition with this ending is an optional square of modules. The modules that were not read are dark
+-- in this square. The definition that has the same name without this ending, if there is one, is for symbols whose
+-- modules were all read.
 use Rattle.std.specs.Prelude.{◌≡◌, ◌≢◌, ◌⊎◌, ℕ, ◌+◌, Option, None, Some, Result, Ok, Err, List}
 use Rattle.qr_layout.specs.declared.level.Level.{Level}
 use Rattle.qr_bits.specs.Bits.{bits_of}
@@ -58,11 +58,11 @@ abbrev pub IsOfNoUse : FormatCopy → ℕ → Grid → Type 0
 IsOfNoUse copy v g = IsOfNoUseWithout None copy v g
 
 -- `HasFormatWithout unknown v g l mask` holds if the square `g` of modules, which has version `v`, has to be read with
--- level `l` and mask `mask`. One of two conditions is true. The first condition is that the format information of this
--- level and mask differs from the first copy in `g` in at most three modules. The second condition is that this format
--- information differs from the second copy in at most three modules, and that the first copy is of no use for mending
--- `g`. If `unknown` contains a square, the modules that were not read are dark in this square
--- (ISO/IEC 18004:2015, 7.9.1, 12).
+-- level `l` and mask `mask`. Reading with `l` and `mask` needs one of two conditions. The first condition is that the
+-- format information of this level and mask differs from the first copy in `g` in at most three modules. The second
+-- condition is that the format information differs from the second copy in at most three modules, and that the first
+-- copy is of no use for mending `g`. If `unknown` contains a square, the modules that were not read are dark in this
+-- square (ISO/IEC 18004:2015, 7.9.1, 12).
 abbrev pub HasFormatWithout : Option Grid → ℕ → Grid → Level → ℕ → Type 0
 HasFormatWithout unknown v g l mask = IsNearFormat First g l mask ⊎ (IsNearFormat Second g l mask × IsOfNoUseWithout unknown First v g)
 
@@ -189,11 +189,12 @@ pub record IsBeyondMendingWithout (unknown : Option Grid) (g : Grid) : Type 0 wh
 
 -- `IsUnmendedWithout unknown g e` holds if mending the square `g` of modules may fail with the fault `e`. If `unknown`
 -- contains a square, the modules that were not read are dark in this square. The fault is `Side` if the number of rows
--- of `g` belongs to no version. The fault is `Format` if the number of rows belongs to a version, but the format
--- information of every level and mask differs in more than three modules from each of the two copies in `g`. The fault
--- is `Check` if `IsBeyondMendingWithout` holds, which means that some block has more erased and misread codewords than
--- can be corrected. The fault is `Segments` if the mended data codewords cannot be parsed. The fault `Memory` is
--- possible for every square of modules, and the fault `Series` is impossible (ISO/IEC 18004:2015, 12).
+-- of `g` belongs to no version. The fault is `Format` if the number of rows of `g` belongs to a version, but no level
+-- and mask is near to a copy of the format information in `g`. A level and mask is near to a copy if its format
+-- information differs from the copy in at most three modules. The fault is `Check` if `IsBeyondMendingWithout` holds,
+-- which means that some block has more erased and misread codewords than can be corrected. The fault is `Segments` if
+-- the mended data codewords cannot be parsed. The fault `Memory` is possible for every square of modules, and the fault
+-- `Series` is impossible (ISO/IEC 18004:2015, 12).
 abbrev pub IsUnmendedWithout : Option Grid → Grid → ReadFault → Type 0
 IsUnmendedWithout unknown g unread.Memory = Unit {0}
 IsUnmendedWithout unknown g unread.Side = (v : ℕ) → IsOfVersion g v → ⊥
@@ -203,10 +204,11 @@ IsUnmendedWithout unknown g (unread.Segments e) = (e ≢ unparsed.Memory) × (v 
 IsUnmendedWithout unknown g unread.Series = ⊥
 
 -- `IsUnmended g e` holds if mending the square `g` of modules may fail with the fault `e`. The fault is `Side` if the
--- number of rows of `g` belongs to no version. The fault is `Format` if the number of rows belongs to a version, but
--- the format information of every level and mask differs in more than three modules from each of the two copies in `g`.
--- The fault is `Check` if `IsBeyondMendingWithout` holds, which means that some block has more wrong codewords than can
--- be corrected. The fault is `Segments` if the mended data codewords cannot be parsed. The fault `Memory` is possible
--- for every square of modules, and the fault `Series` is impossible (ISO/IEC 18004:2015, 12).
+-- number of rows of `g` belongs to no version. The fault is `Format` if the number of rows of `g` belongs to a version,
+-- but no level and mask is near to a copy of the format information in `g`. A level and mask is near to a copy if its
+-- format information differs from the copy in at most three modules. The fault is `Check` if `IsBeyondMendingWithout`
+-- holds, which means that some block has more wrong codewords than can be corrected. The fault is `Segments` if the
+-- mended data codewords cannot be parsed. The fault `Memory` is possible for every square of modules, and the fault
+-- `Series` is impossible (ISO/IEC 18004:2015, 12).
 abbrev pub IsUnmended : Grid → ReadFault → Type 0
 IsUnmended g e = IsUnmendedWithout None g e

@@ -79,8 +79,8 @@ pub record IsMendedMessageWithout (b : Blocks) (spare : ℕ) (cw marks message m
 
 -- `spare_of v l` is the number of error correction codewords of a block that may be used to correct damage in a symbol
 -- of version `v` and level `l`. The remaining error correction codewords of the block are not used to correct errors,
--- only to detect them. These codewords make it less likely that a damaged block is mended to a wrong block
--- (ISO/IEC 18004:2015, 7.5.1, Table 9).
+-- only to detect them. Codewords that only detect errors make it less likely that a damaged block is mended to a wrong
+-- block (ISO/IEC 18004:2015, 7.5.1, Table 9).
 abbrev pub spare_of : ℕ → Level → ℕ
 spare_of v l = (blocks_of v l).ec_len - protection_of v l
 

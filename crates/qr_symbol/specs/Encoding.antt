@@ -35,9 +35,9 @@ pub record IsSymbol (smallest : ℕ) (l : Level) (rule : Rule) (x : List ℕ) (v
   pub version : IsVersion smallest l rule x v
   pub made : IsSymbolAt v l rule x None mask g
 
--- `SymbolsAreOne` holds if, for a given level, rule and smallest version, an input has at most one symbol. This means
--- that any two symbols of an input have the same version, mask pattern and modules. The rule determines which modes the
--- segments may have [own].
+-- `SymbolsAreOne` holds if, for a given level, rule and smallest version, an input has at most one symbol. Any two
+-- symbols of one input have the same version, mask pattern and modules. The rule determines which modes the segments
+-- may have [own].
 abbrev pub SymbolsAreOne : Type 0
 SymbolsAreOne = (x : List ℕ) (l : Level) (smallest : ℕ) (rule : Rule) (v w m n : ℕ) (g h : Grid)
     → IsSymbol smallest l rule x v m g → IsSymbol smallest l rule x w n h

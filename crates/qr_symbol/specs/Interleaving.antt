@@ -45,13 +45,14 @@ pub record Position : Type 0 where
   pub block : ℕ
 
 -- `ComesBefore t u` holds if the codeword at position t comes before the codeword at position u in the interleaved
--- sequence. This sequence contains the first codewords of all blocks, then the second codewords of all blocks, and so
--- on. Codewords with the same index in their blocks are in the order of the blocks (ISO/IEC 18004:2015, 7.6).
+-- sequence. The interleaved sequence contains the first codewords of all blocks, then the second codewords of all
+-- blocks, and so on. Codewords with the same index in their blocks are in the order of the blocks
+-- (ISO/IEC 18004:2015, 7.6).
 abbrev pub ComesBefore : Position → Position → Type 0
 ComesBefore t u = (t.place < u.place) ⊎ ((t.place ≡ u.place) × (t.block < u.block))
 
--- `IsPosition c t` holds if t is the position of a codeword in blocks that have the sizes c. This means that there is a
--- block with the number `t.block`, and that this block has a codeword with the index `t.place` [own].
+-- `IsPosition c t` holds if t is the position of a codeword in blocks that have the sizes c. There is a block with the
+-- number `t.block`, and this block has a codeword with the index `t.place` [own].
 abbrev pub IsPosition : BlockSizes → Position → Type 0
 IsPosition c t = (t.block < block_count c) × (t.place < block_len c t.block)
 
@@ -83,8 +84,9 @@ abbrev pub check_at : List (List ℕ) → Position → ℕ
 check_at corrections t = slice_index_or (slice_index_or corrections t.block []) t.place 0
 
 -- `IsFinalMessage b d cw` holds if cw is the final sequence of codewords for the data codewords d, which are divided
--- into the blocks b. The sequence begins with the interleaved data codewords of all blocks. Then the error correction
--- codewords of all blocks follow, interleaved in the same way as the data codewords (ISO/IEC 18004:2015, 7.5.2, 7.6).
+-- into the blocks b. The sequence begins with the interleaved data codewords of all blocks. After the data codewords,
+-- the error correction codewords of all blocks follow, interleaved in the same way as the data codewords
+-- (ISO/IEC 18004:2015, 7.5.2, 7.6).
 pub record IsFinalMessage (b : Blocks) (d cw : List ℕ) : Type 0 where
   pub data_positions : List Position
   pub data_order : IsPositionOrder (data_sizes b) data_positions

@@ -38,8 +38,8 @@ HaveHeaders last parity k (c ∷ cs) =
     (c.header ≡ Some (record { position = k; last = last; parity = parity })) × HaveHeaders last parity (k + 1) cs
 
 -- `AreInSeries contents` holds if the list `contents` contains the contents of a whole series of symbols, in the order
--- of the series. There is at least one content. The structured append header of each content contains three numbers:
--- the position of the content, the number of contents less 1, and the parity data of the bytes of all contents
+-- of the series. The list has at least one content. The structured append header of each content contains three
+-- numbers: the content's position, the number of contents less 1, and the parity data of the bytes of all contents
 -- (ISO/IEC 18004:2015, 8.1 to 8.3).
 abbrev pub AreInSeries : List Content → Type 0
 AreInSeries contents =

@@ -34,9 +34,9 @@ AreParts v l rule x (p ∷ ps) = (n : ℕ) × (0 < n) × IsLongestFit v rule x (
 abbrev pub FitParts : ℕ → Level → Rule → List ℕ → List (List ℕ) → Type 0
 FitParts v l rule x parts = (x ≡ concat parts) × All (λ p. HasFit v rule p (room_of v l)) parts
 
--- `NeedsParts v l rule x n` holds if at least n parts are needed when the bytes x are cut into parts that each fit a
--- symbol together with a structured append header. The symbols have version v and level l, and `rule` determines which
--- modes the segments may have [own].
+-- `NeedsParts v l rule x n` holds if the bytes x cannot be cut into fewer than n parts. Each part has to fit a symbol
+-- together with a structured append header. The symbols have version v and level l, and `rule` determines which modes
+-- the segments may have [own].
 abbrev pub NeedsParts : ℕ → Level → Rule → List ℕ → ℕ → Type 0
 NeedsParts v l rule x n = (parts : List (List ℕ)) → FitParts v l rule x parts → n ≤ length parts
 
@@ -83,9 +83,9 @@ pub record IsPlainSymbol (v : ℕ) (l : Level) (rule : Rule) (x : List ℕ) (sym
   pub alone : symbols ≡ symbol ∷ []
 
 -- `IsSeries v l rule x symbols` holds if the list `symbols` is the series that encodes the bytes x at version v and
--- level l. If the bytes fit one symbol without a structured append header, the series is this one symbol. Otherwise the
--- bytes are cut into at most 16 parts, which the definition `AreParts` determines, and the series has one symbol for
--- each part. `rule` determines which modes the segments may have [own].
+-- level l. If the bytes fit one symbol without a structured append header, the series is this one symbol. If the bytes
+-- do not fit one symbol, they are cut into at most 16 parts, and the series has one symbol for each part. The
+-- definition `AreParts` determines where the bytes are cut. `rule` determines which modes the segments may have [own].
 abbrev pub IsSeries : ℕ → Level → Rule → List ℕ → List Symbol → Type 0
 IsSeries v l rule x symbols = IsPlainSymbol v l rule x symbols ⊎ IsSplit v l rule x symbols
 

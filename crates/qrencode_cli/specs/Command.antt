@@ -21,13 +21,14 @@ use Rattle.qrencode_cli.specs.declared.settings.UsageFault.TheVariants as usage
 use Rattle.qr_symbol.specs.declared.fault.EncodeFault.TheVariants as encode
 
 -- `input_for s given` is the input that is encoded under the settings `s`. If the arguments contain a string, the input
--- is this string, cut after `INPUT_MAX` bytes. Otherwise the input is `given`, the bytes that the reader returned [own]
+-- is this string, cut after `INPUT_MAX` bytes. If the arguments contain no string, the input is `given`, the bytes that
+-- the reader returned [own]
 abbrev pub input_for : SettingsView → List ℕ → List ℕ
 input_for s given = option_map_or (λ text. take INPUT_MAX text) s.string given
 
 -- `held s input` lists the bytes that the symbols contain for `input` under the settings `s`. Without -i these bytes
--- are `input` itself. With -i small letters become capitals. There are two exceptions: with -8 all bytes stay the same,
--- and with -k kanji pairs stay the same [own]
+-- are `input` itself. With -i small letters become capitals. With -i there are two exceptions: with -8 all bytes are
+-- unchanged, and with -k kanji pairs are unchanged [own]
 abbrev pub held : SettingsView → List ℕ → List ℕ
 held s input = if s.fold then folded (rule_for s) input else input
 
@@ -55,8 +56,8 @@ abbrev pub HasDrawing : List Text → List ℕ → List ℕ → Type 0
 HasDrawing words given drawing = HasSettingsWith words (λ s. IsDrawing s (held s (input_for s given)) drawing)
 
 -- `HasRefusal words given why` holds if the command line `words` is not refused, but `why` holds of its settings and
--- its input. Here `why` is a reason for which an input cannot be drawn. The list `given` contains the bytes that the
--- reader returned [own]
+-- its input. The parameter `why` is a reason for which an input cannot be drawn. The list `given` contains the bytes
+-- that the reader returned [own]
 abbrev pub HasRefusal : List Text → List ℕ → (SettingsView → List ℕ → Type 0) → Type 0
 HasRefusal words given why = HasSettingsWith words (λ s. why s (held s (input_for s given)))
 
@@ -91,7 +92,7 @@ pub record DrawnWhole (old new : Writer) (drawing : List ℕ) : Type 0 where
 
 -- `DrawnInPart old new drawing` holds if a writer changed from `old` to `new` in one of two ways. Either the writer
 -- received a prefix of `drawing` and was not flushed, or it received the whole `drawing` and its one flush failed. In
--- both cases the number of bytes that the writer received is at most the length of `drawing` [own]
+-- each of the two cases, the number of bytes that the writer received is at most the length of `drawing` [own]
 abbrev pub DrawnInPart : Writer → Writer → List ℕ → Type 0
 DrawnInPart old new drawing = (old.counts ≡ no_writes → new.counts.taken ≤ counted (length drawing))
     × ((AppendsBeginning old.taken new.taken drawing × (new.counts.flushes ≡ old.counts.flushes))
@@ -121,8 +122,9 @@ InputConsumed old new given (Err fault.Memory) = Unit {0}
 InputConsumed old new given _ = AllRead old new given
 
 -- `InputConsumedFor settings old new given outcome` holds if the reader changed from `old` to `new` as the `settings`
--- require. If the command line is refused, or if it contains the input as a string, the reader is unchanged. Otherwise
--- `InputConsumed` holds, which means that the whole input was read [own]
+-- require. If the command line is refused, or if it contains the input as a string, the reader is unchanged. If the
+-- command line is accepted and contains no string, `InputConsumed` holds, which means that the whole input was read
+-- [own]
 abbrev pub InputConsumedFor : Result SettingsView Reason → Reader → Reader → List ℕ → {T : Type 0} → Result T Fault → Type 0
 InputConsumedFor (Err r) old new given outcome = new ≡ old
 InputConsumedFor (Ok s) old new given outcome = MatchOption s.string (InputConsumed old new given outcome) (λ _. new ≡ old)

@@ -14,8 +14,8 @@ use Rattle.qr_drawing.specs.declared.drawing.Drawing.TheVariants as drawing
 use Rattle.qrencode_cli.specs.declared.settings.UsageFault.{UsageFault}
 use Rattle.qrencode_cli.specs.declared.settings.UsageFault.TheVariants as usage
 
--- A `Reason` is the reason why a command line is refused. There are four reasons: `clap` refuses the arguments, the
--- level is unknown, the type of drawing is unknown, or a series is asked for without a version [own]
+-- A `Reason` is the reason why a command line is refused. The four reasons are: `clap` refuses the arguments, the level
+-- is unknown, the type of drawing is unknown, or a series is asked for without a version [own]
 pub data Reason : Type 0 where
   refused_by_clap : Reason
   unknown_level : Reason
@@ -104,8 +104,8 @@ settings_of rows =
     (option_map_or level_named (first_of (codes "level") rows) (Some level.L)) (Err unknown_level)
 
 -- `settings_for words` is the settings of the command line `words`, or the reason to refuse it. If `clap` finds a
--- fault, the command line is refused. Otherwise the settings follow from the arguments and values that `clap` found
--- [own]
+-- fault, the command line is refused. If `clap` finds no fault, the result follows from the arguments and values that
+-- `clap` found [own]
 abbrev pub settings_for : List Text → Result SettingsView Reason
 settings_for words = if length (faults_for words) == 0 then settings_of (rows_for words) else Err refused_by_clap
 

@@ -44,9 +44,9 @@ pub record IsGreatest (xs : List ℕ) (n : ℕ) : Type 0 where
 
 -- `TellsDamage m changed side modules` holds if the struct `m` contains four numbers that describe the damage of the
 -- square in `modules`. The square has `side` rows. The first two numbers count the wrong modules in the whole square
--- and in the format information. The third number is the greatest item of the list `changed`. This list contains for
--- each block the number of codewords that were corrected. The list does not count codewords with a module that is not
--- known. The fourth number is the largest number of codewords that can be corrected in a block
+-- and in the format information. The third number is the greatest item of the list `changed`. The list `changed`
+-- contains for each block the number of codewords that were corrected. This list does not count codewords with a module
+-- that is not known. The fourth number is the largest number of codewords that can be corrected in a block
 -- (ISO/IEC 18004:2015, 7.5.1, 7.9.1).
 pub record TellsDamage (m : QrprovedMended) (changed : List ℕ) (side : ℕ) (modules : List ℕ) : Type 0 where
   pub whole : HasWrongModulesWithout (unknown_in side modules) (square_of_bytes side modules) m.version (level_of m.level) m.mask changed m.wrong_modules
@@ -70,8 +70,8 @@ pub record IsGivenMended (modules : List ℕ) (side : ℕ) (before after : List 
   pub header : TellsHeader content.header m.has_header m.position m.last m.parity
   pub damage : TellsDamage m changed side modules
 
--- `HasMoreMendedBytes modules side buffer` holds if `buffer` is too short for the bytes of the content, which is read
--- from the square in `modules` after its damage is corrected. The square has `side` rows [own].
+-- `HasMoreMendedBytes modules side buffer` holds if `buffer` is too short for the bytes that are read from the square
+-- in `modules` after its damage is corrected. The square has `side` rows [own].
 pub record HasMoreMendedBytes (modules : List ℕ) (side : ℕ) (buffer : List ℕ) : Type 0 where
   pub all_modules : AreModules modules side
   pub content : Content

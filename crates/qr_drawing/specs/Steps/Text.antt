@@ -15,14 +15,14 @@ cell_room Inverse = 2
 cell_room HalfBlocks = 3
 
 -- `top_row style y` is the first row of modules that line `y` of the text shows. In the style `HalfBlocks` a line shows
--- two rows, and in the other styles one row
+-- two rows, and in the styles `Plain` and `Inverse` one row
 abbrev pub top_row : TextStyle → ℕ → ℕ
 top_row Plain y = y
 top_row Inverse y = y
 top_row HalfBlocks y = 2 * y
 
 -- `cell_text style upper lower` is the text of a cell. In the style `HalfBlocks` the cell shows the module `upper` and
--- the module `lower` below it. In the other styles the cell shows only the module `upper`
+-- the module `lower` below it. In the styles `Plain` and `Inverse` the cell shows only the module `upper`
 abbrev pub cell_text : TextStyle → Bool → Bool → List ℕ
 cell_text Plain upper lower = ascii_module upper
 cell_text Inverse upper lower = ascii_module (not upper)

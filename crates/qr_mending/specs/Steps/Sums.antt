@@ -4,7 +4,7 @@ use Rattle.qr_field.specs.Galois.{product}
 use Rattle.qr_field.specs.Steps.Polynomial.{value_at}
 
 -- `dot_of p w` is a sum of products: each item of the list `p` is multiplied by the item of the list `w` with the same
--- index. If one list is longer than the other list, its last items are left out.
+-- index. Items of one list that have no counterpart in the other list are left out.
 abbrev pub dot_of : List ℕ → List ℕ → ℕ
 dot_of [] w = 0
 dot_of (a ∷ p) [] = 0

@@ -42,7 +42,7 @@ placed_if is_in cw number g row col = if is_in then painted g row col (codeword_
 
 -- `number_after is_in number` is the number of the next codeword bit after the drawing step for one module. Before this
 -- step, bit `number` was the next codeword bit. If `is_in` is true, the module is in the encoding region and uses bit
--- `number`, so the result is `number + 1`. Otherwise the result is `number`.
+-- `number`, so the result is `number + 1`. If `is_in` is false, the result is `number`.
 abbrev pub number_after : Bool → ℕ → ℕ
 number_after is_in number = if is_in then number + 1 else number
 
