@@ -40,8 +40,8 @@ IsTaken words settings = settings_for (codes "qrencode" ∷ words) ≡ Ok settin
 abbrev pub IsRefused : List Text → Reason → Type 0
 IsRefused words why = settings_for (codes "qrencode" ∷ words) ≡ Err why
 
--- `CommandLines` holds if each command line in the list below has the settings that the list states for it, or is
--- refused for the reason that the list states [own]
+-- `CommandLines` holds if each command line in the list below has the settings, or is refused for the reason, that the
+-- list states for it [own]
 pub record CommandLines : Type 0 where
   pub plain : IsTaken (codes "-t" ∷ codes "ASCII" ∷ []) by_default
   pub in_bytes : IsTaken (codes "-8" ∷ codes "-v" ∷ codes "1" ∷ codes "-t" ∷ codes "ascii" ∷ [])
@@ -140,8 +140,8 @@ abbrev pub StatusesAreTwo : Type 0
 StatusesAreTwo = (words : List Text) (in0 in1 : Reader) (out0 out1 err0 err1 : Writer) (outcome : Result (Unit {0}) Fault) (status : ℕ)
     → Runs words in0 in1 out0 out1 err0 err1 outcome status → MatchResult outcome (λ _. status ≡ 0) (λ _. status ≡ 1)
 
--- `LinesOfFaults` holds if the line of each fault is the one in the list below. The list leaves out the fault for
--- arguments that `clap` refuses, whose line is a text of `clap` [own].
+-- `LinesOfFaults` holds if the line of each fault is the one in the list below. The fault for arguments that `clap`
+-- refuses is not in the list, since its line is a text of `clap` [own].
 pub record LinesOfFaults : Type 0 where
   pub level : fault_line (fault.Usage usage.Level) ≡ codes "qrencode: unknown level\n"
   pub type : fault_line (fault.Usage usage.Kind) ≡ codes "qrencode: unknown type\n"
