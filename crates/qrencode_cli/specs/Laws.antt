@@ -40,8 +40,8 @@ IsTaken words settings = settings_for (codes "qrencode" ∷ words) ≡ Ok settin
 abbrev pub IsRefused : List Text → Reason → Type 0
 IsRefused words why = settings_for (codes "qrencode" ∷ words) ≡ Err why
 
--- `CommandLines` holds if each command line in the list below has the settings, or is refused for the reason, that the
--- list states for it [own]
+-- `CommandLines` holds if the list below is correct. For each command line, the list states its settings, or the reason
+-- why the command line is refused [own]
 pub record CommandLines : Type 0 where
   pub plain : IsTaken (codes "-t" ∷ codes "ASCII" ∷ []) by_default
   pub in_bytes : IsTaken (codes "-8" ∷ codes "-v" ∷ codes "1" ∷ codes "-t" ∷ codes "ascii" ∷ [])
