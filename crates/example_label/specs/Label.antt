@@ -16,8 +16,8 @@ abbrev pub line_of_row : Grid → ℕ → List ℕ
 line_of_row g row = map (λ col. character_of (colour g row col)) (range_with_len 0 g.side) ++ 10 ∷ []
 
 -- `IsLabel words level smallest text` holds if `text` is the label of `words`: a line for each row of modules of a
--- symbol, and then a line with `words`. The symbol contains `words`. It has the level `level` and the least version,
--- from `smallest` on, that `words` fits [own].
+-- symbol, and then a line with `words`. The symbol contains `words`. The symbol has the level `level` and the least
+-- version, from `smallest` on, that `words` fits [own].
 pub record IsLabel (words : List ℕ) (level : Level) (smallest : ℕ) (text : List ℕ) : Type 0 where
   pub version : ℕ
   pub mask : ℕ

@@ -6,18 +6,18 @@ use Rattle.qr_devices.specs.declared.device.Trouble.TheVariants.{Interrupted, Fa
 use Rattle.qr_devices.specs.declared.trial.Faults.{Faults}
 use Rattle.qr_devices.specs.declared.trial.Trial.{Trial}
 
--- `bytes_left t` is the bytes that are still to be read from the device `t` [own]
+-- `bytes_left t` lists the bytes that are still to be read from the device `t` [own]
 abbrev pub bytes_left : Trial → List ℕ
 bytes_left t = drop t.position t.bytes.items
 
--- `bytes_held t` is all bytes that the device `t` contains [own]
+-- `bytes_held t` lists all bytes that the device `t` contains [own]
 abbrev pub bytes_held : Trial → List ℕ
 bytes_held t = t.bytes.items
 
 -- `moved m call there` is the result of the read or write with the number `call` on a device with the faults `m`. At
 -- most `there` bytes can be read or written. Calls with a number below `interruptions` are interrupted. Of the other
--- calls, those with the number `fails_from` or a greater number fail. Every other call moves `there` bytes, or
--- `at_most` bytes if that is fewer. Here an `at_most` of 0 means 1 [own]
+-- calls, those with the number `fails_from` or a greater number fail. Every remaining call reads or writes `there`
+-- bytes, or `at_most` bytes if `at_most` is less than `there`. If `at_most` is 0, the limit is one byte [own]
 abbrev pub moved : Faults → ℕ → ℕ → Result ℕ Trouble
 moved m call there =
     if nat_lt call m.interruptions then Err Interrupted else

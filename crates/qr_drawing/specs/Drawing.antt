@@ -8,13 +8,13 @@ use Rattle.qr_drawing.specs.Svg.{square_at, svg_document}
 use Rattle.qr_drawing.specs.Text.{text_drawing}
 use Rattle.qr_drawing.specs.declared.text.TextStyle.TheVariants.{Plain, Inverse, HalfBlocks}
 
--- `HaveOneSide squares` holds if all squares of modules in the list have the same side as the first square [own]
+-- `HaveOneSide squares` holds if all squares of modules in the list have as many rows as the first square [own]
 abbrev pub HaveOneSide : List Grid → Type 0
 HaveOneSide squares = All (λ g. g.side ≡ (square_at squares 0).side) squares
 
--- `drawn type margin squares` is the drawing of symbols, where `squares` lists their squares of modules. If the type of
--- drawing is a text, the drawing is the texts of the symbols, one after the other. If the type is SVG, the drawing is
--- one SVG document of all symbols [own]
+-- `drawn type margin squares` is the drawing of symbols, where `squares` lists their squares of modules. If the type is
+-- ASCII, ASCIIi or UTF8, the drawing consists of the texts of the symbols, one after the other. If the type is SVG, the
+-- drawing is one SVG document of all symbols [own]
 abbrev pub drawn : Drawing → ℕ → List Grid → List ℕ
 drawn Ascii margin squares = flat_map (text_drawing Plain margin) squares
 drawn AsciiInverse margin squares = flat_map (text_drawing Inverse margin) squares

@@ -5,7 +5,7 @@ use Rattle.qr_drawing.specs.declared.text.TextStyle.TheVariants.{HalfBlocks}
 
 -- `CharactersOfModules` holds if modules are drawn as follows. In the style `Plain` a dark module is `##`, and a light
 -- module is two spaces. In the style `HalfBlocks` one character shows two modules, one above the other. This character
--- is the space, U+2584, U+2580 or U+2588 in UTF-8. So 29 rows of modules make 15 lines of text [own].
+-- is the space, U+2584, U+2580 or U+2588 in UTF-8. In this style, 29 rows of modules make 15 lines of text [own].
 pub record CharactersOfModules : Type 0 where
   pub dark : ascii_module true ≡ codes "##"
   pub light : ascii_module false ≡ codes "  "

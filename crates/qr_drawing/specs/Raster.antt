@@ -3,12 +3,12 @@ use Rattle.std.specs.Prelude.{ℕ, ◌+◌, ◌-◌, ◌*◌, Bool, ◌&&◌, na
 use Rattle.std.specs.List.{flat_map, range_with_len}
 use Rattle.qr_matrix.specs.Grid.{Grid, colour}
 
--- `texts_below n text` is the texts `text 0`, `text 1` and so on up to `text (n - 1)`, joined in this order [own]
+-- `texts_below n text` joins the texts `text 0`, `text 1` and so on, up to `text (n - 1)`, in this order [own]
 unfoldable pub texts_below : ℕ → (ℕ → List ℕ) → List ℕ
 texts_below n text = flat_map text (range_with_len 0 n)
 
--- `raster_width margin g` is the width of the raster of the square of modules `g`, which is also its height. A raster
--- is a square with its light margin. The width is counted in modules: the side of the square, plus the margin on the
+-- `raster_width margin g` is the width of a raster, which is also the height of the raster. The raster is the square of
+-- modules `g` with its light margin. The width is counted in modules: the side of the square, plus the margin on the
 -- left and on the right [own]
 abbrev pub raster_width : ℕ → Grid → ℕ
 raster_width margin g = 2 * margin + g.side

@@ -1,5 +1,6 @@
--- Contains definitions that describe how the program computes. Only the contracts of private functions use these
--- definitions. A reader who judges the promises of the public functions need not read them.
+-- The definitions in the folder `Steps` describe how the program computes its results. Only the contracts of private
+-- functions use the definitions in this folder. To judge the promises of public functions, a reader need not read the
+-- files in this folder.
 pub mod Pen
 pub mod Writing
 pub mod Text

@@ -11,7 +11,7 @@ abbrev pub ascii_module : Bool → List ℕ
 ascii_module dark = if dark then 35 ∷ 35 ∷ [] else 32 ∷ 32 ∷ []
 
 -- `half_blocks upper lower` is the character for two modules, one above the other, in UTF-8. The filled parts of the
--- character are light modules. The character is the space, U+2584, U+2580 or U+2588 [own]
+-- character show light modules. The character is the space, U+2584, U+2580 or U+2588 [own]
 abbrev pub half_blocks : Bool → Bool → List ℕ
 half_blocks upper lower =
     if upper then (if lower then 32 ∷ [] else 0xE2 ∷ 0x96 ∷ 0x84 ∷ [])
@@ -33,12 +33,12 @@ line_count Inverse rows = rows
 line_count HalfBlocks rows = (rows + 1) / 2
 
 -- `cells_of_line style margin g y` is the text of line `y` in the drawing of the square of modules `g`, without a
--- newline. The text is the cells of this line, from left to right [own]
+-- newline. The text consists of the cells of this line, from left to right [own]
 abbrev pub cells_of_line : TextStyle → ℕ → Grid → ℕ → List ℕ
 cells_of_line style margin g y = texts_below (raster_width margin g) (cell_of style margin g y)
 
--- `text_drawing style margin g` is the drawing of the square of modules `g` as a text. The text is all lines from top
--- to bottom, each with a newline at its end [own]
+-- `text_drawing style margin g` is the drawing of the square of modules `g` as a text. The text consists of all lines
+-- from top to bottom, each with a newline at its end [own]
 abbrev pub text_drawing : TextStyle → ℕ → Grid → List ℕ
 text_drawing style margin g =
     texts_below (line_count style (raster_width margin g)) (λ y. cells_of_line style margin g y ++ 10 ∷ [])

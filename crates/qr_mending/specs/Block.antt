@@ -1,4 +1,4 @@
--- Defines what it means to mend a damaged block, which is to correct its wrong codewords.
+-- Defines what it means to mend a damaged block. To mend a block is to correct its wrong codewords.
 use Rattle.std.specs.Prelude.{◌≡◌, ℕ, ◌≤◌, List, ◌++◌, length}
 use Rattle.qr_field.specs.Polynomial.{IsCorrection}
 use Rattle.qr_field.specs.Distance.{differences}

@@ -19,7 +19,7 @@ bit_difference true false = 1
 bit_difference false true = 1
 bit_difference false false = 0
 
--- `bit_differences n p q` is the number of indices i below `n` at which the bits `p i` and `q i` differ [own].
+-- `bit_differences n p q` counts the indices i below `n` at which the bits `p i` and `q i` differ [own].
 abbrev pub bit_differences : ℕ → (ℕ → Bool) → (ℕ → Bool) → ℕ
 bit_differences zero p q = 0
 bit_differences (suc n) p q = bit_difference (p n) (q n) + bit_differences n p q
@@ -50,14 +50,14 @@ wrong_bit false shown wanted = bit_difference shown wanted
 
 -- `wrong_bits_without unknown copy g l mask` is the number of wrong modules in one copy of the format information in
 -- the square `g` of modules. A module is wrong if it was not read, or if it does not have the colour that the format
--- information of level `l` and mask `mask` requires. A module was not read if it is dark in `unknown`
+-- information of level `l` and mask `mask` requires. The modules that were not read are dark in the square `unknown`
 -- (ISO/IEC 18004:2015, 7.9.1).
 abbrev pub wrong_bits_without : Grid → FormatCopy → Grid → Level → ℕ → ℕ
 wrong_bits_without unknown copy g l mask = sum_below 15 (λ i. wrong_bit (copy_bit copy unknown i) (copy_bit copy g i) (word_bit (format_word_of l mask) i))
 
--- `IsNearFormat copy g l mask` holds if level `l` and mask `mask` fit the copy `copy` of the format information in the
--- square `g` of modules. Their format information differs from the copy in at most three modules. The number `mask` is
--- at most 7 (ISO/IEC 18004:2015, 7.9.1, Annex C).
+-- `IsNearFormat copy g l mask` holds if the format information of level `l` and mask `mask` is near to the copy `copy`
+-- in the square `g` of modules. To be near to the copy is to differ from it in at most three modules. The number `mask`
+-- is at most 7 (ISO/IEC 18004:2015, 7.9.1, Annex C).
 pub record IsNearFormat (copy : FormatCopy) (g : Grid) (l : Level) (mask : ℕ) : Type 0 where
   pub in_range : mask < 8
   pub near : wrong_bits copy g l mask ≤ 3

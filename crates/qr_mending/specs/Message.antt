@@ -45,9 +45,9 @@ pub record IsMendedMessage (b : Blocks) (t : ℕ) (cw message changed : List ℕ
   pub rest : IsGathered (correction_sizes b) (drop (codeword_count (data_sizes b)) cw) checks
   pub mended : AreMended b t codewords checks (block_count (data_sizes b)) message changed
 
--- `protection_of v l` is the number of error correction codewords of a block that are kept unused in a symbol of
--- version `v` and level `l`. Unused error correction codewords make it less likely that a damaged block is mended to a
--- wrong block (ISO/IEC 18004:2015, 7.5.1, Table 9).
+-- `protection_of v l` is the number of error correction codewords of a block that are not used to correct errors, only
+-- to detect them. The symbol has version `v` and level `l`. Codewords that only detect errors make it less likely that
+-- a damaged block is mended to a wrong block (ISO/IEC 18004:2015, 7.5.1, Table 9).
 abbrev pub protection_of : ℕ → Level → ℕ
 protection_of v L = if v == 1 then 3 else (if v == 2 then 2 else (if v == 3 then 1 else 0))
 protection_of v M = if v == 1 then 2 else 0
@@ -55,8 +55,8 @@ protection_of v Q = if v == 1 then 1 else 0
 protection_of v H = if v == 1 then 1 else 0
 
 -- `tolerance_of v l` is the largest number of wrong codewords that can be corrected in a block of a symbol of version
--- `v` and level `l`. This number is half the number of error correction codewords of a block that may be used, rounded
--- down (ISO/IEC 18004:2015, 7.5.1, Table 9).
+-- `v` and level `l`. The largest number is half the number of error correction codewords of a block that may be used to
+-- correct errors, rounded down (ISO/IEC 18004:2015, 7.5.1, Table 9).
 abbrev pub tolerance_of : ℕ → Level → ℕ
 tolerance_of v l = ((blocks_of v l).ec_len - protection_of v l) / 2
 

@@ -1,5 +1,5 @@
--- Defines what it means that few modules of a symbol are damaged. Other files of this directory count damaged
--- codewords; this file counts damaged modules.
+-- Defines what it means that few modules of a symbol are damaged. The damage is counted in modules, and not in
+-- codewords.
 use Rattle.std.specs.Prelude.{ℕ, ◌+◌, ◌*◌, ◌<◌, ◌≤◌, ◌==◌, ◌&&◌, if◌then◌else◌, List, [], ◌∷◌, take, drop}
 use Prim.Native.Nat.{zero, suc}
 use Rattle.qr_layout.specs.declared.level.Level.{Level}
@@ -31,12 +31,12 @@ index_of t (u ∷ us) = if (t.place == u.place) && (t.block == u.block) then 0 e
 abbrev pub modules_of : List Module → ℕ → List Module
 modules_of places k = take 8 (drop (8 * k) places)
 
--- `part_differences g h places positions first i n` is a number of modules that have different colours in the squares
--- `g` and `h`. Only the modules of the first `n` data codewords, or of the first `n` error correction codewords, of
--- block `i` are counted. `places` lists the modules of the encoding region in the order in which the bits of the
+-- `part_differences g h places positions first i n` counts the modules of one part of block `i` that have different
+-- colours in the squares `g` and `h`. The part is the first `n` data codewords, or the first `n` error correction
+-- codewords, of the block. `places` lists the modules of the encoding region in the order in which the bits of the
 -- codewords are placed in them. `positions` lists the positions of all data codewords, or of all error correction
--- codewords, in interleaved order. The codeword at the first of these positions has the index `first` among all
--- interleaved codewords of the symbol (ISO/IEC 18004:2015, 7.6, 7.7.3).
+-- codewords, in interleaved order. `first` is the index, among all interleaved codewords of the symbol, of the codeword
+-- at the first item of `positions` (ISO/IEC 18004:2015, 7.6, 7.7.3).
 abbrev pub part_differences : Grid → Grid → List Module → List Position → (first i n : ℕ) → ℕ
 part_differences g h places positions first i zero = 0
 part_differences g h places positions first i (suc n) =

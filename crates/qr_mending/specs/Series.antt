@@ -16,8 +16,8 @@ use Rattle.qr_mending.specs.Mending.{IsDamagedForm, IsMendedReading, IsUnmended}
 abbrev pub IsMendedContent : Grid → Content → Type 0
 IsMendedContent g content = (v : ℕ) × (l : Level) × (mask : ℕ) × (changed : List ℕ) × IsMendedReading g v l mask content changed
 
--- `IsMendedSeries squares bytes` holds if the damaged symbols `squares` are joined to the list `bytes` after their
--- damage is corrected (ISO/IEC 18004:2015, 8.1 to 8.3, 12).
+-- `IsMendedSeries squares bytes` holds if the damaged symbols `squares` contain the bytes `bytes`. The damage of each
+-- symbol is corrected, and the bytes of all symbols are joined (ISO/IEC 18004:2015, 8.1 to 8.3, 12).
 abbrev pub IsMendedSeries : List Grid → List ℕ → Type 0
 IsMendedSeries squares bytes = IsJoinedBy IsMendedContent squares bytes
 

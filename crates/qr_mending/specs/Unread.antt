@@ -22,8 +22,8 @@ colour_at g m = colour g m.row m.col
 
 -- `AreMarks v unknown marks` holds if `marks` lists the marks of the codewords of a symbol of version `v`. The mark of
 -- a codeword is a byte with one bit for each of the eight modules of the codeword. The bit is 1 if the module is dark
--- in the square `unknown`, which means that the module was not read. So the mark of a codeword is 0 if all its modules
--- were read, and only then (ISO/IEC 18004:2015, 7.7.3).
+-- in the square `unknown`, which means that the module was not read. So the mark of a codeword is 0 exactly if all
+-- modules of the codeword were read (ISO/IEC 18004:2015, 7.7.3).
 pub record AreMarks (v : ℕ) (unknown : Grid) (marks : List ℕ) : Type 0 where
   pub bytes : All (λ x. x < 256) marks
   pub places : List Module
@@ -45,8 +45,8 @@ read_by codewords marks = read_of codewords (map (λ mark. not (mark == 0)) mark
 -- `IsMendedBlockWithout b spare read message misread i` holds if block `i` of a damaged symbol can be mended to block
 -- `i` of the data codewords `message`. `b` contains the sizes of the blocks. `read` lists what was read of block `i`:
 -- `None` for each erased codeword, and the codeword itself for each other codeword. Exactly `misread` codewords of the
--- block were misread. Each erased codeword needs one error correction codeword, and each misread codeword needs two. In
--- total at most `spare` error correction codewords are needed (ISO/IEC 18004:2015, 7.5.1).
+-- block were misread. Each erased codeword needs one error correction codeword, and each misread codeword needs two. To
+-- mend block `i`, at most `spare` error correction codewords are needed in total (ISO/IEC 18004:2015, 7.5.1).
 pub record IsMendedBlockWithout (b : Blocks) (spare : ℕ) (read : List (Option ℕ)) (message : List ℕ) (misread i : ℕ) : Type 0 where
   pub correction : List ℕ
   pub corrects : IsCorrection (part_of (data_sizes b) message i) b.ec_len correction
@@ -78,8 +78,9 @@ pub record IsMendedMessageWithout (b : Blocks) (spare : ℕ) (cw marks message m
   pub mended : AreMendedWithout b spare codewords checks unread unread_checks (block_count (data_sizes b)) message misread
 
 -- `spare_of v l` is the number of error correction codewords of a block that may be used to correct damage in a symbol
--- of version `v` and level `l`. The other error correction codewords are kept unused. Unused error correction codewords
--- make it less likely that a damaged block is mended to a wrong block (ISO/IEC 18004:2015, 7.5.1, Table 9).
+-- of version `v` and level `l`. The remaining error correction codewords of the block are not used to correct errors,
+-- only to detect them. Codewords that only detect errors make it less likely that a damaged block is mended to a wrong
+-- block (ISO/IEC 18004:2015, 7.5.1, Table 9).
 abbrev pub spare_of : ℕ → Level → ℕ
 spare_of v l = (blocks_of v l).ec_len - protection_of v l
 
@@ -93,8 +94,8 @@ pub record IsMendedBeside (unknown : Grid) (v : ℕ) (l : Level) (cw message mis
   pub mended : IsMendedMessageWithout (blocks_of v l) (spare_of v l) cw marks message misread
 
 -- `IsMendedInWithout unknown v l cw message changed` holds if the interleaved codewords `cw`, read from a symbol of
--- version `v` and level `l`, can be mended to the data codewords `message`. If `unknown` contains a square, a module
--- was not read if it is dark in this square. If `unknown` contains no square, all modules were read. Item i of
+-- version `v` and level `l`, can be mended to the data codewords `message`. If `unknown` contains a square, the modules
+-- that were not read are dark in this square. If `unknown` contains no square, all modules were read. Item i of
 -- `changed` is the number of misread codewords in block i (ISO/IEC 18004:2015, 7.5.1, 7.6, 7.7.3).
 abbrev pub IsMendedInWithout : Option Grid → ℕ → Level → List ℕ → List ℕ → List ℕ → Type 0
 IsMendedInWithout None v l cw message changed = IsMendedIn v l cw message changed

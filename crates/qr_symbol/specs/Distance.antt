@@ -1,5 +1,5 @@
 -- This file defines laws about the distance between symbols: symbols with different data codewords differ in many
--- codewords of some block.
+-- codewords of at least one block.
 use Rattle.std.specs.Prelude.{◌≡◌, ℕ, ◌+◌, ◌*◌, ◌<◌, ◌≤◌, Option, List, [], ◌++◌, slice_index_or}
 use Rattle.qr_field.specs.Distance.{differences, erasures, errors}
 use Rattle.qr_layout.specs.declared.level.Level.{Level}
@@ -19,9 +19,9 @@ blocks_in v l = block_count (data_sizes (blocks_of v l))
 abbrev pub held_block : (v : ℕ) (l : Level) (mask : ℕ) (g : Grid) (d : List ℕ) → IsMessage v l mask g d → ℕ → List ℕ
 held_block v l mask g d m i = block_of (blocks_of v l) d i ++ slice_index_or m.interleaved.corrections i []
 
--- `MessagesLieApart v l` holds if any two squares of modules of version v and level l that contain different data
--- codewords differ widely in some block. In this block, the number of codewords that differ is greater than the number
--- of error correction codewords of the block [own].
+-- `MessagesLieApart v l` holds if any two squares of modules with different data codewords differ widely in some block.
+-- The two squares have version v and level l. Two squares differ widely in a block if more codewords of the block
+-- differ than the block has error correction codewords [own].
 abbrev pub MessagesLieApart : ℕ → Level → Type 0
 MessagesLieApart v l =
     (mask mask' : ℕ) (g g' : Grid) (d d' : List ℕ) → (m : IsMessage v l mask g d) → (m' : IsMessage v l mask' g' d')
@@ -30,9 +30,9 @@ MessagesLieApart v l =
 
 -- `DamagedMessagesAreOne v l` holds if the codewords that were read from a damaged symbol of version v and level l
 -- belong to at most one message. A message is the list of the data codewords of a symbol. An erased codeword is known
--- to be unreadable, and a misread codeword was read with a wrong value. The damage to each block must be limited: the
--- number of erased codewords, plus twice the number of misread codewords, is at most the number of error correction
--- codewords of the block (ISO/IEC 18004:2015, 7.5.1).
+-- to be unreadable, and a misread codeword was read with a wrong value. The law is only about symbols with limited
+-- damage. In each block, the number of erased codewords, plus twice the number of misread codewords, is at most the
+-- number of error correction codewords (ISO/IEC 18004:2015, 7.5.1).
 abbrev pub DamagedMessagesAreOne : ℕ → Level → Type 0
 DamagedMessagesAreOne v l =
     (mask mask' : ℕ) (g g' : Grid) (d d' : List ℕ) → (m : IsMessage v l mask g d) → (m' : IsMessage v l mask' g' d')

@@ -13,10 +13,10 @@ use Rattle.qr_symbol.specs.Choice.{IsMask}
 use Rattle.qr_symbol.specs.VersionChoice.{IsVersion}
 
 -- `IsSymbolAt v l rule x h mask g` holds if the square of modules g is the symbol that contains the optional structured
--- append header h and then encodes the bytes x. The symbol has version v, level l and the mask pattern `mask`, under
--- which its penalty is least. The bytes are cut into the segments with the fewest bits, in modes that `rule` allows.
--- The segments are written as data codewords. The final sequence of codewords for these data codewords is placed in the
--- encoding region, and masked (ISO/IEC 18004:2015, 7.1, 8.1).
+-- append header h and then encodes the bytes x. The symbol has version v, level l and the mask pattern `mask`, with
+-- which its penalty is least. The bytes x are cut into the segments with the fewest bits, in modes that `rule` allows.
+-- The segments are written as data codewords. These data codewords determine the final sequence of codewords, which is
+-- placed in the encoding region and masked (ISO/IEC 18004:2015, 7.1, 8.1).
 pub record IsSymbolAt (v : ℕ) (l : Level) (rule : Rule) (x : List ℕ) (h : Option Header) (mask : ℕ) (g : Grid) : Type 0 where
   pub segments : List Segment
   pub chosen : IsLeastSegmentation v rule x segments
@@ -35,8 +35,9 @@ pub record IsSymbol (smallest : ℕ) (l : Level) (rule : Rule) (x : List ℕ) (v
   pub version : IsVersion smallest l rule x v
   pub made : IsSymbolAt v l rule x None mask g
 
--- `SymbolsAreOne` holds if, for a given level, rule and smallest version, an input has at most one symbol. Any two such
--- symbols have the same version, mask pattern and modules. The rule determines which modes the segments may have [own].
+-- `SymbolsAreOne` holds if, for a given level, rule and smallest version, an input has at most one symbol. Any two
+-- symbols of one input have the same version, mask pattern and modules. The rule determines which modes the segments
+-- may have [own].
 abbrev pub SymbolsAreOne : Type 0
 SymbolsAreOne = (x : List ℕ) (l : Level) (smallest : ℕ) (rule : Rule) (v w m n : ℕ) (g h : Grid)
     → IsSymbol smallest l rule x v m g → IsSymbol smallest l rule x w n h

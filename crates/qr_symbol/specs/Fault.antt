@@ -1,5 +1,5 @@
--- This file defines which fault of this crate follows from a fault of the crate `qr_bits`. The file also numbers the
--- faults of reading symbols.
+-- This file defines which fault of the crate `qr_symbol` follows from a fault of the crate `qr_bits`. This file also
+-- gives numbers to the faults of reading symbols.
 use Rattle.std.specs.Prelude.{ℕ}
 use Rattle.qr_bits.specs.declared.fault.BitFault.{BitFault}
 use Rattle.qr_bits.specs.declared.fault.BitFault.TheVariants as bit
@@ -10,14 +10,14 @@ use Rattle.qr_symbol.specs.declared.fault.EncodeFault.TheVariants as fault
 use Rattle.qr_symbol.specs.declared.fault.ReadFault.{ReadFault}
 use Rattle.qr_symbol.specs.declared.fault.ReadFault.TheVariants as unread
 
--- `fault_of e` is the fault of encoding an input that has the same cause as the fault e. The fault e is a fault of
--- writing bits, which the crate `qr_bits` defines [own].
+-- `fault_of e` is a fault of encoding. If writing the bits of an input fails with the fault e, encoding this input
+-- fails with the fault `fault_of e`. The crate `qr_bits` defines the faults of writing bits [own].
 abbrev pub fault_of : BitFault → EncodeFault
 fault_of bit.Memory = fault.Memory
 fault_of bit.TooLong = fault.TooLong
 
--- `read_fault_number e` is the number, from 1 to 6, of the fault e of reading symbols. The library for C uses other
--- numbers for these faults [own].
+-- `read_fault_number e` is the number of the fault e, which is a fault of reading symbols. The numbers go from 1 to 6.
+-- The library for C uses other numbers for the faults of reading symbols [own].
 abbrev pub read_fault_number : ReadFault → ℕ
 read_fault_number unread.Memory = 1
 read_fault_number unread.Side = 2
@@ -27,7 +27,7 @@ read_fault_number (unread.Segments why) = 5
 read_fault_number unread.Series = 6
 
 -- `unread_for e` is the fault of reading a symbol if parsing its data codewords failed with the fault e. The result is
--- `Memory` if e is lack of memory. Otherwise the result is `Segments`, which contains e [own].
+-- `Memory` if e is lack of memory. If e is another fault, the result is `Segments`, which contains e [own].
 abbrev pub unread_for : ParseFault → ReadFault
 unread_for unparsed.Memory = unread.Memory
 unread_for e = unread.Segments e

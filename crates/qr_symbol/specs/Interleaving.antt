@@ -27,13 +27,12 @@ start_of c i = c.short_len * i + (i - c.short)
 abbrev pub codeword_count : BlockSizes → ℕ
 codeword_count c = start_of c (block_count c)
 
--- `data_sizes b` contains the sizes of the blocks b, when only their data codewords are counted
--- (ISO/IEC 18004:2015, 7.5.1).
+-- `data_sizes b` contains the sizes of the blocks b, counted in data codewords (ISO/IEC 18004:2015, 7.5.1).
 abbrev pub data_sizes : Blocks → BlockSizes
 data_sizes b = record { short = b.short; short_len = b.short_len; long = b.long }
 
--- `correction_sizes b` contains the sizes of the blocks b, when only their error correction codewords are counted. All
--- blocks of a symbol have the same number of error correction codewords, so there are no long blocks here
+-- `correction_sizes b` contains the sizes of the blocks b, counted in error correction codewords. All blocks of a
+-- symbol have the same number of error correction codewords, so all blocks count as short blocks
 -- (ISO/IEC 18004:2015, 7.5.1).
 abbrev pub correction_sizes : Blocks → BlockSizes
 correction_sizes b = record { short = b.short + b.long; short_len = b.ec_len; long = 0 }
@@ -46,13 +45,14 @@ pub record Position : Type 0 where
   pub block : ℕ
 
 -- `ComesBefore t u` holds if the codeword at position t comes before the codeword at position u in the interleaved
--- sequence. This sequence contains the first codewords of all blocks, then the second codewords of all blocks, and so
--- on. Codewords with the same index in their blocks are in the order of the blocks (ISO/IEC 18004:2015, 7.6).
+-- sequence. The interleaved sequence contains the first codewords of all blocks, then the second codewords of all
+-- blocks, and so on. Codewords with the same index in their blocks are in the order of the blocks
+-- (ISO/IEC 18004:2015, 7.6).
 abbrev pub ComesBefore : Position → Position → Type 0
 ComesBefore t u = (t.place < u.place) ⊎ ((t.place ≡ u.place) × (t.block < u.block))
 
--- `IsPosition c t` holds if t is the position of a codeword in blocks that have the sizes c. There must be a block with
--- the number `t.block`, and this block must have a codeword with the index `t.place` [own].
+-- `IsPosition c t` holds if t is the position of a codeword in blocks that have the sizes c. There is a block with the
+-- number `t.block`, and this block has a codeword with the index `t.place` [own].
 abbrev pub IsPosition : BlockSizes → Position → Type 0
 IsPosition c t = (t.block < block_count c) × (t.place < block_len c t.block)
 
@@ -79,13 +79,14 @@ abbrev pub block_of : Blocks → List ℕ → ℕ → List ℕ
 block_of b d i = part_of (data_sizes b) d i
 
 -- `check_at corrections t` is the error correction codeword at position t. The list `corrections` contains one list for
--- each block: the error correction codewords of this block [own].
+-- each block: the list of the error correction codewords of this block [own].
 abbrev pub check_at : List (List ℕ) → Position → ℕ
 check_at corrections t = slice_index_or (slice_index_or corrections t.block []) t.place 0
 
 -- `IsFinalMessage b d cw` holds if cw is the final sequence of codewords for the data codewords d, which are divided
--- into the blocks b. The sequence begins with the interleaved data codewords of all blocks. Then the error correction
--- codewords of all blocks follow, interleaved in the same way (ISO/IEC 18004:2015, 7.5.2, 7.6).
+-- into the blocks b. The sequence begins with the interleaved data codewords of all blocks. After the data codewords,
+-- the error correction codewords of all blocks follow, interleaved in the same way as the data codewords
+-- (ISO/IEC 18004:2015, 7.5.2, 7.6).
 pub record IsFinalMessage (b : Blocks) (d cw : List ℕ) : Type 0 where
   pub data_positions : List Position
   pub data_order : IsPositionOrder (data_sizes b) data_positions
@@ -101,10 +102,10 @@ pub record IsFinalMessage (b : Blocks) (d cw : List ℕ) : Type 0 where
 abbrev pub IsInterleaved : ℕ → Level → List ℕ → List ℕ → Type 0
 IsInterleaved v l d cw = IsFinalMessage (blocks_of v l) d cw
 
--- `IsGathered c interleaved xs` holds if the list xs is the result of undoing the interleaving at the beginning of the
--- list `interleaved`. The blocks have the sizes c. The list `interleaved` begins with the first codewords of all
--- blocks, followed by the second codewords of all blocks, and so on. The list xs contains the same codewords, one block
--- after the other (ISO/IEC 18004:2015, 7.6).
+-- `IsGathered c interleaved xs` holds if the list xs contains the codewords at the beginning of the list `interleaved`,
+-- put back into the order of the blocks. The blocks have the sizes c. The list `interleaved` begins with the first
+-- codewords of all blocks, followed by the second codewords of all blocks, and so on. In the list xs, the codewords of
+-- one block follow those of the previous block (ISO/IEC 18004:2015, 7.6).
 pub record IsGathered (c : BlockSizes) (interleaved xs : List ℕ) : Type 0 where
   pub long : length xs ≡ codeword_count c
   pub positions : List Position

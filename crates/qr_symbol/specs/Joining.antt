@@ -1,5 +1,5 @@
--- This file defines the bytes that the symbols of a series contain together. A content is what one symbol is read as:
--- an optional structured append header, segments, and the bytes of the segments.
+-- This file defines which bytes the symbols of a series contain together. A content is the result of reading one
+-- symbol: an optional structured append header, segments, and the bytes of the segments.
 use Rattle.std.specs.Prelude.{◌≡◌, ◌⊎◌, ℕ, ◌+◌, ◌-◌, ◌<◌, List, [], ◌∷◌, length, None, Some}
 use Rattle.std.specs.List.{AllZip, flat_map}
 use Rattle.qr_bits.specs.Parsing.{Content}
@@ -16,7 +16,7 @@ unfoldable pub AreReadBy : (Grid → Content → Type 0) → List Grid → List 
 AreReadBy reads squares contents = AllZip reads squares contents
 
 -- `AreReadings squares contents` holds if there are as many contents as squares of modules, and each square is read as
--- the content with the same index. No errors are corrected in this reading (ISO/IEC 18004:2015, 12).
+-- the content with the same index. The squares are read without correction of errors (ISO/IEC 18004:2015, 12).
 abbrev pub AreReadings : List Grid → List Content → Type 0
 AreReadings squares contents = AreReadBy IsReading squares contents
 
@@ -38,8 +38,8 @@ HaveHeaders last parity k (c ∷ cs) =
     (c.header ≡ Some (record { position = k; last = last; parity = parity })) × HaveHeaders last parity (k + 1) cs
 
 -- `AreInSeries contents` holds if the list `contents` contains the contents of a whole series of symbols, in the order
--- of the series. There is at least one content. The structured append header of each content contains three numbers:
--- the position of the content, the number of contents less 1, and the parity data of all bytes
+-- of the series. The list has at least one content. The structured append header of each content contains three
+-- numbers: the content's position, the number of contents less 1, and the parity data of the bytes of all contents
 -- (ISO/IEC 18004:2015, 8.1 to 8.3).
 abbrev pub AreInSeries : List Content → Type 0
 AreInSeries contents =
@@ -52,8 +52,8 @@ abbrev pub BelongTogether : List Content → Type 0
 BelongTogether contents = IsPlain contents ⊎ AreInSeries contents
 
 -- `IsJoinedBy reads squares bytes` holds if `bytes` is the result of reading the squares of modules and joining their
--- bytes in order. The squares must be read as one content without a structured append header, or as the contents of a
--- whole series. The proposition `reads g c` means that the square g is read as the content c
+-- bytes in order. The squares are read as one content without a structured append header, or as the contents of a whole
+-- series. The proposition `reads g c` means that the square g is read as the content c
 -- (ISO/IEC 18004:2015, 8.1 to 8.3, 12).
 pub record IsJoinedBy (reads : Grid → Content → Type 0) (squares : List Grid) (bytes : List ℕ) : Type 0 where
   pub contents : List Content
@@ -61,9 +61,9 @@ pub record IsJoinedBy (reads : Grid → Content → Type 0) (squares : List Grid
   pub together : BelongTogether contents
   pub joined : bytes ≡ bytes_of_all contents
 
--- `IsFirstRefused reads refuses squares e` holds if some square of modules in the list is refused for the fault e, and
--- each square before it is read. The proposition `reads g c` means that the square g is read as the content c, and
--- `refuses g e` means that g is refused for the fault e (ISO/IEC 18004:2015, 12).
+-- `IsFirstRefused reads refuses squares e` holds if some square of modules in the list `squares` is refused for the
+-- fault e, and every earlier square in the list is read. The proposition `reads g c` means that the square g is read as
+-- the content c, and `refuses g e` means that g is refused for the fault e (ISO/IEC 18004:2015, 12).
 unfoldable pub IsFirstRefused : (Grid → Content → Type 0) → (Grid → ReadFault → Type 0) → List Grid → ReadFault → Type 0
 IsFirstRefused reads refuses [] e = ⊥
 IsFirstRefused reads refuses (g ∷ gs) e = refuses g e ⊎ ((c : Content) × reads g c × IsFirstRefused reads refuses gs e)
@@ -78,8 +78,8 @@ pub record IsNoSeries (reads : Grid → Content → Type 0) (squares : List Grid
 
 -- `IsUnjoinedBy reads refuses squares e` holds if reading and joining the squares of modules may fail with the fault e.
 -- The fault is `Series` if all squares are read, but their contents are neither one content without a structured append
--- header nor the contents of a whole series. The fault `Memory` is possible for any squares. Every other fault is the
--- fault of the first square that is not read [own].
+-- header nor the contents of a whole series. The fault `Memory` is possible for any squares. Any other fault is
+-- possible if some square is refused for this fault, and every earlier square in the list is read [own].
 abbrev pub IsUnjoinedBy : (Grid → Content → Type 0) → (Grid → ReadFault → Type 0) → List Grid → ReadFault → Type 0
 IsUnjoinedBy reads refuses squares unread.Memory = Unit {0}
 IsUnjoinedBy reads refuses squares unread.Series = IsNoSeries reads squares

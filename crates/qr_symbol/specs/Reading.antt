@@ -1,5 +1,5 @@
 -- This file defines how a symbol is read. The version of the symbol determines the layout, the blocks and the order of
--- the modules. The definitions here do not use `grid_of`, which defines how a symbol is drawn.
+-- the modules. The definitions of this file do not use `grid_of`, which defines how a symbol is drawn.
 use Rattle.std.specs.Prelude.{◌≡◌, ◌≢◌, ℕ, ◌-◌, ◌*◌, ◌<◌, ◌≤◌, Bool, false, List, ◌++◌, map, take, length, replicate, Result, Ok, Err, None}
 use Rattle.std.specs.List.{All}
 use Rattle.qr_layout.specs.declared.level.Level.{Level}
@@ -24,7 +24,7 @@ use Rattle.qr_symbol.specs.Symbol.{word_bit}
 use Rattle.qr_symbol.specs.Interleaving.{IsInterleaved}
 
 -- `unmasked mask g m` is the colour of the module m in the square of modules g after the mask pattern `mask` was
--- undone; true is dark. The module m must be in the encoding region (ISO/IEC 18004:2015, 12).
+-- undone; true is dark. The module m is a module of the encoding region (ISO/IEC 18004:2015, 12).
 abbrev pub unmasked : ℕ → Grid → Module → Bool
 unmasked mask g m = inverted (inverts mask m.row m.col) (colour g m.row m.col)
 
@@ -45,8 +45,8 @@ pub record IsRead (v mask : ℕ) (g : Grid) (cw : List ℕ) : Type 0 where
   pub bits : bits_of cw ≡ read_bits v mask g places
 
 -- `IsMessage v l mask g d` holds if the list d contains the data codewords in the square of modules g. The square has
--- version v, level l and the mask pattern `mask`. The encoding region of g must contain the final sequence of codewords
--- for d (ISO/IEC 18004:2015, 7.6, 12).
+-- version v, level l and the mask pattern `mask`. The encoding region of g contains the final sequence of codewords for
+-- d (ISO/IEC 18004:2015, 7.6, 12).
 pub record IsMessage (v : ℕ) (l : Level) (mask : ℕ) (g : Grid) (d : List ℕ) : Type 0 where
   pub codewords : List ℕ
   pub read : IsRead v mask g codewords
@@ -73,9 +73,9 @@ pub record IsOfVersion (g : Grid) (v : ℕ) : Type 0 where
   pub side : g.side ≡ side_of v
 
 -- `IsParsedAs g outcome` holds if the data codewords of the square of modules g can be read, and `outcome` is the
--- result of parsing these data codewords. Some version must have as many rows as g. The format information of g must
--- belong to a level and a mask pattern. The encoding region of g must contain the final sequence of codewords for the
--- data codewords (ISO/IEC 18004:2015, 12).
+-- result of parsing these data codewords. The square g has as many rows as a symbol of some version. The format
+-- information of g belongs to a level and a mask pattern. The encoding region of g contains the final sequence of
+-- codewords for the data codewords (ISO/IEC 18004:2015, 12).
 pub record IsParsedAs (g : Grid) (outcome : Result Content ParseFault) : Type 0 where
   pub version : ℕ
   pub level : Level
@@ -92,18 +92,18 @@ abbrev pub IsReading : Grid → Content → Type 0
 IsReading g content = IsParsedAs g (Ok content)
 
 -- `IsReadBack v rule x g` holds if the square of modules g is read as the bytes x, without a structured append header.
--- The segments that are read must have the fewest bits possible at version v, in modes that `rule` allows
+-- The segments that are read have the fewest bits that are possible at version v in modes that `rule` allows
 -- (ISO/IEC 18004:2015, 12).
 abbrev pub IsReadBack : ℕ → Rule → List ℕ → Grid → Type 0
 IsReadBack v rule x g = (segments : List Segment) × IsLeastSegmentation v rule x segments
     × IsReading g (record { header = None; segments = segments; bytes = x })
 
--- `IsUnread g e` holds if reading the square of modules g may fail with the fault e. The fault is `Side` if no version
--- has as many rows as g. The fault is `Format` if some version has as many rows as g, but the format information
--- belongs to no level and mask pattern. The fault is `Check` if the number of rows and the format information are
--- valid, but the codewords are not the final sequence for any data codewords. The fault is `Segments` if g contains
--- data codewords that cannot be parsed. The fault `Memory` is possible for every square. The fault `Series` is not
--- possible for a single square (ISO/IEC 18004:2015, 12).
+-- `IsUnread g e` holds if reading the square of modules g may fail with the fault e. The fault is `Side` if the number
+-- of rows of g belongs to no version. The fault is `Format` if the number of rows of g belongs to a version, but the
+-- format information of g belongs to no level and mask pattern. The fault is `Check` if the number of rows and the
+-- format information of g are valid, but the codewords in g are not the final sequence for any data codewords. The
+-- fault is `Segments` if g contains data codewords that cannot be parsed. The fault `Memory` is possible for every
+-- square. The fault `Series` is not possible for a single square (ISO/IEC 18004:2015, 12).
 abbrev pub IsUnread : Grid → ReadFault → Type 0
 IsUnread g unread.Memory = Unit {0}
 IsUnread g unread.Side = (v : ℕ) → IsOfVersion g v → ⊥

@@ -1,4 +1,4 @@
--- This file defines the series of symbols for an input. The standard calls such a series Structured Append.
+-- This file defines the series of symbols for an input. The standard calls a series of symbols Structured Append.
 use Rattle.std.specs.Prelude.{◌≡◌, ◌⊎◌, ℕ, ◌+◌, ◌-◌, ◌<◌, ◌≤◌, false, List, [], ◌∷◌, length, take, drop, map, Option, None, Some}
 use Rattle.std.specs.List.{All, concat}
 use Rattle.qr_layout.specs.declared.level.Level.{Level}
@@ -19,23 +19,24 @@ abbrev pub squares_of : List Symbol → List Grid
 squares_of symbols = map (λ s. s.matrix) symbols
 
 -- `AreParts v l rule x parts` holds if `parts` lists the parts into which the bytes x are cut for a series of symbols.
--- Each part is the longest prefix of the remaining bytes that fits a symbol after a structured append header, and no
--- part is empty. The symbol has version v and level l, and `rule` determines which modes the segments may have [own].
+-- Each part is the longest prefix of the remaining bytes that fits a symbol together with a structured append header.
+-- No part is empty. The symbols have version v and level l, and `rule` determines which modes the segments may have
+-- [own].
 unfoldable pub AreParts : ℕ → Level → Rule → List ℕ → List (List ℕ) → Type 0
 AreParts v l rule x [] = x ≡ []
 AreParts v l rule x (p ∷ ps) = (n : ℕ) × (0 < n) × IsLongestFit v rule x (room_of v l) n × (p ≡ take n x)
     × AreParts v l rule (drop n x) ps
 
 -- `FitParts v l rule x parts` holds if the bytes x consist of the parts in the list `parts`, one after another. Each
--- part must fit a symbol after a structured append header. Each symbol has version v and level l, and `rule` determines
--- which modes the segments may have. A part may be empty, and it may be shorter than the longest prefix that fits
--- [own].
+-- part fits a symbol together with a structured append header. Each symbol has version v and level l, and `rule`
+-- determines which modes the segments may have. A part may be empty. A part may also be shorter than the longest prefix
+-- of the remaining bytes that fits [own].
 abbrev pub FitParts : ℕ → Level → Rule → List ℕ → List (List ℕ) → Type 0
 FitParts v l rule x parts = (x ≡ concat parts) × All (λ p. HasFit v rule p (room_of v l)) parts
 
--- `NeedsParts v l rule x n` holds if at least n parts are needed when the bytes x are cut into parts. Each part must
--- fit a symbol after a structured append header. The symbols have version v and level l, and `rule` determines which
--- modes the segments may have [own].
+-- `NeedsParts v l rule x n` holds if the bytes x cannot be cut into fewer than n parts. Each part has to fit a symbol
+-- together with a structured append header. The symbols have version v and level l, and `rule` determines which modes
+-- the segments may have [own].
 abbrev pub NeedsParts : ℕ → Level → Rule → List ℕ → ℕ → Type 0
 NeedsParts v l rule x n = (parts : List (List ℕ)) → FitParts v l rule x parts → n ≤ length parts
 
@@ -61,10 +62,10 @@ AreSymbolsFrom v l rule last parity k (p ∷ ps) (s ∷ ss) =
     × AreSymbolsFrom v l rule last parity (k + 1) ps ss
 
 -- `IsSplit v l rule x symbols` holds if the bytes x do not fit one symbol without a structured append header, and are
--- cut into at most 16 parts. The definition `AreParts` determines these parts. The list `symbols` contains one symbol
--- for each part, in order. The structured append header of a symbol contains the position of the symbol, counted from
--- 0. The header also contains the number of symbols less 1, and the parity data of x. The symbols have version v and
--- level l, and `rule` determines which modes the segments may have [own].
+-- cut into at most 16 parts. The definition `AreParts` determines where the bytes are cut. The list `symbols` contains
+-- one symbol for each part, in order. The structured append header of a symbol contains the position of the symbol,
+-- counted from 0. The header also contains the number of symbols less 1, and the parity data of x. The symbols have
+-- version v and level l, and `rule` determines which modes the segments may have [own].
 pub record IsSplit (v : ℕ) (l : Level) (rule : Rule) (x : List ℕ) (symbols : List Symbol) : Type 0 where
   pub too_long : FitsVersion v l rule x → ⊥
   pub parts : List (List ℕ)
@@ -82,16 +83,16 @@ pub record IsPlainSymbol (v : ℕ) (l : Level) (rule : Rule) (x : List ℕ) (sym
   pub alone : symbols ≡ symbol ∷ []
 
 -- `IsSeries v l rule x symbols` holds if the list `symbols` is the series that encodes the bytes x at version v and
--- level l. If the bytes fit one symbol without a structured append header, the series is this one symbol. Otherwise the
--- bytes are cut into at most 16 parts, which the definition `AreParts` determines, and the series has one symbol for
--- each part. `rule` determines which modes the segments may have [own].
+-- level l. If the bytes fit one symbol without a structured append header, the series is this one symbol. If the bytes
+-- do not fit one symbol, they are cut into at most 16 parts, and the series has one symbol for each part. The
+-- definition `AreParts` determines where the bytes are cut. `rule` determines which modes the segments may have [own].
 abbrev pub IsSeries : ℕ → Level → Rule → List ℕ → List Symbol → Type 0
 IsSeries v l rule x symbols = IsPlainSymbol v l rule x symbols ⊎ IsSplit v l rule x symbols
 
 -- `HasNoSeries v l rule x` holds if the bytes x have no series of symbols at version v and level l. The bytes do not
--- fit one symbol without a structured append header. The bytes are cut into more than 16 parts if each part is the
--- longest prefix of the remaining bytes that fits a symbol after a header. If `rule` does not allow kanji mode, every
--- other cut into parts that fit has more than 16 parts too [own].
+-- fit one symbol without a structured append header. If each part is the longest prefix of the remaining bytes that
+-- fits a symbol together with a header, there are more than 16 parts. If `rule` does not allow kanji mode, any other
+-- cut of the bytes into parts that fit symbols with headers also has more than 16 parts [own].
 pub record HasNoSeries (v : ℕ) (l : Level) (rule : Rule) (x : List ℕ) : Type 0 where
   pub too_long : FitsVersion v l rule x → ⊥
   pub too_many : (parts : List (List ℕ)) → AreParts v l rule x parts → 16 < length parts

@@ -1,5 +1,5 @@
--- Defines the command's arguments as rules of the crate `clap`. Also defines which matches and which faults `clap`
--- finds in a command line. A match is an argument with its value.
+-- Defines the command's arguments as rules of the crate `clap`. This file also defines which matches and which faults
+-- `clap` finds in a command line. A match is an argument with its value.
 use Rattle.std.specs.Prelude.{ℕ, true, List, codes, Some, pos, slice_index, ℤ}
 use Rattle.clap.specs.Words.{Kinds, fault_of}
 use Rattle.clap.specs.Walk.{Row, Rule, Text}

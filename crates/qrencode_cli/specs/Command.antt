@@ -1,5 +1,5 @@
--- Defines what the command draws for a command line and an input. Also defines what a run of the command does to its
--- devices: the reader of the input, standard output and standard error.
+-- Defines what the command draws for a command line and an input. This file also defines what a run of the command does
+-- to its devices: the reader of the input, standard output and standard error.
 use Rattle.std.specs.Prelude.{◌≡◌, ◌↔◌, ◌≤◌, ◌<◌, ◌+◌, ◌⊎◌, ℕ, List, [], length, take, max, MatchOption, None, IfErr, IsErrOf, IsTrue, MatchResult, Result, Ok, Err, is_ok, true, false, if◌then◌else◌}
 use Rattle.std.specs.Option.{option_map_or}
 use Rattle.std.specs.Io.KnownBytes.{Appends, Consumes}
@@ -21,13 +21,14 @@ use Rattle.qrencode_cli.specs.declared.settings.UsageFault.TheVariants as usage
 use Rattle.qr_symbol.specs.declared.fault.EncodeFault.TheVariants as encode
 
 -- `input_for s given` is the input that is encoded under the settings `s`. If the arguments contain a string, the input
--- is this string, cut after `INPUT_MAX` bytes. Otherwise the input is `given`, the bytes that the reader returned [own]
+-- is this string, cut after `INPUT_MAX` bytes. If the arguments contain no string, the input is `given`, the bytes that
+-- the reader returned [own]
 abbrev pub input_for : SettingsView → List ℕ → List ℕ
 input_for s given = option_map_or (λ text. take INPUT_MAX text) s.string given
 
--- `held s input` is the bytes that the symbols contain for `input` under the settings `s`. Without -i these bytes are
--- `input` itself. With -i small letters become capitals. There are two exceptions: with -8 all bytes stay the same, and
--- with -k kanji pairs stay the same [own]
+-- `held s input` lists the bytes that the symbols contain for `input` under the settings `s`. Without -i these bytes
+-- are `input` itself. With -i small letters become capitals. With -i there are two exceptions: with -8 all bytes are
+-- unchanged, and with -k kanji pairs are unchanged [own]
 abbrev pub held : SettingsView → List ℕ → List ℕ
 held s input = if s.fold then folded (rule_for s) input else input
 
@@ -55,8 +56,8 @@ abbrev pub HasDrawing : List Text → List ℕ → List ℕ → Type 0
 HasDrawing words given drawing = HasSettingsWith words (λ s. IsDrawing s (held s (input_for s given)) drawing)
 
 -- `HasRefusal words given why` holds if the command line `words` is not refused, but `why` holds of its settings and
--- its input. Here `why` is a reason for which an input cannot be drawn. The list `given` contains the bytes that the
--- reader returned [own]
+-- its input. The parameter `why` is a reason for which an input cannot be drawn. The list `given` contains the bytes
+-- that the reader returned [own]
 abbrev pub HasRefusal : List Text → List ℕ → (SettingsView → List ℕ → Type 0) → Type 0
 HasRefusal words given why = HasSettingsWith words (λ s. why s (held s (input_for s given)))
 
@@ -72,8 +73,9 @@ IsRefusal words given (fault.Encode encode.TooMany) = HasRefusal words given IsT
 IsRefusal words given _ = ⊥
 
 -- `IsFault words given f` holds if the fault `f` can occur for the command line `words` and for `given`, the bytes that
--- the reader returned. A refusal can occur if it is correct. A read fault can occur if the command line is not refused
--- and contains no string. A write fault can occur if there is a drawing. Lack of memory can always occur [own]
+-- the reader returned. A refusal can occur if it is correct for the command line and the input. A read fault can occur
+-- if the command line is not refused and contains no string. A write fault can occur if there is a drawing. Lack of
+-- memory can always occur [own]
 abbrev pub IsFault : List Text → List ℕ → Fault → Type 0
 IsFault words given fault.Read = HasSettingsWith words (λ s. s.string ≡ None)
 IsFault words given fault.Memory = Unit {0}
@@ -81,7 +83,7 @@ IsFault words given fault.Write = (drawing : List ℕ) × HasDrawing words given
 IsFault words given refusal = IsRefusal words given refusal
 
 -- `DrawnWhole old new drawing` holds if a writer changed from `old` to `new` because it received the whole `drawing`
--- and was then flushed once. The flush succeeded, and was the last call [own]
+-- and was then flushed once. The flush succeeded, and was the last call of the writer [own]
 pub record DrawnWhole (old new : Writer) (drawing : List ℕ) : Type 0 where
   pub grows : Appends old.taken new.taken drawing
   pub many : old.counts ≡ no_writes → new.counts.taken ≡ counted (length drawing)
@@ -90,7 +92,7 @@ pub record DrawnWhole (old new : Writer) (drawing : List ℕ) : Type 0 where
 
 -- `DrawnInPart old new drawing` holds if a writer changed from `old` to `new` in one of two ways. Either the writer
 -- received a prefix of `drawing` and was not flushed, or it received the whole `drawing` and its one flush failed. In
--- both cases the number of bytes that the writer received is at most the length of `drawing` [own]
+-- each of the two cases, the number of bytes that the writer received is at most the length of `drawing` [own]
 abbrev pub DrawnInPart : Writer → Writer → List ℕ → Type 0
 DrawnInPart old new drawing = (old.counts ≡ no_writes → new.counts.taken ≤ counted (length drawing))
     × ((AppendsBeginning old.taken new.taken drawing × (new.counts.flushes ≡ old.counts.flushes))
@@ -111,17 +113,18 @@ AllRead old new given = Consumes old.remaining new.remaining given
     × (old.counts ≡ no_reads → new.counts.given ≡ length given)
     × (old.counts ≡ no_reads → (new.counts.ends ≡ 1) ⊎ (length given ≡ INPUT_MAX))
 
--- `InputConsumed old new given outcome` is about a run that has to read its input. It holds if the run read the whole
--- input `given`, and so changed the reader from `old` to `new`. If the `outcome` is a read fault or lack of memory,
--- `InputConsumed` always holds [own]
+-- `InputConsumed old new given outcome` holds if a run read the whole input `given`, and so changed the reader from
+-- `old` to `new`. The definition is about a run that has to read its input. If the `outcome` is a read fault or lack of
+-- memory, `InputConsumed` always holds [own]
 abbrev pub InputConsumed : Reader → Reader → List ℕ → {T : Type 0} → Result T Fault → Type 0
 InputConsumed old new given (Err fault.Read) = Unit {0}
 InputConsumed old new given (Err fault.Memory) = Unit {0}
 InputConsumed old new given _ = AllRead old new given
 
 -- `InputConsumedFor settings old new given outcome` holds if the reader changed from `old` to `new` as the `settings`
--- require. If the command line is refused, or if it contains the input as a string, the reader has to be unchanged.
--- Otherwise `InputConsumed` has to hold, which means that the whole input was read [own]
+-- require. If the command line is refused, or if it contains the input as a string, the reader is unchanged. If the
+-- command line is accepted and contains no string, `InputConsumed` holds, which means that the whole input was read
+-- [own]
 abbrev pub InputConsumedFor : Result SettingsView Reason → Reader → Reader → List ℕ → {T : Type 0} → Result T Fault → Type 0
 InputConsumedFor (Err r) old new given outcome = new ≡ old
 InputConsumedFor (Ok s) old new given outcome = MatchOption s.string (InputConsumed old new given outcome) (λ _. new ≡ old)
@@ -141,10 +144,10 @@ ErrorHolds old new line = AppendsBeginning old.taken new.taken line
 -- `outcome` and this exit `status`. The outcome is success or a fault. The reader and the two writers are `in0`, `out0`
 -- and `err0` before the run, and `in1`, `out1` and `err1` after the run. Apart from lack of memory and faults of
 -- devices, the arguments and the input determine the outcome. If the counts of a device were 0 before the run, its
--- counts stay within their limits. For the reader and for standard output, these counts then also show whether the
--- outcome is a read fault or a write fault. No write of the drawing offers more than 1,200 bytes. After success,
--- standard error receives nothing, and the status is 0. After a fault, standard error receives the fault's line, and
--- the status is 1 [own]
+-- counts stay within their limits. If the counts of the reader were 0 before the run, they show whether the outcome is
+-- a read fault. If the counts of standard output were 0 before the run, they show whether the outcome is a write fault.
+-- No write of the drawing offers more than 1,200 bytes. After success, standard error receives nothing, and the status
+-- is 0. After a fault, standard error receives the fault's line, and the status is 1 [own]
 pub record Runs (words : List Text) (in0 in1 : Reader) (out0 out1 err0 err1 : Writer) (outcome : Result (Unit {0}) Fault) (status : ℕ) : Type 0 where
   pub given : List ℕ
   pub is_input : IsInputOf in0.remaining given

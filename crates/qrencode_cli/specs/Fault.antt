@@ -1,4 +1,4 @@
--- Defines the line that each fault of the command writes to standard error.
+-- Defines the line that reports each fault of the command on standard error.
 use Rattle.std.specs.Prelude.{ℕ, List, codes}
 use Rattle.std.specs.String.{string_bytes}
 use Rattle.qr_symbol.specs.declared.fault.EncodeFault.TheVariants as encode

@@ -16,7 +16,7 @@ use Rattle.qrencode_cli.specs.declared.fault.Fault.TheVariants as fault
 use Rattle.qr_symbol.specs.declared.fault.EncodeFault.TheVariants as encode
 use Rattle.qrencode_cli.specs.declared.settings.UsageFault.TheVariants as usage
 
--- `by_default` is the settings of the command line `-t ASCII`, in which every other setting has its default [own]
+-- `by_default` contains the settings of the command line `-t ASCII`, in which every other setting has its default [own]
 abbrev pub by_default : SettingsView
 by_default = record {
   level = L;
@@ -40,8 +40,8 @@ IsTaken words settings = settings_for (codes "qrencode" ∷ words) ≡ Ok settin
 abbrev pub IsRefused : List Text → Reason → Type 0
 IsRefused words why = settings_for (codes "qrencode" ∷ words) ≡ Err why
 
--- `CommandLines` holds if each command line in the list below has the settings that the list states for it, or is
--- refused for the reason that the list states [own]
+-- `CommandLines` holds if the list below is correct. For each command line, the list states its settings, or the reason
+-- why the command line is refused [own]
 pub record CommandLines : Type 0 where
   pub plain : IsTaken (codes "-t" ∷ codes "ASCII" ∷ []) by_default
   pub in_bytes : IsTaken (codes "-8" ∷ codes "-v" ∷ codes "1" ∷ codes "-t" ∷ codes "ascii" ∷ [])
@@ -113,20 +113,22 @@ abbrev pub AreAlike : Fault → Fault → Type 0
 AreAlike (fault.Usage (usage.Words text)) (fault.Usage (usage.Words other)) = Unit {0}
 AreAlike r q = r ≡ q
 
--- `RefusalsAreOne` holds if all refusals that are correct for a command line and an input are alike [own].
+-- `RefusalsAreOne` holds if all refusals that are correct for a command line and an input are alike. Refusals are alike
+-- if they are equal, or if their lines are texts of `clap` [own].
 abbrev pub RefusalsAreOne : Type 0
 RefusalsAreOne = (words : List Text) (given : List ℕ) (r q : Fault) → IsRefusal words given r → IsRefusal words given q → AreAlike r q
 
 -- `RulesOfModes` holds if the options -8 and -k decide which modes are allowed. With -8 only byte mode is allowed, even
--- if -k is given too. Without -8, all modes but kanji mode are allowed, and kanji mode too if -k is given [own]
+-- if -k is also given. With -k and without -8, all modes are allowed. Without -8 and -k, all modes but kanji mode are
+-- allowed [own]
 pub record RulesOfModes : Type 0 where
   pub bytes : (s : SettingsView) → s.bytes_only ≡ true → rule_for s ≡ BytesOnly
   pub kanji : (s : SettingsView) → s.bytes_only ≡ false → s.kanji ≡ true → rule_for s ≡ WithKanji
   pub neither : (s : SettingsView) → s.bytes_only ≡ false → s.kanji ≡ false → rule_for s ≡ Auto
 
--- `FoldingFollowsTheRule` holds if -i folds the input, that is, changes small letters to capitals, as the allowed modes
--- require. Without -i the input is unchanged. With -i and -k, the second byte of a kanji pair is unchanged, even if it
--- is the code of a small letter [own].
+-- `FoldingFollowsTheRule` holds if the option -i folds the input as the allowed modes require. To fold an input is to
+-- change its small letters to capitals. Without -i the input is unchanged. With -i and -k, the second byte of a kanji
+-- pair is unchanged, even if it is the code of a small letter [own].
 pub record FoldingFollowsTheRule : Type 0 where
   pub folds : (s : SettingsView) (input : List ℕ) → s.fold ≡ true → held s input ≡ folded (rule_for s) input
   pub keeps : (s : SettingsView) (input : List ℕ) → s.fold ≡ false → held s input ≡ input
@@ -138,8 +140,8 @@ abbrev pub StatusesAreTwo : Type 0
 StatusesAreTwo = (words : List Text) (in0 in1 : Reader) (out0 out1 err0 err1 : Writer) (outcome : Result (Unit {0}) Fault) (status : ℕ)
     → Runs words in0 in1 out0 out1 err0 err1 outcome status → MatchResult outcome (λ _. status ≡ 0) (λ _. status ≡ 1)
 
--- `LinesOfFaults` holds if the line of each fault is the one in the list below. The list leaves out the fault for
--- arguments that `clap` refuses, whose line is a text of `clap` [own].
+-- `LinesOfFaults` holds if the line of each fault is the one in the list below. The fault for arguments that `clap`
+-- refuses is not in the list, since its line is a text of `clap` [own].
 pub record LinesOfFaults : Type 0 where
   pub level : fault_line (fault.Usage usage.Level) ≡ codes "qrencode: unknown level\n"
   pub type : fault_line (fault.Usage usage.Kind) ≡ codes "qrencode: unknown type\n"

@@ -14,16 +14,16 @@ use Rattle.qr_drawing.specs.declared.drawing.Drawing.TheVariants as drawing
 use Rattle.qrencode_cli.specs.declared.settings.UsageFault.{UsageFault}
 use Rattle.qrencode_cli.specs.declared.settings.UsageFault.TheVariants as usage
 
--- The reason why a command line is refused. There are four reasons: `clap` refuses the arguments, the level is unknown,
--- the type of drawing is unknown, or a series is asked for without a version [own]
+-- A `Reason` is the reason why a command line is refused. The four reasons are: `clap` refuses the arguments, the level
+-- is unknown, the type of drawing is unknown, or a series is asked for without a version [own]
 pub data Reason : Type 0 where
   refused_by_clap : Reason
   unknown_level : Reason
   unknown_type : Reason
   needs_version : Reason
 
--- The settings of a run, in the form that contracts use. The smallest version and the margin are numbers, and the
--- string is a list of bytes [own]
+-- A `SettingsView` contains the settings of a run, in the form that contracts use. The smallest version and the margin
+-- are numbers, and the string is a list of bytes [own]
 pub record SettingsView : Type 0 where
   pub level : Level
   pub smallest : Option ℕ
@@ -35,8 +35,8 @@ pub record SettingsView : Type 0 where
   pub structured : Bool
   pub string : Option Text
 
--- `rule_for s` is the rule that states which encoding modes the settings `s` allow. Under -8 only byte mode is allowed.
--- Without -8, the option -k allows all modes. Without -8 and -k, all modes but kanji mode are allowed [own]
+-- `rule_for s` is the rule that states which encoding modes the settings `s` allow. With -8 only byte mode is allowed.
+-- With -k and without -8, all modes are allowed. Without -8 and -k, all modes but kanji mode are allowed [own]
 abbrev pub rule_for : SettingsView → Rule
 rule_for s = if s.bytes_only then BytesOnly else (if s.kanji then WithKanji else Auto)
 
@@ -89,13 +89,14 @@ settings_with rows level kind = record {
   string = first_of (codes "string") rows;
 }
 
--- `checked_series s` is the settings `s`, or a refusal if `s` asks for a series without a version [own]
+-- `checked_series s` is the settings `s`, or the reason `needs_version` if `s` asks for a series without a version
+-- [own]
 abbrev pub checked_series : SettingsView → Result SettingsView Reason
 checked_series s = if s.structured && is_none s.smallest then Err needs_version else Ok s
 
 -- `settings_of rows` is the settings that follow from `rows`, the arguments and values that `clap` found, or the reason
--- to refuse these arguments. First the level is checked. The default level, without -l, is L. Then the type of drawing
--- is checked. The last check is that a series has a version [own]
+-- to refuse these arguments. First the level is checked; without -l, L is the default level. The second check is that
+-- the type of drawing is known. The last check is that a series has a version [own]
 abbrev pub settings_of : List Row → Result SettingsView Reason
 settings_of rows =
     option_map_or (λ l. option_map_or (λ kind. checked_series (settings_with rows l kind))
@@ -103,8 +104,8 @@ settings_of rows =
     (option_map_or level_named (first_of (codes "level") rows) (Some level.L)) (Err unknown_level)
 
 -- `settings_for words` is the settings of the command line `words`, or the reason to refuse it. If `clap` finds a
--- fault, the command line is refused. Otherwise the settings follow from the arguments and values that `clap` found
--- [own]
+-- fault, the command line is refused. If `clap` finds no fault, the result follows from the arguments and values that
+-- `clap` found [own]
 abbrev pub settings_for : List Text → Result SettingsView Reason
 settings_for words = if length (faults_for words) == 0 then settings_of (rows_for words) else Err refused_by_clap
 
@@ -118,8 +119,8 @@ IsUsageFault o usage.Kind = o ≡ Err unknown_type
 IsUsageFault o usage.NeedsVersion = o ≡ Err needs_version
 IsUsageFault o usage.Memory = Unit {0}
 
--- `usage_fault_number f` is the number of the fault `f`. The causes have the numbers 1 to 4 in the order in which they
--- are checked, and lack of memory has the number 5 [own]
+-- `usage_fault_number f` is the number of the fault `f`. The four reasons to refuse a command line have the numbers 1
+-- to 4, in the order in which they are checked. Lack of memory has the number 5 [own]
 abbrev pub usage_fault_number : UsageFault → ℕ
 usage_fault_number (usage.Words text) = 1
 usage_fault_number usage.Level = 2

@@ -1,4 +1,5 @@
--- Definitions that describe how the program computes. Only the contracts of private functions use these definitions, so
--- a reader who judges the promises need not read them.
+-- The definitions in the folder `Steps` describe how the program computes its results. Only the contracts of private
+-- functions use the definitions in this folder. To judge the promises of public functions, a reader need not read the
+-- files in this folder.
 pub mod Command
 pub mod Fault

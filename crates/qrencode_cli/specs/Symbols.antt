@@ -7,8 +7,8 @@ use Rattle.qr_symbol.specs.VersionChoice.{HasNoVersion}
 use Rattle.qr_symbol.specs.Series.{HasNoSeries, IsSeries, squares_of}
 use Rattle.qrencode_cli.specs.Settings.{SettingsView, rule_for}
 
--- `smallest_of s` is the smallest version that the one symbol may have. For a series it is the version of all symbols.
--- The value is the version of -v, or 1 if -v is missing or 0 [own]
+-- `smallest_of s` is the smallest version that a single symbol may have, or the version of all symbols of a series. The
+-- value is the version of -v, or 1 if -v is missing or 0 [own]
 abbrev pub smallest_of : SettingsView → ℕ
 smallest_of s = unwrap_or s.smallest 1
 
@@ -39,7 +39,7 @@ abbrev pub AreSymbols : SettingsView → List ℕ → List Grid → Type 0
 AreSymbols s input squares = AreSquares s.structured s input squares
 
 -- `IsTooLong s input` holds if the settings `s` ask for one symbol, but `input` fits none of the allowed versions. The
--- allowed versions are those from the smallest one on, at the level of `s` [own]
+-- allowed versions are `smallest_of s` and all greater versions, at the level of `s` [own]
 abbrev pub IsTooLong : SettingsView → List ℕ → Type 0
 IsTooLong s input = (s.structured ≡ false) × HasNoVersion (smallest_of s) s.level (rule_for s) input
 

@@ -1,5 +1,5 @@
 -- Defines what the function `qrproved_mend` for C writes when it reads a damaged symbol, and when it writes nothing. In
--- its buffer of modules, the byte 2 is a module that is not known.
+-- the buffer of modules that this function reads, the byte 2 is a module whose colour is not known.
 use Rattle.std.specs.Prelude.{◌≡◌, ℕ, ◌+◌, ◌*◌, ◌<◌, ◌≤◌, ◌==◌, if◌then◌else◌, Option, None, Some, List, ◌++◌, drop, length, slice_index_or, take}
 use Rattle.std.specs.List.{All, Any, Contains, count_by}
 use Rattle.qr_layout.specs.declared.level.Level.{Level}
@@ -13,14 +13,15 @@ use Rattle.qrproved.specs.Modules.{square_of_bytes}
 use Rattle.qrproved.specs.Reading.{TellsHeader}
 use Rattle.qrproved.specs.Settings.{level_of}
 
--- `square_of_unknown side bytes` is a square with `side` rows that shows which modules are not known. A module of this
--- square is dark if its byte in `bytes` is 2, and light otherwise. The list `bytes` contains the modules row by row
--- [own].
+-- `square_of_unknown side bytes` is a square with `side` rows that shows which modules of a symbol are not known. A
+-- module of this square is dark if its byte in `bytes` is 2, and light otherwise. The list `bytes` contains the modules
+-- of the symbol, row by row [own].
 abbrev pub square_of_unknown : ℕ → List ℕ → Grid
 square_of_unknown side bytes = square side (λ row col. slice_index_or bytes (row * side + col) 0 == 2)
 
--- `unknown_in side bytes` is a square with `side` rows that shows which modules are not known. A module of this square
--- is dark if its byte in `bytes` is 2, and light otherwise. If no module has the byte 2, the value is `None` [own].
+-- `unknown_in side bytes` is a square with `side` rows that shows which modules of a symbol are not known. A module of
+-- this square is dark if its byte in `bytes` is 2, and light otherwise. If no module has the byte 2, the value is
+-- `None` [own].
 abbrev pub unknown_in : ℕ → List ℕ → Option Grid
 unknown_in side bytes = if count_by (λ b. b == 2) (take (side * side) bytes) == 0 then None else Some (square_of_unknown side bytes)
 
@@ -30,7 +31,7 @@ pub record AreModules (modules : List ℕ) (side : ℕ) : Type 0 where
   pub whole : side * side ≤ length modules
   pub each : All (λ b. b ≤ 2) (take (side * side) modules)
 
--- `HasOtherByte modules side` holds if at least one byte of the square in the buffer `modules` is more than 2. The
+-- `HasOtherByte modules side` holds if at least one byte of the square in the buffer `modules` is greater than 2. The
 -- square has `side` rows, and the buffer has a byte for each of its modules [own].
 pub record HasOtherByte (modules : List ℕ) (side : ℕ) : Type 0 where
   pub whole : side * side ≤ length modules
@@ -43,9 +44,9 @@ pub record IsGreatest (xs : List ℕ) (n : ℕ) : Type 0 where
 
 -- `TellsDamage m changed side modules` holds if the struct `m` contains four numbers that describe the damage of the
 -- square in `modules`. The square has `side` rows. The first two numbers count the wrong modules in the whole square
--- and in the format information. The third number is the greatest item of the list `changed`. This list contains for
--- each block the number of codewords that were corrected. Codewords with a module that is not known are not counted.
--- The fourth number is the largest number of codewords that can be corrected in a block
+-- and in the format information. The third number is the greatest item of the list `changed`. The list `changed`
+-- contains for each block the number of codewords that were corrected. This list does not count codewords with a module
+-- that is not known. The fourth number is the largest number of codewords that can be corrected in a block
 -- (ISO/IEC 18004:2015, 7.5.1, 7.9.1).
 pub record TellsDamage (m : QrprovedMended) (changed : List ℕ) (side : ℕ) (modules : List ℕ) : Type 0 where
   pub whole : HasWrongModulesWithout (unknown_in side modules) (square_of_bytes side modules) m.version (level_of m.level) m.mask changed m.wrong_modules
@@ -53,8 +54,8 @@ pub record TellsDamage (m : QrprovedMended) (changed : List ℕ) (side : ℕ) (m
   pub most : IsGreatest changed m.changed_most
   pub allowed : m.changed_allowed ≡ tolerance_of m.version (level_of m.level)
 
--- `IsGivenMended modules side before after m` holds if the square in `modules` is read as some bytes after its damage
--- is corrected. The square has `side` rows. Writing the bytes that were read to the first bytes of a buffer changes the
+-- `IsGivenMended modules side before after m` holds if the square in `modules` can be read after its damage is
+-- corrected. The square has `side` rows. Writing the bytes that were read to the first bytes of a buffer changes the
 -- buffer from `before` to `after`. The struct `m` contains the number of the bytes that were read, the version, the
 -- level, the mask pattern, the structured append header, and the damage [own].
 pub record IsGivenMended (modules : List ℕ) (side : ℕ) (before after : List ℕ) (m : QrprovedMended) : Type 0 where
@@ -69,8 +70,8 @@ pub record IsGivenMended (modules : List ℕ) (side : ℕ) (before after : List 
   pub header : TellsHeader content.header m.has_header m.position m.last m.parity
   pub damage : TellsDamage m changed side modules
 
--- `HasMoreMendedBytes modules side buffer` holds if the buffer `buffer` is too short for the bytes of the square in
--- `modules`. These bytes are read after the damage of the square is corrected. The square has `side` rows [own].
+-- `HasMoreMendedBytes modules side buffer` holds if `buffer` is too short for the bytes that are read from the square
+-- in `modules` after its damage is corrected. The square has `side` rows [own].
 pub record HasMoreMendedBytes (modules : List ℕ) (side : ℕ) (buffer : List ℕ) : Type 0 where
   pub all_modules : AreModules modules side
   pub content : Content
@@ -82,6 +83,6 @@ pub record HasMoreMendedBytes (modules : List ℕ) (side : ℕ) (buffer : List �
   pub room : length buffer < length content.bytes
 
 -- `IsUnmendedAt modules side fault` holds if mending the square in `modules` may fail with the fault `fault`. The
--- square has `side` rows, and each of its bytes is 0, 1 or 2 [own].
+-- square has `side` rows, and the byte of each module is 0, 1 or 2 [own].
 abbrev pub IsUnmendedAt : List ℕ → ℕ → ReadFault → Type 0
 IsUnmendedAt modules side fault = AreModules modules side × IsUnmendedWithout (unknown_in side modules) (square_of_bytes side modules) fault

@@ -7,8 +7,8 @@ abbrev pub byte_of : Bool → ℕ
 byte_of dark = if dark then 1 else 0
 
 -- `HoldsSquares side squares before after` holds if writing the modules of `squares` to the first bytes of a buffer
--- changes the buffer from `before` to `after`. The buffer contains one square after the other, each row by row. Each
--- square has `side` rows. The bytes after the last module are unchanged [own].
+-- changes the buffer from `before` to `after`. The squares are written one after the other, and the modules of a square
+-- row by row. Each square has `side` rows. The bytes after the last module are unchanged [own].
 pub record HoldsSquares (side : ℕ) (squares : List Grid) (before after : List ℕ) : Type 0 where
   pub room : length squares * (side * side) ≤ length before
   pub long : length after ≡ length before

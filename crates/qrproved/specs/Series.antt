@@ -13,7 +13,8 @@ use Rattle.qrproved.specs.Modules.{HoldsSquares}
 -- `IsWrittenSeries x version level rule before after t` holds if writing the series of the input `x` to the first bytes
 -- of a buffer changes the buffer from `before` to `after`. The numbers `version`, `level` and `rule` are in range. The
 -- struct `t` contains the number of symbols and the number of rows of each symbol. If the symbols are read and joined,
--- the result is the input. Without kanji mode no shorter series exists [own].
+-- the result is the input. If `rule` does not allow kanji mode, the input cannot be cut into fewer parts that fit
+-- symbols with headers [own].
 pub record IsWrittenSeries (x : List ℕ) (version level rule : ℕ) (before after : List ℕ) (t : QrprovedSeries) : Type 0 where
   pub settings : AreSettings version level rule
   pub symbols : List Symbol

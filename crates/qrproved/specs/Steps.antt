@@ -1,4 +1,5 @@
--- Contains definitions that describe how the program computes its results. Only the contracts of private functions use
--- these definitions. To judge the promises of public functions, a reader need not read these definitions.
+-- The definitions in the folder `Steps` describe how the program computes its results. Only the contracts of private
+-- functions use the definitions in this folder. To judge the promises of public functions, a reader need not read the
+-- files in this folder.
 pub mod Status
 pub mod Modules

@@ -2,8 +2,8 @@
 use Rattle.std.specs.Prelude.{ℕ, List, ◌++◌, codes}
 use Rattle.qr_drawing.specs.Svg.{background, closing, declaration, opening}
 
--- `head width height` is the first part of an SVG document of `width` by `height` modules. The part is all lines before
--- the path, and the beginning of the line with the path
+-- `head width height` is the first part of an SVG document of `width` by `height` modules. This part consists of all
+-- lines before the path, and the beginning of the line with the path
 unfoldable pub head : ℕ → ℕ → List ℕ
 head width height = declaration ++ opening width height ++ background width height ++ codes "<path fill=\"#000000\" d=\""
 

@@ -5,8 +5,8 @@ use Rattle.qr_matrix.specs.Grid.{Grid}
 use Rattle.qr_mending.specs.Unread.{AreMarks}
 
 -- `HasMarks unknown v marks` holds if `marks` lists the marks of the codewords of a symbol of version `v`. If `unknown`
--- contains a square of modules, a module was not read if it is dark in this square. In this case, the mark of a
--- codeword is 0 if all its modules were read, and only then. If `unknown` contains no square, `marks` is empty.
+-- contains a square of modules, the modules that were not read are dark in this square. The mark of a codeword is then
+-- 0 exactly if all its modules were read. If `unknown` contains no square, `marks` is empty.
 abbrev pub HasMarks : Option Grid → ℕ → List ℕ → Type 0
 HasMarks None v marks = length marks ≡ 0
 HasMarks (Some unknown) v marks = AreMarks v unknown marks

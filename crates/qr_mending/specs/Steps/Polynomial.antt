@@ -1,7 +1,8 @@
--- Defines polynomials whose leading coefficient is 1, and the steps of the elimination that finds the error locator
--- polynomial. The elimination works on a list of polynomials, which is called the pool. A window is a list of values,
--- and each window has an equation. In this equation, each coefficient of a polynomial is multiplied by the value with
--- the same index in the window. The polynomial solves the equation if the sum of these products is 0.
+-- Defines polynomials whose leading coefficient is 1. The error locator polynomial is found by elimination, as in a
+-- system of linear equations. This file also defines the steps of the elimination. The elimination works on a list of
+-- polynomials, which is called the pool. A window is a list of values, and each window has an equation. In the equation
+-- of a window, each coefficient of a polynomial is multiplied by the value with the same index in the window. The
+-- polynomial solves the equation if the sum of these products is 0.
 use Rattle.std.specs.Prelude.{◌≡◌, ℕ, ◌+◌, ◌<◌, ◌≤◌, List, [], take, drop, length, slice_index, slice_index_or}
 use Rattle.std.specs.List.{All}
 use Rattle.qr_field.specs.Polynomial.{IsByte}
@@ -31,9 +32,9 @@ at pool k = slice_index_or pool k blank
 
 -- `IsRelieved pivot window before after` holds if the polynomial `after` can replace the polynomial `before` in the
 -- pool. The two polynomials have the same degree. If the leading coefficient of `before` is 1, the leading coefficient
--- of `after` is 1 too. The polynomial `after` solves the equation of the list `window`. It also solves each equation
--- that both `pivot` and `before` solve. A polynomial solves the equation of a list if `miss_of` is 0 for the polynomial
--- and the list.
+-- of `after` is 1 too. The polynomial `after` solves the equation of the list `window`. The polynomial `after` also
+-- solves each equation that both `pivot` and `before` solve. A polynomial solves the equation of a list if `miss_of` is
+-- 0 for the polynomial and the list.
 pub record IsRelieved (pivot : Polynomial) (window : List ℕ) (before after : Polynomial) : Type 0 where
   pub degree : after.degree ≡ before.degree
   pub monic : IsMonic before → IsMonic after
@@ -44,7 +45,7 @@ pub record IsRelieved (pivot : Polynomial) (window : List ℕ) (before after : P
 pub record HasDegrees (most : ℕ) (pool : List Polynomial) : Type 0 where
   pub each : (k : ℕ) → k < length pool → (at pool k).degree ≤ most
 
--- `IsPool t i syndromes pool` holds if `pool` is a list of polynomials that solve the first `i` of `t` equations. The
+-- `IsPool t i syndromes pool` holds if every polynomial in the list `pool` solves the first `i` of `t` equations. The
 -- degrees of the polynomials rise along the list and are at most `t`, and each leading coefficient is 1. In equation j,
 -- the coefficients of a polynomial are multiplied by the syndromes from index j on. The polynomial solves the equation
 -- if the sum of these products is 0. The list has at least `t` + 1 - `i` polynomials.

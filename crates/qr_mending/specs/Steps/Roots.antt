@@ -5,7 +5,7 @@ use Rattle.qr_field.specs.Galois.{product}
 use Rattle.qr_field.specs.Polynomial.{power}
 
 -- `times_root root carry p` is the product of the polynomial `p` and x + `root`. The number `carry` is added to the
--- coefficient of the lowest power of x.
+-- coefficient of the lowest power of x in this product.
 abbrev pub times_root : ℕ → ℕ → List ℕ → List ℕ
 times_root root carry [] = carry ∷ []
 times_root root carry (a ∷ p) = bit_xor carry (product root a) ∷ times_root root a p

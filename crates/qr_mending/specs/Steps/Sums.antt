@@ -4,7 +4,7 @@ use Rattle.qr_field.specs.Galois.{product}
 use Rattle.qr_field.specs.Steps.Polynomial.{value_at}
 
 -- `dot_of p w` is a sum of products: each item of the list `p` is multiplied by the item of the list `w` with the same
--- index. Items after the end of the shorter list are left out.
+-- index. Items of one list that have no counterpart in the other list are left out.
 abbrev pub dot_of : List ℕ → List ℕ → ℕ
 dot_of [] w = 0
 dot_of (a ∷ p) [] = 0
@@ -17,8 +17,8 @@ eval x [] = 0
 eval x (a ∷ p) = bit_xor a (product x (eval x p))
 
 -- `blend p i e` is a sum of products: each item of the list `p` is multiplied by a value of the polynomial `e`. The
--- first item is multiplied by the value of `e` at 2 to the power `i`. The second item is multiplied by the value at the
--- next power of 2, and so on.
+-- first item is multiplied by the value of `e` at 2 to the power `i`. The second item is multiplied by the value of `e`
+-- at the next power of 2, and so on.
 abbrev pub blend : List ℕ → ℕ → List ℕ → ℕ
 blend [] i e = 0
 blend (a ∷ p) i e = bit_xor (product a (value_at i e)) (blend p (i + 1) e)

@@ -42,7 +42,7 @@ placed_if is_in cw number g row col = if is_in then painted g row col (codeword_
 
 -- `number_after is_in number` is the number of the next codeword bit after the drawing step for one module. Before this
 -- step, bit `number` was the next codeword bit. If `is_in` is true, the module is in the encoding region and uses bit
--- `number`, so the result is `number + 1`. Otherwise the result is `number`.
+-- `number`, so the result is `number + 1`. If `is_in` is false, the result is `number`.
 abbrev pub number_after : Bool → ℕ → ℕ
 number_after is_in number = if is_in then number + 1 else number
 
@@ -54,8 +54,8 @@ number_along v [] number = number
 number_along v (m ∷ ms) number = number_along v ms (number_after (is_in_region v m.row m.col) number)
 
 -- `placed_along v cw ms number g` is the square of modules g after the modules in the list ms were drawn in the order
--- of the list. Each module of ms that is in the encoding region of version v gets the colour of one bit of the
--- codewords cw, from bit `number` on. All other modules are unchanged.
+-- of the list. The modules of ms that are in the encoding region of version v get the colours of the codeword bits from
+-- bit `number` on, one bit for each module. Every other module is unchanged.
 abbrev pub placed_along : ℕ → List ℕ → List Module → ℕ → Grid → Grid
 placed_along v cw [] number g = g
 placed_along v cw (m ∷ ms) number g =
@@ -72,10 +72,10 @@ abbrev pub AreNext : List ℕ → ℕ → ℕ → Type 0
 AreNext cw number bits = (k : ℕ) → k < 8 → has_bit bits (7 - k) ≡ codeword_bit cw (number + k)
 
 -- `IsDrawnAcross v cw ms first before next after` holds if drawing the modules ms in their order changes the square of
--- modules `before` into the square `after`. Each module of ms that is in the encoding region of version v gets the
--- colour of one bit of the codewords cw, from bit `first` on. `next` is the number of the next bit to be drawn. The
--- squares `before` and `after` are transposed: their rows are the columns of the symbol. The modules in the list ms are
--- not transposed.
+-- modules `before` into the square `after`. The modules of ms that are in the encoding region of version v get the
+-- colours of the bits of the codewords cw from bit `first` on, one bit for each module. `next` is the number of the
+-- next bit to be drawn. The squares `before` and `after` are transposed: their rows are the columns of the symbol. The
+-- list ms gives each module by its row and its column in the symbol.
 pub record IsDrawnAcross (v : ℕ) (cw : List ℕ) (ms : List Module) (first : ℕ) (before : Grid) (next : ℕ) (after : Grid) : Type 0 where
   pub number : next ≡ number_along v ms first
   pub placed : transposed after ≡ placed_along v cw ms first (transposed before)
@@ -97,10 +97,10 @@ AreWithin s x = (row : ℕ) → s ≤ row → (has x.right row ≡ false) × (ha
 abbrev pub row_of : ℕ → Strip → ℕ → ℕ
 row_of s x rank = if x.upward then s - 1 - rank else rank
 
--- `AreLight s x k region y` holds if, from row k of the strip x on, all modules of the strip in the encoding region are
--- light. The columns y contain the colours of the strip. A strip is two neighbouring columns that are filled together.
--- The rows of a strip are counted from 0, in the direction in which the strip is filled. The symbol has s rows. In the
--- columns `region`, a bit is 1 if the module in its row is in the encoding region.
+-- `AreLight s x k region y` holds if, from row k of the strip x on, all modules of the strip that are in the encoding
+-- region are light. The columns y contain the colours of the strip. A strip is two neighbouring columns that are filled
+-- together. The rows of a strip are counted from 0, in the direction in which the strip is filled. The symbol has s
+-- rows. In the columns `region`, a bit is 1 if the module in its row is in the encoding region.
 abbrev pub AreLight : ℕ → Strip → ℕ → Columns → Columns → Type 0
 AreLight s x k region y = (rank : ℕ) → k ≤ rank → rank < s
     → ((has region.right (row_of s x rank) && has y.right (row_of s x rank)) ≡ false) × ((has region.left (row_of s x rank) && has y.left (row_of s x rank)) ≡ false)
@@ -114,8 +114,8 @@ IsRegion v right x = (row : ℕ) → row < side_of v → (has x.right row ≡ is
 -- `AreDrawn v cw strip k n first before next after` holds if drawing n rows of a strip changes the columns of the strip
 -- from `before` to `after`. A strip is two columns of the symbol that are filled together. The first of the n rows is
 -- row k; rows are counted from 0 in the direction in which the strip is filled. The drawing uses the bits of the
--- codewords cw from bit `first` on, and `next` is the number of the next bit to be drawn. The other columns of the
--- symbol may have any colours.
+-- codewords cw from bit `first` on, and `next` is the number of the next bit to be drawn. The columns of the symbol
+-- outside the strip may have any colours.
 abbrev pub AreDrawn : ℕ → List ℕ → Strip → ℕ → ℕ → ℕ → Columns → ℕ → Columns → Type 0
 AreDrawn v cw strip k n first before next after = (g : Grid) → g.side ≡ side_of v
     → IsDrawnAcross v cw (both_of (rows_from (side_of v) strip k n)) first (with_columns g strip.right before) next (with_columns g strip.right after)

@@ -6,9 +6,9 @@ use Rattle.qr_symbol.specs.declared.interleaving.BlockSizes.{BlockSizes}
 use Rattle.qr_symbol.specs.Interleaving.{Position, IsPosition, IsPositionOrder, start_of, correction_sizes, codeword_at, block_of, check_at}
 
 -- `AppendsInterleaved c d before after` holds if the list `after` is the list `before`, followed by the codewords d in
--- interleaved order. In this order, the first codewords of all blocks come first, then the second codewords of all
--- blocks, and so on. The list d contains the codewords of all blocks, one block after the other, and the blocks have
--- the sizes c.
+-- interleaved order. In interleaved order, the first codewords of all blocks come first, then the second codewords of
+-- all blocks, and so on. The list d contains the codewords of all blocks, one block after the other, and the blocks
+-- have the sizes c.
 pub record AppendsInterleaved (c : BlockSizes) (d before after : List ℕ) : Type 0 where
   pub positions : List Position
   pub order : IsPositionOrder c positions

@@ -6,8 +6,8 @@ use Rattle.qr_bits.specs.Segmentation.{IsLongestFit}
 use Rattle.qr_bits.specs.Padding.{room_of}
 
 -- `AreLengths v l rule x lengths` holds if `lengths` lists the lengths of the parts into which the bytes x are cut.
--- Each part is the longest prefix of the remaining bytes that fits a symbol after a structured append header, and no
--- part is empty. The symbol has version v and level l, and `rule` determines which modes the segments may have.
+-- Each part is the longest prefix of the remaining bytes that fits a symbol together with a structured append header.
+-- No part is empty. The symbols have version v and level l, and `rule` determines which modes the segments may have.
 unfoldable pub AreLengths : ℕ → Level → Rule → List ℕ → List ℕ → Type 0
 AreLengths v l rule x [] = x ≡ []
 AreLengths v l rule x (n ∷ ns) = (0 < n) × IsLongestFit v rule x (room_of v l) n × AreLengths v l rule (drop n x) ns

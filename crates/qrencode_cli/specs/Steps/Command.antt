@@ -41,14 +41,14 @@ IsInputFault s input (Encode TooMany) = IsTooMany s input
 IsInputFault s input Memory = Unit {0}
 IsInputFault s input _ = ⊥
 
--- `IsEarly f` holds if the fault `f` can only occur before any byte is written
+-- `IsEarly f` holds if the fault `f` can only occur before any byte of the drawing is written
 abbrev pub IsEarly : Fault → Type 0
 IsEarly Write = ⊥
 IsEarly _ = Unit {0}
 
 -- `Prepares words old new result` holds if `result` is correct for the command line `words` and its input. The result
--- is a drawing job (the symbols, and how they are drawn), or a fault that occurs before any byte is written. The reader
--- of the input changed from `old` to `new`
+-- is a drawing job (the symbols, and how they are drawn), or a fault that occurs before any byte of the drawing is
+-- written. The reader of the input changed from `old` to `new`
 pub record Prepares (words : List Text) (old new : Reader) (result : Result DrawingJob Fault) : Type 0 where
   pub given : List ℕ
   pub is_input : IsInputOf old.remaining given

@@ -1,4 +1,4 @@
--- Defines the bytes of four modules, which are written at once.
+-- Defines the bytes of four modules. The program writes these four bytes at once.
 use Rattle.std.specs.Prelude.{ℕ, List, [], ◌∷◌}
 use Rattle.qr_matrix.specs.BitRow.{has_bit}
 use Rattle.qrproved.specs.Modules.{byte_of}

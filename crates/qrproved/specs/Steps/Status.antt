@@ -1,4 +1,5 @@
--- Defines which status belongs to each fault. The C header lists the numbers of the statuses.
+-- Defines which status belongs to each fault. A status is the number that a function for C returns. The C header lists
+-- all statuses.
 use Rattle.std.specs.Prelude.{ℕ}
 use Rattle.qr_symbol.specs.declared.fault.EncodeFault.{EncodeFault}
 use Rattle.qr_symbol.specs.declared.fault.EncodeFault.TheVariants as fault
