@@ -29,6 +29,7 @@ header_stream header = option_map_or (λ h. field 4 header_indicator ++ (field 4
 
 -- `parity_of bs` is the parity data of the input `bs`: the bitwise exclusive or of all its bytes. For a series of
 -- symbols, `bs` contains the bytes of the whole input, before the input is cut into parts. With the option -i, the
--- command folds the input (replaces small letters by capitals) before the parity is computed (ISO/IEC 18004:2015, 8.3)
+-- command folds the input (replaces small letters by capitals) before the parity is computed. The code that computes
+-- the parity of the whole input is `part_symbols` in series.rt of the crate qr_symbol (ISO/IEC 18004:2015, 8.3)
 abbrev pub parity_of : List ℕ → ℕ
 parity_of bs = fold bit_xor 0 bs

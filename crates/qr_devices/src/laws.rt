@@ -11,8 +11,9 @@ pub use crate::derives::{
 use crate::trial::Faults;
 
 /// Returns the `Faults` of a device that is never interrupted and never fails. A read from a device without faults
-/// returns as many bytes as remain and as the buffer has room for. In a write, a device without faults accepts as many
-/// bytes as are offered and as the device has room for.
+/// fills the buffer. If fewer bytes remain than the buffer has room for, the read returns all bytes that remain. A
+/// write to a device without faults accepts all bytes that are offered. If the device has room for fewer bytes, the
+/// write fills this room.
 pub fn no_faults() -> Faults
     ensures at_most { result.at_most ≡ 2 ^ 64 - 1 }
     ensures interruptions { result.interruptions ≡ 0 }

@@ -29,10 +29,10 @@ erasures [] = 0
 erasures (None ∷ rs) = 1 + erasures rs
 erasures (Some x ∷ rs) = erasures rs
 
--- `errors rs ys` is the number of codewords of the block ys that were misread. A codeword was misread if the list rs,
--- which contains what was read, has another codeword at the codeword's index. A codeword that could not be read, which
--- is `None` in rs, was not misread. Each index that exists only in the longer of the two lists counts as the index of a
--- misread codeword [own]
+-- `errors rs ys` is the number of codewords of the block ys that were misread. The list rs contains what was read. The
+-- item of ys at an index was misread if the item of rs at this index is a different codeword. A codeword that could not
+-- be read, which is `None` in rs, was not misread. Each index that exists only in the longer of the two lists counts as
+-- the index of a misread codeword [own]
 abbrev pub errors : List (Option ℕ) → List ℕ → ℕ
 errors [] ys = length ys
 errors (r ∷ rs) [] = length (r ∷ rs)

@@ -84,8 +84,8 @@ pub fn tolerances_compute()
     ensures protection_more { protection_of 2 Level.L ≡ 2 × protection_of 3 Level.L ≡ 1 }
 {}
 
-/// The codewords that were read from a damaged symbol can be mended to at most one message, which is the data codewords
-/// of the symbol. A damaged symbol determines the number of changed codewords in each block.
+/// A message is the list of the data codewords of a symbol. The codewords that were read from a damaged symbol can be
+/// mended to at most one message. A damaged symbol determines the number of changed codewords in each block.
 pub fn mended_messages_are_one(version: Version, level: Level)
     ensures { (cw m n x y : List ℕ) → IsMendedIn version level cw m x → IsMendedIn version level cw n y
         → (m ≡ n) × (x ≡ y) }

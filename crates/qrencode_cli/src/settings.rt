@@ -27,8 +27,8 @@ const QUIET_ZONE: u8 = 4;
 pub struct Settings {
     /// The error correction level.
     pub level: Level,
-    /// The smallest version that may be chosen, or `None` if every version may be chosen. All symbols of a series have
-    /// exactly the version `smallest`.
+    /// The smallest version that may be chosen for one symbol, or `None` if every version may be chosen. A series needs
+    /// a version, and all symbols of the series have exactly this version.
     pub smallest: Option<Version>,
     /// The type of the drawing.
     pub kind: Drawing,
