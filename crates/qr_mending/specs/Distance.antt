@@ -1,4 +1,4 @@
--- Defines in how many modules or codewords two symbols of the same version differ.
+-- Defines what it means that two symbols of the same version differ in many modules or in many codewords.
 use Rattle.std.specs.Prelude.{◌≡◌, ◌⊎◌, ℕ, ◌*◌, ◌<◌, ◌≤◌, List}
 use Rattle.qr_field.specs.Distance.{differences}
 use Rattle.qr_layout.specs.declared.level.Level.{Level}
@@ -25,8 +25,8 @@ SomeBlockLiesApart v l k m n g h d e a b = (i : ℕ) × (i < blocks_in v l) × (
 -- `SymbolsLieApart v` holds if every two symbols of version `v` with different levels or different data codewords
 -- differ widely. Two symbols differ widely if one of two conditions is true. The first condition is that the symbols
 -- differ in at least seven modules of each copy of the format information. The second condition is that the symbols
--- have the same level and mask, and that some block differs widely: the number of codewords that differ is more than
--- twice the number of codewords that can be corrected in a block [own].
+-- have the same level and mask, and differ widely in some block. To differ widely in a block is to differ in more than
+-- twice as many codewords as can be corrected in a block [own].
 abbrev pub SymbolsLieApart : ℕ → Type 0
 SymbolsLieApart v =
     (l k : Level) (m n : ℕ) (cw ds d e : List ℕ) → m < 8 → n < 8

@@ -36,9 +36,9 @@ copy_place Second s i = second_place s i
 abbrev pub copy_bit : FormatCopy → Grid → ℕ → Bool
 copy_bit copy g i = colour g (copy_place copy g.side i).row (copy_place copy g.side i).col
 
--- `wrong_bits copy g l mask` is the number of wrong modules in one copy of the format information in the square `g` of
--- modules. A module is wrong if it does not have the colour that the format information of level `l` and mask `mask`
--- requires (ISO/IEC 18004:2015, 7.9.1).
+-- `wrong_bits copy g l mask` is the number of wrong modules in the copy `copy` of the format information in the square
+-- `g` of modules. A module is wrong if it does not have the colour that the format information of level `l` and mask
+-- `mask` requires (ISO/IEC 18004:2015, 7.9.1).
 abbrev pub wrong_bits : FormatCopy → Grid → Level → ℕ → ℕ
 wrong_bits copy g l mask = bit_differences 15 (copy_bit copy g) (word_bit (format_word_of l mask))
 
@@ -48,10 +48,10 @@ abbrev pub wrong_bit : Bool → Bool → Bool → ℕ
 wrong_bit true shown wanted = 1
 wrong_bit false shown wanted = bit_difference shown wanted
 
--- `wrong_bits_without unknown copy g l mask` is the number of wrong modules in one copy of the format information in
--- the square `g` of modules. A module is wrong if it was not read, or if it does not have the colour that the format
--- information of level `l` and mask `mask` requires. The modules that were not read are dark in the square `unknown`
--- (ISO/IEC 18004:2015, 7.9.1).
+-- `wrong_bits_without unknown copy g l mask` is the number of wrong modules in the copy `copy` of the format
+-- information in the square `g` of modules. A module is wrong if it was not read, or if it does not have the colour
+-- that the format information of level `l` and mask `mask` requires. Exactly the modules that were not read are dark in
+-- the square `unknown` (ISO/IEC 18004:2015, 7.9.1).
 abbrev pub wrong_bits_without : Grid → FormatCopy → Grid → Level → ℕ → ℕ
 wrong_bits_without unknown copy g l mask = sum_below 15 (λ i. wrong_bit (copy_bit copy unknown i) (copy_bit copy g i) (word_bit (format_word_of l mask) i))
 

@@ -1,8 +1,8 @@
 -- Defines how the damage of a symbol is corrected, and how the symbol is read. If the name of a definition ends with
 -- `Without` or `without`, the definition is for symbols in which some modules may not have been read. The parameter
--- `unknown` of a definition with this ending is an optional square of modules. The modules that were not read are dark
--- in this square. The definition that has the same name without this ending, if there is one, is for symbols whose
--- modules were all read.
+-- `unknown` of a definition with this ending is an optional square of modules, in which exactly the modules that were
+-- not read are dark. If another definition has the same name without this ending, the other definition is for symbols
+-- whose modules were all read.
 use Rattle.std.specs.Prelude.{◌≡◌, ◌≢◌, ◌⊎◌, ℕ, ◌+◌, Option, None, Some, Result, Ok, Err, List}
 use Rattle.qr_layout.specs.declared.level.Level.{Level}
 use Rattle.qr_bits.specs.Bits.{bits_of}
@@ -23,10 +23,10 @@ use Rattle.qr_mending.specs.Format.{IsNearFormat, wrong_bit, wrong_bits, wrong_b
 use Rattle.qr_mending.specs.Unread.{IsMendedInWithout}
 
 -- `HoldsDamagedWithout unknown v l mask g message changed` holds if the square `g` of modules contains a damaged form
--- of the data codewords `message`. The symbol has version `v`, level `l` and mask `mask`. If `unknown` contains a
--- square, the modules that were not read are dark in this square. A codeword with a module that was not read is erased.
--- The list `changed` contains for each block the number of misread codewords. No block has more erased and misread
--- codewords than can be corrected (ISO/IEC 18004:2015, 7.5.1, 7.6, 7.7.3, 12).
+-- of the data codewords `message`. The symbol has version `v`, level `l` and mask `mask`. `unknown` is an optional
+-- square of modules, in which exactly the modules that were not read are dark. A codeword with a module that was not
+-- read is erased. The list `changed` contains for each block the number of misread codewords. No block has more erased
+-- and misread codewords than can be corrected (ISO/IEC 18004:2015, 7.5.1, 7.6, 7.7.3, 12).
 pub record HoldsDamagedWithout (unknown : Option Grid) (v : ℕ) (l : Level) (mask : ℕ) (g : Grid) (message changed : List ℕ) : Type 0 where
   pub codewords : List ℕ
   pub held : IsRead v mask g codewords
@@ -43,8 +43,8 @@ HoldsDamaged v l mask g message changed = HoldsDamagedWithout None v l mask g me
 -- square `g` of modules, which has version `v`. For each level and mask, one of two conditions is true. The first
 -- condition is that the format information of this level and mask differs from the copy in more than three modules. The
 -- second condition is that, with this level and mask, some block has more erased and misread codewords than can be
--- corrected. If `unknown` contains a square, the modules that were not read are dark in this square. A codeword with a
--- module that was not read is erased (ISO/IEC 18004:2015, 7.5.1, 7.9.1, 12).
+-- corrected. `unknown` is an optional square of modules, in which exactly the modules that were not read are dark. A
+-- codeword with a module that was not read is erased (ISO/IEC 18004:2015, 7.5.1, 7.9.1, 12).
 abbrev pub IsOfNoUseWithout : Option Grid → FormatCopy → ℕ → Grid → Type 0
 IsOfNoUseWithout unknown copy v g = (l : Level) (mask : ℕ) → IsNearFormat copy g l mask
     → (message changed : List ℕ) → HoldsDamagedWithout unknown v l mask g message changed → ⊥
@@ -58,11 +58,11 @@ abbrev pub IsOfNoUse : FormatCopy → ℕ → Grid → Type 0
 IsOfNoUse copy v g = IsOfNoUseWithout None copy v g
 
 -- `HasFormatWithout unknown v g l mask` holds if the square `g` of modules, which has version `v`, has to be read with
--- level `l` and mask `mask`. Reading with `l` and `mask` needs one of two conditions. The first condition is that the
--- format information of this level and mask differs from the first copy in `g` in at most three modules. The second
--- condition is that the format information differs from the second copy in at most three modules, and that the first
--- copy is of no use for mending `g`. If `unknown` contains a square, the modules that were not read are dark in this
--- square (ISO/IEC 18004:2015, 7.9.1, 12).
+-- level `l` and mask `mask`. The square has to be read with `l` and `mask` if at least one of two conditions is true.
+-- The first condition is that the format information of this level and mask differs from the first copy in `g` in at
+-- most three modules. The second condition is that the format information differs from the second copy in at most three
+-- modules, and that the first copy is of no use for mending `g`. `unknown` is an optional square of modules, in which
+-- exactly the modules that were not read are dark (ISO/IEC 18004:2015, 7.9.1, 12).
 abbrev pub HasFormatWithout : Option Grid → ℕ → Grid → Level → ℕ → Type 0
 HasFormatWithout unknown v g l mask = IsNearFormat First g l mask ⊎ (IsNearFormat Second g l mask × IsOfNoUseWithout unknown First v g)
 
@@ -75,8 +75,8 @@ HasFormat v g l mask = HasFormatWithout None v g l mask
 
 -- `IsDamagedFormWithout unknown g v l mask message changed` holds if the square `g` of modules is a damaged form of the
 -- symbol with the data codewords `message`. The symbol has version `v`, level `l` and mask `mask`. The list `changed`
--- contains for each block the number of misread codewords. If `unknown` contains a square, the modules that were not
--- read are dark in this square (ISO/IEC 18004:2015, 7.5.1, 7.9.1, 12).
+-- contains for each block the number of misread codewords. `unknown` is an optional square of modules, in which exactly
+-- the modules that were not read are dark (ISO/IEC 18004:2015, 7.5.1, 7.9.1, 12).
 pub record IsDamagedFormWithout (unknown : Option Grid) (g : Grid) (v : ℕ) (l : Level) (mask : ℕ) (message changed : List ℕ) : Type 0 where
   pub sized : IsOfVersion g v
   pub format : HasFormatWithout unknown v g l mask
@@ -90,8 +90,9 @@ IsDamagedForm g v l mask message changed = IsDamagedFormWithout None g v l mask 
 
 -- `IsMendedAsWithout unknown g v l mask outcome changed` holds if the square `g` of modules is a damaged form of some
 -- symbol, and `outcome` is the result of parsing the data codewords of this symbol. The symbol has version `v`, level
--- `l` and mask `mask`. The list `changed` contains for each block the number of misread codewords. Erased codewords are
--- not counted in `changed`; a codeword is erased if it has a module that was not read (ISO/IEC 18004:2015, 12).
+-- `l` and mask `mask`. The list `changed` contains for each block the number of misread codewords. Codewords with a
+-- module that is dark in the optional square `unknown` are erased, and are not counted in `changed`
+-- (ISO/IEC 18004:2015, 12).
 pub record IsMendedAsWithout (unknown : Option Grid) (g : Grid) (v : ℕ) (l : Level) (mask : ℕ) (outcome : Result Content ParseFault) (changed : List ℕ) : Type 0 where
   pub message : List ℕ
   pub form : IsDamagedFormWithout unknown g v l mask message changed
@@ -99,8 +100,8 @@ pub record IsMendedAsWithout (unknown : Option Grid) (g : Grid) (v : ℕ) (l : L
 
 -- `IsMendedReadingWithout unknown g v l mask content changed` holds if the square `g` of modules is read as the content
 -- `content` after its damage is corrected. The symbol has version `v`, level `l` and mask `mask`. The list `changed`
--- contains for each block the number of misread codewords. If `unknown` contains a square, the modules that were not
--- read are dark in this square (ISO/IEC 18004:2015, 12).
+-- contains for each block the number of misread codewords. `unknown` is an optional square of modules, in which exactly
+-- the modules that were not read are dark (ISO/IEC 18004:2015, 12).
 abbrev pub IsMendedReadingWithout : Option Grid → Grid → ℕ → Level → ℕ → Content → List ℕ → Type 0
 IsMendedReadingWithout unknown g v l mask content changed = IsMendedAsWithout unknown g v l mask (Ok content) changed
 
@@ -112,8 +113,8 @@ IsMendedReading g v l mask content changed = IsMendedReadingWithout None g v l m
 
 -- `wrong_format_modules_without unknown g l mask` is the number of wrong modules among the 30 modules of the two copies
 -- of the format information in the square `g`. A module is wrong if it was not read, or if it does not have the colour
--- that the format information of level `l` and mask `mask` requires. If `unknown` contains a square, the modules that
--- were not read are dark in this square (ISO/IEC 18004:2015, 7.9.1).
+-- that the format information of level `l` and mask `mask` requires. `unknown` is an optional square of modules, in
+-- which exactly the modules that were not read are dark (ISO/IEC 18004:2015, 7.9.1).
 abbrev pub wrong_format_modules_without : Option Grid → Grid → Level → ℕ → ℕ
 wrong_format_modules_without None g l mask = wrong_bits First g l mask + wrong_bits Second g l mask
 wrong_format_modules_without (Some unknown) g l mask = wrong_bits_without unknown First g l mask + wrong_bits_without unknown Second g l mask
@@ -125,14 +126,14 @@ abbrev pub wrong_format_modules : Grid → Level → ℕ → ℕ
 wrong_format_modules g l mask = wrong_format_modules_without None g l mask
 
 -- `wrong_count unknown g h` is the number of wrong modules in the square `g` of modules, compared with the square `h`.
--- A module is wrong if it was not read, or if it has different colours in `g` and `h`. The modules that were not read
--- are dark in the square `unknown` [own].
+-- A module is wrong if it was not read, or if it has different colours in `g` and `h`. Exactly the modules that were
+-- not read are dark in the square `unknown` [own].
 unfoldable pub wrong_count : Grid → Grid → Grid → ℕ
 wrong_count unknown g h = sum_below g.side (λ r. sum_below g.side (λ c. wrong_bit (colour unknown r c) (colour g r c) (colour h r c)))
 
 -- `wrong_modules_without unknown g h` is the number of wrong modules in the square `g` of modules, compared with the
--- square `h`. A module is wrong if it was not read, or if it has different colours in `g` and `h`. If `unknown`
--- contains a square, the modules that were not read are dark in this square. If `unknown` contains no square, all
+-- square `h`. A module is wrong if it was not read, or if it has different colours in `g` and `h`. `unknown` is an
+-- optional square of modules, in which exactly the modules that were not read are dark. If `unknown` is `None`, all
 -- modules were read [own].
 abbrev pub wrong_modules_without : Option Grid → Grid → Grid → ℕ
 wrong_modules_without None g h = difference_count g h
@@ -141,7 +142,7 @@ wrong_modules_without (Some unknown) g h = wrong_count unknown g h
 -- `DiffersFromSymbolWithout unknown g v l mask message wrong` holds if `wrong` is the number of wrong modules in the
 -- square `g`, compared with an undamaged symbol. The undamaged symbol has version `v`, level `l`, mask `mask` and the
 -- data codewords `message`. A module is wrong if it was not read, or if it does not have the colour that it has in the
--- undamaged symbol. Wrong modules are counted in the whole square, also in function patterns, version information and
+-- undamaged symbol. Wrong modules are counted in the whole square, including function patterns, version information and
 -- remainder bits (ISO/IEC 18004:2015, 7.5.2, 7.6, 7.7, 7.8).
 pub record DiffersFromSymbolWithout (unknown : Option Grid) (g : Grid) (v : ℕ) (l : Level) (mask : ℕ) (message : List ℕ) (wrong : ℕ) : Type 0 where
   pub codewords : List ℕ
@@ -151,7 +152,7 @@ pub record DiffersFromSymbolWithout (unknown : Option Grid) (g : Grid) (v : ℕ)
 -- `DiffersFromSymbol g v l mask message wrong` holds if `wrong` is the number of wrong modules in the square `g`,
 -- compared with an undamaged symbol. The undamaged symbol has version `v`, level `l`, mask `mask` and the data
 -- codewords `message`. A module is wrong if it does not have the colour that it has in the undamaged symbol. Wrong
--- modules are counted in the whole square, also in function patterns, version information and remainder bits
+-- modules are counted in the whole square, including function patterns, version information and remainder bits
 -- (ISO/IEC 18004:2015, 7.5.2, 7.6, 7.7, 7.8).
 abbrev pub DiffersFromSymbol : Grid → ℕ → Level → ℕ → List ℕ → ℕ → Type 0
 DiffersFromSymbol g v l mask message wrong = DiffersFromSymbolWithout None g v l mask message wrong
@@ -159,8 +160,8 @@ DiffersFromSymbol g v l mask message wrong = DiffersFromSymbolWithout None g v l
 -- `HasWrongModulesWithout unknown g v l mask changed wrong` holds if the square `g` of modules is a damaged form of a
 -- symbol, and `wrong` is the number of wrong modules in `g`. The symbol has version `v`, level `l` and mask `mask`. The
 -- list `changed` contains for each block the number of misread codewords. A module is wrong if it was not read, or if
--- it does not have the colour that it has in the symbol. So `wrong` is 0 exactly if all modules were read, and each
--- module has the colour that it has in the symbol (ISO/IEC 18004:2015, 7.5.2, 7.6, 7.7, 7.8).
+-- it does not have the colour that it has in the symbol. So `wrong` is 0 exactly if all modules were read and have the
+-- colours that they have in the symbol (ISO/IEC 18004:2015, 7.5.2, 7.6, 7.7, 7.8).
 pub record HasWrongModulesWithout (unknown : Option Grid) (g : Grid) (v : ℕ) (l : Level) (mask : ℕ) (changed : List ℕ) (wrong : ℕ) : Type 0 where
   pub message : List ℕ
   pub form : IsDamagedFormWithout unknown g v l mask message changed
@@ -174,8 +175,8 @@ abbrev pub HasWrongModules : Grid → ℕ → Level → ℕ → List ℕ → ℕ
 HasWrongModules g v l mask changed wrong = HasWrongModulesWithout None g v l mask changed wrong
 
 -- `IsBeyondMendingWithout unknown g` holds if the square `g` of modules cannot be mended, although its number of rows
--- belongs to a version. At least one pair of level and mask is near to a copy of the format information in `g`. This
--- means that the format information of the pair differs from the copy in at most three modules. But with each pair that
+-- belongs to a version. At least one pair of level and mask is near to a copy of the format information in `g`. A pair
+-- is near to a copy if its format information differs from the copy in at most three modules. But with each pair that
 -- is near to a copy, some block has more erased and misread codewords than can be corrected. A codeword with a module
 -- that was not read is erased (ISO/IEC 18004:2015, 7.5.1, 7.9.1, 12).
 pub record IsBeyondMendingWithout (unknown : Option Grid) (g : Grid) : Type 0 where
@@ -187,14 +188,14 @@ pub record IsBeyondMendingWithout (unknown : Option Grid) (g : Grid) : Type 0 wh
   pub format : IsNearFormat copy g level mask
   pub useless : (any : FormatCopy) → IsOfNoUseWithout unknown any version g
 
--- `IsUnmendedWithout unknown g e` holds if mending the square `g` of modules may fail with the fault `e`. If `unknown`
--- contains a square, the modules that were not read are dark in this square. The fault is `Side` if the number of rows
--- of `g` belongs to no version. The fault is `Format` if the number of rows of `g` belongs to a version, but no level
--- and mask is near to a copy of the format information in `g`. A level and mask is near to a copy if its format
--- information differs from the copy in at most three modules. The fault is `Check` if `IsBeyondMendingWithout` holds,
--- which means that some block has more erased and misread codewords than can be corrected. The fault is `Segments` if
--- the mended data codewords cannot be parsed. The fault `Memory` is possible for every square of modules, and the fault
--- `Series` is impossible (ISO/IEC 18004:2015, 12).
+-- `IsUnmendedWithout unknown g e` holds if mending the square `g` of modules may fail with the fault `e`. `unknown` is
+-- an optional square of modules, in which exactly the modules that were not read are dark. The fault is `Side` if the
+-- number of rows of `g` belongs to no version. The fault is `Format` if the number of rows of `g` belongs to a version,
+-- but no pair of level and mask is near to a copy of the format information in `g`. A pair of level and mask is near to
+-- a copy if its format information differs from the copy in at most three modules. The fault is `Check` if some pair of
+-- level and mask is near to a copy, but with each such pair some block has more erased and misread codewords than can
+-- be corrected. The fault is `Segments` if the mended data codewords cannot be parsed. The fault `Memory` is possible
+-- for every square of modules, and the fault `Series` is impossible (ISO/IEC 18004:2015, 12).
 abbrev pub IsUnmendedWithout : Option Grid → Grid → ReadFault → Type 0
 IsUnmendedWithout unknown g unread.Memory = Unit {0}
 IsUnmendedWithout unknown g unread.Side = (v : ℕ) → IsOfVersion g v → ⊥
@@ -205,10 +206,10 @@ IsUnmendedWithout unknown g unread.Series = ⊥
 
 -- `IsUnmended g e` holds if mending the square `g` of modules may fail with the fault `e`. The fault is `Side` if the
 -- number of rows of `g` belongs to no version. The fault is `Format` if the number of rows of `g` belongs to a version,
--- but no level and mask is near to a copy of the format information in `g`. A level and mask is near to a copy if its
--- format information differs from the copy in at most three modules. The fault is `Check` if `IsBeyondMendingWithout`
--- holds, which means that some block has more wrong codewords than can be corrected. The fault is `Segments` if the
--- mended data codewords cannot be parsed. The fault `Memory` is possible for every square of modules, and the fault
--- `Series` is impossible (ISO/IEC 18004:2015, 12).
+-- but no pair of level and mask is near to a copy of the format information in `g`. A pair of level and mask is near to
+-- a copy if its format information differs from the copy in at most three modules. The fault is `Check` if some pair of
+-- level and mask is near to a copy, but with each such pair some block has more wrong codewords than can be corrected.
+-- The fault is `Segments` if the mended data codewords cannot be parsed. The fault `Memory` is possible for every
+-- square of modules, and the fault `Series` is impossible (ISO/IEC 18004:2015, 12).
 abbrev pub IsUnmended : Grid → ReadFault → Type 0
 IsUnmended g e = IsUnmendedWithout None g e

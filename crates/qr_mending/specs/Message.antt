@@ -16,9 +16,9 @@ abbrev pub received : Blocks → List ℕ → List ℕ → ℕ → List ℕ
 received b d e i = part_of (data_sizes b) d i ++ part_of (correction_sizes b) e i
 
 -- `IsMendedBlock b t d e message changed i` holds if block `i` of a damaged symbol can be mended. The mended block is
--- block `i` of the data codewords `message`, followed by its error correction codewords. The damaged block and the
--- mended block differ in exactly `changed` codewords, and `changed` is at most `t`. `b` contains the sizes of the
--- blocks. `d` lists the data codewords that were read, and `e` lists the error correction codewords that were read
+-- block `i` of the data codewords `message`, followed by the error correction codewords of the block. The damaged block
+-- and the mended block differ in exactly `changed` codewords, and `changed` is at most `t`. `b` contains the sizes of
+-- the blocks. `d` lists the data codewords that were read, and `e` lists the error correction codewords that were read
 -- (ISO/IEC 18004:2015, 7.5.1).
 pub record IsMendedBlock (b : Blocks) (t : ℕ) (d e message : List ℕ) (changed i : ℕ) : Type 0 where
   pub correction : List ℕ
@@ -26,10 +26,10 @@ pub record IsMendedBlock (b : Blocks) (t : ℕ) (d e message : List ℕ) (change
   pub near : changed ≤ t
   pub count : changed ≡ differences (received b d e i) (part_of (data_sizes b) message i ++ correction)
 
--- `AreMended b t d e n message changed` holds if the data codewords `message` consist of `n` mended blocks. In each
--- block at most `t` codewords were changed. Item i of `changed` is the number of changed codewords in block i. `b`
--- contains the sizes of the blocks. `d` lists the data codewords that were read, and `e` lists the error correction
--- codewords that were read [own].
+-- `AreMended b t d e n message changed` holds if the list `message` consists of the data codewords of `n` mended
+-- blocks. In each block at most `t` codewords were changed. Item i of `changed` is the number of changed codewords in
+-- block i. `b` contains the sizes of the blocks. `d` lists the data codewords that were read, and `e` lists the error
+-- correction codewords that were read [own].
 pub record AreMended (b : Blocks) (t : ℕ) (d e : List ℕ) (n : ℕ) (message changed : List ℕ) : Type 0 where
   pub long : length message ≡ start_of (data_sizes b) n
   pub many : length changed ≡ n
@@ -55,8 +55,9 @@ protection_of v Q = if v == 1 then 1 else 0
 protection_of v H = if v == 1 then 1 else 0
 
 -- `tolerance_of v l` is the largest number of wrong codewords that can be corrected in a block of a symbol of version
--- `v` and level `l`. The largest number is half the number of error correction codewords of a block that may be used to
--- correct errors, rounded down (ISO/IEC 18004:2015, 7.5.1, Table 9).
+-- `v` and level `l`. To correct one wrong codeword takes two error correction codewords of the block. Of the error
+-- correction codewords of a block, `protection_of v l` are not used to correct errors
+-- (ISO/IEC 18004:2015, 7.5.1, Table 9).
 abbrev pub tolerance_of : ℕ → Level → ℕ
 tolerance_of v l = ((blocks_of v l).ec_len - protection_of v l) / 2
 

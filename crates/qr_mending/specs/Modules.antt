@@ -33,10 +33,10 @@ modules_of places k = take 8 (drop (8 * k) places)
 
 -- `part_differences g h places positions first i n` counts the modules of one part of block `i` that have different
 -- colours in the squares `g` and `h`. The part is the first `n` data codewords, or the first `n` error correction
--- codewords, of the block. `places` lists the modules of the encoding region in the order in which the bits of the
--- codewords are placed in them. `positions` lists the positions of all data codewords, or of all error correction
--- codewords, in interleaved order. `first` is the index, among all interleaved codewords of the symbol, of the codeword
--- at the first item of `positions` (ISO/IEC 18004:2015, 7.6, 7.7.3).
+-- codewords, of the block. `places` lists the modules of the encoding region, in the order in which the bits of the
+-- codewords are placed in these modules. `positions` lists the positions of all data codewords, or of all error
+-- correction codewords, in interleaved order. The codeword at the first item of `positions` has the index `first` among
+-- all interleaved codewords of the symbol (ISO/IEC 18004:2015, 7.6, 7.7.3).
 abbrev pub part_differences : Grid → Grid → List Module → List Position → (first i n : ℕ) → ℕ
 part_differences g h places positions first i zero = 0
 part_differences g h places positions first i (suc n) =

@@ -53,11 +53,11 @@ pub record IsMendedBlockWithout (b : Blocks) (spare : ℕ) (read : List (Option 
   pub near : erasures read + 2 * misread ≤ spare
   pub count : misread ≡ errors read (part_of (data_sizes b) message i ++ correction)
 
--- `AreMendedWithout b spare d e u w n message misread` holds if the data codewords `message` consist of `n` mended
--- blocks. `d` lists the data codewords that were read, and `u` lists their marks. `e` lists the error correction
--- codewords that were read, and `w` lists their marks. Item i of `misread` is the number of misread codewords in block
--- i. `b` contains the sizes of the blocks. To mend a block, at most `spare` error correction codewords are needed: one
--- for each erased codeword and two for each misread codeword [own].
+-- `AreMendedWithout b spare d e u w n message misread` holds if the list `message` consists of the data codewords of
+-- `n` mended blocks. `d` lists the data codewords that were read, and `u` lists their marks. `e` lists the error
+-- correction codewords that were read, and `w` lists their marks. Item i of `misread` is the number of misread
+-- codewords in block i. `b` contains the sizes of the blocks. To mend a block, at most `spare` error correction
+-- codewords are needed: one for each erased codeword and two for each misread codeword [own].
 pub record AreMendedWithout (b : Blocks) (spare : ℕ) (d e u w : List ℕ) (n : ℕ) (message misread : List ℕ) : Type 0 where
   pub long : length message ≡ start_of (data_sizes b) n
   pub many : length misread ≡ n
@@ -94,8 +94,8 @@ pub record IsMendedBeside (unknown : Grid) (v : ℕ) (l : Level) (cw message mis
   pub mended : IsMendedMessageWithout (blocks_of v l) (spare_of v l) cw marks message misread
 
 -- `IsMendedInWithout unknown v l cw message changed` holds if the interleaved codewords `cw`, read from a symbol of
--- version `v` and level `l`, can be mended to the data codewords `message`. If `unknown` contains a square, the modules
--- that were not read are dark in this square. If `unknown` contains no square, all modules were read. Item i of
+-- version `v` and level `l`, can be mended to the data codewords `message`. `unknown` is an optional square of modules,
+-- in which exactly the modules that were not read are dark. If `unknown` is `None`, all modules were read. Item i of
 -- `changed` is the number of misread codewords in block i (ISO/IEC 18004:2015, 7.5.1, 7.6, 7.7.3).
 abbrev pub IsMendedInWithout : Option Grid → ℕ → Level → List ℕ → List ℕ → List ℕ → Type 0
 IsMendedInWithout None v l cw message changed = IsMendedIn v l cw message changed

@@ -27,8 +27,8 @@ abbrev pub input_for : SettingsView → List ℕ → List ℕ
 input_for s given = option_map_or (λ text. take INPUT_MAX text) s.string given
 
 -- `held s input` lists the bytes that the symbols contain for `input` under the settings `s`. Without -i these bytes
--- are `input` itself. With -i small letters become capitals. With -i there are two exceptions: with -8 all bytes are
--- unchanged, and with -k kanji pairs are unchanged [own]
+-- are `input` itself. With -i small letters become capitals, with two exceptions. With -8 all bytes are unchanged. With
+-- -k a kanji pair, the two bytes of a kanji character, is unchanged [own]
 abbrev pub held : SettingsView → List ℕ → List ℕ
 held s input = if s.fold then folded (rule_for s) input else input
 
@@ -55,9 +55,9 @@ pub record HasSettingsWith (words : List Text) (P : SettingsView → Type 0) : T
 abbrev pub HasDrawing : List Text → List ℕ → List ℕ → Type 0
 HasDrawing words given drawing = HasSettingsWith words (λ s. IsDrawing s (held s (input_for s given)) drawing)
 
--- `HasRefusal words given why` holds if the command line `words` is not refused, but `why` holds of its settings and
--- its input. The parameter `why` is a reason for which an input cannot be drawn. The list `given` contains the bytes
--- that the reader returned [own]
+-- `HasRefusal words given why` holds if the command line `words` is valid, but its input cannot be drawn for the reason
+-- `why`. The reason `why` is a statement about settings and an input. The list `given` contains the bytes that the
+-- reader returned [own]
 abbrev pub HasRefusal : List Text → List ℕ → (SettingsView → List ℕ → Type 0) → Type 0
 HasRefusal words given why = HasSettingsWith words (λ s. why s (held s (input_for s given)))
 
@@ -114,8 +114,8 @@ AllRead old new given = Consumes old.remaining new.remaining given
     × (old.counts ≡ no_reads → (new.counts.ends ≡ 1) ⊎ (length given ≡ INPUT_MAX))
 
 -- `InputConsumed old new given outcome` holds if a run read the whole input `given`, and so changed the reader from
--- `old` to `new`. The definition is about a run that has to read its input. If the `outcome` is a read fault or lack of
--- memory, `InputConsumed` always holds [own]
+-- `old` to `new`. The definition is for runs that have to read their input from the reader. If the `outcome` is a read
+-- fault or lack of memory, `InputConsumed` always holds [own]
 abbrev pub InputConsumed : Reader → Reader → List ℕ → {T : Type 0} → Result T Fault → Type 0
 InputConsumed old new given (Err fault.Read) = Unit {0}
 InputConsumed old new given (Err fault.Memory) = Unit {0}
@@ -143,11 +143,11 @@ ErrorHolds old new line = AppendsBeginning old.taken new.taken line
 -- `Runs words in0 in1 out0 out1 err0 err1 outcome status` holds if a run for the command line `words` can have this
 -- `outcome` and this exit `status`. The outcome is success or a fault. The reader and the two writers are `in0`, `out0`
 -- and `err0` before the run, and `in1`, `out1` and `err1` after the run. Apart from lack of memory and faults of
--- devices, the arguments and the input determine the outcome. If the counts of a device were 0 before the run, its
--- counts stay within their limits. If the counts of the reader were 0 before the run, they show whether the outcome is
--- a read fault. If the counts of standard output were 0 before the run, they show whether the outcome is a write fault.
--- No write of the drawing offers more than 1,200 bytes. After success, standard error receives nothing, and the status
--- is 0. After a fault, standard error receives the fault's line, and the status is 1 [own]
+-- devices, the arguments and the input determine the outcome. If the counts of a device were 0 before the run, the
+-- counts of this device stay within their limits. If the counts of the reader were 0 before the run, they show whether
+-- the outcome is a read fault. If the counts of standard output were 0 before the run, they show whether the outcome is
+-- a write fault. No write of the drawing offers more than 1,200 bytes. After success, standard error receives nothing,
+-- and the status is 0. After a fault, standard error receives the fault's line, and the status is 1 [own]
 pub record Runs (words : List Text) (in0 in1 : Reader) (out0 out1 err0 err1 : Writer) (outcome : Result (Unit {0}) Fault) (status : ℕ) : Type 0 where
   pub given : List ℕ
   pub is_input : IsInputOf in0.remaining given

@@ -5,8 +5,8 @@ use Rattle.qr_devices.specs.declared.device.ReadCounts.{ReadCounts}
 use Rattle.qr_devices.specs.declared.device.TheConstants.{INTERRUPTIONS_MAX}
 
 -- `IsInputOf bytes input` holds if `input` is what a run reads from a device with these `bytes`. If the device has more
--- than `INPUT_MAX` bytes, `input` is the first `INPUT_MAX` bytes; otherwise `input` is all bytes. If the device's bytes
--- are unknown, the statement holds for every `input` [own]
+-- than `INPUT_MAX` bytes, `input` is the first `INPUT_MAX` bytes; otherwise `input` is all bytes. If the bytes of the
+-- device are unknown (`None`), `IsInputOf` holds for every `input` [own]
 abbrev pub IsInputOf : Option (List ℕ) → List ℕ → Type 0
 IsInputOf bytes input = IfSome bytes (λ all. input ≡ take INPUT_MAX all)
 

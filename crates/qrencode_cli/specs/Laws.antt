@@ -16,7 +16,8 @@ use Rattle.qrencode_cli.specs.declared.fault.Fault.TheVariants as fault
 use Rattle.qr_symbol.specs.declared.fault.EncodeFault.TheVariants as encode
 use Rattle.qrencode_cli.specs.declared.settings.UsageFault.TheVariants as usage
 
--- `by_default` contains the settings of the command line `-t ASCII`, in which every other setting has its default [own]
+-- `by_default` contains the settings of the command line `-t ASCII`. Every setting except the type of drawing has its
+-- default [own]
 abbrev pub by_default : SettingsView
 by_default = record {
   level = L;
@@ -107,8 +108,8 @@ AnswersAreOne = (words : List Text) (given d e : List ℕ) → HasDrawing words 
 abbrev pub RefusalsExcludeDrawings : Type 0
 RefusalsExcludeDrawings = (words : List Text) (given d : List ℕ) (f : Fault) → HasDrawing words given d → IsRefusal words given f → ⊥
 
--- `AreAlike r q` holds if the faults `r` and `q` are equal, or if both are faults with a text of `clap`, even if their
--- texts differ [own]
+-- `AreAlike r q` holds if the faults `r` and `q` are equal, or if both are faults that `clap` finds. Two faults that
+-- `clap` finds may have different texts [own]
 abbrev pub AreAlike : Fault → Fault → Type 0
 AreAlike (fault.Usage (usage.Words text)) (fault.Usage (usage.Words other)) = Unit {0}
 AreAlike r q = r ≡ q
@@ -119,16 +120,16 @@ abbrev pub RefusalsAreOne : Type 0
 RefusalsAreOne = (words : List Text) (given : List ℕ) (r q : Fault) → IsRefusal words given r → IsRefusal words given q → AreAlike r q
 
 -- `RulesOfModes` holds if the options -8 and -k decide which modes are allowed. With -8 only byte mode is allowed, even
--- if -k is also given. With -k and without -8, all modes are allowed. Without -8 and -k, all modes but kanji mode are
--- allowed [own]
+-- if -k is also given. With -k and without -8, all modes are allowed. With neither -8 nor -k, all modes except kanji
+-- mode are allowed [own]
 pub record RulesOfModes : Type 0 where
   pub bytes : (s : SettingsView) → s.bytes_only ≡ true → rule_for s ≡ BytesOnly
   pub kanji : (s : SettingsView) → s.bytes_only ≡ false → s.kanji ≡ true → rule_for s ≡ WithKanji
   pub neither : (s : SettingsView) → s.bytes_only ≡ false → s.kanji ≡ false → rule_for s ≡ Auto
 
 -- `FoldingFollowsTheRule` holds if the option -i folds the input as the allowed modes require. To fold an input is to
--- change its small letters to capitals. Without -i the input is unchanged. With -i and -k, the second byte of a kanji
--- pair is unchanged, even if it is the code of a small letter [own].
+-- change its small letters to capitals. Without -i the input is unchanged. With -i and -k, the two bytes of a kanji
+-- character are unchanged, even if the second byte is the code of a small letter [own].
 pub record FoldingFollowsTheRule : Type 0 where
   pub folds : (s : SettingsView) (input : List ℕ) → s.fold ≡ true → held s input ≡ folded (rule_for s) input
   pub keeps : (s : SettingsView) (input : List ℕ) → s.fold ≡ false → held s input ≡ input

@@ -36,7 +36,7 @@ pub record SettingsView : Type 0 where
   pub string : Option Text
 
 -- `rule_for s` is the rule that states which encoding modes the settings `s` allow. With -8 only byte mode is allowed.
--- With -k and without -8, all modes are allowed. Without -8 and -k, all modes but kanji mode are allowed [own]
+-- With -k and without -8, all modes are allowed. With neither -8 nor -k, all modes except kanji mode are allowed [own]
 abbrev pub rule_for : SettingsView → Rule
 rule_for s = if s.bytes_only then BytesOnly else (if s.kanji then WithKanji else Auto)
 
@@ -63,17 +63,17 @@ drawing_named t =
 abbrev pub number_or : ℕ → Option Text → ℕ
 number_or otherwise o = option_map_or byte_or_zero o otherwise
 
--- `version_at o` is the version of an option that has the text `o` as its value. If the option is not given, or if its
--- number is not from 1 to 40, the version is `None` [own]
+-- `version_at o` is the version that an option asks for if the option has the text `o` as its value. If the option is
+-- not given, or if its number is not from 1 to 40, the version is `None` [own]
 abbrev pub version_at : Option Text → Option ℕ
 version_at o = let n = number_or 0 o in if nat_le 1 n && nat_le n 40 then Some n else None
 
--- `flag_at o` is true if an option without a value is given, that is, if `o` is the text `true`. An option without a
--- value has this text in the matches of `clap` [own]
+-- `flag_at o` is true if `o` is the text `true`. If an option that takes no value is given, `clap` finds the text
+-- `true` for this option [own]
 abbrev pub flag_at : Option Text → Bool
 flag_at o = option_map_or (λ t. bytes_eq t (codes "true")) o false
 
--- `settings_with rows level kind` is the settings with the error correction level `level` and the type of drawing
+-- `settings_with rows level kind` contains the settings with the error correction level `level` and the type of drawing
 -- `kind`. All other settings follow from `rows`, the arguments and values that `clap` found. The default margin is 4
 -- modules, the width of the quiet zone (ISO/IEC 18004:2015, 6.3.8)
 abbrev pub settings_with : List Row → Level → Drawing → SettingsView
@@ -94,9 +94,10 @@ settings_with rows level kind = record {
 abbrev pub checked_series : SettingsView → Result SettingsView Reason
 checked_series s = if s.structured && is_none s.smallest then Err needs_version else Ok s
 
--- `settings_of rows` is the settings that follow from `rows`, the arguments and values that `clap` found, or the reason
--- to refuse these arguments. First the level is checked; without -l, L is the default level. The second check is that
--- the type of drawing is known. The last check is that a series has a version [own]
+-- `settings_of rows` is either the settings that follow from `rows`, or the reason to refuse `rows`. The list `rows`
+-- contains the arguments and values that `clap` found. The first check is that the level is known; without -l, the
+-- level is L. The second check is that the type of drawing is known. The last check is that a version is given if a
+-- series is asked for [own]
 abbrev pub settings_of : List Row → Result SettingsView Reason
 settings_of rows =
     option_map_or (λ l. option_map_or (λ kind. checked_series (settings_with rows l kind))

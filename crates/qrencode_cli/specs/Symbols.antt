@@ -8,7 +8,7 @@ use Rattle.qr_symbol.specs.Series.{HasNoSeries, IsSeries, squares_of}
 use Rattle.qrencode_cli.specs.Settings.{SettingsView, rule_for}
 
 -- `smallest_of s` is the smallest version that a single symbol may have, or the version of all symbols of a series. The
--- value is the version of -v, or 1 if -v is missing or 0 [own]
+-- value is the number that -v gives, or 1 if -v is missing or gives 0 [own]
 abbrev pub smallest_of : SettingsView → ℕ
 smallest_of s = unwrap_or s.smallest 1
 
@@ -33,8 +33,8 @@ abbrev pub AreSquares : (structured : Bool) → SettingsView → List ℕ → Li
 AreSquares true s input squares = AreSquaresOf s input squares
 AreSquares false s input squares = (square : Grid) × IsSquareOf s input square × (squares ≡ square ∷ [])
 
--- `AreSymbols s input squares` holds if `squares` are the squares of modules of the symbols that the settings `s` ask
--- for [own]
+-- `AreSymbols s input squares` holds if `squares` are the squares of modules of the symbols of `input` that the
+-- settings `s` ask for: a series, or one symbol [own]
 abbrev pub AreSymbols : SettingsView → List ℕ → List Grid → Type 0
 AreSymbols s input squares = AreSquares s.structured s input squares
 

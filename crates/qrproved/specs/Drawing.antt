@@ -18,8 +18,8 @@ abbrev pub AreDrawingSettings : (side count drawing margin : ℕ) → Type 0
 AreDrawingSettings side count drawing margin =
     (1 ≤ side) × (side ≤ 177) × (1 ≤ count) × (count ≤ 16) × (drawing < 4) × (margin ≤ 100)
 
--- `squares_of_bytes side count bytes` is a list of `count` squares, each with `side` rows. The list `bytes` contains
--- the modules of the squares, one square after the other [own].
+-- `squares_of_bytes side count bytes` is a list of `count` squares, each with `side` rows. The list `bytes` contains a
+-- byte for each module of the squares, one square after the other [own].
 unfoldable pub squares_of_bytes : (side count : ℕ) → List ℕ → List Grid
 squares_of_bytes side zero bytes = []
 squares_of_bytes side (suc count) bytes = square_of_bytes side bytes ∷ squares_of_bytes side count (drop (side * side) bytes)

@@ -42,12 +42,12 @@ pub record IsGreatest (xs : List ℕ) (n : ℕ) : Type 0 where
   pub one : Contains xs n
   pub most : All (λ x. x ≤ n) xs
 
--- `TellsDamage m changed side modules` holds if the struct `m` contains four numbers that describe the damage of the
--- square in `modules`. The square has `side` rows. The first two numbers count the wrong modules in the whole square
--- and in the format information. The third number is the greatest item of the list `changed`. The list `changed`
--- contains for each block the number of codewords that were corrected. This list does not count codewords with a module
--- that is not known. The fourth number is the largest number of codewords that can be corrected in a block
--- (ISO/IEC 18004:2015, 7.5.1, 7.9.1).
+-- `TellsDamage m changed side modules` holds if four numbers in the struct `m` describe the damage of the square with
+-- `side` rows in `modules`. The first number counts the wrong modules in the whole square. The second number counts the
+-- wrong modules in the format information. The third number is the greatest item of the list `changed`. The list
+-- `changed` contains for each block the number of codewords that were corrected. Codewords with a module that is not
+-- known are not counted in `changed`. The fourth number is the largest number of codewords that can be corrected in a
+-- block (ISO/IEC 18004:2015, 7.5.1, 7.9.1).
 pub record TellsDamage (m : QrprovedMended) (changed : List ℕ) (side : ℕ) (modules : List ℕ) : Type 0 where
   pub whole : HasWrongModulesWithout (unknown_in side modules) (square_of_bytes side modules) m.version (level_of m.level) m.mask changed m.wrong_modules
   pub format : m.wrong_format_modules ≡ wrong_format_modules_without (unknown_in side modules) (square_of_bytes side modules) (level_of m.level) m.mask

@@ -12,9 +12,9 @@ use Rattle.qrproved.specs.Modules.{square_of_bytes}
 abbrev pub IsSide : ℕ → Type 0
 IsSide side = (v : ℕ) × (1 ≤ v) × (v ≤ 40) × (side ≡ side_of v)
 
--- `TellsHeader header has_header position last parity` holds if the four numbers describe the optional structured
--- append header `header`. The four numbers are fields of a struct. If there is no header, all four numbers are 0
--- (ISO/IEC 18004:2015, 8.1 to 8.3).
+-- `TellsHeader header has_header position last parity` holds if the numbers `has_header`, `position`, `last` and
+-- `parity` describe the optional structured append header `header`. If there is a header, `has_header` is 1. If there
+-- is no header, all four numbers are 0 (ISO/IEC 18004:2015, 8.1 to 8.3).
 abbrev pub TellsHeader : Option Header → (has_header position last parity : ℕ) → Type 0
 TellsHeader None has_header position last parity = (has_header ≡ 0) × (position ≡ 0) × (last ≡ 0) × (parity ≡ 0)
 TellsHeader (Some h) has_header position last parity = (has_header ≡ 1) × (position ≡ h.position) × (last ≡ h.last) × (parity ≡ h.parity)

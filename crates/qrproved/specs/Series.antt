@@ -12,9 +12,9 @@ use Rattle.qrproved.specs.Modules.{HoldsSquares}
 
 -- `IsWrittenSeries x version level rule before after t` holds if writing the series of the input `x` to the first bytes
 -- of a buffer changes the buffer from `before` to `after`. The numbers `version`, `level` and `rule` are in range. The
--- struct `t` contains the number of symbols and the number of rows of each symbol. If the symbols are read and joined,
--- the result is the input. If `rule` does not allow kanji mode, the input cannot be cut into fewer parts that fit
--- symbols with headers [own].
+-- struct `t` contains the number of symbols and the number of rows of each symbol. If the symbols are read and their
+-- bytes are joined, the result is the input. If `rule` does not allow kanji mode, the input cannot be cut into fewer
+-- parts than the series has symbols. Each part has to fit a symbol together with a structured append header [own].
 pub record IsWrittenSeries (x : List ℕ) (version level rule : ℕ) (before after : List ℕ) (t : QrprovedSeries) : Type 0 where
   pub settings : AreSettings version level rule
   pub symbols : List Symbol
@@ -26,7 +26,7 @@ pub record IsWrittenSeries (x : List ℕ) (version level rule : ℕ) (before aft
   pub holds : HoldsSquares t.side (squares_of symbols) before after
 
 -- `HasNoSeriesRoom x version level rule buffer` holds if the symbols of the series of the input `x` have more modules
--- than `buffer` has bytes [own].
+-- in total than `buffer` has bytes [own].
 pub record HasNoSeriesRoom (x : List ℕ) (version level rule : ℕ) (buffer : List ℕ) : Type 0 where
   pub symbols : List Symbol
   pub made : IsSeries version (level_of level) (rule_of rule) x symbols

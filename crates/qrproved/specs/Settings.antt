@@ -10,8 +10,9 @@ use Rattle.qr_bits.specs.declared.modes.Rule.TheVariants as rule
 abbrev pub level_of : ℕ → Level
 level_of n = if n == 0 then level.L else (if n == 1 then level.M else (if n == 2 then level.Q else level.H))
 
--- `rule_of n` is the rule with the number `n`. A rule determines which modes the segments may have. The number 0 allows
--- all modes except kanji mode. The number 1 allows byte mode only, and the number 2 allows all modes [own].
+-- `rule_of n` is the rule with the number `n`. A rule determines which modes the segments may have. The rule with the
+-- number 0 allows all modes except kanji mode. The rule with the number 1 allows byte mode only, and the rule with the
+-- number 2 allows all modes [own].
 abbrev pub rule_of : ℕ → Rule
 rule_of n = if n == 0 then rule.Auto else (if n == 1 then rule.BytesOnly else rule.WithKanji)
 

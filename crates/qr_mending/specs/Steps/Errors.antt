@@ -26,10 +26,10 @@ weighted p (c ∷ e) = product c (eval (power (length e)) p) ∷ weighted p e
 
 -- `IsLocated p e` holds if the polynomial `p` locates the errors `e`. The list `e` contains at most 255 bytes, which
 -- are the coefficients of the error polynomial. If the coefficient of x^m in `e` is not 0, `p` has the value 0 at 2^m.
--- The values of the error polynomial at the powers of 2 also follow a recurrence. Let d be the degree of `p`. Each
--- value after the first d values is computed from the d values before it: each of these d values is multiplied by a
--- coefficient of `p`, and the products are added. In `p`, the coefficient of the lowest power of x comes first. The
--- recurrence does not use the leading coefficient of `p`, as if this coefficient were 1.
+-- The values of the error polynomial at the powers of 2 follow a recurrence. Let d be the degree of `p`. Each value
+-- after the first d values is a sum of d products: each of the d values before it is multiplied by a coefficient of
+-- `p`. In `p`, the coefficient of the lowest power of x comes first. The recurrence does not use the leading
+-- coefficient of `p`, and is correct if this coefficient is 1.
 pub record IsLocated (p e : List ℕ) : Type 0 where
   pub bytes : All IsByte e
   pub most : length e ≤ 255

@@ -1,8 +1,8 @@
--- Defines polynomials whose leading coefficient is 1. The error locator polynomial is found by elimination, as in a
--- system of linear equations. This file also defines the steps of the elimination. The elimination works on a list of
--- polynomials, which is called the pool. A window is a list of values, and each window has an equation. In the equation
--- of a window, each coefficient of a polynomial is multiplied by the value with the same index in the window. The
--- polynomial solves the equation if the sum of these products is 0.
+-- Defines polynomials whose leading coefficient is 1. This file also defines the steps of the elimination that finds
+-- the error locator polynomial. The elimination works on a list of polynomials, which is called the pool. A window is a
+-- list of values that determines an equation. In the equation of a window, each coefficient of a polynomial is
+-- multiplied by the value with the same index in the window. A polynomial solves the equation if the sum of these
+-- products is 0.
 use Rattle.std.specs.Prelude.{◌≡◌, ℕ, ◌+◌, ◌<◌, ◌≤◌, List, [], take, drop, length, slice_index, slice_index_or}
 use Rattle.std.specs.List.{All}
 use Rattle.qr_field.specs.Polynomial.{IsByte}
@@ -22,7 +22,7 @@ IsMonic p = slice_index p.terms p.degree ≡ 1
 abbrev pub miss_of : Polynomial → List ℕ → ℕ
 miss_of p window = dot_of (all_of p) window
 
--- `blank` is the polynomial that `at` returns for an index past the end of a list.
+-- `blank` is the polynomial that the function `at` returns for an index past the end of a list.
 abbrev pub blank : Polynomial
 blank = record { degree = 0; terms = [] }
 
@@ -31,10 +31,10 @@ abbrev pub at : List Polynomial → ℕ → Polynomial
 at pool k = slice_index_or pool k blank
 
 -- `IsRelieved pivot window before after` holds if the polynomial `after` can replace the polynomial `before` in the
--- pool. The two polynomials have the same degree. If the leading coefficient of `before` is 1, the leading coefficient
--- of `after` is 1 too. The polynomial `after` solves the equation of the list `window`. The polynomial `after` also
--- solves each equation that both `pivot` and `before` solve. A polynomial solves the equation of a list if `miss_of` is
--- 0 for the polynomial and the list.
+-- pool, a list of polynomials. The polynomials `before` and `after` have the same degree. If the leading coefficient of
+-- `before` is 1, the leading coefficient of `after` is 1. The polynomial `after` solves the equation of the list
+-- `window`, and each equation that both `pivot` and `before` solve. A polynomial solves the equation of a list if
+-- `miss_of` is 0 for the polynomial and the list.
 pub record IsRelieved (pivot : Polynomial) (window : List ℕ) (before after : Polynomial) : Type 0 where
   pub degree : after.degree ≡ before.degree
   pub monic : IsMonic before → IsMonic after

@@ -23,7 +23,7 @@ abbrev pub blend : List ℕ → ℕ → List ℕ → ℕ
 blend [] i e = 0
 blend (a ∷ p) i e = bit_xor (product a (value_at i e)) (blend p (i + 1) e)
 
--- `HasValues s e` holds if the list `s` contains the values of the polynomial `e` at the powers of 2, from 2 to the
--- power 0 on.
+-- `HasValues s e` holds if the list `s` contains values of the polynomial `e`. Item k of `s`, counted from 0, is the
+-- value of `e` at 2 to the power k.
 pub record HasValues (s e : List ℕ) : Type 0 where
   pub each : (k : ℕ) → k < length s → slice_index s k ≡ value_at k e

@@ -16,13 +16,13 @@ use Rattle.qrencode_cli.specs.declared.fault.Fault.TheVariants.{Encode, Memory, 
 use Rattle.qr_symbol.specs.declared.fault.EncodeFault.TheVariants.{Empty, TooLong, TooMany}
 use Rattle.qrencode_cli.specs.declared.drawing_job.DrawingJob.{DrawingJob}
 
--- `drawing_of_job job` is the drawing of the symbols of `job`, with the type and the margin of the drawing job `job`
+-- `drawing_of_job job` is the drawing of the symbols of the drawing job `job`, with the type and the margin of this job
 abbrev pub drawing_of_job : DrawingJob → List ℕ
 drawing_of_job job = drawn job.kind job.margin (squares_of job.symbols.items)
 
--- `AreDrawnFor s input symbols` holds if `symbols` are the symbols of `input` under the settings `s`, and these symbols
--- can be drawn. If the symbols are read and joined, the result is `input`. The input has at least one byte and fewer
--- than `INPUT_MAX` bytes
+-- `AreDrawnFor s input symbols` holds if `symbols` are the symbols of `input` under the settings `s`, and can be drawn:
+-- there are from 1 to 16 symbols, and all symbols have the same number of rows. If the symbols are read and joined, the
+-- result is `input`. The input has at least one byte and fewer than `INPUT_MAX` bytes
 pub record AreDrawnFor (s : SettingsView) (input : List ℕ) (symbols : List Symbol) : Type 0 where
   pub asked : AreSymbols s input (squares_of symbols)
   pub joined : IsJoined (squares_of symbols) input
