@@ -23,10 +23,10 @@ abbrev pub SomeBlockLiesApart : (v : ℕ) (l k : Level) (m n : ℕ) (g h : Grid)
 SomeBlockLiesApart v l k m n g h d e a b = (i : ℕ) × (i < blocks_in v l) × (2 * tolerance_of v l < differences (held_block v l m g d a i) (held_block v k n h e b i))
 
 -- `SymbolsLieApart v` holds if every two symbols of version `v` with different levels or different data codewords
--- differ widely. Two symbols differ widely if one of two conditions is true. The first condition is that the symbols
--- differ in at least seven modules of each copy of the format information. The second condition is that the symbols
--- have the same level and mask, and differ widely in some block. To differ widely in a block is to differ in more than
--- twice as many codewords as can be corrected in a block [own].
+-- differ widely. Two symbols differ widely if at least one of two conditions is true. The first condition is that the
+-- symbols differ in at least seven modules of each copy of the format information. The second condition is that the
+-- symbols have the same level and mask, and differ widely in some block. To differ widely in a block is to differ in
+-- more than twice as many codewords as can be corrected in a block [own].
 abbrev pub SymbolsLieApart : ℕ → Type 0
 SymbolsLieApart v =
     (l k : Level) (m n : ℕ) (cw ds d e : List ℕ) → m < 8 → n < 8

@@ -40,19 +40,19 @@ abbrev pub HoldsDamaged : ℕ → Level → ℕ → Grid → List ℕ → List �
 HoldsDamaged v l mask g message changed = HoldsDamagedWithout None v l mask g message changed
 
 -- `IsOfNoUseWithout unknown copy v g` holds if the copy `copy` of the format information is of no use for mending the
--- square `g` of modules, which has version `v`. For each level and mask, one of two conditions is true. The first
--- condition is that the format information of this level and mask differs from the copy in more than three modules. The
--- second condition is that, with this level and mask, some block has more erased and misread codewords than can be
--- corrected. `unknown` is an optional square of modules, in which exactly the modules that were not read are dark. A
--- codeword with a module that was not read is erased (ISO/IEC 18004:2015, 7.5.1, 7.9.1, 12).
+-- square `g` of modules, which has version `v`. For each level and mask, at least one of two conditions is true. The
+-- first condition is that the format information of this level and mask differs from the copy in more than three
+-- modules. The second condition is that, with this level and mask, some block has more erased and misread codewords
+-- than can be corrected. `unknown` is an optional square of modules, in which exactly the modules that were not read
+-- are dark. A codeword with a module that was not read is erased (ISO/IEC 18004:2015, 7.5.1, 7.9.1, 12).
 abbrev pub IsOfNoUseWithout : Option Grid → FormatCopy → ℕ → Grid → Type 0
 IsOfNoUseWithout unknown copy v g = (l : Level) (mask : ℕ) → IsNearFormat copy g l mask
     → (message changed : List ℕ) → HoldsDamagedWithout unknown v l mask g message changed → ⊥
 
 -- `IsOfNoUse copy v g` holds if the copy `copy` of the format information is of no use for mending the square `g` of
--- modules, which has version `v`. For each level and mask, one of two conditions is true. The first condition is that
--- the format information of this level and mask differs from the copy in more than three modules. The second condition
--- is that, with this level and mask, some block has more wrong codewords than can be corrected
+-- modules, which has version `v`. For each level and mask, at least one of two conditions is true. The first condition
+-- is that the format information of this level and mask differs from the copy in more than three modules. The second
+-- condition is that, with this level and mask, some block has more wrong codewords than can be corrected
 -- (ISO/IEC 18004:2015, 7.5.1, 7.9.1, 12).
 abbrev pub IsOfNoUse : FormatCopy → ℕ → Grid → Type 0
 IsOfNoUse copy v g = IsOfNoUseWithout None copy v g
@@ -67,8 +67,8 @@ abbrev pub HasFormatWithout : Option Grid → ℕ → Grid → Level → ℕ →
 HasFormatWithout unknown v g l mask = IsNearFormat First g l mask ⊎ (IsNearFormat Second g l mask × IsOfNoUseWithout unknown First v g)
 
 -- `HasFormat v g l mask` holds if the square `g` of modules, which has version `v`, has to be read with level `l` and
--- mask `mask`. The format information of this level and mask differs from one copy in `g` in at most three modules.
--- This copy is the first copy or, if the first copy is of no use for mending `g`, the second copy
+-- mask `mask`. The format information of this level and mask differs from one copy in `g` in at most three modules. The
+-- copy is the first copy or, if the first copy is of no use for mending `g`, the second copy
 -- (ISO/IEC 18004:2015, 7.9.1, 12).
 abbrev pub HasFormat : ℕ → Grid → Level → ℕ → Type 0
 HasFormat v g l mask = HasFormatWithout None v g l mask
@@ -89,10 +89,9 @@ abbrev pub IsDamagedForm : Grid → ℕ → Level → ℕ → List ℕ → List 
 IsDamagedForm g v l mask message changed = IsDamagedFormWithout None g v l mask message changed
 
 -- `IsMendedAsWithout unknown g v l mask outcome changed` holds if the square `g` of modules is a damaged form of some
--- symbol, and `outcome` is the result of parsing the data codewords of this symbol. The symbol has version `v`, level
--- `l` and mask `mask`. The list `changed` contains for each block the number of misread codewords. Codewords with a
--- module that is dark in the optional square `unknown` are erased, and are not counted in `changed`
--- (ISO/IEC 18004:2015, 12).
+-- symbol. To parse the data codewords of this symbol gives the result `outcome`. The symbol has version `v`, level `l`
+-- and mask `mask`. The list `changed` contains for each block the number of misread codewords. Codewords with a module
+-- that is dark in the optional square `unknown` are erased, and are not counted in `changed` (ISO/IEC 18004:2015, 12).
 pub record IsMendedAsWithout (unknown : Option Grid) (g : Grid) (v : ℕ) (l : Level) (mask : ℕ) (outcome : Result Content ParseFault) (changed : List ℕ) : Type 0 where
   pub message : List ℕ
   pub form : IsDamagedFormWithout unknown g v l mask message changed
@@ -192,10 +191,10 @@ pub record IsBeyondMendingWithout (unknown : Option Grid) (g : Grid) : Type 0 wh
 -- an optional square of modules, in which exactly the modules that were not read are dark. The fault is `Side` if the
 -- number of rows of `g` belongs to no version. The fault is `Format` if the number of rows of `g` belongs to a version,
 -- but no pair of level and mask is near to a copy of the format information in `g`. A pair of level and mask is near to
--- a copy if its format information differs from the copy in at most three modules. The fault is `Check` if some pair of
--- level and mask is near to a copy, but with each such pair some block has more erased and misread codewords than can
--- be corrected. The fault is `Segments` if the mended data codewords cannot be parsed. The fault `Memory` is possible
--- for every square of modules, and the fault `Series` is impossible (ISO/IEC 18004:2015, 12).
+-- a copy if its format information differs from the copy in at most three modules. The fault is `Check` if some pair is
+-- near to a copy, but `g` cannot be mended with any pair that is near to a copy. The fault is `Segments` if the mended
+-- data codewords cannot be parsed. The fault `Memory` is possible for every square of modules, and the fault `Series`
+-- is impossible (ISO/IEC 18004:2015, 12).
 abbrev pub IsUnmendedWithout : Option Grid → Grid → ReadFault → Type 0
 IsUnmendedWithout unknown g unread.Memory = Unit {0}
 IsUnmendedWithout unknown g unread.Side = (v : ℕ) → IsOfVersion g v → ⊥
@@ -207,9 +206,9 @@ IsUnmendedWithout unknown g unread.Series = ⊥
 -- `IsUnmended g e` holds if mending the square `g` of modules may fail with the fault `e`. The fault is `Side` if the
 -- number of rows of `g` belongs to no version. The fault is `Format` if the number of rows of `g` belongs to a version,
 -- but no pair of level and mask is near to a copy of the format information in `g`. A pair of level and mask is near to
--- a copy if its format information differs from the copy in at most three modules. The fault is `Check` if some pair of
--- level and mask is near to a copy, but with each such pair some block has more wrong codewords than can be corrected.
--- The fault is `Segments` if the mended data codewords cannot be parsed. The fault `Memory` is possible for every
--- square of modules, and the fault `Series` is impossible (ISO/IEC 18004:2015, 12).
+-- a copy if its format information differs from the copy in at most three modules. The fault is `Check` if some pair is
+-- near to a copy, but `g` cannot be mended with any pair that is near to a copy. The fault is `Segments` if the mended
+-- data codewords cannot be parsed. The fault `Memory` is possible for every square of modules, and the fault `Series`
+-- is impossible (ISO/IEC 18004:2015, 12).
 abbrev pub IsUnmended : Grid → ReadFault → Type 0
 IsUnmended g e = IsUnmendedWithout None g e

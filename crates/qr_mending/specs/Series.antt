@@ -26,8 +26,8 @@ IsMendedSeries squares bytes = IsJoinedBy IsMendedContent squares bytes
 abbrev pub IsUnmendedSeries : List Grid → ReadFault → Type 0
 IsUnmendedSeries squares e = IsUnjoinedBy IsMendedContent IsUnmended squares e
 
--- `IsDamagedSquare damaged whole` holds if the square `damaged` of modules is a damaged form of the square `whole`:
--- mending `damaged` yields the version, level, mask and data codewords of `whole`. The format information and the data
+-- `IsDamagedSquare damaged whole` holds if the square `damaged` of modules is a damaged form of the square `whole`.
+-- Mending `damaged` yields the version, level, mask and data codewords of `whole`. The format information and the data
 -- codewords of `whole` can be read without mending (ISO/IEC 18004:2015, 7.5.1, 7.9.1, 12).
 pub record IsDamagedSquare (damaged whole : Grid) : Type 0 where
   pub version : ℕ

@@ -28,7 +28,7 @@ input_for s given = option_map_or (λ text. take INPUT_MAX text) s.string given
 
 -- `held s input` lists the bytes that the symbols contain for `input` under the settings `s`. Without -i these bytes
 -- are `input` itself. With -i small letters become capitals, with two exceptions. With -8 all bytes are unchanged. With
--- -k a kanji pair, the two bytes of a kanji character, is unchanged [own]
+-- -k the two bytes of each kanji character are unchanged [own]
 abbrev pub held : SettingsView → List ℕ → List ℕ
 held s input = if s.fold then folded (rule_for s) input else input
 
@@ -73,9 +73,9 @@ IsRefusal words given (fault.Encode encode.TooMany) = HasRefusal words given IsT
 IsRefusal words given _ = ⊥
 
 -- `IsFault words given f` holds if the fault `f` can occur for the command line `words` and for `given`, the bytes that
--- the reader returned. A refusal can occur if it is correct for the command line and the input. A read fault can occur
--- if the command line is not refused and contains no string. A write fault can occur if there is a drawing. Lack of
--- memory can always occur [own]
+-- the reader returned. A refusal can occur if it is a correct reason to refuse the command line or the input. A read
+-- fault can occur if the command line is not refused and contains no string. A write fault can occur if there is a
+-- drawing. Lack of memory can always occur [own]
 abbrev pub IsFault : List Text → List ℕ → Fault → Type 0
 IsFault words given fault.Read = HasSettingsWith words (λ s. s.string ≡ None)
 IsFault words given fault.Memory = Unit {0}
@@ -107,7 +107,8 @@ OutputHolds words given old new (Err fault.Write) = (drawing : List ℕ) × HasD
 OutputHolds words given old new _ = new ≡ old
 
 -- `AllRead old new given` holds if `given` is the list of all bytes that the reader returned while it changed from
--- `old` to `new`. The reader was read to its end, or until it returned `INPUT_MAX` bytes [own]
+-- `old` to `new`. If the counts of the reader were 0 in `old`, the reader was read to its end, or until it returned
+-- `INPUT_MAX` bytes [own]
 abbrev pub AllRead : Reader → Reader → List ℕ → Type 0
 AllRead old new given = Consumes old.remaining new.remaining given
     × (old.counts ≡ no_reads → new.counts.given ≡ length given)
@@ -130,9 +131,9 @@ InputConsumedFor (Err r) old new given outcome = new ≡ old
 InputConsumedFor (Ok s) old new given outcome = MatchOption s.string (InputConsumed old new given outcome) (λ _. new ≡ old)
 
 -- `ErrorHolds old new line` holds if standard error changed from `old` to `new` as the `line` of a fault requires.
--- Standard error received a prefix of the line, and was not flushed. The prefix is the whole line if the counts of
--- standard error show no write fault. (A write fault is a failed write, a write that accepted no byte, or 1,000
--- interrupted writes.) The number of bytes received is at most the length of the line [own]
+-- Standard error received a prefix of the line, and was not flushed. If the counts of standard error were 0 before and
+-- show no write fault now, the prefix is the whole line. (A write fault is a failed write, a write that accepted no
+-- byte, or 1,000 interrupted writes.) The number of bytes received is at most the length of the line [own]
 abbrev pub ErrorHolds : Writer → Writer → List ℕ → Type 0
 ErrorHolds old new line = AppendsBeginning old.taken new.taken line
     × (old.counts ≡ no_writes → new.counts.taken ≤ counted (length line))
@@ -144,10 +145,11 @@ ErrorHolds old new line = AppendsBeginning old.taken new.taken line
 -- `outcome` and this exit `status`. The outcome is success or a fault. The reader and the two writers are `in0`, `out0`
 -- and `err0` before the run, and `in1`, `out1` and `err1` after the run. Apart from lack of memory and faults of
 -- devices, the arguments and the input determine the outcome. If the counts of a device were 0 before the run, the
--- counts of this device stay within their limits. If the counts of the reader were 0 before the run, they show whether
--- the outcome is a read fault. If the counts of standard output were 0 before the run, they show whether the outcome is
--- a write fault. No write of the drawing offers more than 1,200 bytes. After success, standard error receives nothing,
--- and the status is 0. After a fault, standard error receives the fault's line, and the status is 1 [own]
+-- counts of this device stay within their limits. If the counts of the reader were 0 before the run, they show after
+-- the run whether the outcome is a read fault. If the counts of standard output were 0 before the run, they show after
+-- the run whether the outcome is a write fault. No write of the drawing offers more than 1,200 bytes. After success,
+-- standard error receives nothing, and the status is 0. After a fault, standard error receives the fault's line, and
+-- the status is 1 [own]
 pub record Runs (words : List Text) (in0 in1 : Reader) (out0 out1 err0 err1 : Writer) (outcome : Result (Unit {0}) Fault) (status : ℕ) : Type 0 where
   pub given : List ℕ
   pub is_input : IsInputOf in0.remaining given

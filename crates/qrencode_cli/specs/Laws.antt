@@ -115,7 +115,7 @@ AreAlike (fault.Usage (usage.Words text)) (fault.Usage (usage.Words other)) = Un
 AreAlike r q = r ≡ q
 
 -- `RefusalsAreOne` holds if all refusals that are correct for a command line and an input are alike. Refusals are alike
--- if they are equal, or if their lines are texts of `clap` [own].
+-- if they are equal, or if both are faults that `clap` finds [own].
 abbrev pub RefusalsAreOne : Type 0
 RefusalsAreOne = (words : List Text) (given : List ℕ) (r q : Fault) → IsRefusal words given r → IsRefusal words given q → AreAlike r q
 
@@ -141,8 +141,8 @@ abbrev pub StatusesAreTwo : Type 0
 StatusesAreTwo = (words : List Text) (in0 in1 : Reader) (out0 out1 err0 err1 : Writer) (outcome : Result (Unit {0}) Fault) (status : ℕ)
     → Runs words in0 in1 out0 out1 err0 err1 outcome status → MatchResult outcome (λ _. status ≡ 0) (λ _. status ≡ 1)
 
--- `LinesOfFaults` holds if the line of each fault is the one in the list below. The fault for arguments that `clap`
--- refuses is not in the list, since its line is a text of `clap` [own].
+-- `LinesOfFaults` holds if the line that reports each fault is the one in the list below. The fault for arguments that
+-- `clap` refuses is not in the list, since its line is a text of `clap` [own].
 pub record LinesOfFaults : Type 0 where
   pub level : fault_line (fault.Usage usage.Level) ≡ codes "qrencode: unknown level\n"
   pub type : fault_line (fault.Usage usage.Kind) ≡ codes "qrencode: unknown type\n"

@@ -96,8 +96,8 @@ checked_series s = if s.structured && is_none s.smallest then Err needs_version 
 
 -- `settings_of rows` is either the settings that follow from `rows`, or the reason to refuse `rows`. The list `rows`
 -- contains the arguments and values that `clap` found. The first check is that the level is known; without -l, the
--- level is L. The second check is that the type of drawing is known. The last check is that a version is given if a
--- series is asked for [own]
+-- level L is used. The second check is that the type of drawing is known. The last check is that a version is given if
+-- a series is asked for [own]
 abbrev pub settings_of : List Row → Result SettingsView Reason
 settings_of rows =
     option_map_or (λ l. option_map_or (λ kind. checked_series (settings_with rows l kind))

@@ -55,9 +55,9 @@ pub record TellsDamage (m : QrprovedMended) (changed : List ℕ) (side : ℕ) (m
   pub allowed : m.changed_allowed ≡ tolerance_of m.version (level_of m.level)
 
 -- `IsGivenMended modules side before after m` holds if the square in `modules` can be read after its damage is
--- corrected. The square has `side` rows. Writing the bytes that were read to the first bytes of a buffer changes the
--- buffer from `before` to `after`. The struct `m` contains the number of the bytes that were read, the version, the
--- level, the mask pattern, the structured append header, and the damage [own].
+-- corrected. The square has `side` rows. If the bytes that were read are written to the beginning of a buffer, the
+-- buffer changes from `before` to `after`. The struct `m` contains the number of the bytes that were read, the version,
+-- the level, the mask pattern, the structured append header, and the damage [own].
 pub record IsGivenMended (modules : List ℕ) (side : ℕ) (before after : List ℕ) (m : QrprovedMended) : Type 0 where
   pub all_modules : AreModules modules side
   pub content : Content

@@ -13,15 +13,16 @@ abbrev pub IsSide : ℕ → Type 0
 IsSide side = (v : ℕ) × (1 ≤ v) × (v ≤ 40) × (side ≡ side_of v)
 
 -- `TellsHeader header has_header position last parity` holds if the numbers `has_header`, `position`, `last` and
--- `parity` describe the optional structured append header `header`. If there is a header, `has_header` is 1. If there
--- is no header, all four numbers are 0 (ISO/IEC 18004:2015, 8.1 to 8.3).
+-- `parity` describe the optional structured append header `header`. If there is a header, `has_header` is 1, and the
+-- other three numbers are those of the header. If there is no header, all four numbers are 0
+-- (ISO/IEC 18004:2015, 8.1 to 8.3).
 abbrev pub TellsHeader : Option Header → (has_header position last parity : ℕ) → Type 0
 TellsHeader None has_header position last parity = (has_header ≡ 0) × (position ≡ 0) × (last ≡ 0) × (parity ≡ 0)
 TellsHeader (Some h) has_header position last parity = (has_header ≡ 1) × (position ≡ h.position) × (last ≡ h.last) × (parity ≡ h.parity)
 
--- `IsGiven modules side before after c` holds if the square in `modules`, which has `side` rows, can be read. Writing
--- the bytes that were read to the first bytes of a buffer changes the buffer from `before` to `after`. The struct `c`
--- contains the number of the bytes that were read, the version and the structured append header [own].
+-- `IsGiven modules side before after c` holds if the square in `modules`, which has `side` rows, can be read. If the
+-- bytes that were read are written to the beginning of a buffer, the buffer changes from `before` to `after`. The
+-- struct `c` contains the number of the bytes that were read, the version and the structured append header [own].
 pub record IsGiven (modules : List ℕ) (side : ℕ) (before after : List ℕ) (c : QrprovedContent) : Type 0 where
   pub whole : side * side ≤ length modules
   pub content : Content

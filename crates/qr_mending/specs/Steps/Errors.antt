@@ -29,7 +29,7 @@ weighted p (c ∷ e) = product c (eval (power (length e)) p) ∷ weighted p e
 -- The values of the error polynomial at the powers of 2 follow a recurrence. Let d be the degree of `p`. Each value
 -- after the first d values is a sum of d products: each of the d values before it is multiplied by a coefficient of
 -- `p`. In `p`, the coefficient of the lowest power of x comes first. The recurrence does not use the leading
--- coefficient of `p`, and is correct if this coefficient is 1.
+-- coefficient of `p`; it takes this coefficient as 1.
 pub record IsLocated (p e : List ℕ) : Type 0 where
   pub bytes : All IsByte e
   pub most : length e ≤ 255

@@ -1,4 +1,4 @@
--- Defines the results of the steps of a run of the command.
+-- Defines which results the steps of a run of the command can have.
 use Rattle.std.specs.Prelude.{◌≡◌, ◌<◌, ◌≤◌, ℕ, List, [], length, IfErr, Result, MatchResult}
 use Rattle.clap.specs.Walk.{Text}
 use Rattle.qrencode_cli.specs.Command.{HasDrawing, InputConsumedFor, IsFault, OutputHolds}
@@ -20,9 +20,9 @@ use Rattle.qrencode_cli.specs.declared.drawing_job.DrawingJob.{DrawingJob}
 abbrev pub drawing_of_job : DrawingJob → List ℕ
 drawing_of_job job = drawn job.kind job.margin (squares_of job.symbols.items)
 
--- `AreDrawnFor s input symbols` holds if `symbols` are the symbols of `input` under the settings `s`, and can be drawn:
--- there are from 1 to 16 symbols, and all symbols have the same number of rows. If the symbols are read and joined, the
--- result is `input`. The input has at least one byte and fewer than `INPUT_MAX` bytes
+-- `AreDrawnFor s input symbols` holds if `symbols` are the symbols of `input` under the settings `s`, and can be drawn.
+-- Symbols can be drawn if there are from 1 to 16, and all have the same number of rows. If the symbols are read and
+-- joined, the result is `input`. The input has at least one byte and fewer than `INPUT_MAX` bytes
 pub record AreDrawnFor (s : SettingsView) (input : List ℕ) (symbols : List Symbol) : Type 0 where
   pub asked : AreSymbols s input (squares_of symbols)
   pub joined : IsJoined (squares_of symbols) input
