@@ -89,7 +89,7 @@ abbrev pub IsDamagedForm : Grid → ℕ → Level → ℕ → List ℕ → List 
 IsDamagedForm g v l mask message changed = IsDamagedFormWithout None g v l mask message changed
 
 -- `IsMendedAsWithout unknown g v l mask outcome changed` holds if the square `g` of modules is a damaged form of some
--- symbol. To parse the data codewords of this symbol gives the result `outcome`. The symbol has version `v`, level `l`
+-- symbol. Parsing the data codewords of this symbol gives the result `outcome`. The symbol has version `v`, level `l`
 -- and mask `mask`. The list `changed` contains for each block the number of misread codewords. Codewords with a module
 -- that is dark in the optional square `unknown` are erased, and are not counted in `changed` (ISO/IEC 18004:2015, 12).
 pub record IsMendedAsWithout (unknown : Option Grid) (g : Grid) (v : ℕ) (l : Level) (mask : ℕ) (outcome : Result Content ParseFault) (changed : List ℕ) : Type 0 where
