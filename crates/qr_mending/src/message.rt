@@ -68,9 +68,9 @@ pub(crate) struct MendedMessage {
     pub changed: Vec<usize>,
 }
 
-// Mends all blocks of a symbol. In each block at most `t` codewords may be wrong. `codewords` contains the data
-// codewords that were read, and `checks` contains the error correction codewords that were read. In `codewords` and in
-// `checks`, the codewords of one block follow those of the previous block.
+// Mends all blocks of a symbol. A block can be mended if at most `t` of its codewords are wrong. `codewords` contains
+// the data codewords that were read, and `checks` contains the error correction codewords that were read. In
+// `codewords` and in `checks`, the blocks come one after the other.
 fn mend_parts(
     alloc: Global,
     blocks: Blocks,
@@ -111,8 +111,8 @@ fn mend_parts(
 }
 
 // Returns the mended message of a damaged symbol. The message is the data codewords in the order of the blocks.
-// `codewords` contains the interleaved codewords that were read from the symbol. At most `t` codewords of each block
-// may be wrong.
+// `codewords` contains the interleaved codewords that were read from the symbol. A block can be mended if at most `t`
+// of its codewords are wrong.
 fn mend_blocks(
     alloc: Global,
     blocks: Blocks,

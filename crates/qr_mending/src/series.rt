@@ -32,9 +32,9 @@ fn mend_all(alloc: Global, damaged: &[Matrix]) -> Result<Vec<Parsed>, ReadFault>
 ///
 /// # Errors
 ///
-/// If some symbol cannot be mended, returns the fault of the first such symbol, whatever the headers of the symbols
-/// contain. Returns `Series` if all symbols are mended, but are neither one symbol without a header nor a whole series.
-/// If `damaged` is empty, returns `Series`. If memory is refused, returns `Memory`.
+/// If some symbols cannot be mended, returns the fault of the first of these symbols, whatever the headers of the
+/// symbols contain. Returns `Series` if all symbols are mended, but are neither one symbol without a header nor a whole
+/// series. If `damaged` is empty, returns `Series`. If memory is refused, returns `Memory`.
 ///
 /// # Notes
 ///
