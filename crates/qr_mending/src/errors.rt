@@ -57,8 +57,8 @@ fn values(locator: &[u8], syndromes: &[u8]) -> ArrayVec<u8, 255>
 
 // Returns the error of one codeword of a damaged block. `place` is the index of this codeword, counted backwards: the
 // last codeword of the block has the index 0. `locator` lists the coefficients of the locator polynomial, which has a
-// root for each wrong codeword. `series` contains the values of the error polynomial, whose coefficients are the
-// errors, at all 255 powers of 2.
+// root for each wrong codeword. `series` contains the values of the error polynomial at all 255 powers of 2; the
+// coefficients of this polynomial are the errors.
 fn error(locator: &[u8], series: &[u8], place: u8) -> u8
     requires count { length series.now ≡ 255 }
     requires place { place < 255 }
@@ -74,7 +74,7 @@ fn error(locator: &[u8], series: &[u8], place: u8) -> u8
 
 // Removes the errors of the codewords of the damaged block `damaged`, and returns the corrected codewords. `locator`
 // lists the coefficients of the locator polynomial, which has a root for each wrong codeword. `syndromes` contains the
-// values of the error polynomial, whose coefficients are the errors, at the first powers of 2.
+// values of the error polynomial at the first powers of 2; the coefficients of this polynomial are the errors.
 pub(crate) fn without_errors(locator: &[u8], syndromes: &[u8], damaged: &[u8]) -> ArrayVec<u8, 255>
     requires least { 1 ≤ length locator.now }
     requires long { length locator.now ≤ length syndromes.now + 1 }

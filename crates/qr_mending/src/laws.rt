@@ -47,8 +47,8 @@ pub fn mended_blocks_are_one()
 
 /// A damaged block of at most 255 codewords, some of which may be erased, can be mended to at most one block. To
 /// correct an erased codeword, one error correction codeword is needed. To correct a misread codeword, two error
-/// correction codewords are needed. A block can be mended only if no more error correction codewords are needed to
-/// correct its erased and misread codewords than the block has.
+/// correction codewords are needed. A block can be mended only if it has enough error correction codewords to correct
+/// all its erased and misread codewords.
 pub fn blocks_mended_with_erasures_are_one()
     ensures { (n spare : ℕ) (read : List (Option ℕ)) (b c : List ℕ) → length read ≤ 255 → spare ≤ n
         → IsMendedWithErasures n spare read b → IsMendedWithErasures n spare read c → b ≡ c }
@@ -230,10 +230,11 @@ pub fn damaged_symbols_without_modules_are_mended(
 }
 
 /// If few modules of the symbol of an input are wrong, mending the symbol yields exactly this input, or memory is
-/// refused. The law holds if no block has more wrong modules than the function `changed_max` returns. The function
-/// `changed_max` returns the number of codewords that can be corrected in a block. A second condition is that at most
-/// three modules of the first copy of the format information are wrong. The modules of the function patterns, the
-/// second copy of the format information, the version information and the remainder bits may have any colour.
+/// refused. The law has two conditions. The first condition is that no block has more wrong modules than the function
+/// `changed_max` returns. The second condition is that at most three modules of the first copy of the format
+/// information are wrong. The function `changed_max` returns the number of codewords that can be corrected in a block.
+/// The modules of the function patterns, the second copy of the format information, the version information and the
+/// remainder bits may have any colour.
 pub fn few_wrong_modules_are_mended(alloc: Global, damaged: &Matrix) -> Result<Mended, ReadFault>
     ensures { (smallest : ℕ) (l : Level) (rule : Rule) (x : List ℕ) (v mask : ℕ) (g : Grid) → 1 ≤ smallest
         → (s : IsSymbol smallest l rule x v mask g) → damaged.now.side ≡ g.side → DifferInFewModules v l damaged.now g

@@ -110,14 +110,14 @@ pub fn join(alloc: Global, contents: &[Parsed]) -> Result<Vec<u8>, ReadFault>
 /// series, the structured append header of each symbol contains three numbers. The first number in a header is the
 /// position of the header's symbol, counted from 0. The second number in each header is the number of symbols, less 1.
 /// The third number in each header is the parity data of the bytes of all symbols. Only the field `matrix` of each
-/// symbol is used; all its other fields are ignored.
+/// symbol is used; the fields `version`, `level` and `mask` are ignored.
 ///
 /// # Errors
 ///
-/// If some symbol cannot be read, returns the fault of the first such symbol. The structured append headers are checked
-/// only if all symbols can be read. Returns `Series` if all symbols can be read, but are neither one symbol without a
-/// structured append header nor a whole series. If there is no symbol, `Series` is returned. Returns `Memory` if an
-/// allocation is refused.
+/// If some symbols cannot be read, returns the fault of the first of these symbols. The structured append headers are
+/// checked only if all symbols can be read. Returns `Series` if all symbols can be read, but are neither one symbol
+/// without a structured append header nor a whole series. If there is no symbol, `Series` is returned. Returns `Memory`
+/// if an allocation is refused.
 pub fn read_series(alloc: Global, symbols: &[Symbol]) -> Result<Vec<u8>, ReadFault>
     ensures { MatchResult result
         (λ bytes. IsJoined (squares_of symbols.now) bytes.items)

@@ -100,8 +100,7 @@ pub fn interleaving_is_one(version: Version, level: Level)
 {}
 
 /// If two squares of modules of the same version and level contain different data codewords, they differ in many
-/// codewords of some block. The number of codewords of this block that differ is greater than the number of error
-/// correction codewords of the block.
+/// codewords of some block. In this block, more codewords differ than the block has error correction codewords.
 pub fn messages_lie_apart(version: Version, level: Level)
     ensures { MessagesLieApart version level }
 {}
