@@ -107,8 +107,8 @@ pub fn wrong_modules_are_one()
         → HasWrongModulesWithout unknown g v l m x a → HasWrongModulesWithout unknown g w k n y b → a ≡ b }
 {}
 
-/// If a square of modules is a damaged form of a symbol and has no wrong module, the square is equal to this symbol.
-/// Conversely, a square that is equal to the symbol has no wrong module.
+/// If no module of a damaged symbol is wrong, its square of modules is equal to the square of the undamaged symbol.
+/// Conversely, if the two squares of the damaged and the undamaged symbol are equal, no module is wrong.
 pub fn sound_squares_are_symbols()
     ensures { (g : Grid) (v : ℕ) (l : Level) (mask : ℕ) (changed : List ℕ) (wrong : ℕ)
         → IsSquare g.side g → (w : HasWrongModules g v l mask changed wrong)
@@ -124,7 +124,8 @@ pub fn readings_are_mended_readings()
 
 /// The result of mending a symbol contains a list with the number of changed codewords of each block. The list of the
 /// numbers of changed codewords has at least one item. No block has more changed codewords than can be corrected in a
-/// block. For every version and level, the number of codewords that can be corrected is at least 2 and at most 15.
+/// block. For every version and level, the number of codewords that can be corrected in a block is at least 2 and at
+/// most 15.
 pub fn changes_are_bounded()
     ensures some { (unknown : Option Grid) (g : Grid) (v : ℕ) (l : Level) (m : ℕ) (p : Content) (x : List ℕ)
         → IsMendedReadingWithout unknown g v l m p x → 1 ≤ length x }
@@ -260,7 +261,7 @@ pub fn series_mendings_are_refused_exactly(
 }
 
 /// If the symbols of a series for an input are damaged, mending the symbols yields exactly this input, or memory is
-/// refused. The law holds if each symbol has no more damage than can be mended. The law also holds for symbols that
+/// refused. The law holds if each symbol has no more damage than can be mended. The law holds even for symbols that
 /// another encoder made. Mending symbols of another encoder yields the bytes that result from reading and joining the
 /// undamaged symbols.
 pub fn damaged_series_are_mended(alloc: Global, damaged: &[Matrix]) -> Result<Vec<u8>, ReadFault>

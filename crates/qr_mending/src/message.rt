@@ -160,9 +160,9 @@ pub(crate) fn spare(version: Version, level: Level) -> u8
 }
 
 /// Returns the largest number of wrong codewords that can be corrected in each block of a symbol of this version and
-/// level (ISO/IEC 18004:2015, 7.5.1, Table 9). The returned number is at least 2 and at most 15. In general, the
-/// returned number is half the number of error correction codewords of a block. For some levels of versions 1 to 3, the
-/// returned number is less than half the number of error correction codewords of a block.
+/// level (ISO/IEC 18004:2015, 7.5.1, Table 9). The function `changed_max` returns at least 2 and at most 15. In
+/// general, `changed_max` returns half the number of error correction codewords of a block. For some levels of versions
+/// 1 to 3, `changed_max` returns less than half the number of error correction codewords of a block.
 pub fn changed_max(version: Version, level: Level) -> u8
     ensures { result ≡ tolerance_of version level }
 {

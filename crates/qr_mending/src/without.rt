@@ -114,8 +114,8 @@ fn count_wrong_modules_without(
 ///
 /// # Errors
 ///
-/// Returns the same faults as `mend_symbol`. Returns `Check` if some block has more erased and misread codewords than
-/// can be corrected, whichever copy of the format information is used.
+/// The function `mend_symbol_without` returns the same faults as `mend_symbol`. Returns `Check` if some block has more
+/// erased and misread codewords than can be corrected, whichever copy of the format information is used.
 pub fn mend_symbol_without(
     alloc: Global,
     matrix: &Matrix,

@@ -32,7 +32,7 @@ pub(crate) const SYMBOL_BYTES_MAX: usize = 7089;
 /// penalty, the one with the smallest number is chosen.
 ///
 /// If the modules of the symbol are read in the standard's order, unmasked, deinterleaved and parsed, the result is
-/// exactly the input. The segments that are read are the segments with which the symbol was made.
+/// exactly the input. Reading the symbol yields exactly the segments with which the symbol was made.
 ///
 /// # Errors
 ///

@@ -81,11 +81,12 @@ fn are_in_series(contents: &[Parsed], parity: u8) -> bool
     true
 }
 
-/// Joins the bytes of the contents of symbols, in the order of `contents` (ISO/IEC 18004:2015, 8). The bytes are joined
-/// only if `contents` is one content without a structured append header, or the contents of a whole series. In a whole
-/// series, the structured append header of each content contains three numbers. The first number in a header is the
-/// position of the header's content, counted from 0. The second number in each header is the number of symbols, less 1.
-/// The third number in each header is the parity data of the bytes of all contents.
+/// Joins the bytes of the contents of symbols, in the order of `contents` (ISO/IEC 18004:2015, 8). A content is the
+/// result of reading one symbol. The bytes are joined only if `contents` is one content without a structured append
+/// header, or the contents of a whole series. In a whole series, the structured append header of each content contains
+/// three numbers. The first number in a structured append header is the position of its content, counted from 0. The
+/// second number in each structured append header is the number of symbols, less 1. The third number in each structured
+/// append header is the parity data of the bytes of all contents.
 ///
 /// # Errors
 ///
@@ -107,10 +108,10 @@ pub fn join(alloc: Global, contents: &[Parsed]) -> Result<Vec<u8>, ReadFault>
 
 /// Reads the symbols and joins their bytes, in the order of `symbols` (ISO/IEC 18004:2015, 8). The bytes are joined
 /// only if `symbols` is one symbol without a structured append header, or the symbols of a whole series. In a whole
-/// series, the structured append header of each symbol contains three numbers. The first number in a header is the
-/// position of the header's symbol, counted from 0. The second number in each header is the number of symbols, less 1.
-/// The third number in each header is the parity data of the bytes of all symbols. Only the field `matrix` of each
-/// symbol is used; the fields `version`, `level` and `mask` are ignored.
+/// series, the structured append header of each symbol contains three numbers. The first number in a structured append
+/// header is the position of its symbol, counted from 0. The second number in each structured append header is the
+/// number of symbols, less 1. The third number in each structured append header is the parity data of the bytes of all
+/// symbols. Only the field `matrix` of each symbol is used; the fields `version`, `level` and `mask` are ignored.
 ///
 /// # Errors
 ///
