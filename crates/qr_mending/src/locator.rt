@@ -45,7 +45,7 @@ fn first_miss(pool: &[Polynomial], window: &[u8], t: usize) -> usize
 
 // Changes the polynomials in `pool` from index `first` on so that they solve the equation of `window`. A polynomial
 // solves the equation of `window` if its method `miss` returns 0 for `window`. Each change adds a multiple of the
-// polynomial `pivot` to a polynomial. The polynomial `pivot` does not solve the equation of `window`.
+// polynomial `pivot` to a polynomial of `pool`. The polynomial `pivot` does not solve the equation of `window`.
 fn relieve(pool: &mut [Polynomial], first: usize, pivot: &Polynomial, window: &[u8], t: usize)
     requires degrees { HasDegrees t pool.old }
     requires small { t ≤ 15 }

@@ -33,8 +33,9 @@ fn mend_all(alloc: Global, damaged: &[Matrix]) -> Result<Vec<Parsed>, ReadFault>
 /// # Errors
 ///
 /// If some symbols cannot be mended, returns the fault of the first of these symbols, whatever the headers of the
-/// symbols contain. Returns `Series` if all symbols are mended, but are neither one symbol without a header nor a whole
-/// series. If `damaged` contains no symbol, returns `Series`. If memory is refused, returns `Memory`.
+/// symbols contain. Returns `Series` if all symbols are mended, but are neither one symbol without a structured append
+/// header nor a whole series. If `damaged` contains no symbol, returns `Series`. If memory is refused, returns
+/// `Memory`.
 ///
 /// # Notes
 ///

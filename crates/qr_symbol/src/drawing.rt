@@ -1,4 +1,4 @@
-//! Draws the bits of the codewords into the encoding region, in the order of `qr_layout::walk`
+//! Draws the bits of the codewords into the encoding region, in the order of the function `qr_layout::walk`
 //! (ISO/IEC 18004:2015, 7.7.2 and 7.7.3). The function `draw_codewords` draws strip by strip, where a strip is two
 //! neighbouring columns that are filled together. The function `draw_along_walk` draws module by module.
 

@@ -115,8 +115,8 @@ pub(crate) fn draw_format(matrix: &mut Matrix, v: Version, format: u32)
 }
 
 // Draws the three corners of a symbol: the finder patterns, their separators, and the modules of row 8 and column 8
-// that are beside the finder patterns. Of the modules of row 8 and column 8 that are drawn, two belong to the timing
-// patterns, one is the dark module, and all others contain the format information.
+// that are beside the finder patterns. Two of the drawn modules of row 8 and column 8 belong to the timing patterns,
+// and one is the dark module. All other drawn modules of row 8 and column 8 contain the format information.
 fn paint_corners(matrix: &mut Matrix, v: Version, format: u32)
     requires { IsSquare (side_of v) matrix.old }
     ensures { matrix.new ≡ square (side_of v) (λ r c. if list_any (is_in_rectangle r c) (corner_rectangles (side_of v))
