@@ -12,7 +12,8 @@ use arrayvec::ArrayVec;
 use qr_field::Divisor;
 
 // Returns the block with `n` error correction codewords that differs from `damaged` in at most `t` codewords, if there
-// is one. If there is no such block, returns some list that is as long as `damaged`.
+// is one. If every block differs from `damaged` in more than `t` codewords, returns some list that is as long as
+// `damaged`.
 fn candidate(n: usize, t: usize, damaged: &[u8]) -> ArrayVec<u8, 255>
     requires most { n ≤ 30 }
     requires half { 2 * t ≤ n }
@@ -53,9 +54,10 @@ pub(crate) fn is_block(divisor: &Divisor, codewords: &[u8]) -> bool
 }
 
 /// Mends a damaged block of at most 255 codewords: replaces `codewords` with the block that differs from `codewords` in
-/// at most `t` codewords. Twice `t` must be at most the number of error correction codewords of the block, which
-/// `divisor` determines. Returns the number of codewords that were wrong. If every block differs from `codewords` in
-/// more than `t` codewords, returns `None` and leaves `codewords` unchanged (ISO/IEC 18004:2015, 7.5.1 and Annex B).
+/// at most `t` codewords. `divisor` determines the number of error correction codewords of the block, and twice `t`
+/// must be at most this number. Returns the number of codewords that were wrong. If every block differs from
+/// `codewords` in more than `t` codewords, returns `None` and leaves `codewords` unchanged (ISO/IEC 18004:2015, 7.5.1
+/// and Annex B).
 pub fn mend(divisor: &Divisor, t: usize, codewords: &mut [u8]) -> Option<usize>
     requires half { 2 * t ≤ divisor.now }
     requires least { divisor.now ≤ length codewords.old }

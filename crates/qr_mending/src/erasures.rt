@@ -19,11 +19,12 @@ use crate::sums::{dot, syndromes};
 use arrayvec::ArrayVec;
 use qr_field::Divisor;
 
-// Returns the modified syndromes of a damaged block. The errors of the codewords are the coefficients of the error
-// polynomial. `syndromes` contains the values of the error polynomial at the first powers of 2. A second polynomial is
-// made from the error polynomial: for each m, the coefficient of x^m is multiplied by the value of `polynomial` at 2^m.
-// The modified syndromes are the values of the second polynomial at the first powers of 2. The number of modified
-// syndromes is the number of syndromes, less the degree of `polynomial`.
+// Returns the modified syndromes of a damaged block. The error of a codeword is the difference between the codeword
+// that was read and the correct codeword. The coefficients of the error polynomial are the errors of all codewords.
+// `syndromes` contains the values of the error polynomial at the first powers of 2. A second polynomial is made from
+// the error polynomial: for each m, the coefficient of x^m is multiplied by the value of `polynomial` at 2^m. The
+// modified syndromes are the values of the second polynomial at the first powers of 2. The number of modified syndromes
+// is the number of syndromes, less the degree of `polynomial`.
 fn modified_syndromes(polynomial: &[u8], syndromes: &[u8]) -> ArrayVec<u8, 30>
     requires least { 1 ≤ length polynomial.now }
     requires long { length polynomial.now ≤ length syndromes.now + 1 }
@@ -39,10 +40,10 @@ fn modified_syndromes(polynomial: &[u8], syndromes: &[u8]) -> ArrayVec<u8, 30>
     modified
 }
 
-// Returns the block with `n` error correction codewords to which `damaged` can be mended, if there is one. If there is
-// no such block, returns some list that is as long as `damaged`. `erased` is true at the index of each erased codeword,
-// which is a codeword that is known to be unreadable. The number of erased codewords plus twice the number of misread
-// codewords may be at most `spare`.
+// Returns the block with `n` error correction codewords to which `damaged` can be mended, if there is one. If `damaged`
+// cannot be mended, returns some list that is as long as `damaged`. `erased` is true at the index of each erased
+// codeword, which is a codeword that is known to be unreadable. A block can be mended if the number of erased codewords
+// plus twice the number of misread codewords is at most `spare`.
 fn candidate(n: usize, spare: usize, erased: &[bool], damaged: &[u8]) -> ArrayVec<u8, 255>
     requires most { n ≤ 30 }
     requires spare { spare ≤ n }
@@ -83,11 +84,11 @@ fn count_misread(codewords: &[u8], erased: &[bool], mended: &[u8]) -> usize
 /// true at the index of each erased codeword. Codewords that are not erased may be misread. The values of erased
 /// codewords in `codewords` have no effect on the mended block. To correct an erased codeword, one error correction
 /// codeword is needed. To correct a misread codeword, two error correction codewords are needed. `divisor` determines
-/// the number of error correction codewords of the block. To correct all erased and misread codewords, at most `spare`
-/// error correction codewords may be needed. In a symbol, `spare` is twice the number that the function `changed_max`
-/// returns. Returns the number of misread codewords; erased codewords are not counted. If `spare` error correction
-/// codewords are not enough to mend the block, returns `None` and leaves `codewords` unchanged (ISO/IEC 18004:2015,
-/// 7.5.1 and Annex B).
+/// the number of error correction codewords of the block. A block can be mended if at most `spare` error correction
+/// codewords are needed to correct its erased and misread codewords. When the blocks of a symbol are mended, `spare` is
+/// twice the number that the function `changed_max` returns. Returns the number of misread codewords; erased codewords
+/// are not counted. If `spare` error correction codewords are not enough to mend the block, returns `None` and leaves
+/// `codewords` unchanged (ISO/IEC 18004:2015, 7.5.1 and Annex B).
 pub fn mend_with_erasures(
     divisor: &Divisor,
     spare: usize,

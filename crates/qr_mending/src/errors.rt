@@ -16,10 +16,11 @@ use crate::sums::{dot, value};
 use arrayvec::ArrayVec;
 use qr_field::power_of;
 
-// Returns the value of the error polynomial at 2 to the power n, where n is the length of `series`. `series` contains
-// the values of the error polynomial at 2 to the powers 0 to n - 1. `syndromes` contains the values of the error
-// polynomial at the first powers of 2, from 2 to the power 0 on. `locator` lists the coefficients of the locator
-// polynomial; the leading coefficient, which is 1, comes last.
+// Returns the value of the error polynomial at 2 to the power n, where n is the length of `series`. The coefficients of
+// the error polynomial are the errors of the codewords. `series` contains the values of the error polynomial at 2 to
+// the powers 0 to n - 1. `syndromes` contains the values of the error polynomial at the first powers of 2, from 2 to
+// the power 0 on. `locator` lists the coefficients of the locator polynomial, which has a root for each wrong codeword.
+// The last item of `locator` is the leading coefficient, which is 1.
 fn next_value(locator: &[u8], syndromes: &[u8], series: &[u8]) -> u8
     requires least { 1 ≤ length locator.now }
     requires long { length locator.now ≤ length syndromes.now + 1 }
@@ -34,9 +35,11 @@ fn next_value(locator: &[u8], syndromes: &[u8], series: &[u8]) -> u8
     dot(&locator[..degree], &series[count - degree..])
 }
 
-// Returns the values of the error polynomial at all 255 powers of 2, from 2 to the power 0 on. `syndromes` contains the
-// values of the error polynomial at the first powers of 2. `locator` lists the coefficients of the locator polynomial.
-// The locator polynomial determines all values that come after the values in `syndromes`.
+// Returns the values of the error polynomial at all 255 powers of 2, from 2 to the power 0 on. The coefficients of the
+// error polynomial are the errors of the codewords. `syndromes` contains the values of the error polynomial at the
+// first powers of 2. `locator` lists the coefficients of the locator polynomial, which has a root for each wrong
+// codeword. The first values are taken from `syndromes`. By means of the locator polynomial, each later value is
+// computed from the values before it.
 fn values(locator: &[u8], syndromes: &[u8]) -> ArrayVec<u8, 255>
     requires least { 1 ≤ length locator.now }
     requires long { length locator.now ≤ length syndromes.now + 1 }
@@ -53,8 +56,9 @@ fn values(locator: &[u8], syndromes: &[u8]) -> ArrayVec<u8, 255>
 }
 
 // Returns the error of one codeword of a damaged block. `place` is the index of this codeword, counted backwards: the
-// last codeword of the block has the index 0. `locator` lists the coefficients of the locator polynomial. `series`
-// contains the values of the error polynomial at all 255 powers of 2.
+// last codeword of the block has the index 0. `locator` lists the coefficients of the locator polynomial, which has a
+// root for each wrong codeword. `series` contains the values of the error polynomial at all 255 powers of 2; the
+// coefficients of this polynomial are the errors.
 fn error(locator: &[u8], series: &[u8], place: u8) -> u8
     requires count { length series.now ≡ 255 }
     requires place { place < 255 }
@@ -68,8 +72,9 @@ fn error(locator: &[u8], series: &[u8], place: u8) -> u8
     value(series, power_of(inverse))
 }
 
-// Returns the codewords of the damaged block `damaged` after their errors are removed. `locator` lists the coefficients
-// of the locator polynomial. `syndromes` contains the values of the error polynomial at the first powers of 2.
+// Removes the errors of the codewords of the damaged block `damaged`, and returns the corrected codewords. `locator`
+// lists the coefficients of the locator polynomial, which has a root for each wrong codeword. `syndromes` contains the
+// values of the error polynomial at the first powers of 2; the coefficients of this polynomial are the errors.
 pub(crate) fn without_errors(locator: &[u8], syndromes: &[u8], damaged: &[u8]) -> ArrayVec<u8, 255>
     requires least { 1 ≤ length locator.now }
     requires long { length locator.now ≤ length syndromes.now + 1 }

@@ -142,8 +142,9 @@ pub(crate) fn wrong_format_modules_without(
     first + wrong_bits_without(matrix, unknown, version, FormatCopy::Second, word)
 }
 
-// Returns the mask for which the format information of the level `level` and this mask differs from the copy `copy` in
-// `matrix` in at most three modules. If there is no mask with such format information, returns `None`.
+// For the level `level`, returns the mask whose format information differs from the copy `copy` in `matrix` in at most
+// three modules. If the format information of every mask differs from the copy in more than three modules, returns
+// `None`.
 fn near_mask_of(matrix: &Matrix, version: Version, copy: FormatCopy, level: Level) -> Option<u8>
     requires { matrix.now.side ≡ side_of version }
     ensures { MatchOption result
@@ -160,8 +161,8 @@ fn near_mask_of(matrix: &Matrix, version: Version, copy: FormatCopy, level: Leve
 }
 
 // Returns the level and the mask whose format information differs from the copy `copy` in `matrix` in at most three
-// modules. There is at most one pair of level and mask with such format information. If there is no pair of level and
-// mask with such format information, returns `None`.
+// modules. At most one pair of level and mask has format information that differs from the copy in at most three
+// modules. If the format information of every pair differs from the copy in more than three modules, returns `None`.
 pub(crate) fn near_format_of(
     matrix: &Matrix,
     version: Version,
@@ -181,9 +182,9 @@ pub(crate) fn near_format_of(
 }
 
 // Returns the level and the mask whose format information differs from the first copy in `matrix` in at most three
-// modules. If no level and mask have format information that is so near to the first copy, the second copy is used in
-// the same way. Returns `None` if the format information of every level and mask differs from both copies in more than
-// three modules.
+// modules. If the format information of every level and mask differs from the first copy in more than three modules,
+// the second copy is used instead of the first copy. Returns `None` if the format information of every level and mask
+// differs from both copies in more than three modules.
 pub(crate) fn near_format_of_either(matrix: &Matrix, version: Version) -> Option<(Level, u8)>
     requires { matrix.now.side ≡ side_of version }
     ensures { MatchOption result

@@ -47,8 +47,8 @@ pub fn mended_blocks_are_one()
 
 /// A damaged block of at most 255 codewords, some of which may be erased, can be mended to at most one block. To
 /// correct an erased codeword, one error correction codeword is needed. To correct a misread codeword, two error
-/// correction codewords are needed. To correct all erased and misread codewords, no more error correction codewords may
-/// be needed than the block has.
+/// correction codewords are needed. A block can be mended only if it has enough error correction codewords to correct
+/// all its erased and misread codewords.
 pub fn blocks_mended_with_erasures_are_one()
     ensures { (n spare : ℕ) (read : List (Option ℕ)) (b c : List ℕ) → length read ≤ 255 → spare ≤ n
         → IsMendedWithErasures n spare read b → IsMendedWithErasures n spare read c → b ≡ c }
@@ -71,8 +71,8 @@ pub fn near_format_is_one()
 
 /// In seven combinations of version and level, the number of codewords that can be corrected in a block agrees with
 /// Table 9 of the standard. In six combinations of version and level, some error correction codewords of a block are
-/// not used to correct errors, only to detect them. The number of codewords that only detect errors agrees with Table 9
-/// of the standard.
+/// not used to correct errors, only to detect them. The number of error correction codewords that only detect errors
+/// agrees with Table 9 of the standard.
 pub fn tolerances_compute()
     ensures one { tolerance_of 1 Level.L ≡ 2 × tolerance_of 1 Level.M ≡ 4 }
     ensures one_more { tolerance_of 1 Level.Q ≡ 6 × tolerance_of 1 Level.H ≡ 8 }
@@ -107,8 +107,8 @@ pub fn wrong_modules_are_one()
         → HasWrongModulesWithout unknown g v l m x a → HasWrongModulesWithout unknown g w k n y b → a ≡ b }
 {}
 
-/// If a square of modules is a damaged form of a symbol and has no wrong module, the square is equal to this symbol.
-/// Conversely, a square that is equal to the symbol has no wrong module.
+/// If no module of a damaged symbol is wrong, its square of modules is equal to the square of the undamaged symbol.
+/// Conversely, if the two squares of the damaged and the undamaged symbol are equal, no module is wrong.
 pub fn sound_squares_are_symbols()
     ensures { (g : Grid) (v : ℕ) (l : Level) (mask : ℕ) (changed : List ℕ) (wrong : ℕ)
         → IsSquare g.side g → (w : HasWrongModules g v l mask changed wrong)
@@ -124,7 +124,8 @@ pub fn readings_are_mended_readings()
 
 /// The result of mending a symbol contains a list with the number of changed codewords of each block. The list of the
 /// numbers of changed codewords has at least one item. No block has more changed codewords than can be corrected in a
-/// block. For every version and level, the number of codewords that can be corrected is at least 2 and at most 15.
+/// block. For every version and level, the number of codewords that can be corrected in a block is at least 2 and at
+/// most 15.
 pub fn changes_are_bounded()
     ensures some { (unknown : Option Grid) (g : Grid) (v : ℕ) (l : Level) (m : ℕ) (p : Content) (x : List ℕ)
         → IsMendedReadingWithout unknown g v l m p x → 1 ≤ length x }
@@ -175,19 +176,19 @@ pub fn mendings_without_are_refused_exactly(
 
 /// Two symbols of the same version differ in many modules or codewords if their data codewords or their levels are
 /// different. Either the two symbols differ in at least seven modules of each copy of the format information, or they
-/// differ in many codewords of some block. The number of codewords of this block that differ is more than twice the
-/// number of codewords that can be corrected in a block.
+/// differ in many codewords of some block. 'Many codewords' means more than twice as many as can be corrected in a
+/// block.
 pub fn symbols_lie_apart(version: Version)
     ensures { SymbolsLieApart version }
 {}
 
 /// If the symbol of an input is damaged, mending the symbol yields exactly this input, or memory is refused. `damaged`
-/// may be any square of modules with as many rows as the symbol, under two conditions. The first condition is that in
-/// each block at most `changed_max` codewords are wrong. The second condition is that at most three modules of the
-/// first copy of the format information are wrong. If the symbol cannot be mended with the first copy of the format
-/// information, it is enough that at most three modules of the second copy are wrong. The modules of the function
-/// patterns, the version information and the remainder bits may have any colour. The result contains the exact numbers
-/// of changed codewords and of wrong modules.
+/// may be any square of modules with as many rows as the symbol, under two conditions. The first condition is that no
+/// block has more wrong codewords than the function `changed_max` returns. The second condition is that at most three
+/// modules of the first copy of the format information are wrong. If the symbol cannot be mended with the first copy of
+/// the format information, it is enough that at most three modules of the second copy are wrong. The modules of the
+/// function patterns, the version information and the remainder bits may have any colour. The result contains the exact
+/// numbers of changed codewords and of wrong modules.
 pub fn damaged_symbols_are_mended(alloc: Global, damaged: &Matrix) -> Result<Mended, ReadFault>
     ensures { (smallest : ℕ) (l : Level) (rule : Rule) (x : List ℕ) (v mask : ℕ) (g : Grid) (changed : List ℕ)
         → 1 ≤ smallest → (s : IsSymbol smallest l rule x v mask g) → damaged.now.side ≡ g.side
@@ -205,10 +206,10 @@ pub fn damaged_symbols_are_mended(alloc: Global, damaged: &Matrix) -> Result<Men
 /// input, or memory is refused. A module that could not be read is dark in the square `unknown`, and its codeword is
 /// called erased. `damaged` may be any square of modules with as many rows as the symbol, under two conditions. The
 /// first condition is that in each block the number of erased codewords, plus twice the number of misread codewords, is
-/// at most twice `changed_max`. The second condition is that in `damaged` at most three modules of the first copy of
-/// the format information have a wrong colour. If the symbol cannot be mended with the first copy, it is enough that at
-/// most three modules of the second copy have a wrong colour in `damaged`. The result contains the exact numbers of
-/// misread codewords and of wrong modules.
+/// at most twice the result of `changed_max`. The second condition is that in `damaged` at most three modules of the
+/// first copy of the format information have a wrong colour. If the symbol cannot be mended with the first copy of the
+/// format information, it is enough that at most three modules of the second copy have a wrong colour in `damaged`. The
+/// result contains the exact numbers of misread codewords and of wrong modules.
 pub fn damaged_symbols_without_modules_are_mended(
     alloc: Global,
     damaged: &Matrix,
@@ -230,10 +231,11 @@ pub fn damaged_symbols_without_modules_are_mended(
 }
 
 /// If few modules of the symbol of an input are wrong, mending the symbol yields exactly this input, or memory is
-/// refused. In each block at most `changed_max` modules may be wrong. The function `changed_max` returns the number of
-/// codewords that can be corrected in a block. In the first copy of the format information at most three modules may be
-/// wrong. The modules of the function patterns, the second copy of the format information, the version information and
-/// the remainder bits may have any colour.
+/// refused. The law has two conditions. The first condition is that no block has more wrong modules than the function
+/// `changed_max` returns. The second condition is that at most three modules of the first copy of the format
+/// information are wrong. The function `changed_max` returns the number of codewords that can be corrected in a block.
+/// The modules of the function patterns, the second copy of the format information, the version information and the
+/// remainder bits may have any colour.
 pub fn few_wrong_modules_are_mended(alloc: Global, damaged: &Matrix) -> Result<Mended, ReadFault>
     ensures { (smallest : ℕ) (l : Level) (rule : Rule) (x : List ℕ) (v mask : ℕ) (g : Grid) → 1 ≤ smallest
         → (s : IsSymbol smallest l rule x v mask g) → damaged.now.side ≡ g.side → DifferInFewModules v l damaged.now g
@@ -259,7 +261,7 @@ pub fn series_mendings_are_refused_exactly(
 }
 
 /// If the symbols of a series for an input are damaged, mending the symbols yields exactly this input, or memory is
-/// refused. The law holds if each symbol has no more damage than can be mended. The law also holds for symbols that
+/// refused. The law holds if each symbol has no more damage than can be mended. The law holds even for symbols that
 /// another encoder made. Mending symbols of another encoder yields the bytes that result from reading and joining the
 /// undamaged symbols.
 pub fn damaged_series_are_mended(alloc: Global, damaged: &[Matrix]) -> Result<Vec<u8>, ReadFault>

@@ -1,8 +1,8 @@
 //! Mends damaged QR Code symbols: reads them and corrects their wrong codewords (ISO/IEC 18004:2015, 7.5.1, 7.9.1 and
 //! 12, Annexes B and C). A symbol contains two copies of its format information. To find the level and the mask of a
-//! symbol, a copy in the symbol is compared with the format information of each level and mask. A level and a mask are
-//! found if their format information differs from the copy in at most three modules. A block can be mended if the
-//! number of its wrong codewords is at most the number that the standard allows.
+//! symbol, one copy of its format information is compared with the format information of each level and mask. A level
+//! and a mask are found if their format information differs from the compared copy in at most three modules. A block
+//! can be mended if the number of its wrong codewords is at most the number that the standard allows.
 #![tactic(auto)]
 
 mod block;

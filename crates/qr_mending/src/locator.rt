@@ -1,8 +1,9 @@
 //! Finds the error locator polynomial of a damaged block by Gaussian elimination. The error locator polynomial has a
-//! root for each wrong codeword of the block. The elimination begins with a list of powers of x. The number of powers
-//! in the list is one more than the number of equations. For each equation, at most one polynomial is removed from the
-//! list, and the polynomials after it are changed. After the step for an equation, all polynomials in the list solve
-//! this equation.
+//! root for each wrong codeword of the block. A polynomial solves an equation if the sum of the products of its
+//! coefficients and certain syndromes is 0. The elimination begins with a list of powers of x. The number of powers in
+//! the list is one more than the number of equations. For each equation, at most one polynomial is removed from the
+//! list, and the polynomials after the removed one are changed. After the step for an equation, all polynomials in the
+//! list solve this equation.
 
 ghost use Rattle.std.specs.Prelude.{◌≡◌, ◌≢◌, ℕ, ◌+◌, ◌*◌, ◌<◌, ◌≤◌, List, length, drop};
 ghost use Rattle.qr_mending.specs.Steps.Polynomial.{at, all_of, miss_of, IsMonic, IsRelieved, HasDegrees, IsPool};
@@ -43,8 +44,8 @@ fn first_miss(pool: &[Polynomial], window: &[u8], t: usize) -> usize
 }
 
 // Changes the polynomials in `pool` from index `first` on so that they solve the equation of `window`. A polynomial
-// solves the equation of `window` if its method `miss` returns 0 for `window`. To change a polynomial, a multiple of
-// the polynomial `pivot` is added to it. The polynomial `pivot` does not solve the equation of `window`.
+// solves the equation of `window` if its method `miss` returns 0 for `window`. Each change adds a multiple of the
+// polynomial `pivot` to a polynomial of `pool`. The polynomial `pivot` does not solve the equation of `window`.
 fn relieve(pool: &mut [Polynomial], first: usize, pivot: &Polynomial, window: &[u8], t: usize)
     requires degrees { HasDegrees t pool.old }
     requires small { t ≤ 15 }

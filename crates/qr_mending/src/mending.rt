@@ -94,8 +94,8 @@ pub(crate) fn mend_by_either(
     }
 }
 
-// Mends the symbol in `matrix`. All modules of the symbol were read. Returns `None` if the symbol can be mended with
-// neither copy of its format information.
+// Mends the symbol in `matrix`. Every module of the symbol counts as read. Returns `None` if the symbol can be mended
+// with neither copy of its format information.
 fn mend_square(
     alloc: Global,
     version: Version,
@@ -154,13 +154,14 @@ pub struct Mended {
 }
 
 /// Reads a damaged symbol and corrects its wrong codewords (ISO/IEC 18004:2015, 7.5.1, 7.9.1 and 12). The version
-/// follows from the number of rows of `matrix`. The level and the mask are found by means of the copy of the format
-/// information beside the top left finder pattern. The format information of the level and mask that are found differs
-/// from the copy that is used in at most three modules. If no level and mask are found, or if some block cannot be
-/// mended, the second copy of the format information is used in the same way. In each block up to `changed_max` wrong
-/// codewords are corrected. The function patterns, the version information and the remainder bits have no effect on the
-/// content that is read. Wrong modules of the function patterns, the version information and the remainder bits are
-/// counted in `Mended::wrong_modules`.
+/// follows from the number of rows of `matrix`. The level and the mask are found by means of the first copy of the
+/// format information, which is beside the top left finder pattern. The copy of the format information that is used
+/// differs in at most three modules from the format information of the level and mask that are found. If no level and
+/// mask are found with the first copy, or if some block cannot be mended, the second copy of the format information is
+/// used. The function `changed_max` returns the largest number of wrong codewords that are corrected in a block. The
+/// function patterns, the version information and the remainder bits have no effect on the content that is read. Wrong
+/// modules of the function patterns, the version information and the remainder bits are counted in
+/// `Mended::wrong_modules`.
 ///
 /// # Errors
 ///

@@ -68,9 +68,9 @@ pub(crate) struct MendedMessage {
     pub changed: Vec<usize>,
 }
 
-// Mends all blocks of a symbol. In each block at most `t` codewords may be wrong. `codewords` contains the data
-// codewords that were read, and `checks` contains the error correction codewords that were read. In `codewords` and in
-// `checks`, the codewords of one block follow those of the previous block.
+// Mends all blocks of a symbol. A block can be mended if at most `t` of its codewords are wrong. `codewords` contains
+// the data codewords that were read, and `checks` contains the error correction codewords that were read. In
+// `codewords` and in `checks`, the blocks come one after the other.
 fn mend_parts(
     alloc: Global,
     blocks: Blocks,
@@ -111,8 +111,8 @@ fn mend_parts(
 }
 
 // Returns the mended message of a damaged symbol. The message is the data codewords in the order of the blocks.
-// `codewords` contains the interleaved codewords that were read from the symbol. At most `t` codewords of each block
-// may be wrong.
+// `codewords` contains the interleaved codewords that were read from the symbol. A block can be mended if at most `t`
+// of its codewords are wrong.
 fn mend_blocks(
     alloc: Global,
     blocks: Blocks,
@@ -160,9 +160,9 @@ pub(crate) fn spare(version: Version, level: Level) -> u8
 }
 
 /// Returns the largest number of wrong codewords that can be corrected in each block of a symbol of this version and
-/// level (ISO/IEC 18004:2015, 7.5.1, Table 9). The returned number is at least 2 and at most 15. In general, the
-/// returned number is half the number of error correction codewords of a block. For some levels of versions 1 to 3, the
-/// returned number is less than half the number of error correction codewords of a block.
+/// level (ISO/IEC 18004:2015, 7.5.1, Table 9). The function `changed_max` returns at least 2 and at most 15. In
+/// general, `changed_max` returns half the number of error correction codewords of a block. For some levels of versions
+/// 1 to 3, `changed_max` returns less than half the number of error correction codewords of a block.
 pub fn changed_max(version: Version, level: Level) -> u8
     ensures { result ≡ tolerance_of version level }
 {

@@ -11,7 +11,7 @@ use qr_field::{div, mul};
 
 // A polynomial over the field of 256 elements. The items of `terms` at the indices 0 to `degree`, both included, are
 // the coefficients; the coefficient of the lowest power of x comes first. The coefficient at index `degree` is 1,
-// except in the default value. The items of `terms` after index `degree` are not used.
+// except in the default value of this type, where it is 0. The items of `terms` after index `degree` are not used.
 #[derive(Clone, Copy)]
 pub(crate) struct Polynomial {
     pub(crate) degree: usize,

@@ -35,7 +35,7 @@ fn with_root(polynomial: &[u8], root: u8) -> ArrayVec<u8, 31>
 
 // Returns the product of the polynomial `polynomial` and one factor for each erased codeword of a block. `erased` is
 // true at the index of each erased codeword. The factor of an erased codeword is x + 2^m, where m is the number of
-// codewords after it in the block.
+// codewords after this codeword in the block.
 pub(crate) fn with_roots(erased: &[bool], polynomial: &[u8]) -> ArrayVec<u8, 31>
     requires small { length erased.now ≤ 255 }
     requires fits { length polynomial.now + count_by (λ e. e) erased.now ≤ 31 }

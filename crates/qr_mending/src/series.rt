@@ -26,15 +26,16 @@ fn mend_all(alloc: Global, damaged: &[Matrix]) -> Result<Vec<Parsed>, ReadFault>
 /// Reads damaged symbols, corrects their wrong codewords, and joins the bytes of the symbols in their order
 /// (ISO/IEC 18004:2015, 8 and 12). The bytes are joined only if `damaged` contains one symbol without a structured
 /// append header, or all symbols of a series in their order. In a series, the structured append header of each symbol
-/// contains three numbers. The first number in a header is the position of the header's symbol, counted from 0. The
-/// second number in each header is the number of symbols, less 1. The third number in each header is the parity data of
-/// all bytes of the series.
+/// contains three numbers. The first number in a structured append header is the position of its symbol, counted from
+/// 0. The second number in each structured append header is the number of symbols, less 1. The third number in each
+/// structured append header is the parity data of all bytes of the series.
 ///
 /// # Errors
 ///
-/// If some symbol cannot be mended, returns the fault of the first such symbol, whatever the headers of the symbols
-/// contain. Returns `Series` if all symbols are mended, but are neither one symbol without a header nor a whole series.
-/// If `damaged` is empty, returns `Series`. If memory is refused, returns `Memory`.
+/// If some symbols cannot be mended, returns the fault of the first of these symbols, whatever the headers of the
+/// symbols contain. Returns `Series` if all symbols are mended, but are neither one symbol without a structured append
+/// header nor a whole series. If `damaged` contains no symbol, returns `Series`. If memory is refused, returns
+/// `Memory`.
 ///
 /// # Notes
 ///

@@ -24,7 +24,7 @@ use std::alloc::{AllocError, Global};
 
 // Returns a mark for each codeword of a symbol. The mark of a codeword is a byte with one bit for each of the eight
 // modules of the codeword. The bit of a module is 1 if the module is dark in the square `unknown`, which means that the
-// module was not read. So the mark of a codeword is 0 if all its modules were read, and only then.
+// module was not read. So the mark of a codeword is 0 exactly if all its modules were read.
 pub(crate) fn read_marks(
     alloc: Global,
     version: Version,
@@ -138,9 +138,9 @@ fn mend_block(
     })
 }
 
-// Mends all blocks of a symbol. In each block at most `spare` error correction codewords may be needed to correct the
-// damage. `received` contains the codewords that were read, and `marks` contains the marks of these codewords. A
-// codeword is erased if its mark is not 0.
+// Mends all blocks of a symbol. A block can be mended if at most `spare` error correction codewords are needed to
+// correct its damage. `received` contains the codewords that were read, and `marks` contains the marks of these
+// codewords. A codeword is erased if its mark is not 0.
 fn mend_parts(
     alloc: Global,
     blocks: Blocks,

@@ -101,11 +101,12 @@ fn count_wrong_modules_without(
 /// Reads a damaged symbol in which some modules could not be read, and corrects its wrong codewords
 /// (ISO/IEC 18004:2015, 7.5.1, 7.9.1 and 12). The square `unknown` has as many rows as `matrix`. The modules that could
 /// not be read are dark in the square `unknown`. A codeword with a module that could not be read is called erased. To
-/// correct an erased codeword, half as much error correction is needed as to correct a misread codeword. In each block,
-/// the number of erased codewords plus twice the number of misread codewords may be at most twice `changed_max`. The
-/// number `changed_max` is the number of misread codewords that can be corrected in a block that has no erased
-/// codeword. The level and the mask are found as `mend_symbol` finds them. To find the level and the mask, every module
-/// of the format information is used with its colour in `matrix`, even if the module could not be read.
+/// correct an erased codeword, one error correction codeword is needed; to correct a misread codeword, two are needed.
+/// A block can be mended if the number of erased codewords plus twice the number of misread codewords is at most twice
+/// the result of `changed_max`. The function `changed_max` returns the number of misread codewords that can be
+/// corrected in a block without erased codewords. The level and the mask are found as the function `mend_symbol` finds
+/// them. To find the level and the mask, every module of the format information is used with its colour in `matrix`,
+/// even if the module could not be read.
 ///
 /// The field `Mended::changed` counts only the misread codewords. A module that could not be read counts as a wrong
 /// module, whatever colour it has in `matrix`. Apart from the treatment of modules that could not be read,
@@ -113,8 +114,8 @@ fn count_wrong_modules_without(
 ///
 /// # Errors
 ///
-/// Returns the same faults as `mend_symbol`. Returns `Check` if some block has more erased and misread codewords than
-/// can be corrected, whichever copy of the format information is used.
+/// The function `mend_symbol_without` returns the same faults as `mend_symbol`. Returns `Check` if some block has more
+/// erased and misread codewords than can be corrected, whichever copy of the format information is used.
 pub fn mend_symbol_without(
     alloc: Global,
     matrix: &Matrix,

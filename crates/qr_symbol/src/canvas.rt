@@ -1,7 +1,7 @@
-//! Draws symbols on a canvas, which is two squares of modules that all symbols of a series share (ISO/IEC 18004:2015,
-//! 7.7 and 7.8). The function patterns and the version information are drawn once for all symbols of the series. The
-//! codewords are drawn once for each symbol. The mask pattern and the format information are drawn for each mask
-//! pattern that is tried, and again for the best mask pattern.
+//! Draws symbols on a canvas (ISO/IEC 18004:2015, 7.7 and 7.8). A canvas consists of two squares of modules that all
+//! symbols of a series share. The function patterns and the version information are drawn once for all symbols of the
+//! series. The codewords are drawn once for each symbol. The mask pattern and the format information are drawn for each
+//! mask pattern that is tried, and again for the best mask pattern.
 
 ghost use Rattle.std.specs.Prelude.{◌≡◌, ◌<◌, IfOk};
 ghost use Rattle.qr_layout.specs.Version.{side_of};
@@ -58,9 +58,9 @@ impl Canvas {
 
     // Draws the codewords into the square `plain`, over the codewords of the previous symbol. First the squares `plain`
     // and `across` are swapped. The codewords are drawn into `across` in transposed form, which means that rows and
-    // columns are exchanged. The modules outside the encoding region are the same in the transposed form. At the end,
-    // the transposed form of `across` replaces all colours of `plain`. After the call, `across` contains the transposed
-    // form of `plain`.
+    // columns are exchanged. The modules outside the encoding region do not change when rows and columns are exchanged.
+    // At the end, the transposed form of `across` replaces all colours of `plain`. After the call, `across` contains
+    // the transposed form of `plain`.
     #[inline(never)]
     pub(crate) fn draw_data(&mut self, across: &mut Matrix, codewords: &[u8])
         requires { IsSquare (side_of self.old.version) across.old }

@@ -1,4 +1,4 @@
-//! Draws the bits of the codewords into the encoding region, in the order of `qr_layout::walk`
+//! Draws the bits of the codewords into the encoding region, in the order of the function `qr_layout::walk`
 //! (ISO/IEC 18004:2015, 7.7.2 and 7.7.3). The function `draw_codewords` draws strip by strip, where a strip is two
 //! neighbouring columns that are filled together. The function `draw_along_walk` draws module by module.
 
@@ -148,8 +148,8 @@ struct Columns {
     left: BitRow,
 }
 
-// Returns the two columns of a strip, which are filled together; `right` is the index of the right column. The square
-// of modules `across` is transposed: its rows are the columns of the symbol.
+// Returns the right and the left column of a strip (two columns that are filled together). `right` is the index of the
+// right column. The square of modules `across` is transposed: its rows are the columns of the symbol.
 fn columns_of(across: &Matrix, right: u8) -> Columns
     requires left_in { 1 ≤ right }
     requires right_in { right < across.now.side }
@@ -316,7 +316,7 @@ fn draw_columns(
 
 // Draws the bits of the codewords, from bit `first` on, in a strip (two columns that are filled together). Each module
 // of the strip that is in the encoding region gets the next bit. Returns the number of the next bit to be drawn. The
-// code contains two calls of `draw_columns`, so that the compiler compiles this function once for each direction in
+// code contains two calls of `draw_columns`, so that the compiler compiles `draw_columns` once for each direction in
 // which a strip is filled.
 fn draw_strip(
     across: &mut Matrix,
@@ -358,7 +358,7 @@ fn draw_strip(
 // Draws the codeword bits in the modules of the encoding region, strip by strip; a strip is two neighbouring columns
 // that are filled together. The square `across` is transposed, which means that rows and columns are exchanged. In the
 // transposed square `across`, the two columns of a strip are two rows. The two columns of a strip are also two rows of
-// `region`, since the encoding region is the same when rows and columns are exchanged.
+// `region`, since the encoding region does not change when rows and columns are exchanged.
 pub(crate) fn draw_codewords(across: &mut Matrix, v: Version, region: &Matrix, codewords: &[u8])
     requires square { IsSquare (side_of v) across.old }
     requires region { region.now ≡ region_grid v }
@@ -382,8 +382,8 @@ fn bit_at(codewords: &[u8], number: usize) -> bool
 }
 
 // Draws the codeword bits under the mask pattern `mask` in the modules of the encoding region, one module after the
-// other in the order of `walk`. The remainder bits are 0 before the mask pattern is applied. The mask pattern is
-// applied to the codeword bits and to the remainder bits.
+// other in the order of the function `walk`. The remainder bits are 0 before the mask pattern is applied. The mask
+// pattern is applied to the codeword bits and to the remainder bits.
 pub(crate) fn draw_along_walk(matrix: &mut Matrix, v: Version, codewords: &[u8], mask: u8)
     requires { IsSquare (side_of v) matrix.old }
     ensures { matrix.new ≡ square (side_of v) (walked_colour v codewords.now mask (colour matrix.old)) }

@@ -26,13 +26,13 @@ use std::alloc::Global;
 pub(crate) const SYMBOL_BYTES_MAX: usize = 7089;
 
 /// Encodes the input as one symbol (ISO/IEC 18004:2015, 7.1). The symbol has the least version, from `smallest` on,
-/// that the input fits. `rule` determines which modes the segments may have. The input is cut into the segments that
-/// need the fewest bits in these modes. The symbol contains the codewords that the standard requires for the segments
-/// of the input, and has the mask pattern with the least penalty. If several mask patterns have the least penalty, the
-/// one with the smallest number is chosen.
+/// that the input fits. `rule` determines which modes the segments may have. The input is cut into the segments of
+/// allowed modes that need the fewest bits. The symbol contains the codewords that the standard requires for the
+/// segments of the input, and has the mask pattern with the least penalty. If several mask patterns have the least
+/// penalty, the one with the smallest number is chosen.
 ///
 /// If the modules of the symbol are read in the standard's order, unmasked, deinterleaved and parsed, the result is
-/// exactly the input. The segments that are read are the segments with which the symbol was made.
+/// exactly the input. Reading the symbol yields exactly the segments with which the symbol was made.
 ///
 /// # Errors
 ///

@@ -164,8 +164,8 @@ fn interleave_blocks(alloc: Global, blocks: Blocks, message: &[u8]) -> Result<Ve
 }
 
 /// Returns the final sequence of codewords for the data codewords `message` (ISO/IEC 18004:2015, 7.5.2 and 7.6). The
-/// sequence begins with the data codewords: the first data codeword of each block, then the second data codeword of
-/// each block, and so on. After the data codewords come the error correction codewords: the first one of each block,
+/// final sequence begins with the data codewords: the first data codeword of each block, then the second data codeword
+/// of each block, and so on. After the data codewords come the error correction codewords: the first one of each block,
 /// then the second one of each block, and so on.
 pub fn interleave(
     alloc: Global,

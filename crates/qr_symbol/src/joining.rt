@@ -81,11 +81,12 @@ fn are_in_series(contents: &[Parsed], parity: u8) -> bool
     true
 }
 
-/// Joins the bytes of the contents of symbols, in the order of `contents` (ISO/IEC 18004:2015, 8). The bytes are joined
-/// only if `contents` is one content without a structured append header, or the contents of a whole series. In a whole
-/// series, the structured append header of each content contains three numbers. The first number in a header is the
-/// position of the header's content, counted from 0. The second number in each header is the number of symbols, less 1.
-/// The third number in each header is the parity data of the bytes of all contents.
+/// Joins the bytes of the contents of symbols, in the order of `contents` (ISO/IEC 18004:2015, 8). A content is the
+/// result of reading one symbol. The bytes are joined only if `contents` is one content without a structured append
+/// header, or the contents of a whole series. In a whole series, the structured append header of each content contains
+/// three numbers. The first number in a structured append header is the position of its content, counted from 0. The
+/// second number in each structured append header is the number of symbols, less 1. The third number in each structured
+/// append header is the parity data of the bytes of all contents.
 ///
 /// # Errors
 ///
@@ -107,17 +108,17 @@ pub fn join(alloc: Global, contents: &[Parsed]) -> Result<Vec<u8>, ReadFault>
 
 /// Reads the symbols and joins their bytes, in the order of `symbols` (ISO/IEC 18004:2015, 8). The bytes are joined
 /// only if `symbols` is one symbol without a structured append header, or the symbols of a whole series. In a whole
-/// series, the structured append header of each symbol contains three numbers. The first number in a header is the
-/// position of the header's symbol, counted from 0. The second number in each header is the number of symbols, less 1.
-/// The third number in each header is the parity data of the bytes of all symbols. Only the field `matrix` of each
-/// symbol is used; all its other fields are ignored.
+/// series, the structured append header of each symbol contains three numbers. The first number in a structured append
+/// header is the position of its symbol, counted from 0. The second number in each structured append header is the
+/// number of symbols, less 1. The third number in each structured append header is the parity data of the bytes of all
+/// symbols. Only the field `matrix` of each symbol is used; the fields `version`, `level` and `mask` are ignored.
 ///
 /// # Errors
 ///
-/// If some symbol cannot be read, returns the fault of the first such symbol. The structured append headers are checked
-/// only if all symbols can be read. Returns `Series` if all symbols can be read, but are neither one symbol without a
-/// structured append header nor a whole series. If there is no symbol, `Series` is returned. Returns `Memory` if an
-/// allocation is refused.
+/// If some symbols cannot be read, returns the fault of the first of these symbols. The structured append headers are
+/// checked only if all symbols can be read. Returns `Series` if all symbols can be read, but are neither one symbol
+/// without a structured append header nor a whole series. If there is no symbol, `Series` is returned. Returns `Memory`
+/// if an allocation is refused.
 pub fn read_series(alloc: Global, symbols: &[Symbol]) -> Result<Vec<u8>, ReadFault>
     ensures { MatchResult result
         (λ bytes. IsJoined (squares_of symbols.now) bytes.items)

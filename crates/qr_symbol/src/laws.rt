@@ -100,8 +100,7 @@ pub fn interleaving_is_one(version: Version, level: Level)
 {}
 
 /// If two squares of modules of the same version and level contain different data codewords, they differ in many
-/// codewords of some block. The number of codewords of this block that differ is greater than the number of error
-/// correction codewords of the block.
+/// codewords of some block. 'Many codewords' means more codewords than the block has error correction codewords.
 pub fn messages_lie_apart(version: Version, level: Level)
     ensures { MessagesLieApart version level }
 {}
@@ -114,8 +113,8 @@ pub fn damaged_messages_are_one(version: Version, level: Level)
     ensures { DamagedMessagesAreOne version level }
 {}
 
-/// If codewords are drawn as a square of modules, and the codeword bits of this square are then read, the result is the
-/// bits of the codewords that were drawn.
+/// If codewords are drawn as a square of modules, reading the codeword bits of this square yields the bits of the
+/// codewords that were drawn.
 pub fn squares_give_their_bits(version: Version)
     ensures { (l : Level) (mask : ℕ) (cw : List ℕ) (ms : List Module) → IsOrder version ms
         → length cw ≡ total_codewords_of version

@@ -103,8 +103,8 @@ fn draw_format_bits(matrix: &mut Matrix, v: Version, format: u32, first: u8, end
 }
 
 // Draws both copies of the format information over a symbol. The bits of the number `format` are the format
-// information. The bits are drawn in three parts. In the first part and in the last part, all places of a copy are in
-// one row or in one column, so the compiled code finds these places without tests.
+// information. The bits are drawn in three parts. In the first part and in the last part, the bits of each copy are in
+// one row or in one column. So the compiled code finds the places of these bits without tests.
 pub(crate) fn draw_format(matrix: &mut Matrix, v: Version, format: u32)
     requires { IsSquare (side_of v) matrix.old }
     ensures { matrix.new ≡ square (side_of v) (λ r c. format_or format (role_of v r c) (colour matrix.old r c)) }
@@ -115,8 +115,8 @@ pub(crate) fn draw_format(matrix: &mut Matrix, v: Version, format: u32)
 }
 
 // Draws the three corners of a symbol: the finder patterns, their separators, and the modules of row 8 and column 8
-// that are beside the finder patterns. Of the modules of row 8 and column 8 that are drawn, two belong to the timing
-// patterns, one is the dark module, and all others contain the format information.
+// that are beside the finder patterns. Two of the drawn modules of row 8 and column 8 belong to the timing patterns,
+// and one is the dark module. All other drawn modules of row 8 and column 8 contain the format information.
 fn paint_corners(matrix: &mut Matrix, v: Version, format: u32)
     requires { IsSquare (side_of v) matrix.old }
     ensures { matrix.new ≡ square (side_of v) (λ r c. if list_any (is_in_rectangle r c) (corner_rectangles (side_of v))

@@ -68,8 +68,8 @@ fn format_of(matrix: &Matrix) -> Option<(Level, u8)>
     None
 }
 
-/// Reads the codewords from the modules of the encoding region, in the order of `qr_layout::walk`, and undoes the mask
-/// pattern `mask`. The remainder bits are ignored (ISO/IEC 18004:2015, 7.7.3 and 12).
+/// Reads the codewords from the modules of the encoding region, in the order of the function `qr_layout::walk`, and
+/// undoes the mask pattern `mask`. The remainder bits are ignored (ISO/IEC 18004:2015, 7.7.3 and 12).
 pub fn read_codewords(
     alloc: Global,
     version: Version,

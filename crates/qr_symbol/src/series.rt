@@ -25,9 +25,10 @@ use std::alloc::Global;
 /// Encodes the input as a series of symbols, all of the same version and level (ISO/IEC 18004:2015, 8). If the input
 /// fits one symbol without a structured append header, the series is this one symbol. If the input does not fit one
 /// symbol, it is cut into parts, and each part is encoded as a symbol with a structured append header. Each part is the
-/// longest prefix of the remaining input that fits a symbol together with the header, even if some shorter prefix does
-/// not fit. `rule` determines which modes the segments may have. Without kanji mode, the series is the shortest
-/// possible: the input cannot be cut into fewer parts that fit.
+/// longest prefix of the remaining input that fits a symbol together with a structured append header. The longest
+/// prefix is used even if some shorter prefix does not fit. `rule` determines which modes the segments may have.
+/// Without kanji mode, the series is the shortest possible: the input cannot be cut into fewer parts that each fit a
+/// symbol.
 ///
 /// A series has at most 16 symbols. Each structured append header contains three numbers: the position of its symbol,
 /// the number of symbols less 1, and the parity data of the whole input. If the symbols of the series are read and
@@ -38,7 +39,7 @@ use std::alloc::Global;
 /// Returns `Empty` exactly if the input has no byte. Returns `TooMany` if the input has no series, since it would be
 /// cut into more than 16 parts. Returns `Memory` if an allocation is refused; in this case `TooMany` is not returned.
 /// If kanji mode is not allowed, `TooMany` means that there is no way at all to cut the input into at most 16 parts
-/// that fit.
+/// that each fit a symbol.
 ///
 /// # Notes
 ///
