@@ -1,4 +1,4 @@
--- Defines the drawing of symbols, for each type of drawing.
+-- Defines which bytes are written to draw symbols, for each type of drawing.
 use Rattle.std.specs.Prelude.{◌≡◌, ℕ, List}
 use Rattle.std.specs.List.{All, flat_map}
 use Rattle.qr_matrix.specs.Grid.{Grid}

@@ -28,8 +28,8 @@ unfoldable pub is_charged : ℕ → (ℕ → Bool) → ℕ → Bool
 is_charged s line c = (begins_five s line c || (nat_lt 0 c && begins_five s line (c - 1))) || (nat_lt 1 c && begins_five s line (c - 2))
 
 -- `row_share s dark r` is the number of penalty points that the modules of row `r` add for the runs of one colour in
--- all columns. The symbol has `s` rows and columns, and `dark row col` is the colour of the module in row `row` and
--- column `col`
+-- the columns of a symbol. The symbol has `s` rows and columns, and `dark row col` is the colour of the module in row
+-- `row` and column `col`
 unfoldable pub row_share : ℕ → (ℕ → ℕ → Bool) → ℕ → ℕ
 row_share s dark r = count_below s (λ c. is_charged s (λ i. dark i c) r)
 

@@ -27,7 +27,8 @@ read_fault_number (unread.Segments why) = 5
 read_fault_number unread.Series = 6
 
 -- `unread_for e` is the fault of reading a symbol if parsing its data codewords failed with the fault e. The result is
--- `Memory` if e is lack of memory. If e is another fault, the result is `Segments`, which contains e [own].
+-- `Memory` if e is lack of memory. If e is any fault except lack of memory, the result is `Segments`, which contains e
+-- [own].
 abbrev pub unread_for : ParseFault → ReadFault
 unread_for unparsed.Memory = unread.Memory
 unread_for e = unread.Segments e

@@ -1,5 +1,5 @@
--- This file defines the square of modules that is the same for all symbols of one version. Drawing a symbol begins with
--- this square.
+-- This file defines which colours a square of modules has when the drawing of a symbol begins. This square of modules
+-- is the same for all symbols of one version.
 use Rattle.std.specs.Prelude.{◌≡◌, ℕ, ◌<◌, false}
 use Rattle.qr_layout.specs.Version.{side_of}
 use Rattle.qr_layout.specs.Region.{is_in_region}
