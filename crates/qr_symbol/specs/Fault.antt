@@ -10,8 +10,8 @@ use Rattle.qr_symbol.specs.declared.fault.EncodeFault.TheVariants as fault
 use Rattle.qr_symbol.specs.declared.fault.ReadFault.{ReadFault}
 use Rattle.qr_symbol.specs.declared.fault.ReadFault.TheVariants as unread
 
--- `fault_of e` is a fault of encoding. If writing the bits of an input fails with the fault e, encoding this input
--- fails with the fault `fault_of e`. The crate `qr_bits` defines the faults of writing bits [own].
+-- `fault_of e` is the fault with which encoding an input fails if writing the bits of this input fails with the fault
+-- e. The crate `qr_bits` defines the faults of writing bits [own].
 abbrev pub fault_of : BitFault → EncodeFault
 fault_of bit.Memory = fault.Memory
 fault_of bit.TooLong = fault.TooLong

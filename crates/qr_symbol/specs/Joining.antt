@@ -47,8 +47,8 @@ AreInSeries contents =
     (0 < length contents) × HaveHeaders (length contents - 1) (parity_of (bytes_of_all contents)) 0 contents
 
 -- `BelongTogether contents` holds in two cases. In the first case, there is exactly one content, and this content has
--- no structured append header. In the second case, the list contains the contents of a whole series of symbols, in the
--- order of the series [own].
+-- no structured append header. In the second case, the list `contents` contains the contents of a whole series of
+-- symbols, in the order of the series [own].
 abbrev pub BelongTogether : List Content → Type 0
 BelongTogether contents = IsPlain contents ⊎ AreInSeries contents
 
@@ -79,8 +79,8 @@ pub record IsNoSeries (reads : Grid → Content → Type 0) (squares : List Grid
 
 -- `IsUnjoinedBy reads refuses squares e` holds if reading and joining the squares of modules may fail with the fault e.
 -- The fault is `Series` if all squares are read, but their contents are neither one content without a structured append
--- header nor the contents of a whole series. The fault `Memory` is possible for any squares. Any other fault is
--- possible if some square is refused for this fault, and every earlier square in the list is read [own].
+-- header nor the contents of a whole series. The fault `Memory` is possible for every list of squares. Any other fault
+-- is possible if some square is refused for this fault, and every earlier square in the list is read [own].
 abbrev pub IsUnjoinedBy : (Grid → Content → Type 0) → (Grid → ReadFault → Type 0) → List Grid → ReadFault → Type 0
 IsUnjoinedBy reads refuses squares unread.Memory = Unit {0}
 IsUnjoinedBy reads refuses squares unread.Series = IsNoSeries reads squares

@@ -91,10 +91,10 @@ abbrev pub IsSeries : ℕ → Level → Rule → List ℕ → List Symbol → Ty
 IsSeries v l rule x symbols = IsPlainSymbol v l rule x symbols ⊎ IsSplit v l rule x symbols
 
 -- `HasNoSeries v l rule x` holds if the bytes x have no series of symbols at version v and level l. The bytes do not
--- fit one symbol without a structured append header, and the parts that `AreParts` determines are more than 16.
--- `AreParts` makes each part the longest prefix of the remaining bytes that fits a symbol together with a header. If
--- `rule` does not allow kanji mode, every cut of the bytes into parts that fit symbols with headers has more than 16
--- parts [own].
+-- fit one symbol without a structured append header, and the definition `AreParts` cuts them into more than 16 parts.
+-- The definition `AreParts` makes each part the longest prefix of the remaining bytes that fits a symbol together with
+-- a header. If `rule` does not allow kanji mode, every cut of the bytes into parts that fit symbols with headers has
+-- more than 16 parts [own].
 pub record HasNoSeries (v : ℕ) (l : Level) (rule : Rule) (x : List ℕ) : Type 0 where
   pub too_long : FitsVersion v l rule x → ⊥
   pub too_many : (parts : List (List ℕ)) → AreParts v l rule x parts → 16 < length parts

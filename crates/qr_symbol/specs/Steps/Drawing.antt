@@ -34,9 +34,9 @@ unfoldable pub walked_colour : ℕ → List ℕ → ℕ → (ℕ → ℕ → Boo
 walked_colour v cw mask other r c =
     if is_in_region v r c then inverted (inverts mask r c) (codeword_bit cw (number_of v (record { row = r; col = c }))) else other r c
 
--- `placed_if is_in cw number g row col` is the square of modules g after one drawing step. The step concerns the module
--- in row `row` and column `col`. If `is_in` is true, this module is in the encoding region, and gets the colour of bit
--- `number` of the codewords cw. If `is_in` is false, the module is outside the encoding region, and g is unchanged.
+-- `placed_if is_in cw number g row col` is the square of modules g after the drawing step for the module in row `row`
+-- and column `col`. If `is_in` is true, this module is in the encoding region, and gets the colour of bit `number` of
+-- the codewords cw. If `is_in` is false, the module is outside the encoding region, and g is unchanged.
 abbrev pub placed_if : Bool → List ℕ → ℕ → Grid → ℕ → ℕ → Grid
 placed_if is_in cw number g row col = if is_in then painted g row col (codeword_bit cw number) else g
 
