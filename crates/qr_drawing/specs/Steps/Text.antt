@@ -41,7 +41,8 @@ abbrev pub bits_text : ℕ → TextStyle → ℕ → ℕ → List ℕ
 bits_text n style upper lower = texts_below n (λ k. cell_text style (has_bit upper k) (has_bit lower k))
 
 -- `pair_text pair` consists of two characters, which show four modules: two modules side by side, and the two modules
--- below them. Bits 0 and 1 of `pair` are the upper modules, and bits 2 and 3 are the lower modules
+-- below them. Bits 0 and 1 of `pair` are the colours of the upper modules, and bits 2 and 3 are the colours of the
+-- lower modules
 abbrev pub pair_text : ℕ → List ℕ
 pair_text pair = texts_below 2 (λ k. half_blocks (has_bit pair k) (has_bit pair (2 + k)))
 

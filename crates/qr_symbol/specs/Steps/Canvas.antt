@@ -1,5 +1,5 @@
--- This file defines which colours the modules outside the encoding region have when the drawing of a symbol begins. All
--- symbols of one version begin with the same colours of these modules.
+-- This file defines which colours the modules outside the encoding region have when the drawing of a symbol begins. At
+-- the beginning of the drawing, these modules have the same colours in all symbols of one version.
 use Rattle.std.specs.Prelude.{◌≡◌, ℕ, ◌<◌, false}
 use Rattle.qr_layout.specs.Version.{side_of}
 use Rattle.qr_layout.specs.Region.{is_in_region}
