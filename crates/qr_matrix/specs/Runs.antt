@@ -1,6 +1,6 @@
--- Defines where a run of modules of one colour ends, and where the colour changes. This file also counts the penalty
--- points for runs of one colour, module by module. In these definitions, the parameter `line` is a row or a column of
--- modules: `line c` is the colour of module `c`, and `true` is dark.
+-- Defines where a run of modules of one colour ends, and where the colour changes. This file also defines how to count
+-- the penalty points for runs of one colour module by module. In these definitions, the parameter `line` is a row or a
+-- column of modules: `line c` is the colour of module `c`, and `true` is dark.
 use Rattle.std.specs.Prelude.{◌≡◌, ◌≢◌, ◌+◌, ◌-◌, ◌*◌, ◌<◌, ◌≤◌, ◌&&◌, not, ℕ, Bool, nat_lt}
 use Rattle.qr_matrix.specs.Grid.{Grid, colour}
 use Rattle.qr_matrix.specs.Penalty.{is_same, count_below}
@@ -38,7 +38,7 @@ begins_long_run s line c = begins_five s line c && not (nat_lt 0 c && joins s li
 
 -- `place_cost s line` is the number of penalty points for the runs of one colour in `line`, a row or column of `s`
 -- modules. The points are counted module by module. The first module of a run of at least five modules costs 3 points.
--- Any other module costs 1 point if this module and the four modules after it have one colour. So a run of `5 + i`
--- modules costs `3 + i` points [own]
+-- A module that is not the first module of its run costs 1 point if this module and the four modules after it have one
+-- colour. So a run of `5 + i` modules costs `3 + i` points [own]
 unfoldable pub place_cost : ℕ → (ℕ → Bool) → ℕ
 place_cost s line = count_below s (begins_five s line) + 2 * count_below s (begins_long_run s line)

@@ -17,7 +17,7 @@ fault_of bit.Memory = fault.Memory
 fault_of bit.TooLong = fault.TooLong
 
 -- `read_fault_number e` is the number of the fault e, which is a fault of reading symbols. The numbers go from 1 to 6.
--- The library for C uses other numbers for the faults of reading symbols [own].
+-- The library for C numbers the faults of reading symbols differently [own].
 abbrev pub read_fault_number : ReadFault → ℕ
 read_fault_number unread.Memory = 1
 read_fault_number unread.Side = 2

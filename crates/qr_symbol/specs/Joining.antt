@@ -31,8 +31,9 @@ abbrev pub IsPlain : List Content → Type 0
 IsPlain contents = (c : Content) × (contents ≡ c ∷ []) × (c.header ≡ None)
 
 -- `HaveHeaders last parity k contents` holds if each content has a structured append header with the content's
--- position, the number `last` (in a whole series, the number of symbols less 1) and the parity data `parity`. The first
--- content has position k, and the positions rise by one from content to content (ISO/IEC 18004:2015, 8.1 to 8.3).
+-- position, the number `last` and the parity data `parity`. In a whole series, `last` is the number of symbols less 1.
+-- The first content has position k, and the positions rise by one from content to content
+-- (ISO/IEC 18004:2015, 8.1 to 8.3).
 unfoldable pub HaveHeaders : (last parity k : ℕ) → List Content → Type 0
 HaveHeaders last parity k [] = Unit {0}
 HaveHeaders last parity k (c ∷ cs) =
@@ -79,8 +80,9 @@ pub record IsNoSeries (reads : Grid → Content → Type 0) (squares : List Grid
 
 -- `IsUnjoinedBy reads refuses squares e` holds if reading and joining the squares of modules may fail with the fault e.
 -- The fault is `Series` if all squares are read, but their contents are neither one content without a structured append
--- header nor the contents of a whole series. The fault `Memory` is possible for every list of squares. Any other fault
--- is possible if some square is refused for this fault, and every earlier square in the list is read [own].
+-- header nor the contents of a whole series. The fault `Memory` is possible for every list of squares. Any fault except
+-- `Series` and `Memory` is possible if some square is refused for this fault, and every earlier square in the list is
+-- read [own].
 abbrev pub IsUnjoinedBy : (Grid → Content → Type 0) → (Grid → ReadFault → Type 0) → List Grid → ReadFault → Type 0
 IsUnjoinedBy reads refuses squares unread.Memory = Unit {0}
 IsUnjoinedBy reads refuses squares unread.Series = IsNoSeries reads squares

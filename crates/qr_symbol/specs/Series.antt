@@ -51,8 +51,8 @@ pub record IsSymbolOf (v : ℕ) (l : Level) (rule : Rule) (x : List ℕ) (h : Op
 -- `AreSymbolsFrom v l rule last parity k parts symbols` holds if the lists `parts` and `symbols` are equally long, and
 -- the symbol at each index encodes the part at this index. Every symbol has version v and level l, and `rule`
 -- determines which modes the segments may have. Every symbol has a structured append header with the symbol's position,
--- the number `last` (in a whole series, the number of symbols less 1) and the parity data `parity`. The first symbol
--- has position k, and the positions rise by one from symbol to symbol (ISO/IEC 18004:2015, 8.1 to 8.3).
+-- the number `last` and the parity data `parity`. In a whole series, `last` is the number of symbols less 1. The first
+-- symbol has position k, and the positions rise by one from symbol to symbol (ISO/IEC 18004:2015, 8.1 to 8.3).
 unfoldable pub AreSymbolsFrom : ℕ → Level → Rule → (last parity k : ℕ) → List (List ℕ) → List Symbol → Type 0
 AreSymbolsFrom v l rule last parity k [] [] = Unit {0}
 AreSymbolsFrom v l rule last parity k [] (s ∷ ss) = ⊥

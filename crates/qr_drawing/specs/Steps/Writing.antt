@@ -34,8 +34,8 @@ pub record Writes (old new : Writer) (tried tries : ℕ) (text held : List ℕ) 
 
 -- `Stops old new tried text` holds if the writer accepted a prefix of `text`, and then a fault of the writer ended the
 -- writing. The writer changed from `old` to `new`. If the writer had no fault and `tried` interrupted writes when the
--- writing began, its counts show a fault when the writing ended. The counts then show one call with a fault, or 1,000
--- interrupted writes. No write offered more than 1,200 bytes, and there was no flush
+-- writing began, its counts show a fault when the writing ended. The fault that the counts show is one call with a
+-- fault, or 1,000 interrupted writes. No write offered more than 1,200 bytes, and there was no flush
 pub record Stops (old new : Writer) (tried : ℕ) (text : List ℕ) : Type 0 where
   pub prefix : AppendsBeginning old.taken new.taken text
   pub most : old.counts.taken < 2 ^ 64 → new.counts.taken ≤ counted (old.counts.taken + length text)

@@ -23,7 +23,8 @@ paint_of v format r c = fixed_colour format (version_word_of v) (role_of v r c)
 
 -- `symmetric_format` is the format information in which only bit 7 is 1. If this format information is drawn,
 -- exchanging the rows and columns of the symbol changes no module outside the encoding region. The exchange of rows and
--- columns swaps the dark module with a module of bit 7. Since bit 7 is 1, these two modules are both dark.
+-- columns swaps the dark module with a module of bit 7. Since bit 7 is 1, the module of bit 7 is dark like the dark
+-- module.
 abbrev pub symmetric_format : ℕ
 symmetric_format = 128
 
