@@ -1,4 +1,4 @@
--- Defines the drawing of symbols, for each type of drawing.
+-- Defines which bytes are written to draw symbols, for each type of drawing.
 use Rattle.std.specs.Prelude.{◌≡◌, ℕ, List}
 use Rattle.std.specs.List.{All, flat_map}
 use Rattle.qr_matrix.specs.Grid.{Grid}
@@ -12,9 +12,10 @@ use Rattle.qr_drawing.specs.declared.text.TextStyle.TheVariants.{Plain, Inverse,
 abbrev pub HaveOneSide : List Grid → Type 0
 HaveOneSide squares = All (λ g. g.side ≡ (square_at squares 0).side) squares
 
--- `drawn type margin squares` is the drawing of symbols, where `squares` lists their squares of modules. If the type is
--- ASCII, ASCIIi or UTF8, the drawing consists of the texts of the symbols, one after the other. If the type is SVG, the
--- drawing is one SVG document of all symbols [own]
+-- `drawn type margin squares` is the drawing of symbols, where `squares` lists their squares of modules. The number
+-- `margin` is the width of the light margin around each symbol, in modules. If the type is ASCII, ASCIIi or UTF8, the
+-- drawing consists of the texts of the symbols, one after the other. If the type is SVG, the drawing is one SVG
+-- document of all symbols [own]
 abbrev pub drawn : Drawing → ℕ → List Grid → List ℕ
 drawn Ascii margin squares = flat_map (text_drawing Plain margin) squares
 drawn AsciiInverse margin squares = flat_map (text_drawing Inverse margin) squares

@@ -8,8 +8,8 @@ unfoldable pub texts_below : ℕ → (ℕ → List ℕ) → List ℕ
 texts_below n text = flat_map text (range_with_len 0 n)
 
 -- `raster_width margin g` is the width of a raster, which is also the height of the raster. The raster is the square of
--- modules `g` with its light margin. The width is counted in modules: the side of the square, plus the margin on the
--- left and on the right [own]
+-- modules `g` with a light margin of `margin` modules on each side. The width is counted in modules: the side of the
+-- square, plus the margin on the left and on the right [own]
 abbrev pub raster_width : ℕ → Grid → ℕ
 raster_width margin g = 2 * margin + g.side
 

@@ -52,8 +52,8 @@ abbrev pub square_at : List Grid → ℕ → Grid
 square_at squares k = slice_index_or squares k (light 0)
 
 -- `stack_path margin squares` consists of the boxes around all runs of dark modules of the symbols in the list
--- `squares`. The symbols are drawn one below the other. A raster is a square of modules with its margin. The raster
--- with the index `k` begins `k` times its own height below the top of the document [own]
+-- `squares`. The symbols are drawn one below the other. A raster is a square of modules with its margin. Above the
+-- raster with the index `k`, the document has `k` times as many rows as this raster has [own]
 unfoldable pub stack_path : ℕ → List Grid → List ℕ
 stack_path margin squares =
     texts_below (length squares) (λ k. symbol_path (k * raster_width margin (square_at squares k)) margin (square_at squares k))

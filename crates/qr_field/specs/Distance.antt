@@ -29,20 +29,20 @@ erasures [] = 0
 erasures (None ∷ rs) = 1 + erasures rs
 erasures (Some x ∷ rs) = erasures rs
 
--- `errors rs ys` is the number of codewords of the block ys that were misread. The list rs contains what was read. The
--- item of ys at an index was misread if the item of rs at this index is a different codeword. A codeword that could not
--- be read, which is `None` in rs, was not misread. Each index that exists only in the longer of the two lists counts as
--- the index of a misread codeword [own]
+-- `errors rs ys` is the number of codewords of the block ys that were misread. The list rs contains the codewords that
+-- were read. The codeword of ys at an index was misread if rs contains a different codeword at this index. A codeword
+-- that could not be read is `None` in rs, and does not count as misread. Each index that exists only in the longer of
+-- the two lists counts as the index of a misread codeword [own]
 abbrev pub errors : List (Option ℕ) → List ℕ → ℕ
 errors [] ys = length ys
 errors (r ∷ rs) [] = length (r ∷ rs)
 errors (None ∷ rs) (y ∷ ys) = errors rs ys
 errors (Some x ∷ rs) (y ∷ ys) = difference x y + errors rs ys
 
--- `ErasuresAreUnambiguous` holds if what was read of a damaged block always determines the block's data codewords. The
--- block has a known number of data codewords, n error correction codewords, and at most 255 codewords in all. In the
--- damaged block, k codewords could not be read, and at most t codewords were misread. The sum k + 2t is at most n
--- (ISO/IEC 18004:2015, 7.5.1)
+-- `ErasuresAreUnambiguous` holds if the codewords that were read from a damaged block always determine the block's data
+-- codewords. The block has a known number of data codewords, n error correction codewords, and at most 255 codewords in
+-- all. In the damaged block, k codewords could not be read, and at most t codewords were misread. The sum k + 2t is at
+-- most n (ISO/IEC 18004:2015, 7.5.1)
 abbrev pub ErasuresAreUnambiguous : Type 0
 ErasuresAreUnambiguous =
     (n t : ℕ) (d e d' e' : List ℕ) (read : List (Option ℕ)) → IsCorrection d n e → IsCorrection d' n e' →

@@ -12,8 +12,8 @@ carryless zero a b = 0
 carryless (suc w) a b = bit_xor (bit_at b w * (a * 2 ^ w)) (carryless w a b)
 
 -- `IsRemainder n divisor x r` holds if `divisor` is a polynomial of degree n, and dividing x by `divisor` leaves the
--- remainder r. All these numbers are read as polynomials whose coefficients are bits. The remainder r has at most n
--- bits, and the sum of x and r is a multiple of `divisor` (ISO/IEC 18004:2015, 7.5.2)
+-- remainder r. The numbers `divisor`, x and r are read as polynomials whose coefficients are bits. The remainder r has
+-- at most n bits, and the sum of x and r is a multiple of `divisor` (ISO/IEC 18004:2015, 7.5.2)
 pub record IsRemainder (n divisor x r : ℕ) : Type 0 where
   pub degree_least : 2 ^ n ≤ divisor
   pub degree_most : divisor < 2 ^ (n + 1)
@@ -32,8 +32,9 @@ prime_modulus = 0x11D
 abbrev pub IsProduct : ℕ → ℕ → ℕ → Type 0
 IsProduct a b p = IsRemainder 8 prime_modulus (carryless 8 a b) p
 
--- `remainder_of n divisor k x` is the remainder that is left if the number x is divided by `divisor`. The number x has
--- at most n + k bits, and `divisor` is a polynomial of degree n. The remainder is computed by long division in k steps
+-- `remainder_of n divisor k x` is the remainder that is left if the number x is divided by `divisor`, as polynomials
+-- whose coefficients are bits. The number x has at most n + k bits, and `divisor` is a polynomial of degree n. The
+-- remainder is computed by long division in k steps
 unfoldable pub remainder_of : ℕ → ℕ → ℕ → ℕ → ℕ
 remainder_of n divisor zero x = x
 remainder_of n divisor (suc k) x = remainder_of n divisor k (bit_xor x (bit_at x (n + k) * (divisor * 2 ^ k)))

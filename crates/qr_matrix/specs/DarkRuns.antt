@@ -7,10 +7,10 @@ use Rattle.qr_matrix.specs.Runs.{is_change}
 use Rattle.qr_matrix.specs.declared.dark_runs.DarkRuns.{DarkRuns}
 use Rattle.qr_matrix.specs.declared.dark_runs.Run.{Run}
 
--- `AreRunsFrom g row runs` holds if the iterator `runs` still has to return the runs of dark modules in row `row` of
--- the square of modules `g`, from column `runs.col` on. Bit `c` of `runs.changes` is 1 if module `c` of the row has
--- another colour than the module before it. All columns before `runs.col` count as light. The square has at most 177
--- columns, and columns outside the square are light [own]
+-- `AreRunsFrom g row runs` holds if the iterator `runs` still has to return the runs of dark modules of a row from
+-- column `runs.col` on. The row is row `row` of the square of modules `g`. Bit `c` of `runs.changes` is 1 if module `c`
+-- of the row has another colour than the module before it. All columns before `runs.col` count as light. The square has
+-- at most 177 columns, and columns outside the square are light [own]
 pub record AreRunsFrom (g : Grid) (row : ℕ) (runs : DarkRuns) : Type 0 where
   pub few : g.side ≤ 177
   pub past : (c : ℕ) → g.side ≤ c → colour g row c ≡ false

@@ -38,8 +38,8 @@ is_run s line a k =
 unfoldable pub run_cost : ℕ → (ℕ → Bool) → ℕ
 run_cost s line = sum_below s (λ a. sum_below (s + 1) (λ k. if nat_le 5 k && is_run s line a k then k - 2 else 0))
 
--- `reads line c colours` is true if the modules of `line`, a row or column, have the colours of the list `colours` from
--- index `c` on [own]
+-- `reads line c colours` is true if the modules of `line` (a row or column) from index `c` on have the colours in the
+-- list `colours` [own]
 abbrev pub reads : (ℕ → Bool) → ℕ → List Bool → Bool
 reads line c [] = true
 reads line c (b ∷ bs) = is_same (line c) b && reads line (c + 1) bs
@@ -97,9 +97,10 @@ unfoldable pub over_lines : ℕ → (ℕ → ℕ → Bool) → ((ℕ → Bool) �
 over_lines s dark f = sum_below s (λ r. f (dark r)) + sum_below s (λ c. f (λ r. dark r c))
 
 -- `penalty_of s dark` is the penalty of a symbol of `s` rows and columns, where `dark r c` is the colour of the module
--- in row `r` and column `c`. The penalty is the sum of four costs. The runs of one colour have the cost `run_cost`, and
--- the share of dark modules has the cost `dark_cost`. Each square of two by two modules of one colour costs 3 points.
--- Each window costs 40 points. A window is eleven modules: the ratio 1:1:3:1:1 of a finder pattern, with four light
--- modules directly before or after it (ISO/IEC 18004:2015, 7.8.3.1, Table 11)
+-- in row `r` and column `c`. The penalty is the sum of four costs. The function `run_cost` computes the cost of the
+-- runs of one colour, and the function `dark_cost` computes the cost of the share of dark modules. Each square of two
+-- by two modules of one colour costs 3 points. Each window costs 40 points. A window is eleven modules: the ratio
+-- 1:1:3:1:1 of a finder pattern, with four light modules directly before or after it (ISO/IEC 18004:2015, 7.8.3.1,
+-- Table 11)
 unfoldable pub penalty_of : ℕ → (ℕ → ℕ → Bool) → ℕ
 penalty_of s dark = over_lines s dark (run_cost s) + 3 * square_count s dark + 40 * over_lines s dark (window_count s) + dark_cost s (dark_count s dark)

@@ -1,14 +1,14 @@
--- Defines where a run of modules of one colour ends, and where the colour changes. This file also defines the penalty
--- points for runs of one colour, which it counts module by module. In these definitions, the parameter `line` is a row
--- or a column of modules: `line c` is the colour of module `c`, and `true` is dark.
+-- Defines where a run of modules of one colour ends, and where the colour changes. This file also defines how to count
+-- the penalty points for runs of one colour module by module. In these definitions, the parameter `line` is a row or a
+-- column of modules: `line c` is the colour of module `c`, and `true` is dark.
 use Rattle.std.specs.Prelude.{◌≡◌, ◌≢◌, ◌+◌, ◌-◌, ◌*◌, ◌<◌, ◌≤◌, ◌&&◌, not, ℕ, Bool, nat_lt}
 use Rattle.qr_matrix.specs.Grid.{Grid, colour}
 use Rattle.qr_matrix.specs.Penalty.{is_same, count_below}
 
--- `IsRunEnd g row col end` holds if `end` is the first column after a run (neighbouring modules of one colour). The run
--- is in row `row` of the square of modules `g`, and is considered from column `col` on. So `end` is the least column
--- after `col` that has another colour than column `col`. If there is no such column, `end` is the number of columns of
--- the square [own]
+-- `IsRunEnd g row col end` holds if `end` is the first column after the run (neighbouring modules of one colour) that
+-- contains column `col`. The run is in row `row` of the square of modules `g`. In this row, `end` is the least column
+-- after `col` whose module has another colour than the module in column `col`. If the run reaches the right edge, `end`
+-- is the number of columns of the square [own]
 pub record IsRunEnd (g : Grid) (row col end : ℕ) : Type 0 where
   pub after : col < end
   pub within : end ≤ g.side
@@ -16,7 +16,7 @@ pub record IsRunEnd (g : Grid) (row col end : ℕ) : Type 0 where
   pub differs : end < g.side → colour g row end ≢ colour g row col
 
 -- `is_change line c` is true if module `c` of `line`, a row or column, has another colour than the module before it.
--- Before module 0, the colour counts as light [own]
+-- The colour before module 0 counts as light [own]
 unfoldable pub is_change : (ℕ → Bool) → ℕ → Bool
 is_change line c = not (is_same (line c) (nat_lt 0 c && line (c - 1)))
 
@@ -31,14 +31,14 @@ unfoldable pub begins_five : ℕ → (ℕ → Bool) → ℕ → Bool
 begins_five s line c = (joins s line c && joins s line (c + 1)) && (joins s line (c + 2) && joins s line (c + 3))
 
 -- `begins_long_run s line c` is true if a run of five or more modules of one colour begins at index `c` of `line`. The
--- parameter `line` is a row or column of `s` modules. So the run's first module is module `c`: `c` is 0, or the module
--- before module `c` has the other colour [own]
+-- parameter `line` is a row or column of `s` modules. A run begins at module `c` if `c` is 0, or the module before
+-- module `c` has the other colour [own]
 unfoldable pub begins_long_run : ℕ → (ℕ → Bool) → ℕ → Bool
 begins_long_run s line c = begins_five s line c && not (nat_lt 0 c && joins s line (c - 1))
 
 -- `place_cost s line` is the number of penalty points for the runs of one colour in `line`, a row or column of `s`
--- modules. The points are counted module by module. A module costs 1 point if five modules of one colour begin at it.
--- If this module is also the first module of its run, it costs 3 points instead of 1. So a run of `5 + i` modules costs
--- `3 + i` points [own]
+-- modules. The points are counted module by module. The first module of a run of at least five modules costs 3 points.
+-- A module that is not the first module of its run costs 1 point if this module and the four modules after it have one
+-- colour. So a run of `5 + i` modules costs `3 + i` points [own]
 unfoldable pub place_cost : ℕ → (ℕ → Bool) → ℕ
 place_cost s line = count_below s (begins_five s line) + 2 * count_below s (begins_long_run s line)

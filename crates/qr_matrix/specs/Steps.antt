@@ -22,14 +22,15 @@ TakesFirst old (Some p) new =
     (p < 192) × (has old p ≡ true) × ((c : ℕ) → c < p → has old c ≡ false) × ((c : ℕ) → has new c ≡ (has old c && not (c == p)))
 
 -- `is_charged s line c` is true if module `c` of `line`, a row or column of `s` modules, adds a penalty point for a run
--- of one colour. Module `c` adds a point if five modules of one colour begin at module `c` or at one of the two modules
--- before it. So a run of five or more modules adds a point for each of its modules except the last two
+-- of one colour. Module `c` adds a point if module `c`, or one of the two modules before it, is the first of five
+-- neighbouring modules of one colour. So a run of five or more modules adds a point for each of its modules except the
+-- last two
 unfoldable pub is_charged : ℕ → (ℕ → Bool) → ℕ → Bool
 is_charged s line c = (begins_five s line c || (nat_lt 0 c && begins_five s line (c - 1))) || (nat_lt 1 c && begins_five s line (c - 2))
 
 -- `row_share s dark r` is the number of penalty points that the modules of row `r` add for the runs of one colour in
--- all columns. The symbol has `s` rows and columns, and `dark row col` is the colour of the module in row `row` and
--- column `col`
+-- the columns of a symbol. The symbol has `s` rows and columns, and `dark row col` is the colour of the module in row
+-- `row` and column `col`
 unfoldable pub row_share : ℕ → (ℕ → ℕ → Bool) → ℕ → ℕ
 row_share s dark r = count_below s (λ c. is_charged s (λ i. dark i c) r)
 

@@ -29,10 +29,10 @@ MessagesLieApart v l =
     × ((blocks_of v l).ec_len + 1 ≤ differences (held_block v l mask g d m i) (held_block v l mask' g' d' m' i))
 
 -- `DamagedMessagesAreOne v l` holds if the codewords that were read from a damaged symbol of version v and level l
--- belong to at most one message. A message is the list of the data codewords of a symbol. An erased codeword is known
--- to be unreadable, and a misread codeword was read with a wrong value. The law is only about symbols with limited
--- damage. In each block, the number of erased codewords, plus twice the number of misread codewords, is at most the
--- number of error correction codewords (ISO/IEC 18004:2015, 7.5.1).
+-- belong to at most one message. A message is the list of the data codewords of a symbol. An erased codeword could not
+-- be read, and a misread codeword was read with a wrong value. The law assumes limited damage: in each block, the
+-- number of erased codewords, plus twice the number of misread codewords, is at most the number of error correction
+-- codewords (ISO/IEC 18004:2015, 7.5.1).
 abbrev pub DamagedMessagesAreOne : ℕ → Level → Type 0
 DamagedMessagesAreOne v l =
     (mask mask' : ℕ) (g g' : Grid) (d d' : List ℕ) → (m : IsMessage v l mask g d) → (m' : IsMessage v l mask' g' d')

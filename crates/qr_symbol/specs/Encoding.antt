@@ -12,10 +12,10 @@ use Rattle.qr_symbol.specs.Interleaving.{IsInterleaved}
 use Rattle.qr_symbol.specs.Choice.{IsMask}
 use Rattle.qr_symbol.specs.VersionChoice.{IsVersion}
 
--- `IsSymbolAt v l rule x h mask g` holds if the square of modules g is the symbol that contains the optional structured
--- append header h and then encodes the bytes x. The symbol has version v, level l and the mask pattern `mask`, with
--- which its penalty is least. The bytes x are cut into the segments with the fewest bits, in modes that `rule` allows.
--- The segments are written as data codewords. These data codewords determine the final sequence of codewords, which is
+-- `IsSymbolAt v l rule x h mask g` holds if the square of modules g is the symbol that encodes the bytes x after the
+-- optional structured append header h. The symbol has version v, level l and the mask pattern `mask`, with which its
+-- penalty is least. The bytes x are cut into the segments with the fewest bits, in modes that `rule` allows. The
+-- segments are written as data codewords. These data codewords determine the final sequence of codewords, which is
 -- placed in the encoding region and masked (ISO/IEC 18004:2015, 7.1, 8.1).
 pub record IsSymbolAt (v : ℕ) (l : Level) (rule : Rule) (x : List ℕ) (h : Option Header) (mask : ℕ) (g : Grid) : Type 0 where
   pub segments : List Segment

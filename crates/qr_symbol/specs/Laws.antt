@@ -15,8 +15,8 @@ all_masks = range_with_len 0 8
 abbrev pub first_rows : ℕ → List ℕ
 first_rows mask = map (λ r. value (map (inverts mask r) (range_with_len 0 6))) (range_with_len 0 12)
 
--- `computed_rows` contains the values of `first_rows` for the mask patterns 0 to 7. The values in this list were worked
--- out from Table 10 without this program (ISO/IEC 18004:2015, 7.8.2).
+-- `computed_rows` lists the expected values of `first_rows` for the mask patterns 0 to 7. The values in this list were
+-- worked out from Table 10 without this program (ISO/IEC 18004:2015, 7.8.2).
 abbrev pub computed_rows : List (List ℕ)
 computed_rows =
     (0b101010 ∷ 0b010101 ∷ 0b101010 ∷ 0b010101 ∷ 0b101010 ∷ 0b010101 ∷ 0b101010 ∷ 0b010101 ∷ 0b101010 ∷ 0b010101 ∷ 0b101010 ∷ 0b010101 ∷ []) ∷

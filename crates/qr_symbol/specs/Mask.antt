@@ -14,7 +14,7 @@ inverts mask r c =
     else if mask == 6 then (r * c % 2 + r * c % 3) % 2 == 0
     else ((r + c) % 2 + r * c % 3) % 2 == 0
 
--- `inverted is_to_be bit` is the opposite of `bit` if `is_to_be` is true. If `is_to_be` is false, the result is `bit`
--- (ISO/IEC 18004:2015, 7.8.2).
+-- `inverted is_to_be bit` is the opposite of the colour `bit` if `is_to_be` is true. If `is_to_be` is false, the result
+-- is `bit` (ISO/IEC 18004:2015, 7.8.2).
 abbrev pub inverted : Bool → Bool → Bool
 inverted is_to_be bit = if is_to_be then not bit else bit

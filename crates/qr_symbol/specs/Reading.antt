@@ -1,5 +1,6 @@
--- This file defines how a symbol is read. The version of the symbol determines the layout, the blocks and the order of
--- the modules. The definitions of this file do not use `grid_of`, which defines how a symbol is drawn.
+-- This file defines how a symbol is read. The version of the symbol determines the layout and the order of the modules.
+-- The version and the level determine the blocks. The definitions of this file do not use `grid_of`, which defines how
+-- a symbol is drawn.
 use Rattle.std.specs.Prelude.{◌≡◌, ◌≢◌, ℕ, ◌-◌, ◌*◌, ◌<◌, ◌≤◌, Bool, false, List, ◌++◌, map, take, length, replicate, Result, Ok, Err, None}
 use Rattle.std.specs.List.{All}
 use Rattle.qr_layout.specs.declared.level.Level.{Level}
@@ -37,7 +38,7 @@ read_bits v mask g ms = map (unmasked mask g) (take (8 * total_codewords_of v) m
 
 -- `IsRead v mask g cw` holds if the square of modules g of version v contains the codewords cw under the mask pattern
 -- `mask`. To read the bits of cw, the mask pattern is undone, and the modules of the encoding region are read in the
--- standard's order (ISO/IEC 18004:2015, 7.7.3, 12).
+-- order of the standard (ISO/IEC 18004:2015, 7.7.3, 12).
 pub record IsRead (v mask : ℕ) (g : Grid) (cw : List ℕ) : Type 0 where
   pub bytes : All (λ x. x < 256) cw
   pub places : List Module

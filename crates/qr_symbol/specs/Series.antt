@@ -29,30 +29,30 @@ AreParts v l rule x (p ∷ ps) = (n : ℕ) × (0 < n) × IsLongestFit v rule x (
 
 -- `FitParts v l rule x parts` holds if the bytes x consist of the parts in the list `parts`, one after another. Each
 -- part fits a symbol together with a structured append header. Each symbol has version v and level l, and `rule`
--- determines which modes the segments may have. A part may be empty. A part may also be shorter than the longest prefix
--- of the remaining bytes that fits [own].
+-- determines which modes the segments may have. A part may be empty. A part need not be the longest prefix of the
+-- remaining bytes that fits a symbol [own].
 abbrev pub FitParts : ℕ → Level → Rule → List ℕ → List (List ℕ) → Type 0
 FitParts v l rule x parts = (x ≡ concat parts) × All (λ p. HasFit v rule p (room_of v l)) parts
 
--- `NeedsParts v l rule x n` holds if the bytes x cannot be cut into fewer than n parts. Each part has to fit a symbol
--- together with a structured append header. The symbols have version v and level l, and `rule` determines which modes
--- the segments may have [own].
+-- `NeedsParts v l rule x n` holds if every cut of the bytes x into parts for a series of symbols has at least n parts.
+-- In such a cut, each part fits a symbol together with a structured append header. The symbols have version v and level
+-- l, and `rule` determines which modes the segments may have [own].
 abbrev pub NeedsParts : ℕ → Level → Rule → List ℕ → ℕ → Type 0
 NeedsParts v l rule x n = (parts : List (List ℕ)) → FitParts v l rule x parts → n ≤ length parts
 
--- `IsSymbolOf v l rule x h s` holds if s is the symbol that contains the optional structured append header h and then
--- encodes the bytes x. The symbol has version v and level l, and `rule` determines which modes the segments may have
+-- `IsSymbolOf v l rule x h s` holds if s is the symbol that encodes the bytes x after the optional structured append
+-- header h. The symbol has version v and level l, and `rule` determines which modes the segments may have
 -- (ISO/IEC 18004:2015, 7.1, 8.1).
 pub record IsSymbolOf (v : ℕ) (l : Level) (rule : Rule) (x : List ℕ) (h : Option Header) (s : Symbol) : Type 0 where
   pub version : s.version ≡ v
   pub level : s.level ≡ l
   pub made : IsSymbolAt v l rule x h s.mask s.matrix
 
--- `AreSymbolsFrom v l rule last parity k parts symbols` holds if there are as many symbols as parts, and each symbol
--- encodes the part with the same index. Every symbol has version v and level l, and `rule` determines which modes the
--- segments may have. Every symbol also has a structured append header, which contains the position of the symbol, the
--- number `last` and the parity data `parity`. The position is k for the first symbol, and rises by one from symbol to
--- symbol (ISO/IEC 18004:2015, 8.1 to 8.3).
+-- `AreSymbolsFrom v l rule last parity k parts symbols` holds if the lists `parts` and `symbols` are equally long, and
+-- the symbol at each index encodes the part at this index. Every symbol has version v and level l, and `rule`
+-- determines which modes the segments may have. Every symbol has a structured append header with the symbol's position,
+-- the number `last` and the parity data `parity`. In a whole series, `last` is the number of symbols less 1. The first
+-- symbol has position k, and the positions rise by one from symbol to symbol (ISO/IEC 18004:2015, 8.1 to 8.3).
 unfoldable pub AreSymbolsFrom : ℕ → Level → Rule → (last parity k : ℕ) → List (List ℕ) → List Symbol → Type 0
 AreSymbolsFrom v l rule last parity k [] [] = Unit {0}
 AreSymbolsFrom v l rule last parity k [] (s ∷ ss) = ⊥
@@ -63,9 +63,9 @@ AreSymbolsFrom v l rule last parity k (p ∷ ps) (s ∷ ss) =
 
 -- `IsSplit v l rule x symbols` holds if the bytes x do not fit one symbol without a structured append header, and are
 -- cut into at most 16 parts. The definition `AreParts` determines where the bytes are cut. The list `symbols` contains
--- one symbol for each part, in order. The structured append header of a symbol contains the position of the symbol,
--- counted from 0. The header also contains the number of symbols less 1, and the parity data of x. The symbols have
--- version v and level l, and `rule` determines which modes the segments may have [own].
+-- one symbol for each part, in order. The structured append header of each symbol contains three numbers: the symbol's
+-- position, counted from 0, the number of symbols less 1, and the parity data of x. The symbols have version v and
+-- level l, and `rule` determines which modes the segments may have [own].
 pub record IsSplit (v : ℕ) (l : Level) (rule : Rule) (x : List ℕ) (symbols : List Symbol) : Type 0 where
   pub too_long : FitsVersion v l rule x → ⊥
   pub parts : List (List ℕ)
@@ -84,15 +84,17 @@ pub record IsPlainSymbol (v : ℕ) (l : Level) (rule : Rule) (x : List ℕ) (sym
 
 -- `IsSeries v l rule x symbols` holds if the list `symbols` is the series that encodes the bytes x at version v and
 -- level l. If the bytes fit one symbol without a structured append header, the series is this one symbol. If the bytes
--- do not fit one symbol, they are cut into at most 16 parts, and the series has one symbol for each part. The
--- definition `AreParts` determines where the bytes are cut. `rule` determines which modes the segments may have [own].
+-- do not fit one symbol, they are cut into at most 16 parts, and the series has one symbol with a header for each part.
+-- The definition `AreParts` determines where the bytes are cut. `rule` determines which modes the segments may have
+-- [own].
 abbrev pub IsSeries : ℕ → Level → Rule → List ℕ → List Symbol → Type 0
 IsSeries v l rule x symbols = IsPlainSymbol v l rule x symbols ⊎ IsSplit v l rule x symbols
 
 -- `HasNoSeries v l rule x` holds if the bytes x have no series of symbols at version v and level l. The bytes do not
--- fit one symbol without a structured append header. If each part is the longest prefix of the remaining bytes that
--- fits a symbol together with a header, there are more than 16 parts. If `rule` does not allow kanji mode, any other
--- cut of the bytes into parts that fit symbols with headers also has more than 16 parts [own].
+-- fit one symbol without a structured append header, and the definition `AreParts` cuts them into more than 16 parts.
+-- The definition `AreParts` makes each part the longest prefix of the remaining bytes that fits a symbol together with
+-- a header. If `rule` does not allow kanji mode, every cut of the bytes into parts that fit symbols with headers has
+-- more than 16 parts [own].
 pub record HasNoSeries (v : ℕ) (l : Level) (rule : Rule) (x : List ℕ) : Type 0 where
   pub too_long : FitsVersion v l rule x → ⊥
   pub too_many : (parts : List (List ℕ)) → AreParts v l rule x parts → 16 < length parts

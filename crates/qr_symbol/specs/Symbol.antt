@@ -21,9 +21,9 @@ word_bit word i = word / 2 ^ i % 2 == 1
 -- of the module, for example a function pattern. The modules of function patterns and the dark module have fixed
 -- colours. A module of the format information or the version information is dark if its bit is 1. The modules of the
 -- encoding region are numbered in the standard's order. The module with number i has the colour of codeword bit i,
--- inverted if the mask pattern inverts this module. The remainder bits, which follow the last codeword, are 0 before
--- the mask pattern is applied. The mask pattern is applied to the modules of remainder bits as to all other modules of
--- the encoding region (ISO/IEC 18004:2015, 7.7.2, 7.7.3, 7.8.1, 7.9.1, 7.10).
+-- inverted if the mask pattern inverts this module. Before the mask pattern is applied, the remainder bits, which
+-- follow the last codeword, are 0. The mask pattern is applied to all modules of the encoding region, including the
+-- modules of remainder bits (ISO/IEC 18004:2015, 7.7.2, 7.7.3, 7.8.1, 7.9.1, 7.10).
 abbrev pub colour_by : ℕ → Level → ℕ → List ℕ → ℕ → ℕ → Role → Bool
 colour_by v l mask cw r c (Fixed dark) = dark
 colour_by v l mask cw r c (FormatBit i) = word_bit (format_word_of l mask) i

@@ -11,15 +11,15 @@ use Rattle.qr_bits.specs.Padding.{capacity_of}
 abbrev pub FitsVersion : ℕ → Level → Rule → List ℕ → Type 0
 FitsVersion v l rule x = HasFit v rule x (capacity_of v l)
 
--- `IsVersion smallest l rule x v` holds if v is the least version, from `smallest` on, that the bytes x fit at level l.
--- The greatest version is 40. `rule` determines which modes the segments may have (ISO/IEC 18004:2015, 7.1).
+-- `IsVersion smallest l rule x v` holds if v is the least version, from `smallest` to 40, that the bytes x fit at level
+-- l. `rule` determines which modes the segments may have (ISO/IEC 18004:2015, 7.1).
 pub record IsVersion (smallest : ℕ) (l : Level) (rule : Rule) (x : List ℕ) (v : ℕ) : Type 0 where
   pub least : smallest ≤ v
   pub most : v ≤ 40
   pub fits : FitsVersion v l rule x
   pub first : (u : ℕ) → smallest ≤ u → u < v → FitsVersion u l rule x → ⊥
 
--- `HasNoVersion smallest l rule x` holds if, at level l, the bytes x fit no version from `smallest` on. The greatest
--- version is 40. `rule` determines which modes the segments may have (ISO/IEC 18004:2015, 7.1).
+-- `HasNoVersion smallest l rule x` holds if, at level l, the bytes x fit no version from `smallest` to 40. `rule`
+-- determines which modes the segments may have (ISO/IEC 18004:2015, 7.1).
 abbrev pub HasNoVersion : ℕ → Level → Rule → List ℕ → Type 0
 HasNoVersion smallest l rule x = (v : ℕ) → smallest ≤ v → v ≤ 40 → FitsVersion v l rule x → ⊥

@@ -35,18 +35,21 @@ abbrev pub cell_at : TextStyle → ℕ → Grid → ℕ → ℕ → List ℕ
 cell_at style margin g row x = cell_text style (is_dark_at margin g row x) (is_dark_at margin g (row + 1) x)
 
 -- `bits_text n style upper lower` consists of the texts of `n` cells. Each cell shows one bit of `upper`, and in the
--- style `HalfBlocks` also the same bit of `lower`. The first cell shows bit 0, and a set bit is a dark module
+-- style `HalfBlocks` also the bit of `lower` with the same index. The first cell shows bit 0, and a bit that is 1 is a
+-- dark module
 abbrev pub bits_text : ℕ → TextStyle → ℕ → ℕ → List ℕ
 bits_text n style upper lower = texts_below n (λ k. cell_text style (has_bit upper k) (has_bit lower k))
 
--- `pair_text pair` is the text of two modules and the two modules below them, as two characters. Bits 0 and 1 of `pair`
--- are the upper modules, and bits 2 and 3 are the lower modules
+-- `pair_text pair` consists of two characters, which show four modules: two modules side by side, and the two modules
+-- below them. Bits 0 and 1 of `pair` are the colours of the upper modules, and bits 2 and 3 are the colours of the
+-- lower modules
 abbrev pub pair_text : ℕ → List ℕ
 pair_text pair = texts_below 2 (λ k. half_blocks (has_bit pair k) (has_bit pair (2 + k)))
 
 -- `AreDark margin g row col bits` holds if the bits 0 to 7 of `bits` are the colours of eight modules in row `row` of a
--- raster. The raster is the square of modules `g` with its margin. A set bit is a dark module. Bit 0 is the module in
--- column `col` of the square, without the margin. A bit for a column outside the square may have any value
+-- raster. The raster is the square of modules `g` with its margin. A bit that is 1 is a dark module. Bit 0 is the
+-- module in column `col` of the square; the columns are counted without the margin. A bit for a column outside the
+-- square may have any value
 abbrev pub AreDark : ℕ → Grid → ℕ → ℕ → ℕ → Type 0
 AreDark margin g row col bits = (k : ℕ) → k < 8 → col + k < g.side → has_bit bits k ≡ is_dark_at margin g row (margin + (col + k))
 

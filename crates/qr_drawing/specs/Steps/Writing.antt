@@ -5,8 +5,9 @@ use Rattle.std.specs.Io.KnownBytes.{Appends}
 use Rattle.qr_devices.specs.Device.{AppendsBeginning, IsWrittenWithin, Writer, counted, is_write_fault}
 use Rattle.qr_devices.specs.declared.device.WriteCounts.{WriteCounts}
 
--- `IsWell c interrupted` holds if the counts `c` of a writer show no cause of a fault, and show exactly `interrupted`
--- interrupted writes
+-- `IsWell c interrupted` holds if the counts `c` of a writer show no fault, and show exactly `interrupted` interrupted
+-- writes. The counts show no fault under three conditions: no call failed, no nonempty write succeeded with 0 accepted
+-- bytes, and fewer than 1,000 writes were interrupted
 pub record IsWell (c : WriteCounts) (interrupted : ℕ) : Type 0 where
   pub failed : c.failed ≡ 0
   pub zeros : c.zeros ≡ 0
@@ -23,8 +24,8 @@ pub record Sends (old new : Writer) (text held : List ℕ) : Type 0 where
 
 -- `Writes old new tried tries text held` holds if a prefix of `text` was written, and the rest `held` is in the pen, a
 -- buffer. The writer changed from `old` to `new`. If the writer had no fault and `tried` interrupted writes when the
--- writing began, it had no fault and `tries` interrupted writes when the writing ended. No write offered more than
--- 1,200 bytes, and there was no flush
+-- writing began, the writer had no fault and `tries` interrupted writes when the writing ended. No write offered more
+-- than 1,200 bytes, and there was no flush
 pub record Writes (old new : Writer) (tried tries : ℕ) (text held : List ℕ) : Type 0 where
   pub sends : Sends old new text held
   pub well : IsWell old.counts tried → IsWell new.counts tries
@@ -33,8 +34,8 @@ pub record Writes (old new : Writer) (tried tries : ℕ) (text held : List ℕ) 
 
 -- `Stops old new tried text` holds if the writer accepted a prefix of `text`, and then a fault of the writer ended the
 -- writing. The writer changed from `old` to `new`. If the writer had no fault and `tried` interrupted writes when the
--- writing began, its counts show one fault when the writing ended. No write offered more than 1,200 bytes, and there
--- was no flush
+-- writing began, its counts show a fault when the writing ended. The fault that the counts show is one call with a
+-- fault, or 1,000 interrupted writes. No write offered more than 1,200 bytes, and there was no flush
 pub record Stops (old new : Writer) (tried : ℕ) (text : List ℕ) : Type 0 where
   pub prefix : AppendsBeginning old.taken new.taken text
   pub most : old.counts.taken < 2 ^ 64 → new.counts.taken ≤ counted (old.counts.taken + length text)

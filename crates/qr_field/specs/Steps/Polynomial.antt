@@ -1,4 +1,4 @@
--- Defines the product of a polynomial and x - root, and the value of a polynomial at a power of 2.
+-- Defines the product of a polynomial and the polynomial x - root, and the value of a polynomial at a power of 2.
 use Rattle.std.specs.Prelude.{ℕ, ◌*◌, List, [], ◌∷◌, length, bit_xor}
 use Rattle.qr_field.specs.Galois.{product}
 use Rattle.qr_field.specs.Polynomial.{power}

@@ -15,7 +15,7 @@ abbrev pub unpacked : ℕ → ℕ → List ℕ
 unpacked zero v = []
 unpacked (suc n) v = v % 2 ^ 8 ∷ unpacked n (v / 2 ^ 8)
 
--- `value_of r` is the number of 256 bits that the register r contains in its two halves
+-- `value_of r` is the number of 256 bits that the two halves of the register r form together
 abbrev pub value_of : Register → ℕ
 value_of r = r.high * 2 ^ 128 + r.low
 
@@ -29,8 +29,8 @@ abbrev pub divisor_of : ℕ → List ℕ
 divisor_of n = drop 1 (generator_of n)
 
 -- `HasMultiples g shift bound rows` holds if `rows` is a list of 16 registers, and each register with an index f below
--- `bound` contains a multiple of the coefficients g. In this multiple, each coefficient of g is multiplied by f *
--- 2^shift in the field of 256 elements
+-- `bound` contains a multiple of the coefficients g. In this multiple, each coefficient of g is multiplied by the
+-- number f * 2^shift, which is taken as an element of the field of 256 elements
 pub record HasMultiples (g : List ℕ) (shift bound : ℕ) (rows : List Register) : Type 0 where
   pub many : length rows ≡ 16
   pub each : (f : ℕ) → f < bound → value_of (slice_index_or rows f zero_register) ≡ packed (scaled (f * 2 ^ shift) g)

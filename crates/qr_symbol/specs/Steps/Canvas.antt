@@ -1,5 +1,5 @@
--- This file defines the square of modules that is the same for all symbols of one version. Drawing a symbol begins with
--- this square.
+-- This file defines which colours the modules outside the encoding region have when the drawing of a symbol begins. At
+-- the beginning of the drawing, these modules have the same colours in all symbols of one version.
 use Rattle.std.specs.Prelude.{◌≡◌, ℕ, ◌<◌, false}
 use Rattle.qr_layout.specs.Version.{side_of}
 use Rattle.qr_layout.specs.Region.{is_in_region}

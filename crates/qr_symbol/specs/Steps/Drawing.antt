@@ -21,7 +21,7 @@ use Rattle.qr_matrix.specs.Penalty.{penalty_of}
 
 -- `placed_colour v cw other r c` is the colour in row r and column c of a square of modules after the codewords cw were
 -- placed. The square has as many rows as a symbol of version v. A module in the encoding region has the colour of the
--- codeword bit that is placed there. Every other module has the colour `other r c`.
+-- codeword bit that is placed there. A module outside the encoding region has the colour `other r c`.
 unfoldable pub placed_colour : ℕ → List ℕ → (ℕ → ℕ → Bool) → ℕ → ℕ → Bool
 placed_colour v cw other r c =
     if is_in_region v r c then codeword_bit cw (number_of v (record { row = r; col = c })) else other r c
@@ -29,33 +29,33 @@ placed_colour v cw other r c =
 -- `walked_colour v cw mask other r c` is the colour in row r and column c of a square of modules after the codewords cw
 -- were placed under the mask pattern `mask`. The square has as many rows as a symbol of version v. A module in the
 -- encoding region has the colour of the codeword bit that is placed there, inverted if the mask pattern inverts this
--- module. Every other module has the colour `other r c`.
+-- module. A module outside the encoding region has the colour `other r c`.
 unfoldable pub walked_colour : ℕ → List ℕ → ℕ → (ℕ → ℕ → Bool) → ℕ → ℕ → Bool
 walked_colour v cw mask other r c =
     if is_in_region v r c then inverted (inverts mask r c) (codeword_bit cw (number_of v (record { row = r; col = c }))) else other r c
 
--- `placed_if is_in cw number g row col` is the square of modules g after one drawing step. The step concerns the module
--- in row `row` and column `col`. If `is_in` is true, this module is in the encoding region, and gets the colour of bit
--- `number` of the codewords cw. If `is_in` is false, the module is outside the encoding region, and g is unchanged.
+-- `placed_if is_in cw number g row col` is the square of modules g after the drawing step for the module in row `row`
+-- and column `col`. If `is_in` is true, this module is in the encoding region, and gets the colour of bit `number` of
+-- the codewords cw. If `is_in` is false, the module is outside the encoding region, and g is unchanged.
 abbrev pub placed_if : Bool → List ℕ → ℕ → Grid → ℕ → ℕ → Grid
 placed_if is_in cw number g row col = if is_in then painted g row col (codeword_bit cw number) else g
 
--- `number_after is_in number` is the number of the next codeword bit after the drawing step for one module. Before this
--- step, bit `number` was the next codeword bit. If `is_in` is true, the module is in the encoding region and uses bit
--- `number`, so the result is `number + 1`. If `is_in` is false, the result is `number`.
+-- `number_after is_in number` is the number of the codeword bit that is next after the drawing step for one module.
+-- Before this step, bit `number` was the next codeword bit. If `is_in` is true, the module is in the encoding region
+-- and uses bit `number`, so the result is `number + 1`. If `is_in` is false, the result is `number`.
 abbrev pub number_after : Bool → ℕ → ℕ
 number_after is_in number = if is_in then number + 1 else number
 
--- `number_along v ms number` is the number of the next codeword bit after the modules ms were drawn. Before the modules
--- were drawn, bit `number` was the next codeword bit. Each module of ms that is in the encoding region of version v
--- uses one bit.
+-- `number_along v ms number` is the number of the codeword bit that is next after the modules ms were drawn. Before the
+-- modules were drawn, bit `number` was the next codeword bit. Each module of ms that is in the encoding region of
+-- version v uses one bit.
 abbrev pub number_along : ℕ → List Module → ℕ → ℕ
 number_along v [] number = number
 number_along v (m ∷ ms) number = number_along v ms (number_after (is_in_region v m.row m.col) number)
 
 -- `placed_along v cw ms number g` is the square of modules g after the modules in the list ms were drawn in the order
 -- of the list. The modules of ms that are in the encoding region of version v get the colours of the codeword bits from
--- bit `number` on, one bit for each module. Every other module is unchanged.
+-- bit `number` on, one bit for each module. All other modules of g keep their colours.
 abbrev pub placed_along : ℕ → List ℕ → List Module → ℕ → Grid → Grid
 placed_along v cw [] number g = g
 placed_along v cw (m ∷ ms) number g =
@@ -91,16 +91,17 @@ with_columns g right x = with_row (with_row g right (has x.right)) (right - 1) (
 abbrev pub AreWithin : ℕ → Columns → Type 0
 AreWithin s x = (row : ℕ) → s ≤ row → (has x.right row ≡ false) × (has x.left row ≡ false)
 
--- `row_of s x rank` is the row of the symbol that belongs to row `rank` of the strip x. A strip is two neighbouring
--- columns that are filled together. The rows of a strip are counted from 0, in the direction in which the strip is
--- filled. The symbol has s rows.
+-- `row_of s x rank` is the index in the symbol of the row that has the index `rank` in the strip x. A strip is two
+-- neighbouring columns that are filled together. In a strip, the rows are counted from 0, in the direction in which the
+-- strip is filled. The symbol has s rows.
 abbrev pub row_of : ℕ → Strip → ℕ → ℕ
 row_of s x rank = if x.upward then s - 1 - rank else rank
 
 -- `AreLight s x k region y` holds if, from row k of the strip x on, all modules of the strip that are in the encoding
 -- region are light. The columns y contain the colours of the strip. A strip is two neighbouring columns that are filled
 -- together. The rows of a strip are counted from 0, in the direction in which the strip is filled. The symbol has s
--- rows. In the columns `region`, a bit is 1 if the module in its row is in the encoding region.
+-- rows. The columns `region` show the encoding region: a bit is 1 if the module in the bit's row and column is in the
+-- encoding region.
 abbrev pub AreLight : ℕ → Strip → ℕ → Columns → Columns → Type 0
 AreLight s x k region y = (rank : ℕ) → k ≤ rank → rank < s
     → ((has region.right (row_of s x rank) && has y.right (row_of s x rank)) ≡ false) × ((has region.left (row_of s x rank) && has y.left (row_of s x rank)) ≡ false)

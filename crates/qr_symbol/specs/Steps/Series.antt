@@ -12,8 +12,8 @@ unfoldable pub AreLengths : ℕ → Level → Rule → List ℕ → List ℕ →
 AreLengths v l rule x [] = x ≡ []
 AreLengths v l rule x (n ∷ ns) = (0 < n) × IsLongestFit v rule x (room_of v l) n × AreLengths v l rule (drop n x) ns
 
--- `parts_of x lengths` is the list of the parts into which the bytes x are cut. Each part has the length with the same
--- index in the list `lengths`.
+-- `parts_of x lengths` is the list of the parts into which the bytes x are cut. The length of each part is the number
+-- at the part's index in the list `lengths`.
 unfoldable pub parts_of : List ℕ → List ℕ → List (List ℕ)
 parts_of x [] = []
 parts_of x (n ∷ ns) = take n x ∷ parts_of (drop n x) ns
