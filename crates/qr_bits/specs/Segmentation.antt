@@ -1,5 +1,5 @@
--- Defines how many bits segments take, and which segments are chosen for an input. An assignment, which is a mode for
--- each byte of the input, determines the segments.
+-- Defines how many bits segments take, and which segments are chosen for an input. An assignment (a mode for each byte
+-- of the input) determines the segments.
 use Rattle.std.specs.Prelude.{◌≡◌, ℕ, ◌+◌, ◌/◌, ◌<◌, ◌≤◌, ◌⊎◌, if◌then◌else◌, ◌==◌, nat_le, List, [], ◌∷◌, length, take, All, IsTrue}
 use Rattle.std.specs.List.{list_all, sum_by}
 use Rattle.qr_bits.specs.declared.modes.Mode.{Mode}
@@ -27,8 +27,9 @@ unfoldable pub Covers : List ℕ → List Segment → Type 0
 Covers xs segs = All (λ s. 0 < s.len) segs × Suits xs segs
 
 -- `rank m` is the rank of the mode `m` in the order Numeric, Alphanumeric, Byte, Kanji. This order decides between
--- assignments of modes that take equally many bits. The function `choices` in table.rt takes the smallest number, which
--- is 4 times the number of bits plus the rank of the mode [own]
+-- assignments of modes that take equally many bits. For each possible mode, the function `choices` in the file table.rt
+-- computes 4 times the number of bits plus the rank of the mode. The mode with the smallest of these numbers is chosen
+-- [own]
 abbrev pub rank : Mode → ℕ
 rank Numeric = 0
 rank Alphanumeric = 1
@@ -90,7 +91,7 @@ abbrev pub least_sixths : ℕ → ℕ
 least_sixths b = if is_digit b then 20 else (if nat_le b 90 then 33 else 39)
 
 -- `least_bits xs` is a lower bound on the number of bits that the bytes `xs` take, however they are split into
--- segments. This bound is the sum of `least_sixths` over all bytes, rounded down to whole bits (ISO/IEC 18004:2015,
+-- segments. This bound is the sum of `least_sixths` over all bytes, divided by 6 and rounded down (ISO/IEC 18004:2015,
 -- 7.4.3 to 7.4.6)
 unfoldable pub least_bits : List ℕ → ℕ
 least_bits xs = sum_by least_sixths xs / 6

@@ -48,8 +48,7 @@ unfoldable pub segment_stream : ℕ → Mode → List ℕ → List Bool
 segment_stream v m xs = field 4 (indicator m) ++ (field (count_width v m) (character_count m (length xs)) ++ payload m xs)
 
 -- `segments_stream v xs segs` is the list of the bits of the segments `segs`, one segment after the other, in a symbol
--- of version `v`. Each segment contains the next bytes of `xs`, as many as the length of the segment (ISO/IEC
--- 18004:2015, 7.4.1)
+-- of version `v`. A segment of length n contains the next n bytes of `xs` (ISO/IEC 18004:2015, 7.4.1)
 unfoldable pub segments_stream : ℕ → List ℕ → List Segment → List Bool
 segments_stream v xs [] = []
 segments_stream v xs (s ∷ ss) = segment_stream v s.mode (take s.len xs) ++ segments_stream v (drop s.len xs) ss

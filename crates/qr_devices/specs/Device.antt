@@ -85,15 +85,15 @@ abbrev pub AppendsBeginning : Option (List ℕ) → Option (List ℕ) → List �
 AppendsBeginning old new whole = (prefix : List ℕ) × IsBeginning prefix whole × Appends old new prefix
 
 -- `is_read_fault c` is true if the counts `c` show that a read failed, or that 1,000 reads or more were interrupted
--- (EINTR). The function `read_input` in `input.rt` of qrencode_cli reads the input, and tries up to 999 interrupted
--- reads again [own]
+-- (EINTR). The function `read_input` in the file `input.rt` of the crate qrencode_cli reads the input. After an
+-- interrupted read it reads again, at most 999 times [own]
 abbrev pub is_read_fault : ReadCounts → Bool
 is_read_fault c = nat_lt 0 c.failed || nat_le 1000 c.interrupted
 
 -- `is_write_fault c` is true if the counts `c` show one of three causes. The first cause is that a write or a flush
 -- failed. The second cause is that the device accepted no byte of a write of at least one byte. The third cause is that
--- 1,000 writes or more were interrupted (EINTR). The function `send` in `pen.rt` of qr_drawing writes a text, and tries
--- up to 999 interrupted writes again [own]
+-- 1,000 writes or more were interrupted (EINTR). The function `send` in the file `pen.rt` of the crate qr_drawing
+-- writes a text. After an interrupted write it writes again, at most 999 times [own]
 abbrev pub is_write_fault : WriteCounts → Bool
 is_write_fault c = nat_lt 0 c.failed || (nat_lt 0 c.zeros || nat_le 1000 c.interrupted)
 

@@ -1,6 +1,6 @@
 -- Defines the encoding region: the places of a symbol outside the function patterns, the format information and the
--- version information. The encoding region of the standard, unlike the one defined here, also includes the format
--- information and the version information.
+-- version information. In the standard, the encoding region is larger: there, it also includes the format information
+-- and the version information.
 use Rattle.std.specs.Prelude.{◌≡◌, ℕ, ◌-◌, Bool, true, max, not, ◌&&◌, ◌||◌, ◌==◌, nat_lt, nat_le}
 use Rattle.std.specs.Int.{abs_diff}
 use Rattle.std.specs.List.{list_any}

@@ -41,8 +41,8 @@ first_place i = record {
   col = if nat_lt i 8 then 8 else (if i == 8 then 7 else 14 - i);
 }
 
--- `second_place s i` is the place of bit i of the format information in the second copy, beside the other two finder
--- patterns. The symbol has s modules on a side (ISO/IEC 18004:2015, 7.9.1)
+-- `second_place s i` is the place of bit i of the format information in the second copy. The second copy is beside the
+-- top right and the bottom left finder pattern. The symbol has s modules on a side (ISO/IEC 18004:2015, 7.9.1)
 abbrev pub second_place : ℕ → ℕ → Module
 second_place s i = record {
   row = if nat_lt i 8 then 8 else s - 15 + i;

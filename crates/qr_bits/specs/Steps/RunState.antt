@@ -1,6 +1,6 @@
 -- Defines how many bits the next byte of an input adds in each mode. This number depends on the state (`RunState`)
--- before the next byte. A state contains the mode of the last byte, and the number of bytes that its group has so far.
--- A group is three digits, two characters of alphanumeric mode, or a kanji pair.
+-- before the next byte. A state contains the mode of the last byte, and how many bytes of the current group have come,
+-- including the last byte. A group is three digits, two characters of alphanumeric mode, or a kanji pair.
 use Rattle.std.specs.Prelude.{◌≡◌, ℕ, ◌+◌, ◌*◌, ◌≤◌, Bool, true, false, ◌&&◌, ◌==◌, if◌then◌else◌, List, [], ◌∷◌, IsTrue}
 use Rattle.qr_bits.specs.declared.modes.Mode.{Mode}
 use Rattle.qr_bits.specs.declared.modes.Mode.TheVariants.{Numeric, Alphanumeric, Byte, Kanji}
@@ -11,7 +11,8 @@ use Rattle.qr_bits.specs.Modes.{count_width, is_digit, is_alphanumeric, may_use}
 use Rattle.qr_bits.specs.Segmentation.{rank, IsNotAfter}
 
 -- `state_after p m` is the state after a byte with the mode `m`, if the state before this byte is `p`. A state contains
--- the mode of the last byte, and the number of bytes that its group (such as three digits) has so far
+-- the mode of the last byte, and how many bytes of the current group (such as three digits) have come, including the
+-- last byte
 unfoldable pub state_after : RunState → Mode → RunState
 state_after Digit1 Numeric = Digit2
 state_after Digit2 Numeric = Digit3
