@@ -147,9 +147,9 @@ segments_at (suc n) v bits =
     if ends bits then Ok ([], []) else (segment_at v bits >>= λ s. segments_at n v s.2 >>= λ r. Ok (s.0 ∷ r.0, s.1 ++ r.1))
 
 -- `segments_of v bits` reads all segments from `bits`, in a symbol of version `v`, until the terminator comes or fewer
--- than four bits remain. The result is the segments, together with the bytes of all segments. The number of bits is a
--- limit on the number of segments that are read. This limit leaves out no segment, since each segment takes at least
--- four bits (ISO/IEC 18004:2015, 7.4.1, 7.4.9)
+-- than four bits remain. The result is the segments, together with the bytes of all segments. No more segments are read
+-- than there are bits. This limit leaves out no segment, since each segment takes at least four bits (ISO/IEC
+-- 18004:2015, 7.4.1, 7.4.9)
 unfoldable pub segments_of : ℕ → List Bool → Result (List Segment × List ℕ) ParseFault
 segments_of v bits = segments_at (length bits) v bits
 

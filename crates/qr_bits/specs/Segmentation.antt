@@ -21,8 +21,8 @@ bits v [] = 0
 bits v (s ∷ ss) = segment_bits v s + bits v ss
 
 -- `Covers xs segs` holds if the segments `segs`, one after the other, contain exactly the bytes `xs`. No segment is
--- empty, and the lengths of the segments add up to the length of `xs`. The mode of each segment can write the bytes of
--- the segment [own]
+-- empty, and the lengths of the segments add up to the length of `xs`. The bytes of each segment can be written in the
+-- mode of the segment [own]
 unfoldable pub Covers : List ℕ → List Segment → Type 0
 Covers xs segs = All (λ s. 0 < s.len) segs × Suits xs segs
 
@@ -49,8 +49,8 @@ runs_of [] = []
 runs_of (m ∷ ms) = prepend_mode m (runs_of ms)
 
 -- `IsAssignment r xs ms` holds if the list `ms`, with a mode for each of the bytes `xs`, is a valid assignment. An
--- assignment is valid if the rule `r` allows all its modes, and if the mode of each segment can write the segment's
--- bytes. Neighbouring bytes with equal modes form one segment [own].
+-- assignment is valid if the rule `r` allows all its modes, and if the bytes of each segment can be written in the
+-- segment's mode. Neighbouring bytes with equal modes form one segment [own].
 abbrev pub IsAssignment : Rule → List ℕ → List Mode → Type 0
 IsAssignment r xs ms = IsTrue (list_all (may_use r) ms) × Covers xs (runs_of ms)
 

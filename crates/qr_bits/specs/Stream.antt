@@ -54,8 +54,8 @@ segments_stream v xs [] = []
 segments_stream v xs (s ∷ ss) = segment_stream v s.mode (take s.len xs) ++ segments_stream v (drop s.len xs) ss
 
 -- `Suits xs segs` holds if the segments `segs`, one after the other, contain exactly the bytes `xs`. The lengths of the
--- segments add up to the length of `xs`. The mode of each segment can write the bytes of the segment. A segment may be
--- empty [own]
+-- segments add up to the length of `xs`. The bytes of each segment can be written in the mode of the segment. A segment
+-- may be empty [own]
 unfoldable pub Suits : List ℕ → List Segment → Type 0
 Suits xs [] = xs ≡ []
 Suits xs (s ∷ ss) = (s.len ≤ length xs) × IsTrue (suits s.mode (take s.len xs)) × Suits (drop s.len xs) ss

@@ -79,8 +79,8 @@ flush_counted returned c = record c {
 abbrev pub IsBeginning : List ℕ → List ℕ → Type 0
 IsBeginning prefix whole = (rest : List ℕ) × (prefix ++ rest ≡ whole)
 
--- `AppendsBeginning old new whole` holds if the bytes of a device changed from `old` to `new`, because a prefix of
--- `whole` was added at their end. If the bytes of the device are unknown, `AppendsBeginning` always holds [own]
+-- `AppendsBeginning old new whole` holds if the bytes `new` of a device are its earlier bytes `old`, followed by a
+-- prefix of `whole`. If the bytes of the device are unknown, `AppendsBeginning` always holds [own]
 abbrev pub AppendsBeginning : Option (List ℕ) → Option (List ℕ) → List ℕ → Type 0
 AppendsBeginning old new whole = (prefix : List ℕ) × IsBeginning prefix whole × Appends old new prefix
 

@@ -10,8 +10,8 @@ use Rattle.qr_layout.specs.Version.{side_of}
 use Rattle.qr_layout.specs.Alignment.{centres_of, alignment_places}
 use Rattle.qr_layout.specs.Region.{is_alignment, ring_of}
 
--- `finder_ring s r c` is the number of the square ring that contains the place (r, c), in a symbol with s modules on a
--- side. The centre of the nearest finder pattern is ring 0, and the other rings surround it. Rings 0, 1 and 3 are dark,
+-- `finder_ring s r c` is the number of the ring that contains the place (r, c). The rings are squares around the centre
+-- of the nearest finder pattern, in a symbol with s modules on a side. The centre is ring 0. Rings 0, 1 and 3 are dark,
 -- ring 2 is light, and ring 4 is the separator (ISO/IEC 18004:2015, 6.3.3)
 abbrev pub finder_ring : ℕ → ℕ → ℕ → ℕ
 finder_ring s r c = min (ring_of 3 3 r c) (min (ring_of 3 (s - 4) r c) (ring_of (s - 4) 3 r c))
