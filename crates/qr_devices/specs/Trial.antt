@@ -24,7 +24,7 @@ moved m call there =
     if nat_lt call m.interruptions then Err Interrupted else
     (if nat_le m.fails_from call then Err Failed else Ok (min there (max m.at_most 1)))
 
--- `free_of t` is the number of bytes for which the device `t` still has room. If the device already had `stops_from`
--- writes and flushes or more, `free_of t` is 0 [own]
+-- `free_of t` is the number of bytes for which the device `t` still has room. If the device already had at least
+-- `stops_from` writes and flushes, `free_of t` is 0 [own]
 abbrev pub free_of : Trial → ℕ
 free_of t = if nat_lt t.writes.calls t.faults.stops_from then t.room - length t.bytes.items else 0

@@ -23,8 +23,8 @@ unfoldable pub is_alignment_light : ℕ → ℕ → ℕ → Bool
 is_alignment_light v r c = list_any (λ m. ring_of m.row m.col r c == 1) (alignment_places (side_of v) (centres_of v))
 
 -- `pattern_colour v r c` is the colour of the module at (r, c) of version v, if the module is part of a finder pattern,
--- separator, timing pattern or alignment pattern. The value `true` is dark. For any other module, the value of
--- `pattern_colour` is `None` (ISO/IEC 18004:2015, 6.3.3 to 6.3.6)
+-- separator, timing pattern or alignment pattern. The value `true` means dark, and `false` means light. For any other
+-- module, the value of `pattern_colour` is `None` (ISO/IEC 18004:2015, 6.3.3 to 6.3.6)
 unfoldable pub pattern_colour : ℕ → ℕ → ℕ → Option Bool
 pattern_colour v r c =
     if nat_lt (finder_ring (side_of v) r c) 4 then Some (not (finder_ring (side_of v) r c == 2)) else

@@ -110,10 +110,11 @@ pub record IsBestRest (v : ℕ) (r : Rule) (test : ℕ → ℕ → Bool) (p : Ru
   pub least : (ks : List Mode) → IsTrue (allowed r test p xs ks) → n ≤ cost_of v p ks
   pub first : (ks : List Mode) → IsTrue (allowed r test p xs ks) → cost_of v p ks ≡ n → IsNotAfter ms ks
 
--- `IsChoice v r p x pair cost m n` holds if `m` is the best mode for the byte `x` after the state `p`. With the mode
--- `m`, `x` and the bytes after `x` add `n` bits, and with every other allowed mode they add at least `n` bits. If
--- several allowed modes lead to `n` bits, `m` is the mode of the lowest rank. If the state after `x` is `q`, the bytes
--- after `x` add `cost q` bits. The flag `pair` is true if `x` may be the first byte of a kanji pair.
+-- `IsChoice v r p x pair cost m n` holds if `m` is the best mode for the byte `x` after the state `p`. If `x` has the
+-- mode `m`, then `x` and the bytes after `x` together add `n` bits. If `x` has any other allowed mode, these bytes add
+-- at least `n` bits. If several allowed modes lead to `n` bits, `m` is the mode of the lowest rank. If the state after
+-- `x` is `q`, the bytes after `x` add `cost q` bits. The flag `pair` is true if `x` may be the first byte of a kanji
+-- pair.
 pub record IsChoice (v : ℕ) (r : Rule) (p : RunState) (x : ℕ) (pair : Bool) (cost : RunState → ℕ) (m : Mode) (n : ℕ) : Type 0 where
   pub is_allowed : IsTrue (may_take r p x pair m)
   pub has_bits : n ≡ byte_cost v p m + cost (state_after p m)

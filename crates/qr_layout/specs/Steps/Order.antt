@@ -29,8 +29,9 @@ unfoldable pub left_of : ℕ → Cursor → ℕ
 left_of s a = a.strips * (2 * s) - (2 * rank_of s a + half_of a.at_left)
 
 -- `next_of s a` is the position that follows the position a in a symbol with s modules on a side. After the right
--- module of a row comes the left module of this row. After the left module comes the right module of the next row of
--- the strip. After the left module of the strip's last row comes the right module of the same row in the next strip
+-- module of a row comes the left module of this row. After the left module of any row except the strip's last row comes
+-- the right module of the strip's next row. After the left module of the strip's last row comes the right module of the
+-- same row in the next strip
 unfoldable pub next_of : ℕ → Cursor → Cursor
 next_of s a =
     if a.at_left then
