@@ -35,7 +35,7 @@ pads (suc zero) = 0xEC ∷ []
 pads (suc (suc n)) = 0xEC ∷ 0x11 ∷ pads n
 
 -- `padded n stream` is the list of the bits of the `n` data codewords that contain the bit stream `stream`. The bit
--- stream has at most 8n bits, and is followed by its terminator, zero bits up to the end of a codeword, and pad
+-- stream has at most 8n bits. After the bit stream come its terminator, zero bits up to the end of a codeword, and pad
 -- codewords (ISO/IEC 18004:2015, 7.4.9, 7.4.10)
 unfoldable pub padded : ℕ → List Bool → List Bool
 padded n stream =

@@ -1,5 +1,5 @@
--- Defines the role of each module of a symbol: a fixed colour, a bit of the format information or of the version
--- information, or a module of the encoding region.
+-- Defines the role of each module of a symbol: what the module contains. A module has a fixed colour, contains a bit of
+-- the format information or of the version information, or is in the encoding region.
 use Rattle.std.specs.Prelude.{ℕ, ◌+◌, ◌-◌, ◌/◌, ◌%◌, min, Bool, true, false, not, ◌&&◌, ◌||◌, nat_lt, ◌==◌, if◌then◌else◌, Option, None, Some}
 use Rattle.std.specs.List.{find, list_any, range_with_len}
 use Rattle.std.specs.Option.{option_map_or}
