@@ -73,10 +73,10 @@ bytes_of zero bits = []
 bytes_of (suc n) bits = value (take 8 bits) ∷ bytes_of n (drop 8 bits)
 
 -- `kanji_pair n` is the number of 16 bits that consists of the two bytes of the kanji pair with the value `n`. To
--- compute the kanji pair, the value `n` is divided by C0. The quotient is the high byte of a number of 16 bits, and the
--- remainder is the low byte of this number. If the quotient is at most 1E, the kanji pair is this number of 16 bits
--- plus 8140. If the quotient is greater than 1E, the kanji pair is this number of 16 bits plus C140. The numbers C0,
--- 8140, 1E and C140 are hexadecimal (ISO/IEC 18004:2015, 7.4.6)
+-- compute the kanji pair, the value `n` is divided by C0. The quotient is the high byte of a second number, and the
+-- remainder is the low byte of the second number. If the quotient is at most 1E, the kanji pair is the second number
+-- plus 8140. If the quotient is greater than 1E, the kanji pair is the second number plus C140. The numbers C0, 8140,
+-- 1E and C140 are hexadecimal (ISO/IEC 18004:2015, 7.4.6)
 unfoldable pub kanji_pair : ℕ → ℕ
 kanji_pair n =
     let rest = 256 * (n / 0xC0) + n % 0xC0 in
