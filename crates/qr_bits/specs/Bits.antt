@@ -27,7 +27,7 @@ bits_of (b ∷ bs) = field 8 b ++ bits_of bs
 
 -- `codeword_bit cw k` is the bit with the index `k` in the codewords `cw`. The bits are counted from 0, and the highest
 -- bit of each codeword comes first. If the index `k` is greater than the index of the last bit in `cw`, the bit is a
--- remainder bit. Before the mask is applied, all remainder bits are 0, which is a light module. Remainder bits fill the
--- modules of the encoding region that remain after the last codeword (ISO/IEC 18004:2015, 7.7.3)
+-- remainder bit. Before the mask is applied, all remainder bits are 0, so their modules are light. Remainder bits fill
+-- the modules of the encoding region that remain after the last codeword (ISO/IEC 18004:2015, 7.7.3)
 abbrev pub codeword_bit : List ℕ → ℕ → Bool
 codeword_bit cw k = slice_index_or cw (k / 8) 0 / 2 ^ (7 - k % 8) % 2 == 1

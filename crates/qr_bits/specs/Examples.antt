@@ -48,11 +48,12 @@ middle_data = 0x31 ∷ 0x24 ∷ 0x84 ∷ 0x03 ∷ 0x46 ∷ 0x47 ∷ 0x48 ∷ 0x0
 
 -- `unreadable` lists eleven examples of codewords that cannot be read. Each example consists of a list of codewords,
 -- and the fault that reading these codewords in version 1 returns. In the first five examples, a number in the data of
--- a segment is too large. This number is 1000 for three digits, 100 for two digits, 10 for one digit, 2025 for two
--- characters, and 45 for one character. In the sixth example, a value in kanji mode is BD (hexadecimal), which is the
--- value of no kanji pair. In the seventh example the codewords end within the data of a segment, in the eighth within a
--- character count indicator, and in the ninth within a structured append header. In the tenth example, a mode indicator
--- belongs to none of the four modes. In the eleventh example, a second structured append header follows the first
+-- a segment is too large. The numbers that are too large are 1000 for three digits, 100 for two digits, 10 for one
+-- digit, 2025 for two characters, and 45 for one character. In the sixth example, a value in kanji mode is BD
+-- (hexadecimal), which is the value of no kanji pair. In the seventh example, the codewords end within the data of a
+-- segment. In the eighth example, the codewords end within a character count indicator. In the ninth example, the
+-- codewords end within a structured append header. In the tenth example, a mode indicator belongs to none of the four
+-- modes. In the eleventh example, the mode indicator of a second structured append header follows the first header
 -- [own].
 abbrev pub unreadable : List (List ℕ × ParseFault)
 unreadable =

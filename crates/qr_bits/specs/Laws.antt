@@ -15,10 +15,10 @@ use Rattle.qr_bits.specs.Padding.{capacity_of, IsData}
 use Rattle.qr_bits.specs.Header.{header_bits}
 use Rattle.qr_bits.specs.Parsing.{ends, parse}
 
--- Reading bits returns a certain content (an optional header, segments and bytes) under exactly two conditions. The
--- first condition is that the bits begin with the bit stream of this content. The second condition is that fewer than
--- four bits follow this bit stream, or that the next four bits are the terminator (ISO/IEC 18004:2015, 7.4.1, 7.4.9,
--- 8.1).
+-- Reading bits returns a certain content (an optional header, segments and bytes) if and only if two conditions are
+-- true. The first condition is that the bits begin with the bit stream of this content. The second condition is that
+-- fewer than four bits follow this bit stream, or that the next four bits are the terminator (ISO/IEC 18004:2015,
+-- 7.4.1, 7.4.9, 8.1).
 abbrev pub StreamsAreParsed : Type 0
 StreamsAreParsed =
     (v : ℕ) (bits : List Bool) (h : Option Header) (segs : List Segment) (xs : List ℕ) →
@@ -60,8 +60,9 @@ DataFillTheSymbol =
     (v : ℕ) (l : Level) (xs : List ℕ) (segs : List Segment) (h : Option Header) (cw : List ℕ) → IsData v l xs segs h cw →
     length cw ≡ data_codewords_of v l
 
--- Suppose that the mode of each segment can write the segment's bytes, and that all segments together take no more bits
--- than a symbol's capacity. Then each segment's character count fits the segment's character count indicator [own].
+-- Suppose that the bytes of each segment can be written in the segment's mode, and that all segments together take no
+-- more bits than a symbol's capacity. Then each segment's character count fits the segment's character count indicator
+-- [own].
 abbrev pub CountsFitWhereBitsFit : Type 0
 CountsFitWhereBitsFit =
     (v : ℕ) (l : Level) (xs : List ℕ) (segs : List Segment) → 1 ≤ v → v ≤ 40 → Suits xs segs →
@@ -74,8 +75,8 @@ FittingInputsAreShort =
     (v : ℕ) (l : Level) (r : Rule) (xs : List ℕ) → 1 ≤ v → v ≤ 40 → HasFit v r xs (capacity_of v l) → length xs ≤ 7089
 
 -- The segments of the best assignment of modes to an input (`IsLeastSegmentation`) contain exactly the bytes of the
--- input, as `Covers` defines it. These segments have at most n bits exactly if some valid assignment of modes takes at
--- most n bits [own].
+-- input (`Covers`). These segments have at most n bits if and only if some valid assignment of modes takes at most n
+-- bits [own].
 abbrev pub LeastSegmentationsFit : Type 0
 LeastSegmentationsFit =
     (v : ℕ) (r : Rule) (xs : List ℕ) (segs : List Segment) → IsLeastSegmentation v r xs segs →

@@ -14,8 +14,8 @@ indicator Alphanumeric = 2
 indicator Byte = 4
 indicator Kanji = 8
 
--- `terminator` is the value of the terminator's four bits, as a number. After the last segment, the terminator takes
--- the place that the mode indicator of another segment would have (ISO/IEC 18004:2015, 7.4.1, Table 2)
+-- `terminator` is the value of the terminator's four bits, as a number. The terminator follows the last segment, where
+-- the mode indicator of a further segment would be (ISO/IEC 18004:2015, 7.4.1, Table 2)
 abbrev pub terminator : ℕ
 terminator = 0
 
@@ -96,8 +96,8 @@ suits Kanji xs = in_twos is_kanji_pair xs
 -- the end take 7 bits, and one digit that remains takes 4 bits. In alphanumeric mode, two characters take 11 bits, and
 -- one character that remains at the end takes 6 bits. In byte mode, a byte takes 8 bits. In kanji mode, a kanji pair of
 -- two bytes takes 13 bits (ISO/IEC 18004:2015, 7.4.3 to 7.4.6). If a single byte remains at the end in kanji mode, this
--- byte counts as a whole kanji pair. No valid assignment of modes to bytes leads to a segment in kanji mode with such a
--- single byte.
+-- byte counts as a whole kanji pair. No valid assignment of modes to bytes leads to a segment in kanji mode with an odd
+-- number of bytes.
 abbrev pub payload_bits : Mode → ℕ → ℕ
 payload_bits Numeric n = 10 * (n / 3) + (if n % 3 == 0 then 0 else (if n % 3 == 1 then 4 else 7))
 payload_bits Alphanumeric n = 11 * (n / 2) + 6 * (n % 2)

@@ -18,13 +18,13 @@ abbrev pub room_of : ℕ → Level → ℕ
 room_of v l = capacity_of v l - 20
 
 -- `terminated capacity stream` is the bit stream `stream`, followed by its terminator. The terminator consists of four
--- zero bits. If fewer than four of the symbol's `capacity` bits remain after `stream`, the terminator has only as many
--- bits as remain (ISO/IEC 18004:2015, 7.4.9)
+-- zero bits. If fewer than four of the symbol's `capacity` bits remain after `stream`, the terminator is shorter, and
+-- fills exactly the bits that remain (ISO/IEC 18004:2015, 7.4.9)
 abbrev pub terminated : ℕ → List Bool → List Bool
 terminated capacity stream = stream ++ replicate (min 4 (capacity - length stream)) false
 
--- `filled stream` is the list of bits `stream`, followed by as many zero bits as complete its last codeword of eight
--- bits (ISO/IEC 18004:2015, 7.4.10)
+-- `filled stream` is the list of bits `stream`, followed by zero bits until its last codeword of eight bits is complete
+-- (ISO/IEC 18004:2015, 7.4.10)
 abbrev pub filled : List Bool → List Bool
 filled stream = stream ++ replicate ((8 - length stream % 8) % 8) false
 
@@ -35,7 +35,7 @@ pads (suc zero) = 0xEC ∷ []
 pads (suc (suc n)) = 0xEC ∷ 0x11 ∷ pads n
 
 -- `padded n stream` is the list of the bits of the `n` data codewords that contain the bit stream `stream`. The bit
--- stream has at most 8n bits, and is followed by its terminator, zero bits up to the end of a codeword, and pad
+-- stream has at most 8n bits. After the bit stream come its terminator, zero bits up to the end of a codeword, and pad
 -- codewords (ISO/IEC 18004:2015, 7.4.9, 7.4.10)
 unfoldable pub padded : ℕ → List Bool → List Bool
 padded n stream =
@@ -44,8 +44,8 @@ padded n stream =
 
 -- `IsData v l xs segs h cw` holds if `cw` is the list of the data codewords of a symbol of version `v` and level `l`.
 -- The symbol contains the bytes `xs` in the segments `segs`, after the structured append header `h`, if there is one.
--- The items of `cw` are bytes, and the bits of these bytes are the padded bit stream. Data codewords exist only for a
--- bit stream that satisfies `IsStream` and is not longer than the capacity of the symbol (ISO/IEC 18004:2015, 7.4.10).
+-- The items of `cw` are bytes, and the bits of these bytes are the padded bit stream. The bit stream satisfies
+-- `IsStream` and is not longer than the capacity of the symbol (ISO/IEC 18004:2015, 7.4.10).
 pub record IsData (v : ℕ) (l : Level) (xs : List ℕ) (segs : List Segment) (h : Option Header) (cw : List ℕ) : Type 0 where
   pub stream : List Bool
   pub is_stream : IsStream v xs segs h stream

@@ -72,11 +72,11 @@ unfoldable pub bytes_of : ℕ → List Bool → List ℕ
 bytes_of zero bits = []
 bytes_of (suc n) bits = value (take 8 bits) ∷ bytes_of n (drop 8 bits)
 
--- `kanji_pair n` is the kanji pair that has the value `n`, as a number of 16 bits. To compute the kanji pair, the value
--- `n` is divided by C0. The quotient is the high byte of a number of 16 bits, and the remainder is the low byte of this
--- number. If the quotient is at most 1E, the kanji pair is this number of 16 bits plus 8140. If the quotient is greater
--- than 1E, the kanji pair is this number of 16 bits plus C140. The numbers C0, 8140, 1E and C140 are hexadecimal
--- (ISO/IEC 18004:2015, 7.4.6)
+-- `kanji_pair n` is the number of 16 bits that consists of the two bytes of the kanji pair with the value `n`. To
+-- compute the kanji pair, the value `n` is divided by C0. The quotient is the high byte of a second number, and the
+-- remainder is the low byte of the second number. If the quotient is at most 1E, the kanji pair is the second number
+-- plus 8140. If the quotient is greater than 1E, the kanji pair is the second number plus C140. The numbers C0, 8140,
+-- 1E and C140 are hexadecimal (ISO/IEC 18004:2015, 7.4.6)
 unfoldable pub kanji_pair : ℕ → ℕ
 kanji_pair n =
     let rest = 256 * (n / 0xC0) + n % 0xC0 in
@@ -147,8 +147,8 @@ segments_at (suc n) v bits =
     if ends bits then Ok ([], []) else (segment_at v bits >>= λ s. segments_at n v s.2 >>= λ r. Ok (s.0 ∷ r.0, s.1 ++ r.1))
 
 -- `segments_of v bits` reads all segments from `bits`, in a symbol of version `v`, until the terminator comes or fewer
--- than four bits remain. The result is the segments, together with the bytes of all segments. At most as many segments
--- are read as there are bits. This limit leaves out no segment, since each segment takes at least four bits (ISO/IEC
+-- than four bits remain. The result is the segments, together with the bytes of all segments. No more segments are read
+-- than there are bits. This limit leaves out no segment, since each segment takes at least four bits (ISO/IEC
 -- 18004:2015, 7.4.1, 7.4.9)
 unfoldable pub segments_of : ℕ → List Bool → Result (List Segment × List ℕ) ParseFault
 segments_of v bits = segments_at (length bits) v bits

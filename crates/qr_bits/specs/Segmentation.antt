@@ -1,5 +1,5 @@
--- Defines how many bits segments take, and which segments are chosen for an input. An assignment, which is a mode for
--- each byte of the input, determines the segments.
+-- Defines how many bits segments take, and which segments are chosen for an input. An assignment (a mode for each byte
+-- of the input) determines the segments.
 use Rattle.std.specs.Prelude.{◌≡◌, ℕ, ◌+◌, ◌/◌, ◌<◌, ◌≤◌, ◌⊎◌, if◌then◌else◌, ◌==◌, nat_le, List, [], ◌∷◌, length, take, All, IsTrue}
 use Rattle.std.specs.List.{list_all, sum_by}
 use Rattle.qr_bits.specs.declared.modes.Mode.{Mode}
@@ -21,14 +21,15 @@ bits v [] = 0
 bits v (s ∷ ss) = segment_bits v s + bits v ss
 
 -- `Covers xs segs` holds if the segments `segs`, one after the other, contain exactly the bytes `xs`. No segment is
--- empty, and the lengths of the segments add up to the length of `xs`. The mode of each segment can write the bytes of
--- the segment [own]
+-- empty, and the lengths of the segments add up to the length of `xs`. The bytes of each segment can be written in the
+-- mode of the segment [own]
 unfoldable pub Covers : List ℕ → List Segment → Type 0
 Covers xs segs = All (λ s. 0 < s.len) segs × Suits xs segs
 
 -- `rank m` is the rank of the mode `m` in the order Numeric, Alphanumeric, Byte, Kanji. This order decides between
--- assignments of modes that take equally many bits. The function `choices` in table.rt takes the smallest number, which
--- is 4 times the number of bits plus the rank of the mode [own]
+-- assignments of modes that take equally many bits. For each possible mode, the function `choices` in the file table.rt
+-- computes 4 times the number of bits plus the rank of the mode. The mode with the smallest of these numbers is chosen
+-- [own]
 abbrev pub rank : Mode → ℕ
 rank Numeric = 0
 rank Alphanumeric = 1
@@ -48,8 +49,8 @@ runs_of [] = []
 runs_of (m ∷ ms) = prepend_mode m (runs_of ms)
 
 -- `IsAssignment r xs ms` holds if the list `ms`, with a mode for each of the bytes `xs`, is a valid assignment. An
--- assignment is valid if the rule `r` allows all its modes, and if the mode of each segment can write the segment's
--- bytes. Neighbouring bytes with equal modes form one segment [own].
+-- assignment is valid if the rule `r` allows all its modes, and if the bytes of each segment can be written in the
+-- segment's mode. Neighbouring bytes with equal modes form one segment [own].
 abbrev pub IsAssignment : Rule → List ℕ → List Mode → Type 0
 IsAssignment r xs ms = IsTrue (list_all (may_use r) ms) × Covers xs (runs_of ms)
 
@@ -90,7 +91,7 @@ abbrev pub least_sixths : ℕ → ℕ
 least_sixths b = if is_digit b then 20 else (if nat_le b 90 then 33 else 39)
 
 -- `least_bits xs` is a lower bound on the number of bits that the bytes `xs` take, however they are split into
--- segments. This bound is the sum of `least_sixths` over all bytes, rounded down to whole bits (ISO/IEC 18004:2015,
+-- segments. This bound is the sum of `least_sixths` over all bytes, divided by 6 and rounded down (ISO/IEC 18004:2015,
 -- 7.4.3 to 7.4.6)
 unfoldable pub least_bits : List ℕ → ℕ
 least_bits xs = sum_by least_sixths xs / 6

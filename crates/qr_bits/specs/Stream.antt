@@ -48,15 +48,14 @@ unfoldable pub segment_stream : ℕ → Mode → List ℕ → List Bool
 segment_stream v m xs = field 4 (indicator m) ++ (field (count_width v m) (character_count m (length xs)) ++ payload m xs)
 
 -- `segments_stream v xs segs` is the list of the bits of the segments `segs`, one segment after the other, in a symbol
--- of version `v`. Each segment contains the next bytes of `xs`, as many as the length of the segment (ISO/IEC
--- 18004:2015, 7.4.1)
+-- of version `v`. A segment of length n contains the next n bytes of `xs` (ISO/IEC 18004:2015, 7.4.1)
 unfoldable pub segments_stream : ℕ → List ℕ → List Segment → List Bool
 segments_stream v xs [] = []
 segments_stream v xs (s ∷ ss) = segment_stream v s.mode (take s.len xs) ++ segments_stream v (drop s.len xs) ss
 
 -- `Suits xs segs` holds if the segments `segs`, one after the other, contain exactly the bytes `xs`. The lengths of the
--- segments add up to the length of `xs`. The mode of each segment can write the bytes of the segment. A segment may be
--- empty [own]
+-- segments add up to the length of `xs`. The bytes of each segment can be written in the mode of the segment. A segment
+-- may be empty [own]
 unfoldable pub Suits : List ℕ → List Segment → Type 0
 Suits xs [] = xs ≡ []
 Suits xs (s ∷ ss) = (s.len ≤ length xs) × IsTrue (suits s.mode (take s.len xs)) × Suits (drop s.len xs) ss

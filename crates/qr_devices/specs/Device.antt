@@ -79,27 +79,27 @@ flush_counted returned c = record c {
 abbrev pub IsBeginning : List ℕ → List ℕ → Type 0
 IsBeginning prefix whole = (rest : List ℕ) × (prefix ++ rest ≡ whole)
 
--- `AppendsBeginning old new whole` holds if the bytes of a device changed from `old` to `new`, because a prefix of
--- `whole` was added at their end. If the bytes of the device are unknown, `AppendsBeginning` always holds [own]
+-- `AppendsBeginning old new whole` holds if the bytes `new` of a device are its earlier bytes `old`, followed by a
+-- prefix of `whole`. If the bytes of the device are unknown, `AppendsBeginning` always holds [own]
 abbrev pub AppendsBeginning : Option (List ℕ) → Option (List ℕ) → List ℕ → Type 0
 AppendsBeginning old new whole = (prefix : List ℕ) × IsBeginning prefix whole × Appends old new prefix
 
 -- `is_read_fault c` is true if the counts `c` show that a read failed, or that 1,000 reads or more were interrupted
--- (EINTR). The function `read_input` in `input.rt` of qrencode_cli reads the input, and tries up to 999 interrupted
--- reads again [own]
+-- (EINTR). The function `read_input` in the file `input.rt` of the crate qrencode_cli reads the input. This function
+-- reads again after an interrupted read, at most 999 times [own]
 abbrev pub is_read_fault : ReadCounts → Bool
 is_read_fault c = nat_lt 0 c.failed || nat_le 1000 c.interrupted
 
 -- `is_write_fault c` is true if the counts `c` show one of three causes. The first cause is that a write or a flush
--- failed. The second cause is that the device accepted no byte of a write of at least one byte. The third cause is that
--- 1,000 writes or more were interrupted (EINTR). The function `send` in `pen.rt` of qr_drawing writes a text, and tries
--- up to 999 interrupted writes again [own]
+-- failed. The second cause is that a write offered at least one byte, but the device accepted no byte. The third cause
+-- is that 1,000 writes or more were interrupted (EINTR). The function `send` in the file `pen.rt` of the crate
+-- qr_drawing writes a text. This function writes again after an interrupted write, at most 999 times [own]
 abbrev pub is_write_fault : WriteCounts → Bool
 is_write_fault c = nat_lt 0 c.failed || (nat_lt 0 c.zeros || nat_le 1000 c.interrupted)
 
 -- `IsWrittenWithin c` holds if the counts `c` show at most one call with a fault, and at most 1,000 interrupted writes
--- (EINTR). A call with a fault is a write that failed, a flush that failed, or a write of at least one byte of which
--- the device accepted no byte. At most 999 interrupted writes (`INTERRUPTIONS_MAX`) are tried again [own]
+-- (EINTR). A call with a fault is a write that failed, a flush that failed, or a write that offered at least one byte,
+-- but of which the device accepted no byte. At most 999 interrupted writes (`INTERRUPTIONS_MAX`) are tried again [own]
 pub record IsWrittenWithin (c : WriteCounts) : Type 0 where
   pub faults : c.failed + c.zeros ≤ 1
   pub interrupted : c.interrupted ≤ INTERRUPTIONS_MAX + 1

@@ -15,15 +15,16 @@ abbrev pub bytes_held : Trial → List ℕ
 bytes_held t = t.bytes.items
 
 -- `moved m call there` is the result of the read or write with the number `call` on a device with the faults `m`. At
--- most `there` bytes can be read or written. Calls with a number below `interruptions` are interrupted. Of the other
--- calls, those with the number `fails_from` or a greater number fail. Every remaining call reads or writes `there`
--- bytes, or `at_most` bytes if `at_most` is less than `there`. If `at_most` is 0, the limit is one byte [own]
+-- most `there` bytes can be read or written. Calls with a number below `interruptions` are interrupted. A call that is
+-- not interrupted fails if its number is at least `fails_from`. Every call that succeeds reads or writes `there` bytes,
+-- or `at_most` bytes if `at_most` is less than `there`. If `at_most` is 0, the call reads or writes at most one byte
+-- [own]
 abbrev pub moved : Faults → ℕ → ℕ → Result ℕ Trouble
 moved m call there =
     if nat_lt call m.interruptions then Err Interrupted else
     (if nat_le m.fails_from call then Err Failed else Ok (min there (max m.at_most 1)))
 
--- `free_of t` is the number of bytes for which the device `t` still has room. From the call with the number
--- `stops_from` on, `free_of t` is 0 [own]
+-- `free_of t` is the number of bytes for which the device `t` still has room. If the device already had at least
+-- `stops_from` writes and flushes, `free_of t` is 0 [own]
 abbrev pub free_of : Trial → ℕ
 free_of t = if nat_lt t.writes.calls t.faults.stops_from then t.room - length t.bytes.items else 0

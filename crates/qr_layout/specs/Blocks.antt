@@ -52,10 +52,10 @@ blocks_of v l = record {
 abbrev pub longest_of : Blocks → ℕ
 longest_of b = b.short_len + min b.long 1 + b.ec_len
 
--- `damage_of l` is a percentage of misread codewords in a block at the error correction level l. Let t be half the
--- number of error correction codewords of a block, rounded down. In every version, t is at least this percentage of the
--- number of codewords in the block. If at most this percentage of the codewords of a block is misread, only one block
--- can have been damaged in this way [own]
+-- `damage_of l` is a percentage of the codewords of a block at the error correction level l. Let t be half the number
+-- of error correction codewords of the block, rounded down. In every version, `damage_of l` percent of the codewords
+-- are no more than t codewords. If at most t codewords of a block are misread, the codewords that were read determine
+-- the undamaged block [own]
 abbrev pub damage_of : Level → ℕ
 damage_of L = 9
 damage_of M = 17

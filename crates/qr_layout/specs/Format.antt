@@ -49,8 +49,8 @@ sum_of_shifts divisor (k ∷ ks) = bit_xor (divisor * 2 ^ k) (sum_of_shifts divi
 
 -- `IsWordRemainder n divisor x r` holds if `divisor` has degree n and if dividing x by `divisor` leaves the remainder
 -- r. The numbers are read as polynomials whose coefficients are bits. The remainder r has at most n bits. The exclusive
--- or of x and r is a multiple of `divisor`: the exclusive or of copies of `divisor` that are shifted left (ISO/IEC
--- 18004:2015, Annexes C and D)
+-- or of x and r is a multiple of `divisor`. A multiple of `divisor` is the exclusive or of copies of `divisor` that are
+-- shifted left (ISO/IEC 18004:2015, Annexes C and D)
 pub record IsWordRemainder (n divisor x r : ℕ) : Type 0 where
   pub monic : (2 ^ n ≤ divisor) × (divisor < 2 ^ (n + 1))
   pub small : r < 2 ^ n

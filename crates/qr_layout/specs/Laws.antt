@@ -31,8 +31,8 @@ printed_errors H = 8 ∷ 14 ∷ 11 ∷ 8 ∷ 11 ∷ 14 ∷ 13 ∷ 13 ∷ 12 ∷ 
 
 -- `printed_protection l` lists the number of misdecode protection codewords of a block at level l, for the first
 -- versions. For all later versions, which are not in the list, the number is 0. Misdecode protection codewords are
--- error correction codewords that are not used to correct errors, only to detect them. So fewer damaged blocks are
--- wrongly read as another message (ISO/IEC 18004:2015, 7.5.1, Table 9)
+-- error correction codewords that are not used to correct errors, only to detect them. Misdecode protection codewords
+-- make it less likely that a damaged block is read as another message (ISO/IEC 18004:2015, 7.5.1, Table 9)
 abbrev pub printed_protection : Level → List ℕ
 printed_protection L = 3 ∷ 2 ∷ 1 ∷ []
 printed_protection M = 2 ∷ []
@@ -46,21 +46,21 @@ abbrev pub printed_correction : Level → ℕ → ℕ
 printed_correction l v = 2 * slice_index_or (printed_errors l) (v - 1) 0 + slice_index_or (printed_protection l) (v - 1) 0
 
 -- `gap_between v k` is the distance between neighbouring rows that contain centres of alignment patterns. Version v has
--- k rows with centres, and the first of these rows is row 6. Only the first two of these rows may have another
--- distance. The distance is the least even number d for which d * (k - 1) is at least the distance from row 6 to the
--- last of the k rows. Version 32 is an exception: its distance is 26 (ISO/IEC 18004:2015, Annex E)
+-- k rows with centres, and the first of these rows is row 6. Only the first two of these rows may have a different
+-- distance from each other. The distance is the least even number d for which d * (k - 1) is at least the distance from
+-- row 6 to the last of the k rows. Version 32 is an exception: its distance is 26 (ISO/IEC 18004:2015, Annex E)
 abbrev pub gap_between : ℕ → ℕ → ℕ
 gap_between v k = if v == 32 then 26 else 2 * ((side_of v - 13 + 2 * (k - 1) - 1) / (2 * (k - 1)))
 
 -- `spaced_centres v` lists the rows that contain centres of alignment patterns in version v, where v is at least 2. The
--- first of these rows is row 6. The index of the last of these rows is the number of modules on a side less 7. From the
--- second of these rows on, all distances between neighbouring rows are equal (ISO/IEC 18004:2015, Annex E)
+-- first of these rows is row 6. The index of the last of these rows is the number of modules on a side minus 7. From
+-- the second of these rows on, all distances between neighbouring rows are equal (ISO/IEC 18004:2015, Annex E)
 abbrev pub spaced_centres : ℕ → List ℕ
 spaced_centres v = 6 ∷ map (λ i. side_of v - 7 - gap_between v (v / 7 + 2) * (v / 7 - i)) (range_with_len 0 (v / 7 + 1))
 
--- `alignment_size k` is the number of modules of alignment patterns that are outside the timing patterns, in a symbol
--- with k rows of centres. An alignment pattern has 25 modules outside the timing patterns, or 20 if it lies across a
--- timing pattern (ISO/IEC 18004:2015, 6.3.5, 6.3.6)
+-- `alignment_size k` counts the modules that belong to an alignment pattern but not to a timing pattern, in a symbol
+-- with k rows of centres of alignment patterns. An alignment pattern has 25 modules outside the timing patterns, or 20
+-- if it lies across a timing pattern (ISO/IEC 18004:2015, 6.3.5, 6.3.6)
 abbrev pub alignment_size : ℕ → ℕ
 alignment_size k = if nat_lt k 2 then 0 else 25 * (k ^ 2 - 3) - 10 * (k - 2)
 
@@ -69,9 +69,9 @@ alignment_size k = if nat_lt k 2 then 0 else 25 * (k ^ 2 - 3) - 10 * (k - 2)
 abbrev pub version_size : ℕ → ℕ
 version_size v = if nat_lt v 7 then 0 else 36
 
--- `region_size v` is the number of modules of a symbol of version v that are outside four parts of the symbol. The four
--- parts are the three corners, the timing patterns between the corners, the alignment patterns and the version
--- information (ISO/IEC 18004:2015, 6.3.7, 7.7.3)
+-- `region_size v` counts the modules of a symbol of version v that are outside four parts of the symbol. The four parts
+-- are the three corners, the timing patterns between the corners, the alignment patterns and the version information
+-- (ISO/IEC 18004:2015, 6.3.7, 7.7.3)
 abbrev pub region_size : ℕ → ℕ
 region_size v =
     side_of v ^ 2 - 225 - 2 * (side_of v - 17) - alignment_size (length (centres_of v)) - version_size v

@@ -25,8 +25,8 @@ abbrev pub version_rectangles : ℕ → ℕ → List Rectangle
 version_rectangles v s =
     if nat_lt v 7 then [] else (record { top = 0; bottom = 6; left = s - 11; right = s - 8 } ∷ record { top = s - 11; bottom = s - 8; left = 0; right = 6 } ∷ [])
 
--- `fixed_rectangles v` lists, as rectangles of a symbol of version v, the three corners, and the row and the column of
--- the timing patterns. From version 7 on, the list also contains the two blocks of version information (ISO/IEC
--- 18004:2015, 6.3.3 to 6.3.5, 7.9, 7.10)
+-- `fixed_rectangles v` lists rectangles of a symbol of version v: the three corners, and the row and the column of the
+-- timing patterns. From version 7 on, the list also contains the two blocks of version information (ISO/IEC 18004:2015,
+-- 6.3.3 to 6.3.5, 7.9, 7.10)
 abbrev pub fixed_rectangles : ℕ → List Rectangle
 fixed_rectangles v = corner_rectangles (side_of v) ++ timing_rectangles (side_of v) ++ version_rectangles v (side_of v)

@@ -1,6 +1,6 @@
 -- Defines the encoding region: the places of a symbol outside the function patterns, the format information and the
--- version information. The encoding region of the standard, unlike the one defined here, also includes the format
--- information and the version information.
+-- version information. In the standard, the encoding region is larger: there, it also includes the format information
+-- and the version information.
 use Rattle.std.specs.Prelude.{◌≡◌, ℕ, ◌-◌, Bool, true, max, not, ◌&&◌, ◌||◌, ◌==◌, nat_lt, nat_le}
 use Rattle.std.specs.Int.{abs_diff}
 use Rattle.std.specs.List.{list_any}
@@ -30,14 +30,14 @@ is_version_block s r c = nat_lt r 6 && (nat_le (s - 11) c && nat_lt c (s - 8))
 abbrev pub is_version_information : ℕ → ℕ → ℕ → Bool
 is_version_information v r c = nat_le 7 v && (is_version_block (side_of v) r c || is_version_block (side_of v) c r)
 
--- `ring_of a b r c` is the number of the ring around the place (a, b) that contains the place (r, c). The rings are
--- square, and are numbered outward: ring 0 is the place (a, b) itself, and ring 1 surrounds ring 0 [own]
+-- `ring_of a b r c` is the number of the ring that contains the place (r, c). The rings are squares around the place
+-- (a, b), and are numbered outward: ring 0 is the place (a, b) itself, and ring 1 surrounds ring 0 [own]
 abbrev pub ring_of : ℕ → ℕ → ℕ → ℕ → ℕ
 ring_of a b r c = max (abs_diff a r) (abs_diff b c)
 
 -- `is_alignment v r c` holds if the place in row r and column c of a symbol of version v is in an alignment pattern. An
--- alignment pattern consists of the square rings 0, 1 and 2 around its centre, which is ring 0 (ISO/IEC 18004:2015,
--- 6.3.6)
+-- alignment pattern consists of its centre, which is ring 0, and of the square rings 1 and 2 around the centre (ISO/IEC
+-- 18004:2015, 6.3.6)
 abbrev pub is_alignment : ℕ → ℕ → ℕ → Bool
 is_alignment v r c = list_any (λ m. nat_le (ring_of m.row m.col r c) 2) (alignment_places (side_of v) (centres_of v))
 

@@ -1,5 +1,5 @@
--- Defines the role of each module of a symbol: a fixed colour, a bit of the format information or of the version
--- information, or a module of the encoding region.
+-- Defines the role of each module of a symbol: what the module contains. A module has a fixed colour, contains a bit of
+-- the format information or of the version information, or is in the encoding region.
 use Rattle.std.specs.Prelude.{ℕ, ◌+◌, ◌-◌, ◌/◌, ◌%◌, min, Bool, true, false, not, ◌&&◌, ◌||◌, nat_lt, ◌==◌, if◌then◌else◌, Option, None, Some}
 use Rattle.std.specs.List.{find, list_any, range_with_len}
 use Rattle.std.specs.Option.{option_map_or}
@@ -10,8 +10,8 @@ use Rattle.qr_layout.specs.Version.{side_of}
 use Rattle.qr_layout.specs.Alignment.{centres_of, alignment_places}
 use Rattle.qr_layout.specs.Region.{is_alignment, ring_of}
 
--- `finder_ring s r c` is the number of the square ring that contains the place (r, c), in a symbol with s modules on a
--- side. The centre of the nearest finder pattern is ring 0, and the other rings surround it. Rings 0, 1 and 3 are dark,
+-- `finder_ring s r c` is the number of the ring that contains the place (r, c). The rings are squares around the centre
+-- of the nearest finder pattern, in a symbol with s modules on a side. The centre is ring 0. Rings 0, 1 and 3 are dark,
 -- ring 2 is light, and ring 4 is the separator (ISO/IEC 18004:2015, 6.3.3)
 abbrev pub finder_ring : ℕ → ℕ → ℕ → ℕ
 finder_ring s r c = min (ring_of 3 3 r c) (min (ring_of 3 (s - 4) r c) (ring_of (s - 4) 3 r c))
@@ -23,8 +23,8 @@ unfoldable pub is_alignment_light : ℕ → ℕ → ℕ → Bool
 is_alignment_light v r c = list_any (λ m. ring_of m.row m.col r c == 1) (alignment_places (side_of v) (centres_of v))
 
 -- `pattern_colour v r c` is the colour of the module at (r, c) of version v, if the module is part of a finder pattern,
--- separator, timing pattern or alignment pattern. The value `true` is dark. For any other module, the value of
--- `pattern_colour` is `None` (ISO/IEC 18004:2015, 6.3.3 to 6.3.6)
+-- separator, timing pattern or alignment pattern. The value `true` means dark, and `false` means light. For any other
+-- module, the value of `pattern_colour` is `None` (ISO/IEC 18004:2015, 6.3.3 to 6.3.6)
 unfoldable pub pattern_colour : ℕ → ℕ → ℕ → Option Bool
 pattern_colour v r c =
     if nat_lt (finder_ring (side_of v) r c) 4 then Some (not (finder_ring (side_of v) r c == 2)) else
@@ -41,8 +41,8 @@ first_place i = record {
   col = if nat_lt i 8 then 8 else (if i == 8 then 7 else 14 - i);
 }
 
--- `second_place s i` is the place of bit i of the format information in the second copy, beside the other two finder
--- patterns. The symbol has s modules on a side (ISO/IEC 18004:2015, 7.9.1)
+-- `second_place s i` is the place of bit i of the format information in the second copy. The second copy is beside the
+-- top right and the bottom left finder pattern. The symbol has s modules on a side (ISO/IEC 18004:2015, 7.9.1)
 abbrev pub second_place : ℕ → ℕ → Module
 second_place s i = record {
   row = if nat_lt i 8 then 8 else s - 15 + i;

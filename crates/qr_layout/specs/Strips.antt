@@ -6,8 +6,8 @@ use Rattle.qr_layout.specs.declared.region.Module.{Module}
 use Rattle.qr_layout.specs.declared.strips.Strip.{Strip}
 
 -- `rows_from s strip k n` lists the places of n modules in the right column of `strip`, in the order in which the strip
--- is filled. The symbol has s modules on a side, and k rows of the strip are filled before these n rows (ISO/IEC
--- 18004:2015, 7.7.3)
+-- is filled. The symbol has s modules on a side, and k rows of the strip are filled before the first of these modules
+-- (ISO/IEC 18004:2015, 7.7.3)
 abbrev pub rows_from : ℕ → Strip → ℕ → ℕ → List Module
 rows_from s strip k zero = []
 rows_from s strip k (suc n) = record { row = if strip.upward then s - 1 - k else k; col = strip.right } ∷ rows_from s strip (k + 1) n
@@ -25,9 +25,8 @@ places_of s (x ∷ xs) = both_of (rows_from s x 0 s) ++ places_of s xs
 
 -- `strip_at p` is the strip with the number p, if the strips are numbered from left to right, beginning with 1. A strip
 -- is two neighbouring columns that are filled together. No strip contains column 6, which contains a timing pattern. So
--- the right column of the strip has the index c = 2 * p - 1 if c is below 6, and otherwise the index c + 1. The code
--- skips column 6 in the function `strip_at` of the file strips.rt, which the walk through the modules calls (ISO/IEC
--- 18004:2015, 7.7.3)
+-- the index of the strip's right column is 2 * p - 1 if this number is below 6, and 2 * p otherwise. In the code, the
+-- function `strip_at` in the file strips.rt skips column 6 (ISO/IEC 18004:2015, 7.7.3)
 abbrev pub strip_at : ℕ → Strip
 strip_at p = record { right = (let c = 2 * p - 1 in if nat_lt c 6 then c else c + 1); upward = p % 2 == 0 }
 

@@ -1,6 +1,6 @@
 -- Defines how many bits the next byte of an input adds in each mode. This number depends on the state (`RunState`)
--- before the next byte. A state contains the mode of the last byte, and the number of bytes that its group has so far.
--- A group is three digits, two characters of alphanumeric mode, or a kanji pair.
+-- before the next byte. A state contains the mode of the last byte, and how many bytes of the current group have come,
+-- including the last byte. A group is three digits, two characters of alphanumeric mode, or a kanji pair.
 use Rattle.std.specs.Prelude.{◌≡◌, ℕ, ◌+◌, ◌*◌, ◌≤◌, Bool, true, false, ◌&&◌, ◌==◌, if◌then◌else◌, List, [], ◌∷◌, IsTrue}
 use Rattle.qr_bits.specs.declared.modes.Mode.{Mode}
 use Rattle.qr_bits.specs.declared.modes.Mode.TheVariants.{Numeric, Alphanumeric, Byte, Kanji}
@@ -11,7 +11,8 @@ use Rattle.qr_bits.specs.Modes.{count_width, is_digit, is_alphanumeric, may_use}
 use Rattle.qr_bits.specs.Segmentation.{rank, IsNotAfter}
 
 -- `state_after p m` is the state after a byte with the mode `m`, if the state before this byte is `p`. A state contains
--- the mode of the last byte, and the number of bytes that its group (such as three digits) has so far
+-- the mode of the last byte, and how many bytes of the current group (such as three digits) have come, including the
+-- last byte
 unfoldable pub state_after : RunState → Mode → RunState
 state_after Digit1 Numeric = Digit2
 state_after Digit2 Numeric = Digit3
@@ -63,8 +64,8 @@ begins_with_pair r test [] = false
 begins_with_pair r test (x ∷ []) = false
 begins_with_pair r test (x ∷ y ∷ xs) = may_use r Kanji && test x y
 
--- `may_begin r x pair m` holds if the byte `x`, which is not the second byte of a kanji pair, may have the mode `m`
--- under the rule `r`. The flag `pair` is true if `x` may be the first byte of a kanji pair.
+-- `may_begin r x pair m` holds if the byte `x` may have the mode `m` under the rule `r`. The byte `x` is not the second
+-- byte of a kanji pair. The flag `pair` is true if `x` may be the first byte of a kanji pair.
 unfoldable pub may_begin : Rule → ℕ → Bool → Mode → Bool
 may_begin r x pair Numeric = may_use r Numeric && is_digit x
 may_begin r x pair Alphanumeric = may_use r Alphanumeric && is_alphanumeric x
@@ -99,20 +100,22 @@ unfoldable pub cost_of : ℕ → RunState → List Mode → ℕ
 cost_of v p [] = 0
 cost_of v p (m ∷ ms) = byte_cost v p m + cost_of v (state_after p m) ms
 
--- `IsBestRest v r test p xs ms n` holds if `ms` is the best of all assignments of modes to the remaining bytes `xs`
--- that are allowed after the state `p`. The best assignment adds the fewest bits, and `n` is the number of these bits.
--- If several assignments add `n` bits, the best is the first of these assignments in the lexicographic order by the
--- ranks of the modes. The version is `v`, the rule is `r`, and two bytes are a kanji pair if they pass `test`.
+-- `IsBestRest v r test p xs ms n` holds if `ms` is the best assignment of modes to the remaining bytes `xs`, among all
+-- assignments that are allowed after the state `p`. The best assignment adds the fewest bits, and `n` is the number of
+-- these bits. If several assignments add `n` bits, the best is the first of these assignments in the lexicographic
+-- order by the ranks of the modes. The version is `v`, the rule is `r`, and two bytes are a kanji pair if they pass
+-- `test`.
 pub record IsBestRest (v : ℕ) (r : Rule) (test : ℕ → ℕ → Bool) (p : RunState) (xs : List ℕ) (ms : List Mode) (n : ℕ) : Type 0 where
   pub is_allowed : IsTrue (allowed r test p xs ms)
   pub has_bits : cost_of v p ms ≡ n
   pub least : (ks : List Mode) → IsTrue (allowed r test p xs ks) → n ≤ cost_of v p ks
   pub first : (ks : List Mode) → IsTrue (allowed r test p xs ks) → cost_of v p ks ≡ n → IsNotAfter ms ks
 
--- `IsChoice v r p x pair cost m n` holds if `m` is the best mode for the byte `x` after the state `p`. With the mode
--- `m`, `x` and the bytes after `x` add `n` bits, and with every other allowed mode they add at least `n` bits. If
--- several allowed modes lead to `n` bits, `m` is the mode of the lowest rank. If the state after `x` is `q`, the bytes
--- after `x` add `cost q` bits. The flag `pair` is true if `x` may be the first byte of a kanji pair.
+-- `IsChoice v r p x pair cost m n` holds if `m` is the best mode for the byte `x` after the state `p`. If `x` has the
+-- mode `m`, then `x` and the bytes after `x` together add `n` bits. If `x` has any other allowed mode, these bytes add
+-- at least `n` bits. If several allowed modes lead to `n` bits, `m` is the mode of the lowest rank. If the state after
+-- `x` is `q`, the bytes after `x` add `cost q` bits. The flag `pair` is true if `x` may be the first byte of a kanji
+-- pair.
 pub record IsChoice (v : ℕ) (r : Rule) (p : RunState) (x : ℕ) (pair : Bool) (cost : RunState → ℕ) (m : Mode) (n : ℕ) : Type 0 where
   pub is_allowed : IsTrue (may_take r p x pair m)
   pub has_bits : n ≡ byte_cost v p m + cost (state_after p m)
@@ -120,10 +123,10 @@ pub record IsChoice (v : ℕ) (r : Rule) (p : RunState) (x : ℕ) (pair : Bool) 
   pub first : (k : Mode) → IsTrue (may_take r p x pair k) → byte_cost v p k + cost (state_after p k) ≡ n → rank m ≤ rank k
 
 -- `choice_number may bits m` is a number that represents the choice of the mode `m` for the next byte. The number is
--- four times `bits` plus the rank of `m`, where `bits` is the number of bits that this byte and all later bytes add
--- after this choice. So the better of two choices has the smaller number. If `may` is false, the mode may not be used,
--- and the number is 4,294,967,295. For inputs of at most `INPUT_MAX` bytes, 4,294,967,295 is greater than the number of
--- every allowed choice.
+-- four times `bits` plus the rank of `m`. Here `bits` is the number of bits that the next byte and all later bytes add
+-- after the choice of `m`. So the better of two choices has the smaller number. If `may` is false, the mode may not be
+-- used, and the number is 4,294,967,295. For inputs of at most `INPUT_MAX` bytes, 4,294,967,295 is greater than the
+-- number of every allowed choice.
 abbrev pub choice_number : Bool → ℕ → Mode → ℕ
 choice_number may bits m = if may then 4 * bits + rank m else 4294967295
 

@@ -1,6 +1,6 @@
 -- Defines the table of best modes for an input. The table has a row for each byte. The row of a byte contains the best
--- mode of the byte for each state (`RunState`) before the byte. A state contains the mode of the last byte, and the
--- number of bytes that its group (such as three digits) has so far.
+-- mode of the byte for each state (`RunState`) before the byte. A state contains the mode of the last byte, and how
+-- many bytes of the current group (such as three digits) have come, including the last byte.
 use Rattle.std.specs.Prelude.{ℕ, ◌<◌, ◌/◌, ◌%◌, ◌^◌, Bool, List, [], ◌∷◌, IsTrue}
 use Rattle.qr_bits.specs.declared.modes.Mode.{Mode}
 use Rattle.qr_bits.specs.declared.modes.Rule.{Rule}
@@ -21,14 +21,15 @@ in_state b InBytes = b.in_bytes
 in_state b HalfPair = b.half_pair
 in_state b WholePair = b.whole_pair
 
--- `bits_at numbers p` is the number of bits to which the best mode for the state `p` leads. For each state, `numbers`
--- contains four times the number of bits to which the best mode leads, plus the rank of this mode.
+-- `bits_at numbers p` is the number of bits that the remaining bytes add after the state `p`, if each byte has its best
+-- mode. For each state, `numbers` contains four times this number of bits, plus the rank of the best mode of the next
+-- byte.
 abbrev pub bits_at : PerState ℕ → RunState → ℕ
 bits_at numbers p = in_state numbers p / 4
 
 -- `IsSmall n` holds if each of the nine numbers in `n`, one for each state, is below 40,000,000. For an input of at
--- most `INPUT_MAX` bytes, all numbers that represent the choice of a mode are below this bound. So adding the bits of
--- one more byte to a number of a choice does not overflow 32 bits.
+-- most `INPUT_MAX` bytes, the number that represents the best choice of a mode (`choice_number`) is below this bound in
+-- every state. So the bits of one more byte can be added to such a number without an overflow of 32 bits.
 abbrev pub IsSmall : PerState ℕ → Type 0
 IsSmall n =
     (n.start < 40000000) × (n.digit1 < 40000000) × (n.digit2 < 40000000) × (n.digit3 < 40000000) × (n.character1 < 40000000)
@@ -52,9 +53,9 @@ unfoldable pub mode_at : ℕ → RunState → Mode
 mode_at row p = ranked (row / 2 ^ shift_of p % 4)
 
 -- `IsRow v r x pair rest row numbers` holds if the row `row` contains the best mode of the byte `x` for each state
--- before `x`. If the state before `x` is `p`, `x` and all later bytes add `bits_at numbers p` bits. If the state after
--- `x` is `q`, the bytes after `x` add `bits_at rest q` bits. The version is `v`, the rule is `r`, and the flag `pair`
--- is true if `x` may be the first byte of a kanji pair.
+-- before `x`. If the state before `x` is `p`, then `x` and all later bytes together add `bits_at numbers p` bits. If
+-- the state after `x` is `q`, then the bytes after `x` add `bits_at rest q` bits. The version is `v`, the rule is `r`,
+-- and the flag `pair` is true if `x` may be the first byte of a kanji pair.
 abbrev pub IsRow : ℕ → Rule → ℕ → Bool → PerState ℕ → ℕ → PerState ℕ → Type 0
 IsRow v r x pair rest row numbers = (p : RunState) → IsChoice v r p x pair (bits_at rest) (mode_at row p) (bits_at numbers p)
 
@@ -64,8 +65,8 @@ unfoldable pub follow : RunState → List ℕ → List Mode
 follow p [] = []
 follow p (row ∷ rows) = mode_at row p ∷ follow (state_after p (mode_at row p)) rows
 
--- `IsBestTable v r test xs rows` holds if `rows` is a table of the best modes for the bytes `xs`. If any assignment of
--- modes to `xs` is allowed after a state, then `follow`, beginning with this state, reads the best allowed assignment
+-- `IsBestTable v r test xs rows` holds if `rows` is a table of the best modes for the bytes `xs`. For each state after
+-- which at least one assignment of modes to `xs` is allowed, the function `follow` reads the best allowed assignment
 -- from the table. The version is `v`, the rule is `r`, and two bytes are a kanji pair if they pass `test`.
 abbrev pub IsBestTable : ℕ → Rule → (ℕ → ℕ → Bool) → List ℕ → List ℕ → Type 0
 IsBestTable v r test xs rows = (p : RunState) (ks : List Mode) → IsTrue (allowed r test p xs ks) → (n : ℕ) × IsBestRest v r test p xs (follow p rows) n

@@ -29,8 +29,9 @@ unfoldable pub left_of : ℕ → Cursor → ℕ
 left_of s a = a.strips * (2 * s) - (2 * rank_of s a + half_of a.at_left)
 
 -- `next_of s a` is the position that follows the position a in a symbol with s modules on a side. After the right
--- module of a row comes the left module of this row. After the left module comes the right module of the next row of
--- the strip. After the left module of the strip's last row comes the next strip, which begins in this row
+-- module of a row comes the left module of this row. After the left module of any row except the strip's last row comes
+-- the right module of the strip's next row. After the left module of the strip's last row comes the right module of the
+-- same row in the next strip
 unfoldable pub next_of : ℕ → Cursor → Cursor
 next_of s a =
     if a.at_left then
@@ -43,8 +44,8 @@ pub record IsCursor (v : ℕ) (a : Cursor) : Type 0 where
   pub strips_in : a.strips ≤ 8 + 2 * v
   pub row_in : a.row < side_of v
 
--- `places_within v n a` goes through n positions of the walk of version v, beginning with the position a. The list
--- contains those modules at these positions that are in the encoding region
+-- `places_within v n a` lists the modules of the encoding region that the walk of version v visits at n positions,
+-- beginning with the position a
 unfoldable pub places_within : ℕ → ℕ → Cursor → List Module
 places_within v zero a = []
 places_within v (suc n) a =
