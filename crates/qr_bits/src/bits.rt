@@ -13,7 +13,8 @@ use std::marker::Model;
 #[derive(Drop)]
 pub(crate) struct BitWriter {
     whole: Vec<u8>,
-    // The bits after the last whole codeword, as a number of `width` bits. `width` is less than eight.
+    // `width` bits come after the last whole codeword, and `rest` contains these bits as a number. `width` is less than
+    // eight.
     rest: u8,
     width: u8,
 }
@@ -170,7 +171,7 @@ impl<'a> BitReader<'a> {
         number
     }
 
-    /// Returns whether the segments end here: either fewer than four bits are left, or the next four bits are the
+    /// Returns whether no further segment follows: either fewer than four bits are left, or the next four bits are the
     /// terminator.
     #[tactic(auto, unfolding(crate::specs::Parsing::ends))]
     pub(crate) fn ends(&self) -> bool

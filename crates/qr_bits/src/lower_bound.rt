@@ -8,7 +8,7 @@ ghost use Rattle.qr_bits.specs.Segmentation.{HasFit, least_bits, least_sixths};
 
 use crate::modes::INPUT_MAX;
 
-// Returns a lower bound on the number of bits that `byte` takes in any mode, in sixths of a bit.
+// Returns a lower bound, in sixths of a bit, on the number of bits that `byte` takes in any mode.
 fn least_sixths(byte: u8) -> u32
     ensures value { result ≡ least_sixths byte }
     ensures most { result ≤ 39 }
