@@ -115,11 +115,11 @@ fn choices(
     let no_digits = characters.min(others);
     let no_characters = digits.min(others);
     let start = digits.min(no_digits);
-    // In each `RunState` of `Digit3`, `Character2`, `InBytes` and `WholePair`, the last group of bytes is complete.
-    // After a complete group, to continue the segment takes fewer bits than to begin a new segment of the same mode,
-    // and both choices lead to the same `RunState`. So a new segment of the same mode is never the best choice after a
-    // complete group. After a complete group, the code can therefore use `start`: the least number of all choices that
-    // begin a new segment, in whatever mode.
+    // If the `RunState` is `Digit3`, `Character2`, `InBytes` or `WholePair`, the last group of bytes is complete. After
+    // a complete group, to continue the segment takes fewer bits than to begin a new segment of the same mode, and both
+    // choices lead to the same `RunState`. So a new segment of the same mode is never the best choice after a complete
+    // group. After a complete group, the code can therefore use `start`: the least number of all choices that begin a
+    // new segment, in whatever mode.
     let digit2 = number_if(digit, number(3, Mode::Numeric), rest.digit2);
     let digit3 = number_if(digit, number(3, Mode::Numeric), rest.digit3);
     let digit1 = number_if(digit, number(4, Mode::Numeric), rest.digit1);
