@@ -163,8 +163,8 @@ fn format_bit_down(side: u8, row: u8) -> Option<u8>
     }
 }
 
-// Returns the index of the bit of the format information that the module in column `col` of row 8 contains, where `col`
-// is not 8. Returns `None` if this module contains no bit of the format information. `side` is the number of modules on
+// Returns the index of the bit of the format information that the module in row 8 and column `col` contains. `col` must
+// not be 8. Returns `None` if this module contains no bit of the format information. `side` is the number of modules on
 // a side of the symbol.
 fn format_bit_across(side: u8, col: u8) -> Option<u8>
     requires least { 21 ≤ side }
