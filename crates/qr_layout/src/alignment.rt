@@ -98,9 +98,9 @@ fn is_near(centre: u8, at: u8) -> bool
     }
 }
 
-// Returns whether row `a` and column `b` meet in a corner with a finder pattern. In such a corner, no alignment pattern
-// has its centre, even if row `a` and column `b` each contain centres of alignment patterns. `side` is the number of
-// modules on a side of the symbol.
+// If row `a` and column `b` contain centres of alignment patterns, returns whether this row and this column meet in a
+// corner with a finder pattern. No alignment pattern has its centre in a corner with a finder pattern. `side` is the
+// number of modules on a side of the symbol.
 pub(crate) fn is_corner_pair(side: u8, a: u8, b: u8) -> bool
     requires { 21 ≤ side }
     ensures { result ≡ is_corner_pair side a b }
