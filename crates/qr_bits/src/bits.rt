@@ -96,8 +96,8 @@ fn push_whole(whole: &mut Vec<u8>, bits: u32, width: u8) -> Result<u8, AllocErro
     Ok(left)
 }
 
-// Joins the `width` bits of the number `rest` and the bits of `bytes`, in this order. Cuts the joined bits into bytes,
-// and appends these bytes to `whole`. The last `width` of the joined bits do not fill a byte, and the function returns
+// Puts the `width` bits of the number `rest` in front of the bits of `bytes`. Cuts the joined bits into bytes, and
+// appends the whole bytes to `whole`. The last `width` of the joined bits do not fill a byte, and the function returns
 // these bits as a number.
 fn push_bytes(whole: &mut Vec<u8>, width: u8, mut rest: u8, bytes: &[u8]) -> Result<u8, AllocError>
     requires few { width < 8 }

@@ -27,8 +27,8 @@ fn ends_with_pair(rule: Rule, bytes: &[u8]) -> bool
     may_use(rule, Mode::Kanji) && is_kanji_pair(bytes[len - 2], bytes[len - 1])
 }
 
-// Returns the greatest number of bytes that one segment in byte mode can contain, if the segment has at most `room`
-// bits in a symbol of this version (7.4.5).
+// Returns how many bytes one segment in byte mode can contain at most, if the segment takes at most `room` bits in a
+// symbol of this version (7.4.5).
 fn bytes_in(room: u64, version: Version) -> usize
     requires { 20 ≤ room }
     ensures fits { 4 + count_width version Mode.Byte + 8 * result ≤ room }

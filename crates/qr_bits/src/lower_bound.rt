@@ -1,6 +1,6 @@
 //! Computes a lower bound on the number of bits that an input takes, however it is split into segments. If the data
-//! codewords of a version have fewer bits than this bound, the input does not fit, and the code can skip this version
-//! without splitting the input.
+//! codewords of a version have fewer bits than the lower bound, the input does not fit, and the code can skip this
+//! version without splitting the input.
 
 ghost use Rattle.std.specs.Prelude.{length, ℕ, ◌/◌, ◌≡◌, ◌≤◌};
 ghost use Rattle.qr_bits.specs.declared.modes.Rule.{Rule};

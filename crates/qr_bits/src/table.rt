@@ -8,11 +8,11 @@
 //! the fewest bits that all later bytes together can add. The best mode for a `RunState` is the mode with the least
 //! sum.
 //!
-//! A number represents each choice of a mode for a byte: 4 times the number of bits that this byte and all later bytes
-//! add, plus the rank of the mode. The ranks of the modes are 0 to 3, in the order Numeric, Alphanumeric, Byte, Kanji.
-//! The best choice is the choice with the smallest number: it takes the fewest bits, and if several choices take the
-//! fewest bits, it has the lowest rank. Each row of the table belongs to one byte. For each `RunState` before this
-//! byte, the row contains the best mode of the byte, as two bits.
+//! A number represents each possible choice of a mode for a byte: 4 times the number of bits that this byte and all
+//! later bytes add, plus the rank of the mode. The ranks of the modes are 0 to 3, in the order Numeric, Alphanumeric,
+//! Byte, Kanji. The best choice is the choice with the smallest number: it takes the fewest bits. If several choices
+//! take the fewest bits, the best of them has the lowest rank. Each row of the table belongs to one byte. For each
+//! `RunState` before this byte, the row contains the best mode of the byte, as two bits.
 
 ghost use Rattle.std.specs.Prelude.{◌≡◌, ◌+◌, ◌*◌, ◌/◌, ◌%◌, ◌<◌, ◌≤◌, ℕ, Bool, true, false, length, reverse, IfOk, vec_len};
 ghost use Rattle.qr_bits.specs.declared.modes.Mode.{Mode};
@@ -88,12 +88,12 @@ fn modes_of(numbers: &PerState<u32>) -> u32
 }
 
 // Finds the best mode of a byte for each `RunState` before the byte. Returns the best modes as a row of the table of
-// best modes, and the numbers that represent the choices of these modes. A choice is represented by 4 times the number
-// of bits that the byte and all later bytes add, plus the rank of the mode (0 to 3, in the order Numeric, Alphanumeric,
-// Byte, Kanji). The best mode is the mode of the choice with the smallest number. The flag `digit` is true if the byte
-// may be written in numeric mode, and the flag `character` is true if the byte may be written in alphanumeric mode. The
-// flag `pair` is true if the byte may be the first byte of a kanji pair. For each `RunState` after the byte, `rest`
-// contains the number that represents the best choice for the later bytes.
+// best modes, and the numbers that represent the choices of these modes. The number that represents a choice is 4 times
+// the number of bits that the byte and all later bytes add, plus the rank of the mode. The ranks of the modes are 0 to
+// 3, in the order Numeric, Alphanumeric, Byte, Kanji. The best mode belongs to the choice with the smallest number. The
+// flag `digit` is true if the byte may be written in numeric mode, and the flag `character` is true if the byte may be
+// written in alphanumeric mode. The flag `pair` is true if the byte may be the first byte of a kanji pair. For each
+// `RunState` after the byte, `rest` contains the number that represents the best choice for the later bytes.
 #[inline(always)]
 fn choices(
     first_choices: &FirstChoices,

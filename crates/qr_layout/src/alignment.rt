@@ -122,8 +122,8 @@ fn is_beside(centres: &[u8], side: u8, a: u8, col: u8) -> bool
 }
 
 // Returns whether the module in row `row` and column `col` is in an alignment pattern. `centres` contains the rows of
-// all centres; the columns of the centres have the same numbers. `side` is the number of modules on a side of the
-// symbol.
+// all centres; the columns of the centres have the same numbers as the rows. `side` is the number of modules on a side
+// of the symbol.
 fn is_on_centre(centres: &[u8], side: u8, row: u8, col: u8) -> bool
     requires { 21 ≤ side }
     ensures { result ≡ list_any (λ a. nat_le (a - 2) row && nat_lt row (a + 3)

@@ -130,10 +130,9 @@ pub fn blocks_are_short(v: Version, level: Level)
     ensures reached { longest_of (blocks_of 27 L) ≡ 153 }
 {}
 
-/// Let t be half the number of error correction codewords of a block, rounded down. By the laws of the crate
-/// `qr_field`, if every codeword of a block was read and at most t of them were misread, the codewords that were read
-/// can come from only one block. Half the number of error correction codewords of a block, rounded down, is at least 9
-/// % of the codewords of the block at level L, 17 % at M, 23 % at Q and 30 % at H.
+/// By the laws of the crate `qr_field`, a block without unread codewords is determined if at most half as many
+/// codewords were misread as the block has error correction codewords. Half the number of error correction codewords of
+/// a block, rounded down, is at least 9 % of the codewords of the block at level L, 17 % at M, 23 % at Q and 30 % at H.
 pub fn blocks_stand_damage(v: Version, level: Level)
     ensures { damage_of level * longest_of (blocks_of v level)
         ≤ 100 * ((blocks_of v level).ec_len / 2) }

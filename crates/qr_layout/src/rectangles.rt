@@ -1,6 +1,6 @@
 //! Computes rectangles that cover the finder patterns, separators and timing patterns, the format information and the
-//! version information of a symbol. All modules outside the encoding region are in these rectangles or in the alignment
-//! patterns (ISO/IEC 18004:2015, 6.3).
+//! version information of a symbol. All modules outside the encoding region are in the computed rectangles or in the
+//! alignment patterns (ISO/IEC 18004:2015, 6.3).
 
 ghost use Rattle.std.specs.Prelude.{◌≡◌};
 ghost use Rattle.qr_layout.specs.Rectangles.{fixed_rectangles};
