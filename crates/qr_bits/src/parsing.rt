@@ -54,8 +54,8 @@ impl Model for Parsed {
 
 /// Parses data codewords up to the end of the bit stream: a terminator, or the place where fewer than four bits are
 /// left. The bits after the end of the bit stream may be any bits. Unless memory is refused, the function `parse`
-/// succeeds exactly if the bits before this end are an optional structured append header, followed by segments. The
-/// segments that `parse` accepts may be empty, and need not take the fewest bits.
+/// succeeds exactly if the bits before the end of the bit stream are an optional structured append header, followed by
+/// segments. The segments that `parse` accepts may be empty, and need not take the fewest bits.
 ///
 /// If the parse fails, the function `parse` returns the fault that occurs first. The fault is `Memory` if memory is
 /// refused. The fault is `BadMode` if a mode indicator belongs to none of the four modes, or if a structured append

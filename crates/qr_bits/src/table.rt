@@ -45,8 +45,8 @@ fn ranked(rank: u32) -> Mode
     }
 }
 
-// Returns whether `byte` may have the mode `mode` under `rule`. `mode` must not be kanji mode. If the byte is written
-// as the second byte of a kanji pair, the result does not apply to it.
+// Returns whether `byte` may have the mode `mode` under `rule`. `mode` must not be kanji mode. The result does not
+// apply to a byte that is written as the second byte of a kanji pair.
 #[tactic(auto, unfolding(crate::specs::Steps::RunState::may_begin))]
 #[inline(always)]
 fn may_begin(rule: Rule, byte: u8, mode: Mode) -> bool

@@ -41,10 +41,10 @@ pub fn order_is_full(v: Version)
 {}
 
 /// The number of modules of the encoding region is the number of modules of the whole symbol, minus the number of
-/// modules of four parts. The four parts outside the encoding region are the three corners (finder patterns,
-/// separators, format information and the dark module), the timing patterns, the alignment patterns and the version
-/// information. The codewords and remainder bits of a symbol together have exactly as many bits as its encoding region
-/// has modules.
+/// modules of four parts outside the encoding region. The four parts outside the encoding region are the three corners
+/// (finder patterns, separators, format information and the dark module), the timing patterns, the alignment patterns
+/// and the version information. The codewords and remainder bits of a symbol together have exactly as many bits as its
+/// encoding region has modules.
 pub fn region_is_counted(v: Version)
     ensures region { places_passing (side_of v) (is_in_region v) ≡ region_size v }
     ensures filled { module_count_of v ≡ region_size v }
@@ -90,7 +90,7 @@ pub fn nth_place(v: Version, number: usize) -> Option<Module>
 }
 
 /// Annex E of the standard has a rule for the distances between the centres of alignment patterns. For the versions 2
-/// to 40, the definition `centres_of` contains the rows that the rule of Annex E yields.
+/// to 40, the definition `centres_of` lists the rows that the rule of Annex E yields.
 #[tactic(auto, unfolding(crate::specs::Alignment::centres_of))]
 pub fn centres_are_spaced()
     ensures { map centres_of (range_with_len 2 39) ≡ map spaced_centres (range_with_len 2 39) }
@@ -130,9 +130,10 @@ pub fn blocks_are_short(v: Version, level: Level)
     ensures reached { longest_of (blocks_of 27 L) ≡ 153 }
 {}
 
-/// By the laws of the crate `qr_field`, a block without unread codewords is determined if at most half as many
-/// codewords were misread as the block has error correction codewords. Half the number of error correction codewords of
-/// a block, rounded down, is at least 9 % of the codewords of the block at level L, 17 % at M, 23 % at Q and 30 % at H.
+/// By the laws of the crate `qr_field`, a block without unread codewords is determined by what was read if at most half
+/// as many codewords were misread as the block has error correction codewords. Half the number of error correction
+/// codewords of a block, rounded down, is at least 9 % of the codewords of the block at level L, 17 % at M, 23 % at Q
+/// and 30 % at H.
 pub fn blocks_stand_damage(v: Version, level: Level)
     ensures { damage_of level * longest_of (blocks_of v level)
         ≤ 100 * ((blocks_of v level).ec_len / 2) }

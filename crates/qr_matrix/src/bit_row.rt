@@ -249,7 +249,7 @@ impl BitRow {
         }
     }
 
-    /// Replaces the word with the index `number`, which is the 64 bits from bit `64 * number` on, by `word`.
+    /// Replaces the 64 bits from bit `64 * number` on (the word with the index `number`) by `word`.
     pub(crate) fn put_word(&mut self, number: usize, word: u64)
         requires { number < 3 }
         ensures { (i : ℕ) → has self.new i ≡ (if i / 64 == number then has_bit word (i % 64) else has self.old i) }

@@ -1,6 +1,6 @@
 //! Finds the runs of dark modules in a row. A run is a longest possible sequence of neighbouring dark modules. A run
-//! begins at a column in which the colour changes to dark, and ends before the column in which the colour changes to
-//! light.
+//! begins at a column in which the colour changes to dark, and ends directly before the column in which the colour
+//! changes to light.
 
 ghost use Rattle.std.specs.Prelude.{◌≡◌, ℕ, ◌<◌, ◌-◌, false};
 ghost use Rattle.qr_matrix.specs.BitRow.{has};
