@@ -128,11 +128,11 @@ pub fn payloads_compute()
         ≡ 36 ∷ 37 ∷ 38 ∷ 39 ∷ 40 ∷ 41 ∷ 42 ∷ 43 ∷ 44 ∷ [] }
 {}
 
-/// The definitions in `specs/` compute the data codewords of four symbols of version 1. Three of the four symbols have
-/// a segment of digits, a segment of alphanumeric characters, or a segment of kanji pairs. The fourth example is the
-/// second symbol in a series of three: it has a structured append header and a segment in byte mode. The four symbols
-/// of version 1 are examples of mode indicators, character counts, the order of the fields of a structured append
-/// header, terminators and pad codewords (7.4.1 to 7.4.10, 8.1).
+/// The definitions in `specs/` compute the data codewords of four symbols of version 1. One of the four symbols has a
+/// segment of digits, one has a segment of alphanumeric characters, and one has a segment of kanji pairs. The fourth
+/// example is the second symbol in a series of three: it has a structured append header and a segment in byte mode. The
+/// four symbols of version 1 are examples of mode indicators, character counts, the order of the fields of a structured
+/// append header, terminators and pad codewords (7.4.1 to 7.4.10, 8.1).
 #[tactic(auto, unfolding(crate::specs::Modes::characters, crate::specs::Modes::character_value, crate::specs::Modes::kanji_value, crate::specs::Stream::digit_bits, crate::specs::Stream::character_bits, crate::specs::Stream::kanji_bits, crate::specs::Stream::payload, crate::specs::Stream::segment_stream, crate::specs::Stream::segments_stream, crate::specs::Header::header_stream, crate::specs::Padding::padded, crate::specs::Padding::pads, crate::specs::Bits::field, crate::specs::Bits::bits_of))]
 pub fn streams_compute()
     ensures digits { padded 16 (segments_stream 1 (codes "01234567") (one Numeric 8)) ≡ bits_of eight_digits }
@@ -174,9 +174,10 @@ pub fn rules_compute()
 {}
 
 /// The definition `folded`, which turns small letters into capitals, computes three examples. Under the rule `Auto`,
-/// the letters `a` and `z` become capitals, and the characters beside `a` and `z` in ASCII are unchanged. Under the
-/// rule `BytesOnly`, all bytes are unchanged. Under the rule `WithKanji`, a kanji pair is unchanged even if its second
-/// byte is a small letter. Under the rule `WithKanji`, a last byte that could begin a kanji pair is unchanged.
+/// folding turns the letters `a` and `z` into capitals, and leaves the characters beside `a` and `z` in ASCII
+/// unchanged. Under the rule `BytesOnly`, folding leaves all bytes unchanged. Under the rule `WithKanji`, folding
+/// leaves a kanji pair unchanged even if its second byte is a small letter. Under the rule `WithKanji`, folding leaves
+/// a last byte unchanged that could begin a kanji pair.
 #[tactic(auto, unfolding(crate::specs::Folding::folded_around_pairs, crate::specs::Modes::is_kanji_pair))]
 pub fn foldings_compute()
     ensures auto { folded Rule.Auto (codes "@AZ[`az{") ≡ codes "@AZ[`AZ{" }
@@ -222,10 +223,10 @@ pub fn parse_fault_numbers(fault: ParseFault) -> u8
 }
 
 /// The definition `kanji_value` converts kanji pairs to values, and the definition `kanji_pair` converts values to
-/// kanji pairs. Both definitions are applied to the two kanji pairs that the standard encodes, and to the greatest
-/// kanji pair (7.4.6). The definition `is_kanji_pair` decides for thirteen pairs of bytes whether they are kanji pairs.
-/// Six of the thirteen pairs of bytes are kanji pairs: they are in the ranges 8140 to 9FFC and E040 to EBBF
-/// (hexadecimal). Seven of the thirteen pairs of bytes are no kanji pairs: six are outside the two ranges of kanji
+/// kanji pairs. The examples for `kanji_value` and `kanji_pair` are the two kanji pairs that the standard encodes, and
+/// the greatest kanji pair (7.4.6). The definition `is_kanji_pair` decides for thirteen pairs of bytes whether they are
+/// kanji pairs. Six of the thirteen pairs of bytes are kanji pairs: they are in the ranges 8140 to 9FFC and E040 to
+/// EBBF (hexadecimal). Seven of the thirteen pairs of bytes are no kanji pairs: six are outside the two ranges of kanji
 /// pairs, and the second byte of 81FD is too great.
 #[tactic(auto, unfolding(crate::specs::Modes::is_kanji_pair, crate::specs::Modes::kanji_value, crate::specs::Parsing::kanji_pair))]
 pub fn kanji_compute()

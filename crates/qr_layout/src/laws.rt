@@ -207,9 +207,9 @@ pub fn format_bits_have_places(v: Version)
 {}
 
 /// From version 7 on, each bit of the version information is at exactly two places. The definition `version_place`
-/// computes the first place of each bit of the version information. The row and the column of the first place,
-/// exchanged, are the row and the column of the second place. In versions below 7, no module contains a bit of version
-/// information.
+/// computes the first place of each bit of the version information. The second place of a bit has the column of the
+/// first place as its row, and the row of the first place as its column. In versions below 7, no module contains a bit
+/// of version information.
 pub fn version_bits_have_places(v: Version)
     ensures first { (i : ℕ) → 7 ≤ v → i < 18
         → role_of v (version_place (side_of v) i).row (version_place (side_of v) i).col

@@ -39,7 +39,7 @@ impl Model for Version {
 }
 
 impl Version {
-    /// The smallest version, which is version 1.
+    /// The smallest version: version 1.
     pub const FIRST: Version = Version { number: 1 };
 
     /// Returns the version with the number `n`, or `None` if `n` is not from 1 to 40.
