@@ -64,7 +64,7 @@ fn longest_by_rows(input: &[u8], version: Version, rule: Rule, room: u64) -> usi
 }
 
 /// Returns the length, in bytes, of the longest prefix of `input` that fits in a symbol of this version and level,
-/// together with a structured append header. The segments of the prefix may have the modes that `rule` allows.
+/// together with a structured append header. The segments of the prefix may have only the modes that `rule` allows.
 ///
 /// Under `Rule::WithKanji`, a prefix may fit although a shorter prefix does not fit. A prefix that ends within a kanji
 /// pair may take more bits than a longer prefix, because the first byte of the kanji pair may need a segment in byte
