@@ -13,7 +13,8 @@ use std::marker::Model;
 #[derive(Drop)]
 pub(crate) struct BitWriter {
     whole: Vec<u8>,
-    // The bits after the last whole codeword, as a number of `width` bits. `width` is less than eight.
+    // `width` bits come after the last whole codeword, and `rest` contains these bits as a number. `width` is less than
+    // eight.
     rest: u8,
     width: u8,
 }
@@ -95,8 +96,8 @@ fn push_whole(whole: &mut Vec<u8>, bits: u32, width: u8) -> Result<u8, AllocErro
     Ok(left)
 }
 
-// Joins the `width` bits of the number `rest` and the bits of `bytes`, in this order. Cuts the joined bits into bytes,
-// and appends these bytes to `whole`. The last `width` of the joined bits do not fill a byte, and the function returns
+// Puts the `width` bits of the number `rest` in front of the bits of `bytes`. Cuts the joined bits into bytes, and
+// appends the whole bytes to `whole`. The last `width` of the joined bits do not fill a byte, and the function returns
 // these bits as a number.
 fn push_bytes(whole: &mut Vec<u8>, width: u8, mut rest: u8, bytes: &[u8]) -> Result<u8, AllocError>
     requires few { width < 8 }
@@ -170,7 +171,7 @@ impl<'a> BitReader<'a> {
         number
     }
 
-    /// Returns whether the segments end here: either fewer than four bits are left, or the next four bits are the
+    /// Returns whether no further segment follows: either fewer than four bits are left, or the next four bits are the
     /// terminator.
     #[tactic(auto, unfolding(crate::specs::Parsing::ends))]
     pub(crate) fn ends(&self) -> bool

@@ -16,7 +16,7 @@ pub fn modes_are_equal(a: Mode, b: Mode) -> bool
     a == b
 }
 
-/// Returns whether `a` and `b` are the same rule, which determines the allowed modes.
+/// Returns whether `a` and `b` are the same rule (a rule determines the allowed modes).
 pub fn rules_are_equal(a: Rule, b: Rule) -> bool
     ensures { IsTrue result ↔ (a ≡ b) }
 {
@@ -37,14 +37,14 @@ pub fn headers_are_equal(a: Header, b: Header) -> bool
     a == b
 }
 
-/// Returns whether `a` and `b` are the same `BitFault`, which is the reason for an error.
+/// Returns whether `a` and `b` are the same `BitFault` (the reason for an error).
 pub fn bit_faults_are_equal(a: BitFault, b: BitFault) -> bool
     ensures { IsTrue result ↔ (a ≡ b) }
 {
     a == b
 }
 
-/// Returns whether `a` and `b` are the same `ParseFault`, which is the reason why data codewords cannot be parsed.
+/// Returns whether `a` and `b` are the same `ParseFault` (the reason why data codewords cannot be parsed).
 pub fn parse_faults_are_equal(a: ParseFault, b: ParseFault) -> bool
     ensures { IsTrue result ↔ (a ≡ b) }
 {

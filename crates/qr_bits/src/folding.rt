@@ -10,9 +10,9 @@ use std::alloc::{AllocError, Global};
 
 /// Returns `input` with its letters `a` to `z` turned into capitals. The result has as many bytes as `input`.
 ///
-/// Under `Rule::WithKanji`, the function finds the kanji pairs from the left, and leaves both bytes of each pair
-/// unchanged. A kanji pair is two bytes that kanji mode writes as one character. Under `Rule::BytesOnly`, all bytes are
-/// unchanged.
+/// Under `Rule::WithKanji`, the function `fold` finds the kanji pairs from the left, and leaves both bytes of each pair
+/// unchanged. A kanji pair is two bytes that kanji mode writes as one character. Under `Rule::BytesOnly`, the function
+/// `fold` leaves all bytes unchanged.
 pub fn fold(alloc: Global, input: &[u8], rule: Rule) -> Result<Vec<u8>, AllocError>
     ensures bytes { IfOk result (λ v. v.items ≡ folded rule input.now) }
     ensures len { IfOk result (λ v. vec_len v ≡ length input.now) }

@@ -27,9 +27,9 @@ pub use crate::derives::{
 use crate::fault::{BitFault, ParseFault};
 use crate::modes::INPUT_MAX;
 
-/// A parse of bits succeeds exactly if the bits are a bit stream, followed by an end. A bit stream is an optional
-/// structured append header and segments. An end is either fewer than four bits, or a terminator and any further bits.
-/// The segments of the bit stream may be empty, and need not be the segments with the fewest bits.
+/// A parse of bits succeeds exactly if the bits are a bit stream (an optional structured append header and segments),
+/// followed by an end. The end after a bit stream is either fewer than four bits, or a terminator and any further bits.
+/// The segments of a bit stream that is parsed may be empty, and need not take the fewest bits.
 pub fn streams_are_parsed()
     ensures { StreamsAreParsed }
 {}
@@ -40,8 +40,8 @@ pub fn data_are_parsed()
 {}
 
 /// If the data codewords of a symbol have room for a bit stream, exactly one list of data codewords contains the bit
-/// stream and its padding. The list of data codewords has as many codewords as the standard requires for the version
-/// and the level of the symbol.
+/// stream and its padding. The list that contains the bit stream and its padding has as many codewords as the standard
+/// requires for the version and the level of the symbol.
 pub fn data_are_one()
     ensures there { DataAreThere }
     ensures one { DataAreOne }
@@ -55,7 +55,7 @@ pub fn streams_have_their_bits()
 {}
 
 /// If segments fit in a symbol, the character count of each segment fits the width of its character count indicator.
-/// This law requires that the mode of each segment can write the bytes of the segment.
+/// The law about character counts requires that the mode of each segment can write the bytes of the segment.
 pub fn counts_fit_where_bits_fit()
     ensures { CountsFitWhereBitsFit }
 {}
@@ -128,11 +128,11 @@ pub fn payloads_compute()
         ≡ 36 ∷ 37 ∷ 38 ∷ 39 ∷ 40 ∷ 41 ∷ 42 ∷ 43 ∷ 44 ∷ [] }
 {}
 
-/// The definitions in `specs/` compute the data codewords of four symbols of version 1. The first symbol has a segment
-/// of digits, the second symbol has a segment of alphanumeric characters, and the third symbol has a segment of kanji
-/// pairs. The fourth symbol has a structured append header and a segment in byte mode, and is the second symbol of a
-/// series of three. The four symbols are examples of mode indicators, character counts, the order of the fields of a
-/// structured append header, terminators and pad codewords (7.4.1 to 7.4.10, 8.1).
+/// The definitions in `specs/` compute the data codewords of four symbols of version 1. One of the four symbols has a
+/// segment of digits, one has a segment of alphanumeric characters, and one has a segment of kanji pairs. The fourth
+/// example is the second symbol in a series of three: it has a structured append header and a segment in byte mode. The
+/// four symbols of version 1 are examples of mode indicators, character counts, the order of the fields of a structured
+/// append header, terminators and pad codewords (7.4.1 to 7.4.10, 8.1).
 #[tactic(auto, unfolding(crate::specs::Modes::characters, crate::specs::Modes::character_value, crate::specs::Modes::kanji_value, crate::specs::Stream::digit_bits, crate::specs::Stream::character_bits, crate::specs::Stream::kanji_bits, crate::specs::Stream::payload, crate::specs::Stream::segment_stream, crate::specs::Stream::segments_stream, crate::specs::Header::header_stream, crate::specs::Padding::padded, crate::specs::Padding::pads, crate::specs::Bits::field, crate::specs::Bits::bits_of))]
 pub fn streams_compute()
     ensures digits { padded 16 (segments_stream 1 (codes "01234567") (one Numeric 8)) ≡ bits_of eight_digits }
@@ -150,8 +150,9 @@ pub fn parses_compute()
     ensures faults { map (λ row. parse 1 (bits_of row.0)) unreadable ≡ map (λ row. Err row.1) unreadable }
 {}
 
-/// In a symbol with a structured append header, fewer bits remain for segments. The definition `room_of` computes how
-/// many bits remain: the number of bits of the data codewords, minus the number of bits of the header (8.1).
+/// In a symbol with a structured append header, fewer bits remain for segments than in a symbol without a header. The
+/// definition `room_of` computes how many bits remain for segments after a structured append header: the number of bits
+/// of the data codewords, minus the number of bits of the header (8.1).
 pub fn headers_take_room()
     ensures { (v : ℕ) (l : Level) (h : Header) → room_of v l ≡ capacity_of v l - header_bits (Some h) }
 {}
@@ -173,9 +174,10 @@ pub fn rules_compute()
 {}
 
 /// The definition `folded`, which turns small letters into capitals, computes three examples. Under the rule `Auto`,
-/// the letters `a` and `z` become capitals, and the characters beside `a` and `z` in ASCII are unchanged. Under the
-/// rule `BytesOnly`, all bytes are unchanged. Under the rule `WithKanji`, a kanji pair is unchanged even if its second
-/// byte is a small letter. Under the rule `WithKanji`, a last byte that could begin a kanji pair is unchanged.
+/// folding turns the letters `a` and `z` into capitals, and leaves the characters beside `a` and `z` in ASCII
+/// unchanged. Under the rule `BytesOnly`, folding leaves all bytes unchanged. Under the rule `WithKanji`, folding
+/// leaves a kanji pair unchanged even if its second byte is a small letter. Under the rule `WithKanji`, folding leaves
+/// a last byte unchanged that could begin a kanji pair.
 #[tactic(auto, unfolding(crate::specs::Folding::folded_around_pairs, crate::specs::Modes::is_kanji_pair))]
 pub fn foldings_compute()
     ensures auto { folded Rule.Auto (codes "@AZ[`az{") ≡ codes "@AZ[`AZ{" }
@@ -185,8 +187,9 @@ pub fn foldings_compute()
 {}
 
 /// The definition `least_bits` computes a lower bound on the number of bits for five short inputs: `012`, `/9:`, `AZ`,
-/// `[z` and `1A[`. The definition distinguishes three kinds of bytes: digits, all other bytes that are not greater than
-/// `Z`, and bytes greater than `Z`. The five inputs contain the bytes on both sides of each limit between these kinds.
+/// `[z` and `1A[`. The definition `least_bits` distinguishes three kinds of bytes: digits, all other bytes that are not
+/// greater than `Z`, and bytes greater than `Z`. The five short inputs contain the bytes on both sides of each limit
+/// between two kinds: `/` and `0`, `9` and `:`, `Z` and `[`.
 #[tactic(auto, unfolding(crate::specs::Segmentation::least_bits))]
 pub fn least_bits_compute()
     ensures { map least_bits (codes "012" ∷ codes "/9:" ∷ codes "AZ" ∷ codes "[z" ∷ codes "1A[" ∷ [])
@@ -220,10 +223,11 @@ pub fn parse_fault_numbers(fault: ParseFault) -> u8
 }
 
 /// The definition `kanji_value` converts kanji pairs to values, and the definition `kanji_pair` converts values to
-/// kanji pairs. The examples are the two kanji pairs that the standard encodes, and the greatest kanji pair (7.4.6).
-/// The definition `is_kanji_pair` decides for thirteen pairs of bytes whether they are kanji pairs. Six of the thirteen
-/// are kanji pairs, which are in the ranges 8140 to 9FFC and E040 to EBBF (hexadecimal). Seven of the thirteen are no
-/// kanji pairs: six are outside the two ranges, and the second byte of 81FD is too great.
+/// kanji pairs. The examples for `kanji_value` and `kanji_pair` are the two kanji pairs that the standard encodes, and
+/// the greatest kanji pair (7.4.6). The definition `is_kanji_pair` decides for thirteen pairs of bytes whether they are
+/// kanji pairs. Six of the thirteen pairs of bytes are kanji pairs: they are in the ranges 8140 to 9FFC and E040 to
+/// EBBF (hexadecimal). Seven of the thirteen pairs of bytes are no kanji pairs: six are outside the two ranges of kanji
+/// pairs, and the second byte of 81FD is too great.
 #[tactic(auto, unfolding(crate::specs::Modes::is_kanji_pair, crate::specs::Modes::kanji_value, crate::specs::Parsing::kanji_pair))]
 pub fn kanji_compute()
     ensures first { kanji_value 0x93 0x5F ≡ 0xD9F }

@@ -27,8 +27,8 @@ fn ends_with_pair(rule: Rule, bytes: &[u8]) -> bool
     may_use(rule, Mode::Kanji) && is_kanji_pair(bytes[len - 2], bytes[len - 1])
 }
 
-// Returns the greatest number of bytes that one segment in byte mode can contain, if the segment has at most `room`
-// bits in a symbol of this version (7.4.5).
+// Returns how many bytes one segment in byte mode can contain at most, if the segment takes at most `room` bits in a
+// symbol of this version (7.4.5).
 fn bytes_in(room: u64, version: Version) -> usize
     requires { 20 ≤ room }
     ensures fits { 4 + count_width version Mode.Byte + 8 * result ≤ room }
@@ -40,8 +40,8 @@ fn bytes_in(room: u64, version: Version) -> usize
 
 // Returns the length of the longest prefix of `input` that can be written in at most `room` bits.
 //
-// The function considers each prefix in reverse order, where the second byte of a kanji pair comes first. A prefix
-// takes as many bits in reverse order as in the order of the input. The reverse order is needed because the function
+// The function considers each prefix with its bytes reversed, so the second byte of a kanji pair comes first. A prefix
+// whose bytes are reversed takes as many bits as the prefix itself. The bytes are reversed because the function
 // `best_choices` can add a byte only in front of the bytes that are already counted. Each turn of the loop adds the
 // byte `input[i]`. After each turn of the loop, `rest.start / 4`, rounded down, is the least number of bits of the
 // prefix that ends with `input[i]`.
@@ -64,11 +64,11 @@ fn longest_by_rows(input: &[u8], version: Version, rule: Rule, room: u64) -> usi
 }
 
 /// Returns the length, in bytes, of the longest prefix of `input` that fits in a symbol of this version and level,
-/// together with a structured append header. The segments of the prefix may have the modes that `rule` allows.
+/// together with a structured append header. The segments of the prefix may have only the modes that `rule` allows.
 ///
 /// Under `Rule::WithKanji`, a prefix may fit although a shorter prefix does not fit. A prefix that ends within a kanji
-/// pair may take more bits than a longer prefix, because its last byte may need a segment in byte mode. The function
-/// `longest_fit` never returns an error.
+/// pair may take more bits than a longer prefix, because the first byte of the kanji pair may need a segment in byte
+/// mode. The function `longest_fit` never returns an error.
 ///
 /// # Notes
 ///

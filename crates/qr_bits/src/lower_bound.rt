@@ -1,6 +1,6 @@
 //! Computes a lower bound on the number of bits that an input takes, however it is split into segments. If the data
-//! codewords of a version have fewer bits than this bound, the input does not fit, and the code can skip this version
-//! without splitting the input.
+//! codewords of a version have fewer bits than the lower bound, the input does not fit, and the code can skip this
+//! version without splitting the input.
 
 ghost use Rattle.std.specs.Prelude.{length, ℕ, ◌/◌, ◌≡◌, ◌≤◌};
 ghost use Rattle.qr_bits.specs.declared.modes.Rule.{Rule};
@@ -8,7 +8,7 @@ ghost use Rattle.qr_bits.specs.Segmentation.{HasFit, least_bits, least_sixths};
 
 use crate::modes::INPUT_MAX;
 
-// Returns a lower bound on the number of bits that `byte` takes in any mode, in sixths of a bit.
+// Returns a lower bound, in sixths of a bit, on the number of bits that `byte` takes in any mode.
 fn least_sixths(byte: u8) -> u32
     ensures value { result ≡ least_sixths byte }
     ensures most { result ≤ 39 }

@@ -11,7 +11,7 @@ use crate::fault::ParseFault;
 use qr_layout::Version;
 
 /// The greatest length of an input, in bytes: 16 times 7,089, plus 1. A symbol contains at most 7,089 bytes, and a
-/// series has at most 16 symbols. So an input of `INPUT_MAX` bytes does not fit in a series.
+/// series has at most 16 symbols. Therefore, no series of symbols has room for an input of `INPUT_MAX` bytes.
 pub const INPUT_MAX: usize = 113_425;
 
 /// The mode of a segment, which determines how the bytes of the segment are written as bits (7.3.3 to 7.3.6).
@@ -168,7 +168,7 @@ pub(crate) fn is_kanji_pair(high: u8, low: u8) -> bool
         && (0x40 <= low && low <= 0xFC)
 }
 
-// Returns the value of `character` in alphanumeric mode, which is its index in `CHARACTERS` (7.4.4, Table 5).
+// Returns the value of `character` in alphanumeric mode: its index in the array `CHARACTERS` (7.4.4, Table 5).
 pub(crate) fn character_value(character: u8) -> u16
     requires { IsTrue (is_alphanumeric character) }
     ensures value { result ≡ character_value character }

@@ -52,16 +52,16 @@ impl Model for Parsed {
     } };
 }
 
-/// Parses data codewords up to their end: the terminator, or the place where fewer than four bits are left. The bits
-/// after the end may be any bits. Apart from lack of memory, the parse succeeds exactly if the bits before the end are
-/// an optional structured append header, followed by segments. The segments may be empty, and need not be the segments
-/// with the fewest bits.
+/// Parses data codewords up to the end of the bit stream: a terminator, or the place where fewer than four bits are
+/// left. The bits after the end of the bit stream may be any bits. Unless memory is refused, the function `parse`
+/// succeeds exactly if the bits before the end of the bit stream are an optional structured append header, followed by
+/// segments. The segments that `parse` accepts may be empty, and need not take the fewest bits.
 ///
-/// If the parse fails, returns the fault that occurs first. The fault is `Memory` if memory is refused. The fault is
-/// `BadMode` if a mode indicator belongs to none of the four modes, or if a structured append header is not at the
-/// beginning of the codewords. The fault is `Cut` if the codewords end within a structured append header, a character
-/// count indicator, or the data of a segment. The fault is `BadValue` if the number for a group of digits or characters
-/// is too large, or if a value in kanji mode belongs to no kanji pair.
+/// If the parse fails, the function `parse` returns the fault that occurs first. The fault is `Memory` if memory is
+/// refused. The fault is `BadMode` if a mode indicator belongs to none of the four modes, or if a structured append
+/// header is not at the beginning of the codewords. The fault is `Cut` if the codewords end within a structured append
+/// header, a character count indicator, or the data of a segment. The fault is `BadValue` if the number for a group of
+/// digits or characters is too large, or if a value in kanji mode belongs to no kanji pair.
 #[tactic(auto, unfolding(crate::specs::Parsing::parse))]
 pub fn parse(alloc: Global, codewords: &[u8], version: Version) -> Result<Parsed, ParseFault>
     requires { length codewords.now ≤ 3706 }
@@ -77,7 +77,7 @@ pub fn parse(alloc: Global, codewords: &[u8], version: Version) -> Result<Parsed
     })
 }
 
-// Reads a structured append header if the bits begin with its mode indicator, and otherwise reads nothing (8.1). The
+// Reads a structured append header if the unread bits begin with its mode indicator; otherwise reads nothing (8.1). The
 // function does not allocate, so its fault is never `Memory`.
 #[tactic(auto, unfolding(crate::specs::Parsing::first_header))]
 fn first_header(reader: &mut BitReader) -> Result<Option<Header>, ParseFault>

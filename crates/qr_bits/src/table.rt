@@ -2,16 +2,17 @@
 //! best modes, from the last byte to the first.
 //!
 //! In a given version, the number of bits that the remaining bytes add depends only on their modes and on the
-//! `RunState` before these bytes. A `RunState` contains the mode of the last byte, and the number of bytes that its
-//! group has so far. A group is three digits, two characters or a kanji pair. For each `RunState` and each mode of the
-//! next byte, the code adds two numbers: the number of bits that this byte adds, and the fewest bits that all later
-//! bytes can add after it. The best mode for a `RunState` is the mode with the least sum.
+//! `RunState` before these bytes. A `RunState` contains the mode of the last byte, and how many bytes of the current
+//! group have come, including the last byte. A group is three digits, two characters or a kanji pair. For each
+//! `RunState` and each mode of the next byte, the code adds two numbers: the number of bits that this byte adds, and
+//! the fewest bits that all later bytes together can add. The best mode for a `RunState` is the mode with the least
+//! sum.
 //!
-//! One number represents the choice of a mode for a byte. Ties between assignments that take equally many bits are
-//! decided by taking the smallest number: 4 times the number of bits, plus the rank of the mode (in the order Numeric,
-//! Alphanumeric, Byte, Kanji). The smallest number belongs to the choice with the fewest bits; if several choices have
-//! the fewest bits, it belongs to the choice with the lowest rank. A row of the table belongs to one byte, and contains
-//! two bits for each `RunState` before this byte: the best mode of the byte.
+//! A number represents each possible choice of a mode for a byte: 4 times the number of bits that this byte and all
+//! later bytes add, plus the rank of the mode. The ranks of the modes are 0 to 3, in the order Numeric, Alphanumeric,
+//! Byte, Kanji. The best choice is the choice with the smallest number: it takes the fewest bits. If several choices
+//! take the fewest bits, the best of them has the lowest rank. Each row of the table belongs to one byte. For each
+//! `RunState` before this byte, the row contains the best mode of the byte, as two bits.
 
 ghost use Rattle.std.specs.Prelude.{◌≡◌, ◌+◌, ◌*◌, ◌/◌, ◌%◌, ◌<◌, ◌≤◌, ℕ, Bool, true, false, length, reverse, IfOk, vec_len};
 ghost use Rattle.qr_bits.specs.declared.modes.Mode.{Mode};
@@ -44,8 +45,8 @@ fn ranked(rank: u32) -> Mode
     }
 }
 
-// Returns whether `byte` may have the mode `mode` under `rule`. `mode` must not be kanji mode. If the byte is written
-// as the second byte of a kanji pair, the result does not apply to it.
+// Returns whether `byte` may have the mode `mode` under `rule`. `mode` must not be kanji mode. The result does not
+// apply to a byte that is written as the second byte of a kanji pair.
 #[tactic(auto, unfolding(crate::specs::Steps::RunState::may_begin))]
 #[inline(always)]
 fn may_begin(rule: Rule, byte: u8, mode: Mode) -> bool
@@ -87,12 +88,12 @@ fn modes_of(numbers: &PerState<u32>) -> u32
 }
 
 // Finds the best mode of a byte for each `RunState` before the byte. Returns the best modes as a row of the table of
-// best modes, and the numbers that represent the choices of these modes. Ties between assignments that take equally
-// many bits are decided by taking the smallest number: 4 times the number of bits, plus the rank of the mode (in the
-// order Numeric, Alphanumeric, Byte, Kanji). The flag `digit` is true if the byte may be written in numeric mode, and
-// the flag `character` is true if the byte may be written in alphanumeric mode. The flag `pair` is true if the byte may
-// be the first byte of a kanji pair. For each `RunState` after the byte, `rest` contains the number that represents the
-// best choice for the later bytes.
+// best modes, and the numbers that represent the choices of these modes. The number that represents a choice is 4 times
+// the number of bits that the byte and all later bytes add, plus the rank of the mode. The ranks of the modes are 0 to
+// 3, in the order Numeric, Alphanumeric, Byte, Kanji. The best mode belongs to the choice with the smallest number. The
+// flag `digit` is true if the byte may be written in numeric mode, and the flag `character` is true if the byte may be
+// written in alphanumeric mode. The flag `pair` is true if the byte may be the first byte of a kanji pair. For each
+// `RunState` after the byte, `rest` contains the number that represents the best choice for the later bytes.
 #[inline(always)]
 fn choices(
     first_choices: &FirstChoices,
@@ -114,11 +115,11 @@ fn choices(
     let no_digits = characters.min(others);
     let no_characters = digits.min(others);
     let start = digits.min(no_digits);
-    // In the states `Digit3`, `Character2`, `InBytes` and `WholePair`, the last group of bytes is complete. After a
-    // complete group, to continue the segment takes fewer bits than to begin a new segment of the same mode, and both
+    // If the `RunState` is `Digit3`, `Character2`, `InBytes` or `WholePair`, the last group of bytes is complete. After
+    // a complete group, to continue the segment takes fewer bits than to begin a new segment of the same mode, and both
     // choices lead to the same `RunState`. So a new segment of the same mode is never the best choice after a complete
-    // group. For these four states, the code can therefore use `start`, which is the least number of all choices that
-    // begin a new segment in any mode.
+    // group. After a complete group, the code can therefore use `start`: the least number of all choices that begin a
+    // new segment, in whatever mode.
     let digit2 = number_if(digit, number(3, Mode::Numeric), rest.digit2);
     let digit3 = number_if(digit, number(3, Mode::Numeric), rest.digit3);
     let digit1 = number_if(digit, number(4, Mode::Numeric), rest.digit1);

@@ -11,8 +11,8 @@ use arrayvec::ArrayVec;
 use std::marker::Model;
 
 /// A `Divisor` contains multiples of the generator polynomial for n error correction codewords. The multiples of the
-/// generator polynomial are computed once and used for many blocks. In contracts, the value of a `Divisor` is the
-/// number n of error correction codewords.
+/// generator polynomial are computed once and can be used for many blocks. In contracts, the value of a `Divisor` is
+/// the number n of error correction codewords.
 #[derive(Drop)]
 pub struct Divisor {
     count: usize,
@@ -88,9 +88,9 @@ impl Divisor {
     }
 
     /// Returns the error correction codewords of a block with the data codewords `message` (ISO/IEC 18004:2015, 7.5.2).
-    /// The polynomial of a block has the data codewords as its coefficients, followed by the error correction
-    /// codewords. Among all lists of the same length, only the returned list makes the polynomial of the block a
-    /// multiple of the generator polynomial.
+    /// The coefficients of the polynomial of a block are the data codewords, followed by the error correction
+    /// codewords. Among all lists that are as long as the returned list, only the returned list makes the polynomial of
+    /// the block a multiple of the generator polynomial.
     pub fn correction(&self, message: &[u8]) -> ArrayVec<u8, 30>
         ensures definition { IsCorrection message.now self.now result.items }
         ensures only { (e : List ℕ) → IsCorrection message.now self.now e → e ≡ result.items }

@@ -9,8 +9,8 @@ use crate::logarithm::{logarithm, power_of};
 
 /// Returns the product of `a` and `b` in the field of 256 elements (ISO/IEC 18004:2015, 7.5.2). The carryless product
 /// of two bytes is the product of the two polynomials that have the bits of the bytes as their coefficients. The
-/// product of `a` and `b` in the field is the only byte that differs from their carryless product by a multiple of the
-/// field's modulus polynomial.
+/// product of `a` and `b` in the field is the only byte that differs from the carryless product of `a` and `b` by a
+/// multiple of the field's modulus polynomial.
 pub fn mul(a: u8, b: u8) -> u8
     ensures definition { IsProduct a b result }
     ensures only { (p : ℕ) → IsProduct a b p → p ≡ result }

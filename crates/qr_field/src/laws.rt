@@ -32,8 +32,8 @@ pub fn tables_are_powers()
     ensures logarithms { (a : ℕ) → 1 ≤ a → IsByte a → power (slice_index LOGARITHMS (a - 1)) ≡ a }
 {}
 
-/// The definition `product` yields the right value in two examples. In the first example, the product has to be reduced
-/// by the modulus polynomial of the field. In the second example, one of the factors is 0.
+/// The definition `product` yields the right value in two examples. In the first example of `product`, the product has
+/// to be reduced by the modulus polynomial of the field. In the second example of `product`, one of the factors is 0.
 pub fn products_compute()
     ensures reduced { product 0x80 2 ≡ 0x1D }
     ensures zero { product 0 0xFF ≡ 0 }
@@ -54,16 +54,16 @@ pub fn correction_computes()
 {}
 
 /// If the data codewords of two blocks differ, the blocks differ in at least n + 1 codewords, where n is the number of
-/// error correction codewords of each block. The law requires that the two blocks have the same number of data
-/// codewords, and that neither block has more than 255 codewords in all.
+/// error correction codewords of each block. The law `blocks_lie_apart` requires that the two blocks have the same
+/// number of data codewords, and that neither block has more than 255 codewords in all.
 pub fn blocks_lie_apart()
     ensures { BlocksLieApart }
 {}
 
 /// Some codewords of a block may be unread (as under a blot), and other codewords may be misread. Let k be the number
-/// of unread codewords, and t the number of misread codewords. If k + 2t is at most the number of error correction
-/// codewords of the block, only one list of data codewords can have been damaged in this way. The law holds for blocks
-/// of at most 255 codewords with a known number of data codewords.
+/// of unread codewords of a block, and t the number of its misread codewords. If k + 2t is at most the number of error
+/// correction codewords of the block, the codewords that were read can come from only one list of data codewords. The
+/// law `erasures_are_unambiguous` holds for blocks of at most 255 codewords with a known number of data codewords.
 pub fn erasures_are_unambiguous()
     ensures { ErasuresAreUnambiguous }
 {}
@@ -77,18 +77,19 @@ pub fn damage_is_unambiguous()
     ensures misread { (xs ys : List ℕ) → errors (map (λ x. Some x) xs) ys ≡ differences xs ys }
 {}
 
-/// The definitions `erasures`, `errors` and `differences` yield the right number in one example each. In the first
-/// example, two of three codewords are unread. In the second example, two of four codewords count as misread: one
-/// differs from the codeword of the block, and one is beyond the three codewords of the block. In the third example,
-/// two lists differ in one codeword that both lists have, and in one codeword that only the longer list has.
+/// The definitions `erasures`, `errors` and `differences` yield the right number in one example each. In the example of
+/// `erasures`, two of three codewords are unread. In the example of `errors`, two of four codewords count as misread:
+/// one differs from the codeword of the block, and one is beyond the three codewords of the block. In the example of
+/// `differences`, two lists differ in one codeword that both lists have, and in one codeword that only the longer list
+/// has.
 pub fn damage_computes()
     ensures erasures { erasures (None ∷ Some 7 ∷ None ∷ []) ≡ 2 }
     ensures errors { errors (Some 7 ∷ None ∷ Some 9 ∷ Some 4 ∷ []) (7 ∷ 8 ∷ 8 ∷ []) ≡ 2 }
     ensures differences { differences (7 ∷ 8 ∷ []) (7 ∷ 9 ∷ 1 ∷ []) ≡ 2 }
 {}
 
-/// The law `blocks_lie_apart` does not hold for blocks of 256 codewords. The contract contains two blocks of 256
-/// codewords, with 2 error correction codewords each, that differ in only 2 codewords.
+/// The law `blocks_lie_apart` does not hold for blocks of 256 codewords. The contract of `longer_blocks_lie_nearer`
+/// contains two blocks of 256 codewords, with 2 error correction codewords each, that differ in only 2 codewords.
 pub fn longer_blocks_lie_nearer()
     ensures one { IsCorrection (1 ∷ zeros 253) 2 (0 ∷ 1 ∷ []) }
     ensures other { IsCorrection (zeros 254) 2 (zeros 2) }

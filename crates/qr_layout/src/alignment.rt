@@ -11,9 +11,9 @@ use crate::region::Module;
 use crate::version::Version;
 use arrayvec::ArrayVec;
 
-// The rows in which alignment patterns have their centres, for each of the versions 1 to 40 (ISO/IEC 18004:2015, Annex
-// E, Table E.1). The columns of the centres have the same numbers as the rows. The list of each version is filled up
-// with zeros to seven numbers.
+// Contains, for each of the versions 1 to 40, the rows in which alignment patterns have their centres (ISO/IEC
+// 18004:2015, Annex E, Table E.1). The columns of the centres have the same numbers as the rows. The list of each
+// version is filled up with zeros to seven numbers.
 static CENTRES: [[u8; 7]; 40] = [
     [0, 0, 0, 0, 0, 0, 0],
     [6, 18, 0, 0, 0, 0, 0],
@@ -98,9 +98,9 @@ fn is_near(centre: u8, at: u8) -> bool
     }
 }
 
-// Returns whether the place in row `a` and column `b` is in a corner with a finder pattern. Row `a` and column `b` each
-// contain centres of alignment patterns, but no alignment pattern has its centre in a corner with a finder pattern.
-// `side` is the number of modules on a side of the symbol.
+// If row `a` and column `b` contain centres of alignment patterns, returns whether this row and this column meet in a
+// corner with a finder pattern. No alignment pattern has its centre in a corner with a finder pattern. `side` is the
+// number of modules on a side of the symbol.
 pub(crate) fn is_corner_pair(side: u8, a: u8, b: u8) -> bool
     requires { 21 ≤ side }
     ensures { result ≡ is_corner_pair side a b }
@@ -122,8 +122,8 @@ fn is_beside(centres: &[u8], side: u8, a: u8, col: u8) -> bool
 }
 
 // Returns whether the module in row `row` and column `col` is in an alignment pattern. `centres` contains the rows of
-// all centres; the columns of the centres have the same numbers. `side` is the number of modules on a side of the
-// symbol.
+// all centres; the columns of the centres have the same numbers as the rows. `side` is the number of modules on a side
+// of the symbol.
 fn is_on_centre(centres: &[u8], side: u8, row: u8, col: u8) -> bool
     requires { 21 ≤ side }
     ensures { result ≡ list_any (λ a. nat_le (a - 2) row && nat_lt row (a + 3)

@@ -85,8 +85,8 @@ impl Version {
     }
 
     /// Returns the number of data codewords of a symbol of this version at the error correction level `level` (ISO/IEC
-    /// 18004:2015, 7.4.10, Table 7). The least number of data codewords is 9 (version 1 at level H), and the greatest
-    /// is 2,956 (version 40 at level L).
+    /// 18004:2015, 7.4.10, Table 7). The least number of data codewords of a symbol is 9 (version 1 at level H), and
+    /// the greatest number is 2,956 (version 40 at level L).
     pub fn data_codewords(self, level: Level) -> u16
         ensures { result ≡ data_codewords_of self level }
     {

@@ -1,6 +1,6 @@
 //! Compares and clones versions, levels, modules, roles, block sizes and strips. The operator `==` returns true exactly
-//! if its two operands are the same value. The clone of a value is the same value, unless the call fails for lack of
-//! memory.
+//! if its two operands are the same value. A clone is the same value as its original. A call that clones a value can
+//! fail only for lack of memory.
 
 ghost use Rattle.std.specs.Prelude.{◌≡◌, ◌↔◌, IsTrue, IfOk};
 
@@ -33,7 +33,7 @@ pub fn modules_are_equal(a: Module, b: Module) -> bool
     a == b
 }
 
-/// Returns whether `a` and `b` are the same role, which is what a module contains.
+/// Returns whether `a` and `b` are the same role (what a module contains).
 pub fn roles_are_equal(a: Role, b: Role) -> bool
     ensures { IsTrue result ↔ (a ≡ b) }
 {

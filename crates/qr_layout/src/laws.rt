@@ -41,9 +41,10 @@ pub fn order_is_full(v: Version)
 {}
 
 /// The number of modules of the encoding region is the number of modules of the whole symbol, minus the number of
-/// modules of four parts. The four parts are the three corners (finder patterns, separators, format information and the
-/// dark module), the timing patterns, the alignment patterns and the version information. The codewords and remainder
-/// bits of the version together have exactly as many bits as the encoding region has modules.
+/// modules of four parts outside the encoding region. The four parts outside the encoding region are the three corners
+/// (finder patterns, separators, format information and the dark module), the timing patterns, the alignment patterns
+/// and the version information. The codewords and remainder bits of a symbol together have exactly as many bits as its
+/// encoding region has modules.
 pub fn region_is_counted(v: Version)
     ensures region { places_passing (side_of v) (is_in_region v) ≡ region_size v }
     ensures filled { module_count_of v ≡ region_size v }
@@ -62,8 +63,8 @@ pub fn region_is_symmetric(v: Version)
     ensures { (r c : ℕ) → is_in_region v r c ≡ is_in_region v c r }
 {}
 
-/// For each module of the encoding region, the definition `number_of` yields the number of modules that are filled
-/// before this module.
+/// For each module of the encoding region, the definition `number_of` yields how many modules are filled before this
+/// module.
 pub fn number_counts(v: Version)
     ensures { (front back : List Module) (m : Module) → IsOrder v (front ++ m ∷ back)
         → number_of v m ≡ length front }
@@ -89,7 +90,7 @@ pub fn nth_place(v: Version, number: usize) -> Option<Module>
 }
 
 /// Annex E of the standard has a rule for the distances between the centres of alignment patterns. For the versions 2
-/// to 40, the definition `centres_of` contains the rows that the rule of Annex E yields.
+/// to 40, the definition `centres_of` lists the rows that the rule of Annex E yields.
 #[tactic(auto, unfolding(crate::specs::Alignment::centres_of))]
 pub fn centres_are_spaced()
     ensures { map centres_of (range_with_len 2 39) ≡ map spaced_centres (range_with_len 2 39) }
@@ -104,10 +105,9 @@ pub fn data_codewords_compute()
     ensures h { map (λ v. data_codewords_of v H) all_versions ≡ printed_data H }
 {}
 
-/// For all versions and levels, a block has two error correction codewords for each misread codeword that can be
-/// corrected. In addition, the error correction codewords of a block include its misdecode protection codewords. Table
-/// 9 of the standard prints how many misread codewords can be corrected, and how many misdecode protection codewords
-/// there are.
+/// For all versions and levels, the number of error correction codewords of a block is two for each misread codeword
+/// that can be corrected, plus the number of misdecode protection codewords. Table 9 of the standard prints how many
+/// misread codewords of a block can be corrected, and how many misdecode protection codewords a block has.
 #[tactic(auto, unfolding(crate::specs::Blocks::correction_len_of))]
 pub fn correction_lens_compute()
     ensures l { map (λ v. correction_len_of v L) all_versions ≡ map (printed_correction L) all_versions }
@@ -130,9 +130,10 @@ pub fn blocks_are_short(v: Version, level: Level)
     ensures reached { longest_of (blocks_of 27 L) ≡ 153 }
 {}
 
-/// Let t be half the number of error correction codewords of a block, rounded down. By the laws of the crate
-/// `qr_field`, only one block can have been damaged in this way if at most t codewords are misread. The number t is at
-/// least 9 % of the number of codewords of the block at level L, 17 % at M, 23 % at Q and 30 % at H.
+/// By the laws of the crate `qr_field`, a block without unread codewords is determined by what was read if at most half
+/// as many codewords were misread as the block has error correction codewords. Half the number of error correction
+/// codewords of a block, rounded down, is at least 9 % of the codewords of the block at level L, 17 % at M, 23 % at Q
+/// and 30 % at H.
 pub fn blocks_stand_damage(v: Version, level: Level)
     ensures { damage_of level * longest_of (blocks_of v level)
         ≤ 100 * ((blocks_of v level).ec_len / 2) }
@@ -173,8 +174,8 @@ pub fn words_compute()
     ensures version_40 { version_word_of 40 ≡ 0x28C69 }
 {}
 
-/// In a symbol of version 1, the modules of row 8, column 8 and row 6 contain what the figures of the standard show
-/// there.
+/// In a symbol of version 1, the modules of row 8, column 8 and row 6 contain what the figures of the standard show for
+/// these modules.
 #[tactic(auto, unfolding(crate::specs::Role::role_of, crate::specs::Role::pattern_colour, crate::specs::Role::is_alignment_light, crate::specs::Role::format_bit_at, crate::specs::Role::version_bit_at, crate::specs::Alignment::centres_of))]
 pub fn roles_compute()
     ensures across { map (role_of 1 8) (range_with_len 0 21) ≡ row_8 }
@@ -182,8 +183,9 @@ pub fn roles_compute()
     ensures timing { map (role_of 1 6) (range_with_len 0 21) ≡ row_6 }
 {}
 
-/// Three parts of symbols contain what the figures of the standard show (6.3.3 to 6.3.6 and 7.10). The three parts are
-/// a finder pattern of version 1, an alignment pattern of version 2 and the version information of version 7.
+/// Three parts of symbols contain what the figures of the standard show (6.3.3 to 6.3.6 and 7.10). The three parts that
+/// the law compares with figures are a finder pattern of version 1, an alignment pattern of version 2 and the version
+/// information of version 7.
 #[tactic(auto, unfolding(crate::specs::Role::role_of, crate::specs::Role::pattern_colour, crate::specs::Role::is_alignment_light, crate::specs::Role::format_bit_at, crate::specs::Role::version_bit_at, crate::specs::Alignment::centres_of))]
 pub fn patterns_compute()
     ensures finder { map (λ r. map (role_of 1 r) (range_with_len 0 8)) (range_with_len 0 8) ≡ finder_figure }
@@ -205,8 +207,9 @@ pub fn format_bits_have_places(v: Version)
 {}
 
 /// From version 7 on, each bit of the version information is at exactly two places. The definition `version_place`
-/// computes the first place, and the second place is the first place with its row and its column exchanged. Below
-/// version 7, no module contains a bit of version information.
+/// computes the first place of each bit of the version information. The second place of a bit has the column of the
+/// first place as its row, and the row of the first place as its column. In versions below 7, no module contains a bit
+/// of version information.
 pub fn version_bits_have_places(v: Version)
     ensures first { (i : ℕ) → 7 ≤ v → i < 18
         → role_of v (version_place (side_of v) i).row (version_place (side_of v) i).col
@@ -231,14 +234,14 @@ pub fn region_is_the_rest(v: Version)
         → (role_of v r c ≡ Region) ↔ (is_in_region v r c ≡ true) }
 {}
 
-/// Returns the first version, which is version 1.
+/// Returns the first version: version 1.
 pub fn first_version() -> Version
     ensures { result ≡ 1 }
 {
     Version::FIRST
 }
 
-/// Returns the default module, which is the module in row 0 and column 0.
+/// Returns the default module: the module in row 0 and column 0.
 pub fn default_module() -> Module
     ensures { result ≡ record { row = 0; col = 0 } }
 {

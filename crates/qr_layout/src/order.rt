@@ -18,8 +18,9 @@ use crate::version::Version;
 use std::marker::Model;
 
 // A position of the walk, which visits the modules of a symbol in the order in which they are filled. `strips` is the
-// number of a strip (two neighbouring columns), counted from the left and from 1. If `strips` is 0, the walk is at its
-// end. `row` is a row of the symbol, and `at_left` is true if the position is the left module of the strip in this row.
+// number of a strip (two neighbouring columns); the strips are numbered from left to right, beginning with 1. If
+// `strips` is 0, the walk is at its end. `row` is a row of the symbol, and `at_left` is true if the position is the
+// left module of the strip in this row.
 #[derive(Clone, Copy)]
 struct Cursor {
     strips: u8,
@@ -39,8 +40,8 @@ impl Cursor {
         Module { row: self.row, col }
     }
 
-    // Returns the position that follows this position in a symbol of version `v`. If the strip ends at this position,
-    // the next strip begins in the same row.
+    // Returns the position that follows this position in a symbol of version `v`. If a strip ends at this position, the
+    // next position is in the next strip, in the same row.
     #[tactic(auto, unfolding(crate::specs::Steps::Order::next_of))]
     fn next(self, v: Version) -> Cursor
         requires strips_left { 0 < self.strips }
@@ -89,7 +90,7 @@ impl Cursor {
 ///
 /// # Notes
 ///
-/// The iterator stores a version and a position, but no list of modules.
+/// The iterator `Steps` stores a version and a position, but no list of modules.
 #[derive(Drop)]
 pub struct Steps {
     version: Version,

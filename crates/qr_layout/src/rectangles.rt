@@ -1,6 +1,6 @@
-//! Rectangles that cover the finder patterns, separators and timing patterns, the format information and the version
-//! information of a symbol. All modules outside the encoding region are in these rectangles or in the alignment
-//! patterns (ISO/IEC 18004:2015, 6.3).
+//! Computes rectangles that cover the finder patterns, separators and timing patterns, the format information and the
+//! version information of a symbol. All modules outside the encoding region are in the computed rectangles or in the
+//! alignment patterns (ISO/IEC 18004:2015, 6.3).
 
 ghost use Rattle.std.specs.Prelude.{◌≡◌};
 ghost use Rattle.qr_layout.specs.Rectangles.{fixed_rectangles};
@@ -34,9 +34,9 @@ impl Rectangle {
 }
 
 /// Returns rectangles that cover all parts of a symbol of version `v` outside the encoding region, except for the
-/// alignment patterns (ISO/IEC 18004:2015, 6.3.3 to 6.3.5, 7.9 and 7.10). Three rectangles are corners of the symbol,
-/// each with a finder pattern, its separator and format information. Two rectangles are row 6 and column 6, which
-/// contain the timing patterns. From version 7 on, the list has two more rectangles, which contain the version
+/// alignment patterns (ISO/IEC 18004:2015, 6.3.3 to 6.3.5, 7.9 and 7.10). Three of the rectangles are corners of the
+/// symbol, each with a finder pattern, its separator and format information. Two of the rectangles are row 6 and column
+/// 6, which contain the timing patterns. From version 7 on, the list has two more rectangles, which contain the version
 /// information. Some of the rectangles overlap.
 pub fn fixed_rectangles(v: Version) -> ArrayVec<Rectangle, 7>
     ensures { result.items ≡ fixed_rectangles v }

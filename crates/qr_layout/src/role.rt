@@ -57,8 +57,8 @@ fn is_light_beside(centres: &[u8], side: u8, a: u8, row: u8, col: u8) -> bool
 }
 
 // Returns whether the module in row `row` and column `col` is on the light ring of an alignment pattern. `centres`
-// contains the rows of all centres; the columns of the centres have the same numbers. `side` is the number of modules
-// on a side of the symbol.
+// contains the rows of all centres; the columns of the centres have the same numbers as the rows. `side` is the number
+// of modules on a side of the symbol.
 fn is_light_among(centres: &[u8], side: u8, row: u8, col: u8) -> bool
     requires { 21 ≤ side }
     ensures { result ≡ list_any (λ a. list_any (λ b. not (is_corner_pair side a b)
@@ -102,8 +102,8 @@ fn pattern_colour(v: Version, row: u8, col: u8) -> Option<bool>
     None
 }
 
-/// Returns the place of the bit `bit` of the format information in the first copy, beside the top left finder pattern
-/// (ISO/IEC 18004:2015, 7.9.1). The number `bit` is from 0 to 14.
+/// Returns the place of the bit `bit` of the format information in the first copy, which is beside the top left finder
+/// pattern (ISO/IEC 18004:2015, 7.9.1). The number `bit` is from 0 to 14.
 pub fn format_place(bit: u8) -> Module
     requires { bit < 15 }
     ensures place { result ≡ first_place bit }
@@ -127,8 +127,8 @@ pub fn format_place(bit: u8) -> Module
     Module { row, col }
 }
 
-/// Returns the place of the bit `bit` of the format information in the second copy, beside the other two finder
-/// patterns of version `v` (ISO/IEC 18004:2015, 7.9.1). The number `bit` is from 0 to 14.
+/// Returns the place of the bit `bit` of the format information in the second copy, which is beside the top right and
+/// the bottom left finder pattern of version `v` (ISO/IEC 18004:2015, 7.9.1). The number `bit` is from 0 to 14.
 pub fn second_format_place(v: Version, bit: u8) -> Module
     requires { bit < 15 }
     ensures place { result ≡ second_place (side_of v) bit }
@@ -163,8 +163,8 @@ fn format_bit_down(side: u8, row: u8) -> Option<u8>
     }
 }
 
-// Returns the index of the bit of the format information that the module in column `col` of row 8 contains, where `col`
-// is not 8. Returns `None` if this module contains no bit of the format information. `side` is the number of modules on
+// Returns the index of the bit of the format information that the module in row 8 and column `col` contains. `col` must
+// not be 8. Returns `None` if this module contains no bit of the format information. `side` is the number of modules on
 // a side of the symbol.
 fn format_bit_across(side: u8, col: u8) -> Option<u8>
     requires least { 21 ≤ side }

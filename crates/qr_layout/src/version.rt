@@ -1,5 +1,5 @@
-//! The forty versions of QR Code. A version determines the number of modules on a side of a symbol, the number of its
-//! codewords, and the number of its remainder bits (ISO/IEC 18004:2015, 6.3.2 and 7.1, Table 1).
+//! Defines the forty versions of QR Code. A version determines the number of modules on a side of a symbol, the number
+//! of its codewords, and the number of its remainder bits (ISO/IEC 18004:2015, 6.3.2 and 7.1, Table 1).
 
 ghost use Rattle.std.specs.Prelude.{◌≡◌, ◌≤◌, SomeIff, ℕ, MatchOption};
 ghost use Rattle.qr_layout.specs.Version.{side_of};
@@ -39,7 +39,7 @@ impl Model for Version {
 }
 
 impl Version {
-    /// The smallest version, which is version 1.
+    /// The smallest version: version 1.
     pub const FIRST: Version = Version { number: 1 };
 
     /// Returns the version with the number `n`, or `None` if `n` is not from 1 to 40.
@@ -53,7 +53,7 @@ impl Version {
         }
     }
 
-    /// Returns the version whose symbols have `side` modules on a side, or `None` if there is no such version. The
+    /// Returns the version whose symbols have `side` modules on a side, or `None` if no version has such symbols. The
     /// number of modules on a side of a symbol is 21, 25, 29 and so on, up to 177.
     pub fn of_side(side: u8) -> Option<Version>
         ensures { MatchOption result

@@ -82,7 +82,7 @@ impl BitRow {
         BitRow([u64::MAX, u64::MAX, low_bits(n - 128)])
     }
 
-    /// Returns the bit row in which exactly the bits with an index below `n` are set, where `n` is from `64 * (words -
+    /// Returns the bit row in which exactly the bits with an index below `n` are set. `n` must be from `64 * (words -
     /// 1)` to `64 * words`. If the caller passes a constant as `words`, two of the three words of the result are
     /// constants.
     #[inline(always)]
@@ -106,9 +106,9 @@ impl BitRow {
         requires { pattern < 64 }
         ensures { (c : ℕ) → c < 192 → has result c ≡ has_bit pattern (c % 6) }
     {
-        // The second word begins with bit 4 of the pattern, since 64 % 6 is 4. So its two lowest bits are the bits 4 and 5
-        // of the pattern, and above these bits is the first word. The third word begins with bit 2 of the pattern, since
-        // 128 % 6 is 2.
+        // The second word begins with bit 4 of the pattern, since 64 % 6 is 4. So the two lowest bits of the second
+        // word are the bits 4 and 5 of the pattern, and its other 62 bits are the lowest 62 bits of the first word. The
+        // third word begins with bit 2 of the pattern, since 128 % 6 is 2.
         let pattern = u64::from(pattern);
         let word = pattern.wrapping_mul(SIXTHS);
         BitRow([word, word << 2 | pattern >> 4, word << 4 | pattern >> 2])
@@ -146,7 +146,7 @@ impl BitRow {
         BitRow([a[0] << 1, a[1] << 1 | a[0] >> 63, a[2] << 1 | a[1] >> 63])
     }
 
-    /// Returns the number of bits that are set in this bit row.
+    /// Counts the bits that are set in this bit row.
     pub(crate) fn count(self) -> u32
         ensures value { result ≡ size_of self }
         ensures bound { result ≤ 192 }
@@ -155,7 +155,7 @@ impl BitRow {
         a[0].count_ones() + a[1].count_ones() + a[2].count_ones()
     }
 
-    /// Returns the number of bits that are set in this bit row. If no bit is set, this function is faster than `count`.
+    /// Counts the bits that are set in this bit row. If no bit is set, this function is faster than `count`.
     pub(crate) fn count_few(self) -> u32
         ensures value { result ≡ size_of self }
         ensures bound { result ≤ 192 }
@@ -249,7 +249,7 @@ impl BitRow {
         }
     }
 
-    /// Replaces the word with the index `number`, which is the 64 bits from bit `64 * number` on, by `word`.
+    /// Replaces the 64 bits from bit `64 * number` on (the word with the index `number`) by `word`.
     pub(crate) fn put_word(&mut self, number: usize, word: u64)
         requires { number < 3 }
         ensures { (i : ℕ) → has self.new i ≡ (if i / 64 == number then has_bit word (i % 64) else has self.old i) }

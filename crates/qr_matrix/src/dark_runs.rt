@@ -1,5 +1,6 @@
-//! Finds the runs of dark modules in a row. A run is as many neighbouring dark modules as possible. A run begins at a
-//! column in which the colour changes to dark, and ends before the column in which the colour changes to light.
+//! Finds the runs of dark modules in a row. A run is a longest possible sequence of neighbouring dark modules. A run
+//! begins at a column in which the colour changes to dark, and ends directly before the column in which the colour
+//! changes to light.
 
 ghost use Rattle.std.specs.Prelude.{◌≡◌, ℕ, ◌<◌, ◌-◌, false};
 ghost use Rattle.qr_matrix.specs.BitRow.{has};
@@ -18,8 +19,8 @@ pub struct Run {
 /// are still to come.
 #[derive(Drop)]
 pub struct DarkRuns {
-    // Bit `c` of this bit row is set if `c` is at least `col`, and column `c` of the row has another colour than column
-    // `c - 1`. In this comparison, all columns before `col` count as light.
+    // Bit `c` of this bit row is set if `c` is at least `col`, and the module in column `c` of the row has another
+    // colour than the module in column `c - 1`. In this comparison, all columns before `col` count as light.
     changes: BitRow,
     col: u8,
     ghost later: { (c : ℕ) → c < col → has changes c ≡ false },

@@ -15,9 +15,10 @@ use crate::matrix::Matrix;
 use crate::runs::runs_and_squares;
 use crate::windows::window_count;
 
-/// For the example squares of the contract, the definition of the penalty yields the points that were counted by hand
-/// from Table 11. Some squares contain the ratio 1:1:3:1:1 of a finder pattern, at the beginning of a row or later in a
-/// row or a column. The definition of the penalty finds the ratio 1:1:3:1:1 both before and after four light modules.
+/// For several example squares of modules, the definition of the penalty yields the points that were counted by hand
+/// from Table 11. Some of the example squares contain the ratio 1:1:3:1:1 of a finder pattern, at the beginning of a
+/// row or later in a row or a column. The definition of the penalty finds the ratio 1:1:3:1:1 both before and after
+/// four light modules.
 #[tactic(auto, unfolding(crate::specs::Penalty::penalty_of, crate::specs::Penalty::over_lines, crate::specs::Penalty::run_cost, crate::specs::Penalty::is_run, crate::specs::Penalty::window_count, crate::specs::Penalty::is_window, crate::specs::Penalty::square_count, crate::specs::Penalty::is_square_of_two, crate::specs::Penalty::dark_count, crate::specs::Penalty::dark_cost))]
 pub fn penalties_compute()
     ensures one { penalty_of 1 all_light ≡ 100 }
@@ -36,33 +37,33 @@ pub fn runs_cost_by_places()
     ensures { (side : ℕ) (line : ℕ → Bool) → run_cost side line ≡ place_cost side line }
 {}
 
-/// Returns the penalty points for the runs of one colour in all rows and columns, counted 64 modules at a time. The
-/// definition of the penalty counts run by run, and yields the same number of points.
+/// Counts the penalty points for the runs of one colour in all rows and columns, 64 modules at a time. The definition
+/// of the penalty counts these points run by run, and yields the same number as the function `runs_on_words`.
 pub fn runs_on_words(m: &Matrix) -> u32
     ensures { result ≡ over_lines m.now.side (colour m.now) (run_cost m.now.side) }
 {
     runs_and_squares(m, m.words()).0
 }
 
-/// Returns the number of squares of two by two modules of one colour, counted 64 modules at a time. The definition of
-/// the penalty counts module by module, and yields the same number of squares.
+/// Counts the squares of two by two modules of one colour, 64 modules at a time. The definition of the penalty counts
+/// these squares module by module, and yields the same number as the function `squares_on_words`.
 pub fn squares_on_words(m: &Matrix) -> u32
     ensures { result ≡ square_count m.now.side (colour m.now) }
 {
     runs_and_squares(m, m.words()).1
 }
 
-/// Returns the number of windows in all rows and columns, counted 64 modules at a time. A window is eleven modules: the
-/// ratio 1:1:3:1:1 of a finder pattern, before or after four light modules. The definition of the penalty counts module
-/// by module, and yields the same number of windows.
+/// Counts the windows in all rows and columns, 64 modules at a time. A window is eleven modules: the ratio 1:1:3:1:1 of
+/// a finder pattern, before or after four light modules. The definition of the penalty counts the windows module by
+/// module, and yields the same number as the function `windows_on_words`.
 pub fn windows_on_words(m: &Matrix) -> u32
     ensures { result ≡ over_lines m.now.side (colour m.now) (window_count m.now.side) }
 {
     window_count(m, m.words())
 }
 
-/// The definition `difference_count` yields 0 exactly if each module of the first square has the same colour in the
-/// second square.
+/// The definition `difference_count` yields 0 for two squares exactly if each module has the same colour in the first
+/// square as in the second square.
 pub fn differences_tell_squares_apart()
     ensures { (g h : Grid) → (difference_count g h ≡ 0)
         ↔ ((r c : ℕ) → r < g.side → c < g.side → colour g r c ≡ colour h r c) }

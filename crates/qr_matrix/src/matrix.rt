@@ -88,8 +88,8 @@ impl Matrix {
         self.rows[usize::from(row)].eight(col)
     }
 
-    /// Returns the end of a run of modules of one colour: the first column after `col` that has another colour than
-    /// column `col` in row `row`. If the run continues to the end of the row, the result is the number of columns.
+    /// Returns the end of a run of modules of one colour: the first column after `col` in which row `row` has another
+    /// colour than in column `col`. If the run continues to the end of the row, the result is the number of columns.
     pub fn run_end(&self, row: u8, col: u8) -> u8
         requires row_in { row < self.now.side }
         requires col_in { col < self.now.side }
@@ -101,7 +101,7 @@ impl Matrix {
     }
 
     // Returns a bit row (192 bits) with the changes of colour in row `row`. Bit `c` is set if the module in column `c`
-    // has another colour than the module in column `c - 1`. Outside the square, the colour counts as light.
+    // has another colour than the module in column `c - 1`. Modules outside the square count as light.
     pub(crate) fn changes(&self, row: u8) -> BitRow
         requires { row < self.now.side }
         ensures changes { (c : ℕ) → c < 192 → has result c ≡ is_change (colour self.now row) c }
@@ -133,8 +133,8 @@ impl Matrix {
         self.rows[row].word(number)
     }
 
-    // Returns the number of words of 64 bits that the modules of a row fill. The modules of a row may fill only a part
-    // of the last word.
+    // Returns how many words of 64 bits a row of modules needs. The modules of the row may fill only a part of the last
+    // word.
     pub(crate) fn words(&self) -> u8
         ensures least { 64 * (result - 1) < self.now.side }
         ensures most { self.now.side ≤ 64 * result }
@@ -143,8 +143,8 @@ impl Matrix {
         (self.side - 1) / 64 + 1
     }
 
-    // Returns row `row` as a bit row. `words` is the number of words of 64 bits that the modules of a row fill. If the
-    // caller passes a constant as `words`, the compiler can leave out all operations on words without modules.
+    // Returns row `row` as a bit row. A row of modules needs `words` words of 64 bits. If the caller passes a constant
+    // as `words`, the compiler can leave out all operations on words without modules.
     #[inline(always)]
     pub(crate) fn bit_row_in(&self, row: usize, words: u8) -> BitRow
         requires row_in { row < self.now.side }
@@ -193,7 +193,7 @@ impl Matrix {
     /// Sets the modules of row `row` to the colours that they have in the square `plain`, but inverts some of these
     /// colours. The colour of a module is inverted if the module is dark in the square `within` and the bit of
     /// `pattern` for its column is 1. `pattern` has six bits, which are repeated every six columns; the lowest bit is
-    /// for column 0. This square, `plain` and `within` must have the same side.
+    /// for column 0. The squares `self`, `plain` and `within` must have the same number of modules on a side.
     pub fn set_row_masked(&mut self, row: u8, plain: &Matrix, within: &Matrix, pattern: u8)
         requires row_in { row < self.old.side }
         requires plain_side { plain.now.side ≡ self.old.side }
@@ -242,8 +242,8 @@ impl Matrix {
         }
     }
 
-    /// Sets this square to the transpose of the square `other`, which must have as many rows as this square. The module
-    /// in row `r` and column `c` gets the colour that `other` has in row `c` and column `r`.
+    /// Sets the square `self` to the transpose of the square `other`. Both squares must have the same number of rows.
+    /// The module in row `r` and column `c` gets the colour of the module in row `c` and column `r` of `other`.
     pub fn set_transposed(&mut self, other: &Matrix)
         requires { other.now.side ≡ self.old.side }
         ensures { self.new ≡ transposed other.now }

@@ -18,8 +18,7 @@ const WINDOW_POINTS: u32 = 40;
 // The points of Table 11 for each whole twentieth (5 %) by which the share of dark modules differs from a half.
 const BALANCE_POINTS: u32 = 10;
 
-// Returns the number of dark modules of `matrix`. `words` is the number of words of 64 bits that the modules of a row
-// fill.
+// Returns the number of dark modules of `matrix`. A row of modules needs `words` words of 64 bits.
 #[inline(always)]
 fn dark_count(matrix: &Matrix, words: u8) -> u32
     requires least { 64 * (words - 1) < matrix.now.side }
@@ -49,8 +48,7 @@ fn balance_cost(modules: u32, dark: u32) -> u32
     BALANCE_POINTS * (excess / modules)
 }
 
-// Returns the penalty of the square of modules `m`. `words` is the number of words of 64 bits that the modules of a row
-// fill.
+// Returns the penalty of the square of modules `m`. A row of modules needs `words` words of 64 bits.
 #[inline(always)]
 fn penalty_in(m: &Matrix, words: u8) -> u32
     requires least { 64 * (words - 1) < m.now.side }
@@ -65,10 +63,10 @@ fn penalty_in(m: &Matrix, words: u8) -> u32
         + balance_cost(modules, dark_count(m, words))
 }
 
-/// Returns the penalty of a square of modules, which is a sum of points (ISO/IEC 18004:2015, 7.8.3.1, Table 11). The
-/// points are for runs of five or more modules of one colour, for squares of two by two modules of one colour, for
-/// windows, and for the share of dark modules. A window is eleven modules: the ratio 1:1:3:1:1 of a finder pattern,
-/// before or after four light modules.
+/// Returns the penalty of a square of modules: a sum of points (ISO/IEC 18004:2015, 7.8.3.1, Table 11). The penalty has
+/// points for runs of five or more modules of one colour, for squares of two by two modules of one colour, for windows,
+/// and for the share of dark modules. A window is eleven modules: the ratio 1:1:3:1:1 of a finder pattern, before or
+/// after four light modules.
 pub fn penalty(m: &Matrix) -> u32
     ensures { result ≡ penalty_of m.now.side (colour m.now) }
 {

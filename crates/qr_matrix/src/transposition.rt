@@ -14,9 +14,9 @@ ghost use Rattle.qr_matrix.specs.Steps.{bit_in, exchanged};
 use crate::matrix::Matrix;
 
 // Exchanges the right parts of the word `upper` with the left parts of the word `lower`, and returns both words. Each
-// word is divided into parts of `steps` columns, which are left parts and right parts in turn. The part at column 0 is
-// a left part. The set bits of `mask` are the columns of the left parts. To exchange two parts, the function inverts,
-// in both words, the bits in which the parts differ.
+// word is divided into parts of `steps` columns (one bit is one column). The first part, which begins at column 0, is a
+// left part, the second part is a right part, and so on in turn. The set bits of `mask` are the columns of the left
+// parts. To exchange two parts, the function inverts, in both words, the bits in which the parts differ.
 #[inline(always)]
 fn exchange_words(upper: u64, lower: u64, steps: usize, mask: u64) -> (u64, u64)
     requires some { 1 ≤ steps }
@@ -117,9 +117,9 @@ fn set_tile(matrix: &mut Matrix, band: usize, word: usize, tile: &[u64; 64])
     }
 }
 
-// Sets the modules of one tile of `matrix`: the module in row `r` and column `c` gets the colour that `other` has in
-// row `c` and column `r`. The tile has 64 rows and columns, and begins at row `64 * band` and column `64 * word` of the
-// square.
+// Sets the modules of one tile of `matrix`: the module in row `r` and column `c` gets the colour of the module in row
+// `c` and column `r` of `other`. The tile has 64 rows and columns, and begins at row `64 * band` and column `64 * word`
+// of the square.
 fn set_transposed_tile(matrix: &mut Matrix, other: &Matrix, band: usize, word: usize)
     requires whole { IsSquare matrix.old.side matrix.old }
     requires sides { other.now.side ≡ matrix.old.side }
@@ -135,8 +135,8 @@ fn set_transposed_tile(matrix: &mut Matrix, other: &Matrix, band: usize, word: u
     set_tile(matrix, band, word, &tile);
 }
 
-/// Sets up to 64 rows of `matrix`, from row `64 * band` on. The module in row `r` and column `c` gets the colour that
-/// `other` has in row `c` and column `r`.
+/// Sets up to 64 rows of `matrix`, from row `64 * band` on. The module in row `r` and column `c` gets the colour of the
+/// module in row `c` and column `r` of `other`.
 pub(crate) fn set_transposed_band(matrix: &mut Matrix, other: &Matrix, band: usize)
     requires whole { IsSquare matrix.old.side matrix.old }
     requires sides { other.now.side ≡ matrix.old.side }
