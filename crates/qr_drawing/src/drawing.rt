@@ -34,7 +34,7 @@ pub trait HasSquare {
     // The colours of the modules of the square, as contracts describe them.
     ghost grid: { Self → Grid };
 
-    /// Returns the square of modules of this value.
+    /// Returns the square of modules that belongs to `self`.
     fn square(&self) -> &Matrix
         ensures { result.now ≡ grid self.now };
 }

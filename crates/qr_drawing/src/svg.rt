@@ -150,8 +150,9 @@ fn push_head(text: &mut ArrayVec<u8, 1200>, width: u16, height: u16)
     push_all(text, b"<path fill=\"#000000\" d=\"");
 }
 
-// Writes the boxes around the runs of dark modules in row `row` of `matrix` through the buffer `pen`. `top` is the
-// number of rows of modules that the document has above the symbol `matrix` and its margin.
+// For each run of dark modules in row `row` of `matrix`, writes the path of the box around the run. The text goes to
+// the writer `out` through the buffer `pen`. `top` is the number of rows of modules that the document has above the
+// symbol `matrix` and its margin.
 fn put_row<W: Sink>(
     pen: &mut Pen,
     out: &mut W,

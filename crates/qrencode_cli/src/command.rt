@@ -158,9 +158,10 @@ fn run_to_result<R: Source, W: Sink>(
 /// write fault is reported exactly if one of four events occurred: a failed write of the drawing, a write that accepted
 /// no byte, the 1,000th interrupted write, or a failed flush.
 ///
-/// If the input is read from `input`, the input is all bytes of `input`, or its first 113,425 bytes if `input` has more
-/// bytes. A run makes at most 114,424 reads from `input`. After a read has reached the end of `input`, the run makes no
-/// further read, not even a read into an empty buffer.
+/// If the input of the run is read from the reader `input`, it consists of all bytes of the reader. If the reader has
+/// more than 113,425 bytes, the input consists of the first 113,425 bytes. A run makes at most 114,424 reads from
+/// `input`. After a read has reached the end of `input`, the run makes no further read, not even a read into an empty
+/// buffer.
 ///
 /// If a run has to read the input, it reads `input` to its end, or until it has 113,425 bytes. Only a read fault or
 /// lack of memory can end the reading of `input` before its end and before 113,425 bytes are read. After a write fault,

@@ -264,8 +264,8 @@ fn settings_in(alloc: Global, matches: &ArgMatches<'_>) -> Result<Settings, Usag
 }
 
 /// Parses the command line `words`, and returns its settings. The first text of `words` is the program's name. The
-/// crate `clap` decides which arguments are valid and which values the options have. For commands without subcommands,
-/// the contract of `clap` states which arguments are valid and which values the options have.
+/// crate `clap` decides which arguments are valid, and which values the options have. The command has no subcommands.
+/// For such commands, the contract of `clap` states these decisions.
 ///
 /// # Errors
 ///

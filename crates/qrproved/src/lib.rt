@@ -13,10 +13,10 @@
 //! memory is refused, a call may return the status for lack of memory, even if another cause applies.
 //!
 //! Some causes of a refusal are found before any memory is requested, so a call reports these causes even if memory is
-//! refused. Before any memory is requested, a call finds a number out of range, a number of rows that no version has,
-//! an empty input, and too few modules in a buffer that is read. An input of more than 7,089 bytes for one symbol, or
-//! of more than 113,425 bytes for a series, is refused before any memory is requested. The call `qrproved_mend` refuses
-//! a byte of more than 2 before it requests any memory.
+//! refused. The following causes are found before any memory is requested: a number out of range, a number of rows that
+//! no version has, an empty input, and too few modules in a buffer that is read. An input of more than 7,089 bytes for
+//! one symbol, or of more than 113,425 bytes for a series, is refused before any memory is requested. The call
+//! `qrproved_mend` refuses a byte whose value is greater than 2 before it requests any memory.
 #![tactic(auto)]
 
 mod drawing;

@@ -75,10 +75,10 @@ pub(crate) fn content_of(len: usize, version: Version, header: Option<Header>) -
 /// found after an allocation: wrong format information, wrong codewords, data codewords that cannot be parsed, and a
 /// buffer `bytes` that is too short.
 ///
-/// On status 0 the first copy of the format information and the codewords in `modules` belong to a symbol. On status 0
-/// the call wrote the bytes and the header that the symbol contains. The contract promises nothing about the function
-/// patterns, the dark module, the second copy of the format information, the version information and the remainder bits
-/// in `modules`.
+/// On status 0 some symbol has the same first copy of the format information and the same codewords as `modules`. On
+/// status 0 the call wrote the bytes and the header that the symbol contains. The contract promises nothing about the
+/// function patterns, the dark module, the second copy of the format information, the version information and the
+/// remainder bits in `modules`.
 #[unsafe(no_mangle)]
 pub extern "C" fn qrproved_read(
     alloc: Global,
