@@ -200,6 +200,7 @@ impl BitRow {
     }
 
     /// Returns whether the bit with the index `place` is set.
+    #[tactic(auto, using(crate::proofs::Named::bit_row_facts))]
     pub fn at(&self, place: u8) -> bool
         requires { place < 192 }
         ensures { result ≡ has self.now place }
@@ -209,6 +210,7 @@ impl BitRow {
 
     /// Returns the four bits from bit `place` on as a number. Bit `place` is the lowest bit of the number, and `place`
     /// is a multiple of four.
+    #[tactic(auto, using(crate::proofs::Named::bit_row_facts))]
     pub fn four(&self, place: u8) -> u8
         requires place_in { place < 192 }
         requires whole { place % 4 ≡ 0 }
@@ -220,6 +222,7 @@ impl BitRow {
 
     /// Returns the eight bits from bit `place` on as a number. Bit `place` is the lowest bit of the number, and `place`
     /// is a multiple of eight.
+    #[tactic(auto, using(crate::proofs::Named::bit_row_facts))]
     pub(crate) fn eight(&self, place: u8) -> u8
         requires place_in { place < 192 }
         requires whole { place % 8 ≡ 0 }
@@ -229,6 +232,7 @@ impl BitRow {
     }
 
     /// Returns the word with the index `number`: the 64 bits from bit `64 * number` on.
+    #[tactic(auto, using(crate::proofs::Named::bit_row_facts))]
     pub(crate) fn word(&self, number: usize) -> u64
         requires { number < 3 }
         ensures { (c : ℕ) → c < 64 → has_bit result c ≡ has self.now (64 * number + c) }
@@ -250,6 +254,7 @@ impl BitRow {
     }
 
     /// Replaces the 64 bits from bit `64 * number` on (the word with the index `number`) by `word`.
+    #[tactic(auto, using(crate::proofs::Named::bit_row_facts))]
     pub(crate) fn put_word(&mut self, number: usize, word: u64)
         requires { number < 3 }
         ensures { (i : ℕ) → has self.new i ≡ (if i / 64 == number then has_bit word (i % 64) else has self.old i) }

@@ -36,6 +36,7 @@ impl Model for Matrix {
 impl Matrix {
     /// Returns a square of light modules with `side` modules on a side. The number `side` is from 1 to 177. Returns an
     /// error if memory is refused.
+    #[tactic(auto, using(crate::proofs::Named::light_facts))]
     pub fn new(alloc: Global, side: u8) -> Result<Matrix, AllocError>
         requires least { 1 ≤ side }
         requires most { side ≤ 177 }
@@ -55,6 +56,7 @@ impl Matrix {
     }
 
     /// Returns whether the module in row `row` and column `col` is dark.
+    #[tactic(auto, using(crate::proofs::Named::row_facts))]
     pub fn dark(&self, row: u8, col: u8) -> bool
         requires row_in { row < self.now.side }
         requires col_in { col < self.now.side }
@@ -66,6 +68,7 @@ impl Matrix {
     /// Returns the four modules of row `row` from column `col` on, as the bits of a number. The lowest bit of the
     /// number is the module in column `col`, and a set bit is a dark module. `col` must be a multiple of four, and all
     /// four modules must be in the square.
+    #[tactic(auto, using(crate::proofs::Named::row_facts))]
     pub fn four(&self, row: u8, col: u8) -> u8
         requires row_in { row < self.now.side }
         requires col_in { col + 4 ≤ self.now.side }
@@ -79,6 +82,7 @@ impl Matrix {
     /// Returns the eight modules of row `row` from column `col` on, as the bits of a number. The lowest bit of the
     /// number is the module in column `col`, and a set bit is a dark module. `col` must be a multiple of eight. The
     /// bits of columns outside the square are 0.
+    #[tactic(auto, using(crate::proofs::Named::row_facts))]
     pub fn eight(&self, row: u8, col: u8) -> u8
         requires row_in { row < self.now.side }
         requires col_in { col < self.now.side }
@@ -102,6 +106,7 @@ impl Matrix {
 
     // Returns a bit row (192 bits) with the changes of colour in row `row`. Bit `c` is set if the module in column `c`
     // has another colour than the module in column `c - 1`. Modules outside the square count as light.
+    #[tactic(auto, unfolding(crate::specs::Runs::is_change))]
     pub(crate) fn changes(&self, row: u8) -> BitRow
         requires { row < self.now.side }
         ensures changes { (c : ℕ) → c < 192 → has result c ≡ is_change (colour self.now row) c }
@@ -125,6 +130,7 @@ impl Matrix {
 
     // Returns up to 64 modules of row `row`, from column `64 * number` on, as the bits of a word. The lowest bit of the
     // word is the module in column `64 * number`. The bits of columns outside the square are 0.
+    #[tactic(auto, using(crate::proofs::Named::row_facts))]
     pub(crate) fn word(&self, row: usize, number: usize) -> u64
         requires row_in { row < self.now.side }
         requires word_in { number < 3 }
@@ -194,6 +200,7 @@ impl Matrix {
     /// colours. The colour of a module is inverted if the module is dark in the square `within` and the bit of
     /// `pattern` for its column is 1. `pattern` has six bits, which are repeated every six columns; the lowest bit is
     /// for column 0. The squares `self`, `plain` and `within` must have the same number of modules on a side.
+    #[tactic(auto, using(crate::proofs::Named::replaced_facts))]
     pub fn set_row_masked(&mut self, row: u8, plain: &Matrix, within: &Matrix, pattern: u8)
         requires row_in { row < self.old.side }
         requires plain_side { plain.now.side ≡ self.old.side }
@@ -210,6 +217,7 @@ impl Matrix {
 
     // Sets the modules of row `row` whose bits are set in `columns` to one colour: dark if `dark` is true, and light
     // otherwise. No bit of a column outside the square may be set.
+    #[tactic(auto, using(crate::proofs::Named::replaced_facts))]
     fn fill_row(&mut self, row: u8, columns: BitRow, dark: bool)
         requires row_in { row < self.old.side }
         requires past { (c : ℕ) → self.old.side ≤ c → has columns c ≡ false }

@@ -20,6 +20,7 @@ const BALANCE_POINTS: u32 = 10;
 
 // Returns the number of dark modules of `matrix`. A row of modules needs `words` words of 64 bits.
 #[inline(always)]
+#[tactic(auto, using(crate::proofs::Named::sum_facts), unfolding(crate::specs::Penalty::dark_count))]
 fn dark_count(matrix: &Matrix, words: u8) -> u32
     requires least { 64 * (words - 1) < matrix.now.side }
     requires most { matrix.now.side ≤ 64 * words }
@@ -50,6 +51,7 @@ fn balance_cost(modules: u32, dark: u32) -> u32
 
 // Returns the penalty of the square of modules `m`. A row of modules needs `words` words of 64 bits.
 #[inline(always)]
+#[tactic(auto, using(crate::proofs::Named::sum_facts))]
 fn penalty_in(m: &Matrix, words: u8) -> u32
     requires least { 64 * (words - 1) < m.now.side }
     requires most { m.now.side ≤ 64 * words }

@@ -18,6 +18,7 @@ use crate::matrix::Matrix;
 // left part, the second part is a right part, and so on in turn. The set bits of `mask` are the columns of the left
 // parts. To exchange two parts, the function inverts, in both words, the bits in which the parts differ.
 #[inline(always)]
+#[tactic(auto, using(crate::proofs::Named::exchange_facts))]
 fn exchange_words(upper: u64, lower: u64, steps: usize, mask: u64) -> (u64, u64)
     requires some { 1 ≤ steps }
     requires few { steps ≤ 32 }

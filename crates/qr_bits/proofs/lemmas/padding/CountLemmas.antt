@@ -1,7 +1,7 @@
 -- If the bits of segments fit a symbol, each count fits its field.
-use Rattle.std.proofs.Common.{◌≡◌, ℕ, ◌+◌, ◌-◌, ◌*◌, ◌/◌, ◌^◌, ◌<◌, ◌≤◌, Bool, true, false, cond, leb, List, [], ◌∷◌, length, drop, refl, ap, ⊎_elim, arith, subst, lit≤}
+use Rattle.std.proofs.Common.{◌≡◌, ℕ, ◌+◌, ◌-◌, ◌*◌, ◌^◌, ◌<◌, ◌≤◌, Bool, true, false, cond, leb, List, [], ◌∷◌, length, drop, refl, ap, arith, subst, lit≤}
 use borrow.Author.Tests.{leb-true}
-use Rattle.std.proofs.lemmas.Bool.{le-leb, lt-leb, cases_lt}
+use Rattle.std.proofs.lemmas.Bool.{le-leb, lt-leb}
 use Rattle.qr_layout.specs.declared.level.Level.{Level}
 use Rattle.qr_layout.specs.declared.level.Level.TheVariants.{L, M, Q, H}
 use Rattle.qr_layout.specs.Version.{total_codewords_of}
@@ -11,8 +11,8 @@ use Rattle.qr_bits.specs.declared.modes.Mode.{Mode}
 use Rattle.qr_bits.specs.declared.modes.Mode.TheVariants.{Numeric, Alphanumeric, Byte, Kanji}
 use Rattle.qr_bits.specs.declared.modes.Rule.{Rule}
 use Rattle.qr_bits.specs.declared.segment.Segment.{Segment}
-use Rattle.qr_bits.specs.Modes.{character_count, count_width, payload_bits}
-use Rattle.qr_bits.specs.Segmentation.{segment_bits, bits, runs_of, HasFit}
+use Rattle.qr_bits.specs.Modes.{character_count, count_width}
+use Rattle.qr_bits.specs.Segmentation.{segment_bits, bits, HasFit}
 use Rattle.qr_bits.specs.Stream.{CountsFit}
 use Rattle.qr_bits.specs.Padding.{capacity_of}
 use Rattle.qr_bits.proofs.lemmas.segment.SegmentLemmas.{segment_least, bits_least}
@@ -64,41 +64,24 @@ capacity_least v l a b =
 
 -- the three groups of versions
 groups : (v : ℕ) (P : Bool → Bool → Type 0) → (v ≤ 9 → P true true) → (9 < v → v ≤ 26 → P false true) → (26 < v → P false false) → P (leb v 9) (leb v 26)
-groups v P small medium large =
-    ⊎_elim
-    (λ (h : v < 10). let k : v ≤ 9 = omega arith in let m : v ≤ 26 = omega arith in rw (le-leb v 9 k, le-leb v 26 m) (small k))
-    (λ (h : 10 ≤ v). ⊎_elim
-    (λ (k : v < 27). let m : v ≤ 26 = omega arith in let n : 9 < v = omega arith in rw (lt-leb v 9 n, le-leb v 26 m) (medium n m))
-    (λ (k : 27 ≤ v). let m : 26 < v = omega arith in let n : 9 < v = omega arith in rw (lt-leb v 9 n, lt-leb v 26 m) (large m))
-    (cases_lt v 27))
-    (cases_lt v 10)
+groups v P small medium large = search (arith, le-leb, lt-leb)
 
 -- the data codewords of a symbol have at most 23,648 bits
 pub capacity_most : (v : ℕ) (l : Level) → 1 ≤ v → v ≤ 40 → capacity_of v l ≤ 23648
-capacity_most v l a b =
-    let most : most_data v ≤ 2956 = groups v (λ s m. cond s 232 (cond m 1370 2956) ≤ 2956) (λ _. lit≤ tt) (λ _ _. lit≤ tt) (λ _. lit≤ tt) in
-    omega (arith, data_most v l a b)
+capacity_most v l a b = search (arith, groups, data_most)
 
 -- if the bits of a segment fit, its count fits
 count_fits : (v n : ℕ) (m : Mode) → segment_bits v (record { mode = m; len = n }) ≤ 8 * most_data v → character_count m n < 2 ^ count_width v m
-count_fits v n Numeric h =
-    groups v (λ s m. 4 + cond s 10 (cond m 12 14) + payload_bits Numeric n ≤ 8 * cond s 232 (cond m 1370 2956) → n < 2 ^ cond s 10 (cond m 12 14))
-    (λ _ k. omega arith) (λ _ _ k. omega arith) (λ _ k. omega arith) h
-count_fits v n Alphanumeric h =
-    groups v (λ s m. 4 + cond s 9 (cond m 11 13) + payload_bits Alphanumeric n ≤ 8 * cond s 232 (cond m 1370 2956) → n < 2 ^ cond s 9 (cond m 11 13))
-    (λ _ k. omega arith) (λ _ _ k. omega arith) (λ _ k. omega arith) h
-count_fits v n Byte h =
-    groups v (λ s m. 4 + cond s 8 16 + payload_bits Byte n ≤ 8 * cond s 232 (cond m 1370 2956) → n < 2 ^ cond s 8 16)
-    (λ _ k. omega arith) (λ _ _ k. omega arith) (λ _ k. omega arith) h
-count_fits v n Kanji h =
-    groups v (λ s m. 4 + cond s 8 (cond m 10 12) + payload_bits Kanji n ≤ 8 * cond s 232 (cond m 1370 2956) → n / 2 < 2 ^ cond s 8 (cond m 10 12))
-    (λ _ k. omega arith) (λ _ _ k. omega arith) (λ _ k. omega arith) h
+count_fits v n Numeric h = search (arith, groups)
+count_fits v n Alphanumeric h = search (arith, groups)
+count_fits v n Byte h = search (arith, groups)
+count_fits v n Kanji h = search (arith, groups)
 
 -- If the bits of segments fit a symbol, each count fits its field.
 pub counts_fit : (v : ℕ) (l : Level) (segs : List Segment) → 1 ≤ v → v ≤ 40 → bits v segs ≤ capacity_of v l → CountsFit v segs
 unfolding CountsFit
 counts_fit v l [] a b h = tt
-counts_fit v l (s ∷ ss) a b h = (count_fits v s.len s.mode (omega (arith, data_most v l a b)), counts_fit v l ss a b (omega arith))
+counts_fit v l (s ∷ ss) a b h = search (arith, count_fits, data_most, counts_fit v l ss a b (omega arith))
 
 -- from version 27 on, the indicator and the count of a segment have at least 16 bits
 head_least : (v : ℕ) (m : Mode) → 26 < v → 12 ≤ count_width v m
@@ -117,30 +100,19 @@ short_large v xs (s ∷ ss) h c few =
 -- An input that fits a symbol has at most 7,089 bytes.
 pub fitting_short : (v : ℕ) (l : Level) (r : Rule) (xs : List ℕ) → 1 ≤ v → v ≤ 40 → HasFit v r xs (capacity_of v l) → length xs ≤ 7089
 fitting_short v l r xs a b fit =
-    ⊎_elim
-    (λ (small : v < 27).
-    let held = data_most v l a b in
-    let most : most_data v ≤ 1370 = groups v (λ s m. v < 27 → cond s 232 (cond m 1370 2956) ≤ 1370) (λ _ _. lit≤ tt) (λ _ _ _. lit≤ tt) (λ k n. absurd (omega arith)) small in
-    omega (arith, held, most, bits_least v xs (runs_of fit.0) (covers_suits xs (runs_of fit.0) fit.1.1), fit.2))
-    (λ (large : 27 ≤ v). short_large v xs (runs_of fit.0) (omega arith) (in_turn _ _ fit.1.1) (omega (arith, capacity_most v l a b, fit.2)))
-    (cases_lt v 27)
+    search (arith, data_most, groups, bits_least, covers_suits, short_large, in_turn, capacity_most)
 
 -- An input that fits a symbol has at most three bytes for each ten bits.
 fitting_few : (v : ℕ) (l : Level) (r : Rule) (xs : List ℕ) → 1 ≤ v → v ≤ 40 → HasFit v r xs (capacity_of v l) → 10 * length xs ≤ 24 * most_data v
-fitting_few v l r xs a b fit =
-    omega (arith, data_most v l a b, bits_least v xs (runs_of fit.0) (covers_suits xs (runs_of fit.0) fit.1.1), fit.2)
+fitting_few v l r xs a b fit = search (arith, data_most, bits_least, covers_suits)
 
 -- the data codewords of a symbol of a version up to 9 have at most 1,856 bits
 pub capacity_small : (v : ℕ) (l : Level) → 1 ≤ v → v ≤ 9 → capacity_of v l ≤ 1856
-capacity_small v l a b =
-    let most : most_data v ≤ 232 = groups v (λ s m. v ≤ 9 → cond s 232 (cond m 1370 2956) ≤ 232) (λ _ _. lit≤ tt) (λ k _ n. absurd (omega arith)) (λ k n. absurd (omega arith)) b in
-    omega (arith, most, data_most v l a (omega arith))
+capacity_small v l a b = search (arith, groups, data_most)
 
 -- the data codewords of a symbol of a version up to 26 have at most 10,960 bits
 pub capacity_medium : (v : ℕ) (l : Level) → 1 ≤ v → v ≤ 26 → capacity_of v l ≤ 10960
-capacity_medium v l a b =
-    let most : most_data v ≤ 1370 = groups v (λ s m. v ≤ 26 → cond s 232 (cond m 1370 2956) ≤ 1370) (λ _ _. lit≤ tt) (λ _ _ _. lit≤ tt) (λ k n. absurd (omega arith)) b in
-    omega (arith, most, data_most v l a (omega arith))
+capacity_medium v l a b = search (arith, groups, data_most)
 
 -- An input that fits a version up to 26 has at most 3,288 bytes.
 pub fitting_medium : (v : ℕ) (l : Level) (r : Rule) (xs : List ℕ) → 1 ≤ v → v ≤ 26 → HasFit v r xs (capacity_of v l) → length xs ≤ 3288

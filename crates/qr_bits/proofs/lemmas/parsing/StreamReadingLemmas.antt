@@ -1,6 +1,6 @@
 -- A parse reads back every stream that is written, and what it reads is a stream.
 use Rattle.std.proofs.Common.{◌≡◌, ℕ, zero, suc, ◌^◌, ◌<◌, ◌≤◌, Bool, true, false, cond, ◌==◌, nat_lt, nat_le, All, List, [], ◌∷◌, ◌++◌, length, take, drop, Ok, Err, Option, Some, None, refl, sym, ◌∙◌, ap, subst, ⊎_elim, arith, lit<, append_assoc, length-append}
-use Rattle.std.proofs.lemmas.Bool.{le-ltb, lt-leb, le-leb, ltb-false, cases_Bool, cases_lt, eqb-true, and_parts}
+use Rattle.std.proofs.lemmas.Bool.{le-ltb, lt-leb, le-leb, ltb-false, cases_Bool, eqb-true, and_parts}
 use Rattle.std.proofs.lemmas.List.{length-take-le, length-drop, drop-drop, take-append-drop}
 use Rattle.std.proofs.lemmas.List.Elements.{All-nil, All-append, All-take, All-drop}
 use Rattle.std.proofs.Math.Seq.{take-append_seam, drop-append_seam}
@@ -27,18 +27,12 @@ use Rattle.qr_bits.proofs.lemmas.stream.WritingLemmas.{in_twos-even, length-payl
 -- a field is read back as its number
 number_again : (w n : ℕ) (rest : List Bool) → n < 2 ^ w → leading_number w (field w n ++ rest) ≡ Ok (n, rest)
 unfolding leading_number
-number_again w n rest h =
-    let there : w ≤ length (field w n ++ rest) = omega (arith, length-append (field w n) rest, length-field w n) in
-    rw (le-ltb (length (field w n ++ rest)) w there, read_field w n rest h, drop-field w n rest) refl
+number_again w n rest h = search (arith, length-append, length-field, le-ltb, read_field, drop-field)
 
 -- a number that is read is written as the same bits
 number_takes : (w : ℕ) (bits : List Bool) (n : ℕ × List Bool) → leading_number w bits ≡ Ok n → (n.0 < 2 ^ w) × (bits ≡ field w n.0 ++ n.1)
 unfolding leading_number
-number_takes w bits n h =
-    let g = guard_ok (nat_lt (length bits) w) Cut (Ok (value (take w bits), drop w bits)) n h in
-    let P : ℕ × List Bool → Type 0 = λ t. (t.0 < 2 ^ w) × (bits ≡ field w t.0 ++ t.1) in
-    subst P (same_ok (value (take w bits), drop w bits) n g.1)
-    (value_take_below w bits, sym (ap (λ (t : List Bool). t ++ drop w bits) (field_read w bits (ltb-false _ _ g.0)) ∙ take-append-drop w bits))
+number_takes w bits n h = search (arith, guard_ok, same_ok, value_take_below, field_read, ltb-false, take-append-drop)
 
 -- ---- the data
 
@@ -60,11 +54,7 @@ count_again Kanji n = omega arith
 payload_again : (m : Mode) (xs : List ℕ) (rest : List Bool) → All (λ b. b < 256) xs → suits m xs ≡ true → payload_at m (character_count m (length xs)) (payload m xs ++ rest) ≡ Ok (xs, rest)
 unfolding payload_at
 payload_again m xs rest bytes h =
-    let same = len_again m xs h in
-    let len = length-payload m xs h in
-    let there : payload_bits m (length xs) ≤ length (payload m xs ++ rest) = omega (arith, length-append (payload m xs) rest, len) in
-    let behind : drop (payload_bits m (length xs)) (payload m xs ++ rest) ≡ rest = rw len at (drop-append_seam (payload m xs) rest) in
-    rw (same, le-ltb (length (payload m xs ++ rest)) (payload_bits m (length xs)) there, values_again m xs rest bytes h, behind) refl
+    search (arith, len_again, length-payload, length-append, drop-append_seam, le-ltb, values_again)
 
 -- data that is read is written as the same bits
 payload_takes : (m : Mode) (n : ℕ) (bits : List Bool) (p : List ℕ × List Bool) → payload_at m n bits ≡ Ok p → IsWritten m n bits p.0 × (p.1 ≡ drop (payload_bits m (byte_count m n)) bits)
@@ -96,7 +86,7 @@ mode_cases n m false false false false e f g i h = cc
 -- the indicator of the mode that was read is the number that was read
 mode_takes : (n : ℕ) (m : Mode) → mode_of n ≡ Ok m → n ≡ indicator m
 unfolding mode_of
-mode_takes n m h = mode_cases n m (n == 1) (n == 2) (n == 4) (n == 8) refl refl refl refl h
+mode_takes n m h = search (arith, mode_cases)
 
 -- an indicator of a mode is a number of four bits
 indicator_most : (m : Mode) → indicator m < 2 ^ 4
@@ -132,18 +122,7 @@ segment_again : (v : ℕ) (m : Mode) (xs : List ℕ) (rest : List Bool) → All 
     → segment_at v (segment_stream v m xs ++ rest) ≡ Ok (record { mode = m; len = length xs }, xs, rest)
 unfolding segment_at segment_stream
 segment_again v m xs rest bytes suited fits =
-    let count = field (count_width v m) (character_count m (length xs)) in
-    let whole : (field 4 (indicator m) ++ (count ++ payload m xs)) ++ rest ≡ field 4 (indicator m) ++ (count ++ (payload m xs ++ rest)) =
-    append_assoc (field 4 (indicator m)) (count ++ payload m xs) rest ∙ ap (λ (t : List Bool). field 4 (indicator m) ++ t) (append_assoc count (payload m xs) rest) in
-    rw (
-      whole,
-      read_field 4 (indicator m) (count ++ (payload m xs ++ rest)) (indicator_most m),
-      mode_again m,
-      drop-field 4 (indicator m) (count ++ (payload m xs ++ rest)),
-      number_again (count_width v m) (character_count m (length xs)) (payload m xs ++ rest) fits,
-      payload_again m xs rest bytes suited,
-      len_again m xs suited,
-    ) refl
+    search (arith, append_assoc, read_field, indicator_most, mode_again, drop-field, number_again, payload_again, len_again)
 
 -- a segment that was read is the stream of these bytes, with the rest after it
 record IsSegment (v : ℕ) (bits : List Bool) (s : Segment) (xs : List ℕ) (rest : List Bool) : Type 0 where
@@ -164,13 +143,7 @@ segment_from v m bits n p four e number said =
     let behind : n.1 ≡ payload m p.0 ++ p.1 = w.whole ∙ ap (λ (t : List Bool). payload m p.0 ++ t) (sym said.1) in
     let tail : drop 4 bits ≡ count ++ (payload m p.0 ++ p.1) = number.1 ∙ ap (λ (t : List Bool). count ++ t) behind in
     let head : take 4 bits ≡ field 4 (indicator m) = sym (field_read 4 bits four) ∙ ap (field 4) e in
-    record {
-      long = w.long;
-      bytes = w.bytes;
-      suited = w.suited;
-      fits = rw (count_again m n.0) number.0;
-      whole = rw (w.long, count_again m n.0, append_assoc (field 4 (indicator m)) (count ++ payload m p.0) p.1, append_assoc count (payload m p.0) p.1, ← tail, ← head) (sym (take-append-drop 4 bits));
-    }
+    search (arith, count_again, append_assoc, take-append-drop)
 
 -- a segment that is read is written as the same bits
 segment_takes : (v : ℕ) (bits : List Bool) (s : Segment × List ℕ × List Bool) → 4 ≤ length bits → segment_at v bits ≡ Ok s → IsSegment v bits s.0 s.1 s.2
@@ -187,28 +160,22 @@ segment_takes v bits s four h =
 -- the data does not end where a segment begins
 opens : (v : ℕ) (m : Mode) (xs : List ℕ) (rest : List Bool) → ends (segment_stream v m xs ++ rest) ≡ false
 unfolding ends
-opens v m xs rest =
-    let four = first_four v m xs rest in
-    rw (le-ltb (length (segment_stream v m xs ++ rest)) 4 four.1, four.0, indicator_open m) refl
+opens v m xs rest = search (arith, first_four, le-ltb, indicator_open)
 
 -- the first n bytes of a list of bytes, and those after them, are bytes
 all_take : (n : ℕ) (xs : List ℕ) → All (λ b. b < 256) xs → All (λ b. b < 256) (take n xs) × All (λ b. b < 256) (drop n xs)
-all_take n xs h = (All-take (λ b. b < 256) n xs h, All-drop (λ b. b < 256) n xs h)
+all_take n xs h = search (arith, All-take, All-drop)
 
 -- Segments that are written and followed by an end are read back.
 pub segments_again : (v : ℕ) (xs : List ℕ) (segs : List Segment) (tail : List Bool) → All (λ b. b < 256) xs → Suits xs segs → CountsFit v segs → ends tail ≡ true
     → segments_of v (segments_stream v xs segs ++ tail) ≡ Ok (segs, xs)
 unfolding segments_stream Suits CountsFit
-segments_again v xs [] tail bytes suit fits end = segments_end v tail end ∙ ap (λ (t : List ℕ). Ok ([], t)) (sym suit)
+segments_again v xs [] tail bytes suit fits end = cc (segments_end v tail end)
 segments_again v xs (s ∷ ss) tail bytes suit fits end =
     let part = take s.len xs in
     let len : length part ≡ s.len = length-take-le s.len xs suit.0 in
     let halves = all_take s.len xs bytes in
-    let rest = segments_stream v (drop s.len xs) ss in
-    let whole = append_assoc (segment_stream v s.mode part) rest tail in
-    let one = segment_again v s.mode part (rest ++ tail) halves.0 suit.1 (rw len fits.0) in
-    let others = segments_again v (drop s.len xs) ss tail halves.1 suit.2 fits.1 end in
-    rw (whole, segments_step v (segment_stream v s.mode part ++ (rest ++ tail)) (opens v s.mode part (rest ++ tail)), one, others, len, take-append-drop s.len xs) refl
+    search (arith, append_assoc, segment_again, segments_step, opens, take-append-drop, segments_again v (drop s.len xs) ss tail halves.1 suit.2 fits.1 end)
 
 -- segments that were read are their stream, and then an end
 pub record IsSegments (v : ℕ) (bits : List Bool) (segs : List Segment) (xs : List ℕ) : Type 0 where
@@ -222,7 +189,7 @@ pub record IsSegments (v : ℕ) (bits : List Bool) (segs : List Segment) (xs : L
 -- at an end there is the stream of no segment
 segments_none : (v : ℕ) (bits : List Bool) → ends bits ≡ true → IsSegments v bits [] []
 unfolding segments_stream Suits CountsFit
-segments_none v bits e = record { tail = bits; bytes = All-nil (λ b. b < 256); suit = refl; fits = tt; whole = refl; end = e }
+segments_none v bits e = search (arith, All-nil)
 
 -- one segment before the stream of others
 segments_more : (v : ℕ) (bits rest : List Bool) (s : Segment) (ss : List Segment) (ys zs : List ℕ) → IsSegment v bits s ys rest → IsSegments v rest ss zs → IsSegments v bits (s ∷ ss) (ys ++ zs)
@@ -233,18 +200,16 @@ segments_more v bits rest s ss ys zs one others =
     record {
       tail = others.tail;
       bytes = All-append (λ b. b < 256) ys zs one.bytes others.bytes;
-      suit = (omega (arith, length-append ys zs, one.long), rw front one.suited, rw back others.suit);
+      suit = search (arith, length-append);
       fits = (one.fits, others.fits);
-      whole = rw (front, back, append_assoc (segment_stream v s.mode ys) (segments_stream v zs ss) others.tail, ← others.whole) one.whole;
+      whole = search (arith, append_assoc);
       end = others.end;
     }
 
 -- The bits of segments that are read are their stream, and then an end.
 pub segments_takes : (n v : ℕ) (bits : List Bool) (r : List Segment × List ℕ) → length bits ≤ n → segments_at n v bits ≡ Ok r → IsSegments v bits r.0 r.1
 unfolding segments_at
-segments_takes zero v bits r few h =
-    let P : List Segment × List ℕ → Type 0 = λ t. IsSegments v bits t.0 t.1 in
-    subst P (same_ok ([], []) r h) (segments_none v bits (ended_empty bits few))
+segments_takes zero v bits r few h = search (arith, same_ok, segments_none, ended_empty)
 segments_takes (suc n) v bits r few h =
     let P : List Segment × List ℕ → Type 0 = λ t. IsSegments v bits t.0 t.1 in
     ⊎_elim
@@ -272,8 +237,7 @@ unfolding begins_header
 started bits h =
     let p = and_parts (nat_le 4 (length bits)) (value (take 4 bits) == 3) h in
     let four : 4 ≤ length bits = leb-true 4 (length bits) p.0 in
-    let three : value (take 4 bits) ≡ 3 = eqb-true _ 3 p.1 in
-    sym (ap (λ (t : List Bool). t ++ drop 4 bits) (ap (field 4) (sym three) ∙ field_read 4 bits four) ∙ take-append-drop 4 bits)
+    cc (eqb-true _ 3 p.1, field_read 4 bits four, take-append-drop 4 bits)
 
 -- the fields of a header whose bits are all there
 header_parts : (bits : List Bool) → 16 ≤ length bits
@@ -283,9 +247,7 @@ header_parts bits long =
     let b = field_read 4 (drop 4 bits) (omega (arith, length-drop 4 bits)) in
     let c = field_read 8 (drop 8 bits) (omega (arith, length-drop 8 bits)) in
     let last : take 8 (drop 8 bits) ++ drop 16 bits ≡ drop 8 bits = ap (λ (t : List Bool). take 8 (drop 8 bits) ++ t) (sym (drop-drop 8 8 bits)) ∙ take-append-drop 8 (drop 8 bits) in
-    let middle : take 4 (drop 4 bits) ++ drop 8 bits ≡ drop 4 bits = ap (λ (t : List Bool). take 4 (drop 4 bits) ++ t) (sym (drop-drop 4 4 bits)) ∙ take-append-drop 4 (drop 4 bits) in
-    rw (a, b, c, append_assoc (take 4 bits) (take 4 (drop 4 bits) ++ take 8 (drop 8 bits)) (drop 16 bits), append_assoc (take 4 (drop 4 bits)) (take 8 (drop 8 bits)) (drop 16 bits), last, middle)
-    (sym (take-append-drop 4 bits))
+    search (arith, drop-drop, take-append-drop, append_assoc)
 
 -- a header that is written is read back
 header_again : (h : Header) (rest : List Bool) → HeaderFits (Some h) → first_header (header_stream (Some h) ++ rest) ≡ Ok (Some h, rest)
@@ -318,32 +280,19 @@ header_again h rest all_fit =
 -- no header begins where segments begin
 none_begins : (v : ℕ) (xs : List ℕ) (segs : List Segment) (tail : List Bool) → ends tail ≡ true → begins_header (segments_stream v xs segs ++ tail) ≡ false
 unfolding begins_header segments_stream ends
-none_begins v xs [] tail e =
-    ⊎_elim
-    (λ (l : length tail < 4). rw (lt-leb 4 (length tail) l) refl)
-    (λ (l : 4 ≤ length tail).
-    let z : value (take 4 tail) ≡ 0 = eqb-true _ 0 (rw (le-ltb (length tail) 4 l) at e) in
-    rw (le-leb 4 (length tail) l, z) refl)
-    (cases_lt (length tail) 4)
-none_begins v xs (s ∷ ss) tail e =
-    let part = take s.len xs in
-    let rest = segments_stream v (drop s.len xs) ss in
-    let four = first_four v s.mode part (rest ++ tail) in
-    rw (append_assoc (segment_stream v s.mode part) rest tail, le-leb 4 (length (segment_stream v s.mode part ++ (rest ++ tail))) four.1, four.0, indicator_plain s.mode) refl
+none_begins v xs [] tail e = search (arith, lt-leb, eqb-true, le-ltb, le-leb)
+none_begins v xs (s ∷ ss) tail e = search (arith, first_four, append_assoc, le-leb, indicator_plain)
 
 -- an optional header that is written is read back
 first_again : (v : ℕ) (h : Option Header) (xs : List ℕ) (segs : List Segment) (tail : List Bool) → HeaderFits h → ends tail ≡ true
     → first_header ((header_stream h ++ segments_stream v xs segs) ++ tail) ≡ Ok (h, segments_stream v xs segs ++ tail)
 unfolding first_header header_stream
 first_again v None xs segs tail fits e = rw (none_begins v xs segs tail e) refl
-first_again v (Some h) xs segs tail fits e = rw (append_assoc (header_stream (Some h)) (segments_stream v xs segs) tail) (header_again h (segments_stream v xs segs ++ tail) fits)
+first_again v (Some h) xs segs tail fits e = search (arith, append_assoc, header_again)
 
 -- the numbers of a header that was read fit their fields
 fits_of : (h : Header) → h.position < 16 → h.last < 16 → h.parity < 256 → HeaderFits (Some h)
-fits_of h a b d = λ k e.
-    let P : Header → Type 0 = λ z. (z.position < 16) × (z.last < 16) × (z.parity < 256) in
-    let g : h ≡ k = cc in
-    subst P g (a, b, d)
+fits_of h a b d = search arith
 
 -- a header that is read is written as the same bits
 header_takes : (bits : List Bool) (r : Header × List Bool) → header_at bits ≡ Ok r → HeaderFits (Some r.0) × (bits ≡ (field 4 r.0.position ++ (field 4 r.0.last ++ field 8 r.0.parity)) ++ r.1)
@@ -364,8 +313,7 @@ first_takes bits r h =
     (λ (e : begins_header bits ≡ true).
     bind_all (header_at (drop 4 bits)) _ P (λ q eq t ht.
     let w = header_takes (drop 4 bits) q eq in
-    let fields = field 4 q.0.position ++ (field 4 q.0.last ++ field 8 q.0.parity) in
-    subst P (same_ok (Some q.0, q.1) t ht) (w.0, rw (append_assoc (field 4 header_indicator) fields q.1, ← w.1) (started bits e))) r (rw e at h))
+    search (arith, same_ok, append_assoc, started)) r (rw e at h))
     (λ (e : begins_header bits ≡ false). subst P (same_ok (None, bits) r (rw e at h)) ((λ k z. cc), refl))
     (cases_Bool (begins_header bits))
 
@@ -375,8 +323,7 @@ first_takes bits r h =
 pub parse_again : (v : ℕ) (xs : List ℕ) (segs : List Segment) (h : Option Header) (front tail : List Bool) → IsStream v xs segs h front → ends tail ≡ true
     → parse v (front ++ tail) ≡ Ok (record { header = h; segments = segs; bytes = xs })
 unfolding parse
-parse_again v xs segs h front tail is e =
-    rw (is.whole, first_again v h xs segs tail is.header e, segments_again v xs segs tail is.bytes is.suit is.counts e) refl
+parse_again v xs segs h front tail is e = search (arith, first_again, segments_again)
 
 -- the bits are the stream of this content, and then an end
 abbrev Says : ℕ → List Bool → Content → Type 0
@@ -390,10 +337,4 @@ parse_takes v bits c e =
     bind_all (segments_at (length h.1) v h.1) _ (Says v bits) (λ r er d hd.
     let first = first_takes bits h eh in
     let others = segments_takes (length h.1) v h.1 r (omega arith) er in
-    subst (Says v bits) (same_ok (record { header = h.0; segments = r.0; bytes = r.1 }) d hd) (
-      header_stream h.0 ++ segments_stream v r.1 r.0,
-      others.tail,
-      record { bytes = others.bytes; suit = others.suit; counts = others.fits; header = first.0; whole = refl },
-      rw (append_assoc (header_stream h.0) (segments_stream v r.1 r.0) others.tail, ← others.whole) first.1,
-      others.end,
-    )) d hd) c e
+    search (arith, same_ok, append_assoc)) d hd) c e

@@ -14,12 +14,8 @@ use Rattle.qr_field.proofs.lemmas.galois.ByteLemmas.{product-of_zero}
 -- the register moved down by one byte
 pub halves-rest : (low high : ℕ) → low < 2 ^ 128 → high < 2 ^ 128 →
     high / 2 ^ 8 * 2 ^ 128 + bit_or ((high * 2 ^ 120) % 2 ^ 128) (low / 2 ^ 8) ≡ (high * 2 ^ 128 + low) / 2 ^ 8
-halves-rest low high l h =
-    let m : (high * 2 ^ 120) % 2 ^ 128 ≡ (high % 2 ^ 8) * 2 ^ 120 = omega arith in
-    let e = or_shifted (high % 2 ^ 8) 120 (low / 2 ^ 8) (omega arith) in
-    let f : bit_or ((high * 2 ^ 120) % 2 ^ 128) (low / 2 ^ 8) ≡ (high % 2 ^ 8) * 2 ^ 120 + low / 2 ^ 8 =
-    ap (λ t. bit_or t (low / 2 ^ 8)) m ∙ e in
-    omega (arith, f)
+halves-rest low high l h = let e = or_shifted (high % 2 ^ 8) 120 (low / 2 ^ 8) (omega arith) in
+    search arith
 
 -- the register moved up by one byte
 pub halves-after : (low high first : ℕ) → low < 2 ^ 128 → high < 2 ^ 120 → first < 2 ^ 8 →
@@ -42,9 +38,7 @@ pub packed-plus : (xs ys : List ℕ) → All IsByte xs → All IsByte ys →
 packed-plus [] ys a b = sym (xor_zero_l (packed ys))
 packed-plus (x ∷ xs) [] a b = sym (xor_zero_r (packed (x ∷ xs)))
 packed-plus (x ∷ xs) (y ∷ ys) a b =
-    let e = packed-plus xs ys (All-tail IsByte x xs a) (All-tail IsByte y ys b) in
-    let f = xor_block 8 (packed xs) (packed ys) x y (All-head IsByte x xs a) (All-head IsByte y ys b) in
-    ap (λ t. t * 2 ^ 8 + bit_xor x y) e ∙ sym f
+    search (arith, All-tail, xor_block, All-head, packed-plus xs ys (All-tail IsByte x xs a) (All-tail IsByte y ys b))
 
 -- a zero at the end
 pub packed-zero_last : (xs : List ℕ) → packed (xs ++ 0 ∷ []) ≡ packed xs
@@ -67,25 +61,15 @@ unpacked-packed zero [] e a = refl
 unpacked-packed zero (x ∷ xs) e a = absurd (omega arith)
 unpacked-packed (suc n) [] e a = absurd (omega arith)
 unpacked-packed (suc n) (x ∷ xs) e a =
-    let h = All-head IsByte x xs a in
-    let f : packed (x ∷ xs) % 2 ^ 8 ≡ x = mod_low (packed xs) 8 x h in
-    let g : packed (x ∷ xs) / 2 ^ 8 ≡ packed xs = shr_high (packed xs) 8 x h in
-    let ih = unpacked-packed n xs (omega arith) (All-tail IsByte x xs a) in
-    ap (λ t. t ∷ unpacked n (packed (x ∷ xs) / 2 ^ 8)) f ∙ (ap (λ t. x ∷ unpacked n t) g ∙ ap (λ t. x ∷ t) ih)
+    search (arith, All-head, mod_low, shr_high, All-tail, unpacked-packed n xs (omega arith) (All-tail IsByte x xs a))
 
 -- how large packed coefficients are
 packed-lt : (k : ℕ) (xs : List ℕ) → length xs ≤ k → All IsByte xs → packed xs < 256 ^ k
 packed-lt zero [] l a = omega arith
 packed-lt zero (x ∷ xs) l a = absurd (omega arith)
-packed-lt (suc k) [] l a =
-    let e = packed-lt k [] (omega arith) a in
-    let f : 256 ^ suc k ≡ 256 ^ k * 256 = pow-suc 256 k in
-    omega (arith, e, f)
+packed-lt (suc k) [] l a = search (arith, pow-suc, packed-lt k [] (omega arith) a)
 packed-lt (suc k) (x ∷ xs) l a =
-    let e = packed-lt k xs (omega arith) (All-tail IsByte x xs a) in
-    let h = All-head IsByte x xs a in
-    let f : 256 ^ suc k ≡ 256 ^ k * 256 = pow-suc 256 k in
-    omega (arith, e, f, h)
+    search (arith, All-tail, All-head, pow-suc, packed-lt k xs (omega arith) (All-tail IsByte x xs a))
 
 -- 31 of them leave room for one more
 pub packed-room : (xs : List ℕ) → length xs ≤ 31 → All IsByte xs → packed xs < 2 ^ 248
@@ -94,7 +78,4 @@ packed-room xs l a = let e = packed-lt 31 xs l a in e
 -- a multiple by 0
 pub packed-none : (g : List ℕ) → All IsByte g → packed (scaled 0 g) ≡ 0
 packed-none [] a = refl
-packed-none (x ∷ g) a =
-    let e = product-of_zero x (All-head IsByte x g a) in
-    let f = packed-none g (All-tail IsByte x g a) in
-    omega (arith, e, f)
+packed-none (x ∷ g) a = search (arith, product-of_zero, All-head, All-tail, packed-none g (All-tail IsByte x g a))

@@ -15,16 +15,14 @@ sum_below (suc n) f = f n + sum_below n f
 -- the sum with one more number
 range-push : (a n : ℕ) → range_with_len a (suc n) ≡ range_with_len a n ++ (a + n) ∷ []
 range-push a zero = rw add-zero refl
-range-push a (suc n) = let e : a + 1 + n ≡ a + suc n = omega arith in ap (λ xs. a ∷ xs) (range-push (a + 1) n ∙ ap (λ k. range_with_len (a + 1) n ++ k ∷ []) e)
+range-push a (suc n) = search (arith, range-push (a + 1) n)
 
 -- a sum over the numbers below n
 sum-range : (n : ℕ) (f : ℕ → ℕ) → sum_by f (range_with_len 0 n) ≡ sum_below n f
 sum-range zero f = refl
 sum-range (suc n) f =
     let e = ap (λ xs. sum_by f xs) (range-push 0 n) ∙ sum_by_push f (range_with_len 0 n) (0 + n) in
-    let g = ap f (zero-add n) in
-    let h = sum-range n f in
-    omega arith
+    search (arith, zero-add, sum-range n f)
 
 -- sums of equal terms are equal
 pub sum_below-same : (n : ℕ) (f g : ℕ → ℕ) → ((k : ℕ) → k < n → f k ≡ g k) → sum_below n f ≡ sum_below n g
@@ -69,11 +67,7 @@ row-facts p r (suc n) m k = row-cond p r n (p r n) (row_places p r n) (λ e. e) 
 
 -- if the place at one more column passes, it is in the list
 row-has-cond : (r n : ℕ) (m : Module) (t : Bool) (xs : List Module) → (m.col ≡ n → t ≡ true) → m.row ≡ r → ((m.col < n) → Mem m xs) → m.col < suc n → Mem m (cond t (at r n ∷ xs) xs)
-row-has-cond r n m t xs i e f l = elim (cases_lt m.col n) [
-  | inl k ↦ later t (f k)
-  | inr k ↦ let g : m.col ≡ n = omega arith in
-      subst (λ u. Mem m (cond u (at r n ∷ xs) xs)) (sym (i g)) (inl (λ j. record { row = sym e j; col = sym g j }))
-]
+row-has-cond r n m t xs i e f l = search arith
   where
     later : (t : Bool) → Mem m xs → Mem m (cond t (at r n ∷ xs) xs)
     later true k = inr k
@@ -87,7 +81,7 @@ row-has p r (suc n) m w = row-has-cond r n m (p r n) (row_places p r n) (λ e. (
 
 -- one more place of a row was not in the list before
 row-distinct-cond : (r n : ℕ) (t : Bool) (xs : List Module) → ((m : Module) → Mem m xs → m.col < n) → Distinct xs → Distinct (cond t (at r n ∷ xs) xs)
-row-distinct-cond r n true xs f d = (All-of-Mem (λ m. at r n ≢ m) xs (λ m k e. let l = f m k in let g : n ≡ m.col = ap (λ (z : Module). z.col) e in absurd (omega arith)), d)
+row-distinct-cond r n true xs f d = search (arith, All-of-Mem)
 row-distinct-cond r n false xs f d = d
 
 -- no place of a row is in the list twice
@@ -100,7 +94,7 @@ row-distinct p r (suc n) = row-distinct-cond r n (p r n) (row_places p r n) (λ 
 row-length : (p : ℕ → ℕ → Bool) (r n : ℕ) → length (row_places p r n) ≡ sum_below n (λ c. cond (p r c) 1 0)
 unfolding row_places
 row-length p r zero = refl
-row-length p r (suc n) = one (p r n) (row_places p r n) ∙ ap (λ z. cond (p r n) 1 0 + z) (row-length p r n)
+row-length p r (suc n) = search (arith, row_places, row-length p r n)
   where
     one : (t : Bool) (xs : List Module) → length (cond t (at r n ∷ xs) xs) ≡ cond t 1 0 + length xs
     one true xs = omega arith
@@ -121,7 +115,7 @@ unfolding grid_places
 grid-facts p zero s m k = absurd k
 grid-facts p (suc r) s m k = elim (Mem-append m (row_places p r s) (grid_places p r s) k) [
   | inl l ↦ let w = row-facts p r s m l in let a = w.0 in (omega arith, w.1, w.2)
-  | inr l ↦ let w = grid-facts p r s m l in let a = w.0 in (omega arith, w.1, w.2)
+  | inr l ↦ search (arith, grid-facts p r s m l)
 ]
 
 -- each place of the square that passes is in the list
@@ -143,18 +137,15 @@ grid-distinct p (suc r) s = Distinct-append (row_places p r s) (grid_places p r 
 grid-length : (p : ℕ → ℕ → Bool) (r s : ℕ) → length (grid_places p r s) ≡ sum_below r (λ k. sum_below s (λ c. cond (p k c) 1 0))
 unfolding grid_places
 grid-length p zero s = refl
-grid-length p (suc r) s = length-append (row_places p r s) (grid_places p r s) ∙ (ap (λ z. z + length (grid_places p r s)) (row-length p r s) ∙ ap (λ z. sum_below s (λ c. cond (p r c) 1 0) + z) (grid-length p r s))
+grid-length p (suc r) s = search (arith, length-append, row_places, grid_places, row-length, grid-length p r s)
 
 -- the number of places that pass, as a double sum
 pub places-sum : (s : ℕ) (p : ℕ → ℕ → Bool) → places_passing s p ≡ sum_below s (λ r. sum_below s (λ c. cond (p r c) 1 0))
 unfolding places_passing
-places-sum s p = sum-range s _ ∙ sum_below-same s _ _ (λ r h. sum-range s (λ c. cond (p r c) 1 0))
+places-sum s p = search (arith, sum-range, sum_below-same)
 
 -- the length of a list of the places that pass, each once, is the count
 pub count-of : (s : ℕ) (p : ℕ → ℕ → Bool) (ms : List Module) → Distinct ms → ((m : Module) → Mem m ms → (m.row < s) × (m.col < s) × (p m.row m.col ≡ true)) → ((m : Module) → m.row < s → m.col < s → p m.row m.col ≡ true → Mem m ms) → length ms ≡ places_passing s p
 count-of s p ms d f g =
     let a = length-le_members ms (grid_places p s s) d (λ m k. grid-has p s s m (f m k)) in
-    let b = length-le_members (grid_places p s s) ms (grid-distinct p s s) (λ m k. let w = grid-facts p s s m k in g m w.0 w.1 w.2) in
-    let c = grid-length p s s in
-    let e = places-sum s p in
-    omega arith
+    search (arith, length-le_members, grid_places, grid-distinct, grid-facts, grid-length, places-sum)

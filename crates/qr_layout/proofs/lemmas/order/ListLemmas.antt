@@ -1,5 +1,5 @@
 -- Lists with the same members: their lengths, and that only one such list is rising.
-use Rattle.std.proofs.Common.{◌≡◌, ◌≢◌, zero, suc, ◌≤◌, List, [], ◌∷◌, ◌++◌, length, refl, sym, ap, ◌∙◌, subst, inl, inr, ◌⊎◌, arith}
+use Rattle.std.proofs.Common.{◌≡◌, ◌≢◌, zero, suc, ◌≤◌, List, [], ◌∷◌, ◌++◌, length, refl, sym, ap, subst, inl, inr, ◌⊎◌, arith}
 use Rattle.std.specs.List.{All, AllPairs, AllByRecursion, Contains}
 
 -- x is in the list
@@ -33,7 +33,7 @@ All-of-Mem P (x ∷ xs) f = (f x (inl refl), All-of-Mem P xs (λ y m. f y (inr m
 pub Mem-append : {X : Type 0} (z : X) (xs ys : List X) → Mem z (xs ++ ys) → Mem z xs ⊎ Mem z ys
 Mem-append z [] ys m = inr m
 Mem-append z (x ∷ xs) ys (inl e) = inl (inl e)
-Mem-append z (x ∷ xs) ys (inr m) = elim (Mem-append z xs ys m) [ inl k ↦ inl (inr k) | inr k ↦ inr k ]
+Mem-append z (x ∷ xs) ys (inr m) = search (arith, Mem-append z xs ys m)
 
 -- an item of the first list is in the joined lists
 pub Mem-left : {X : Type 0} (z : X) (xs ys : List X) → Mem z xs → Mem z (xs ++ ys)
@@ -60,7 +60,7 @@ split x (y ∷ ys) (inr m) = let w = split x ys m in (y ∷ w.0, w.1, ap (λ zs.
 Mem-other : {X : Type 0} (x z : X) (front back : List X) → x ≢ z → Mem z (front ++ x ∷ back) → Mem z (front ++ back)
 Mem-other x z front back n m = elim (Mem-append z front (x ∷ back) m) [
   | inl k ↦ Mem-left z front back k
-  | inr k ↦ elim k [ inl e ↦ absurd (n e) | inr l ↦ Mem-right z front back l ]
+  | inr k ↦ search (arith, Mem-right)
 ]
 
 -- one item more makes a list longer by one
@@ -74,9 +74,7 @@ length-le_members [] ys d f = omega arith
 length-le_members (x ∷ xs) ys d f =
     let w = split x ys (f x (inl refl)) in
     let g = length-le_members xs (w.0 ++ w.1) d.1 (λ z m. Mem-other x z w.0 w.1 (Mem-at (λ y. x ≢ y) xs z d.0 m) (subst (λ zs. Mem z zs) w.2 (f z (inr m)))) in
-    let e = ap length w.2 in
-    let k = length-mid x w.0 w.1 in
-    omega arith
+    search (arith, length-mid)
 
 -- an item that a list contains is in the list
 pub Mem-of-Contains : {X : Type 0} (xs : List X) (x : X) → Contains xs x → Mem x xs
@@ -104,9 +102,9 @@ one_rising R a (x ∷ xs) [] r s f g = absurd (f x (inl refl))
 one_rising R a (x ∷ xs) (y ∷ ys) r s f g =
     let e : y ≡ x = elim (f x (inl refl)) [
       | inl e ↦ e
-      | inr m ↦ elim (g y (inl refl)) [ inl e ↦ sym e | inr n ↦ absurd (a x y (Mem-at (R x) xs y r.0 n) (Mem-at (R y) ys x s.0 m)) ]
+      | inr m ↦ elim (g y (inl refl)) [ inl e ↦ sym e | inr n ↦ search (arith, Mem-at) ]
     ] in
     let t = one_rising R a xs ys r.1 s.1
-    (λ z m. elim (f z (inr m)) [ inl k ↦ absurd (let b = Mem-at (R x) xs z r.0 m in let c = subst (R x) (sym k ∙ e) b in a x x c c) | inr n ↦ n ])
-    (λ z m. elim (g z (inr m)) [ inl k ↦ absurd (let b = Mem-at (R y) ys z s.0 m in let c = subst (R y) (sym k ∙ sym e) b in a y y c c) | inr n ↦ n ]) in
+    (λ z m. elim (f z (inr m)) [ inl k ↦ search (arith, Mem-at) | inr n ↦ n ])
+    (λ z m. elim (g z (inr m)) [ inl k ↦ search (arith, Mem-at) | inr n ↦ n ]) in
     λ i. sym e i ∷ t i

@@ -1,5 +1,5 @@
 -- A version has one order, and the length of the order is the number of modules of the encoding region.
-use Rattle.std.proofs.Common.{◌≡◌, ◌≢◌, ℕ, ◌+◌, ◌-◌, ◌<◌, ◌≤◌, Bool, true, leb, eqb, List, [], ◌∷◌, ◌++◌, ◌&&◌, length, refl, sym, ◌∙◌, subst, inl, inr, arith}
+use Rattle.std.proofs.Common.{◌≡◌, ℕ, ◌+◌, ◌-◌, ◌<◌, ◌≤◌, Bool, true, leb, eqb, List, [], ◌∷◌, ◌++◌, ◌&&◌, length, refl, sym, ◌∙◌, subst, inl, inr, arith}
 use Rattle.std.proofs.lemmas.Bool.{and_parts, eqb-true}
 use borrow.Author.Tests.{leb-true}
 use Rattle.qr_layout.specs.declared.region.Module.{Module}
@@ -18,21 +18,12 @@ use Rattle.qr_layout.proofs.lemmas.region.RegionLemmas.{row-in, col-in}
 
 -- no two keys are each before the other
 before-asym : (a b : Key) → is_before a b ≡ true → is_before b a ≡ true → ⊥
-before-asym a b h k = elim (before-parts a b h) [
-  | inl x ↦ elim (before-parts b a k) [ inl y ↦ absurd (omega arith) | inr y ↦ absurd (let e = y.0 in omega arith) ]
-  | inr x ↦ elim (before-parts b a k) [
-    | inl y ↦ absurd (let e = x.0 in omega arith)
-    | inr y ↦ elim x.1 [
-      | inl z ↦ elim y.1 [ inl w ↦ absurd (omega arith) | inr w ↦ absurd (let e = w.0 in omega arith) ]
-      | inr z ↦ elim y.1 [ inl w ↦ absurd (let e = z.0 in omega arith) | inr w ↦ absurd (let e = z.1 in let f = w.1 in omega arith) ]
-    ]
-  ]
-]
+before-asym a b h k = search (arith, before-parts)
 
 -- a list that rises has no item twice
 Rises-distinct : {X : Type 0} (R : X → X → Type 0) → ((x y : X) → R x y → R y x → ⊥) → (xs : List X) → Rises R xs → Distinct xs
 Rises-distinct R a [] h = tt
-Rises-distinct R a (x ∷ xs) h = (All-of-Mem (λ y. x ≢ y) xs (λ y m e. let b = Mem-at (R x) xs y h.0 m in let c = subst (R x) (sym e) b in a x x c c), Rises-distinct R a xs h.1)
+Rises-distinct R a (x ∷ xs) h = search (arith, All-of-Mem, Mem-at, Rises-distinct R a xs h.1)
 
 -- the key of the first module is before that of the second
 abbrev Before : ℕ → Module → Module → Type 0
@@ -52,7 +43,7 @@ order-has v ms o m h = Mem-of-Contains ms m (o.complete m h)
 
 -- there is only one order
 pub only_order : (v : ℕ) (ms ns : List Module) → IsOrder v ms → IsOrder v ns → ms ≡ ns
-only_order v ms ns o p = one_rising (Before v) (asym v) ms ns (Rises-of-pairs (Before v) ms o.rising) (Rises-of-pairs (Before v) ns p.rising) (λ m k. order-has v ns p m (order-mem v ms o m k)) (λ m k. order-has v ms o m (order-mem v ns p m k))
+only_order v ms ns o p = search (arith, one_rising, asym, Rises-of-pairs, order-has, order-mem)
 
 -- the region of each version has as many places as its codewords and remainder bits need
 count-at : (i : ℕ) → i < 40 → places_passing (side_of (i + 1)) (is_in_region (i + 1)) ≡ module_count_of (i + 1)
@@ -73,7 +64,7 @@ size-at v l h =
 pub region-size : (v : ℕ) → 1 ≤ v → v ≤ 40 → places_passing (side_of v) (is_in_region v) ≡ region_size v
 region-size v l h =
     let e : v - 1 + 1 ≡ v = omega arith in
-    subst (λ (k : ℕ). places_passing (side_of k) (is_in_region k) ≡ module_count_of k) e (count-at (v - 1) (omega arith)) ∙ size-at v l h
+    search (arith, count-at, size-at)
 
 -- the length of the order is this number
 pub order-length : (v : ℕ) (ms : List Module) → 1 ≤ v → v ≤ 40 → IsOrder v ms → length ms ≡ module_count_of v
@@ -108,7 +99,7 @@ Rises-front R (y ∷ ys) back m h x (inr k) = Rises-front R ys back m h.1 x k
 -- the prefix of a rising list rises
 Rises-first : {X : Type 0} (R : X → X → Type 0) (front back : List X) → Rises R (front ++ back) → Rises R front
 Rises-first R [] back h = tt
-Rises-first R (x ∷ xs) back h = (All-of-Mem (R x) xs (λ y k. Mem-at (R x) (xs ++ back) y h.0 (Mem-left y xs back k)), Rises-first R xs back h.1)
+Rises-first R (x ∷ xs) back h = search (arith, All-of-Mem, Mem-at, Mem-left, Rises-first R xs back h.1)
 
 -- m is in the relation to each item after it in a rising list
 Rises-after : {X : Type 0} (R : X → X → Type 0) (front back : List X) (m : X) → Rises R (front ++ m ∷ back) → (x : X) → Mem x back → R m x
@@ -135,7 +126,7 @@ number-at v front back m o =
     elim (Mem-append x front (m ∷ back) (order-has v whole o x w)) [
       | inl j ↦ j
       | inr j ↦ elim j [
-        | inl e ↦ let z = subst (λ (y : Module). Before v y m) (sym e) l in absurd (asym v m m z z)
+        | inl e ↦ search (arith, asym)
         | inr i ↦ absurd (asym v x m l (Rises-after (Before v) front back m rises x i))
       ]
     ]))

@@ -1,13 +1,11 @@
 -- The positions of the walk: each step leaves one position fewer, and a position with fewer positions left has a later
 -- key.
-use Rattle.std.proofs.Common.{◌≡◌, ℕ, zero, suc, ◌+◌, ◌-◌, ◌*◌, ◌/◌, ◌%◌, ◌<◌, ◌≤◌, Bool, true, false, cond, eqb, ap, inl, inr, ◌⊎◌, arith}
+use Rattle.std.proofs.Common.{◌≡◌, ℕ, zero, suc, ◌+◌, ◌-◌, ◌*◌, ◌/◌, ◌%◌, ◌<◌, ◌≤◌, Bool, true, false, cond, eqb, ◌⊎◌, arith}
 use Rattle.std.proofs.Math.Nat.{mul-le-mul_right}
 use Rattle.std.proofs.lemmas.Bool.Decides.{nat_tests}
-use Rattle.std.proofs.lemmas.Bool.{cases_lt}
 use Rattle.qr_layout.specs.declared.order.Cursor.{Cursor}
 use Rattle.qr_layout.specs.Version.{side_of}
 use Rattle.qr_layout.specs.Order.{column_without_timing, Key, strip_of, key_of, is_before}
-use Rattle.qr_layout.specs.Strips.{strip_at}
 use Rattle.qr_layout.specs.Steps.Order.{half_of, place_of, rank_of, left_of, next_of, IsCursor}
 
 -- if p is positive, then w is at most p * w
@@ -26,12 +24,12 @@ mul-pred p w h = mul-add_one (p - 1) p w (omega arith)
 -- in a square of side s, the position after position a has one position fewer left than a
 pub next-left : (s : ℕ) (a : Cursor) → 0 < a.strips → a.row < s → left_of s (next_of s a) + 1 ≡ left_of s a
 unfolding left_of next_of
-next-left s a h k = let m = mul-le_one a.strips (2 * s) h in let n = mul-pred a.strips (2 * s) h in grind (arith, nat_tests)
+next-left s a h k = search (arith, mul-le_one, mul-pred, nat_tests)
 
 -- in version v, the position after position a of the walk is a position of the walk or the end of the walk
 pub next-IsCursor : (v : ℕ) (a : Cursor) → IsCursor v a → 0 < a.strips → IsCursor v (next_of (side_of v) a)
 unfolding next_of
-next-IsCursor v a k h = record { strips_in = let i = k.strips_in in grind (arith, nat_tests); row_in = let i = k.row_in in grind (arith, nat_tests) }
+next-IsCursor v a k h = search (arith, nat_tests)
 
 -- the number of a half of a strip is 0 or 1
 pub half_of-bound : (b : Bool) → half_of b < 2
@@ -58,17 +56,12 @@ side-arith p false k = grind (arith, nat_tests)
 
 -- in version v, the module at position a is in the strip with number 8 + 2 * v - a.strips from the right
 key-strip : (v : ℕ) (a : Cursor) → IsCursor v a → 0 < a.strips → strip_of v (place_of a).col ≡ 8 + 2 * v - a.strips
-key-strip v a i k = let l = half_of-bound a.at_left in let m = i.strips_in in strip-arith v a.strips (half_of a.at_left) _ (column-back a k) k m l
+key-strip v a i k = search (arith, half_of-bound, strip-arith, column-back)
 
 -- in version v, the key of the module at position a has the strip, the rank and the half of a
 key_of-place : (v : ℕ) (a : Cursor) → IsCursor v a → 0 < a.strips → key_of v (place_of a) ≡ record { strip = 8 + 2 * v - a.strips; rank = rank_of (side_of v) a; side = half_of a.at_left }
 unfolding key_of
-key_of-place v a i k =
-    let s = key-strip v a i k in
-    let c = column-back a k in
-    let t : eqb (strip_of v (place_of a).col % 2) 0 ≡ (strip_at a.strips).upward = rw s (parity-arith v a.strips i.strips_in) in
-    let d : cond (eqb (column_without_timing (place_of a).col % 2) 1) 0 1 ≡ half_of a.at_left = rw c (side-arith a.strips a.at_left k) in
-    λ j. record { strip = s j; rank = cond (t j) (side_of v - 1 - a.row) a.row; side = d j }
+key_of-place v a i k = search (arith, key-strip, column-back, parity-arith, side-arith)
 
 -- the rank of a position a whose row is below s is below s
 pub rank-bound : (s : ℕ) (a : Cursor) → a.row < s → rank_of s a < s
@@ -76,22 +69,16 @@ rank-bound s a k = grind (arith, nat_tests)
 
 -- if p is below q, then p * w + w is at most q * w
 pub mul-lt : (p q w : ℕ) → p < q → p * w + w ≤ q * w
-mul-lt p q w k = let m : (p + 1) * w ≤ q * w = mul-le-mul_right w (omega arith) in omega (arith, m)
+mul-lt p q w k = search (arith, mul-le-mul_right)
 
 -- with w positions in each strip: if position y of strip q has fewer positions left than position x of strip p, then strip
 -- q comes later than strip p, or the strips are the same and y is greater than x
 before-arith : (h p q w x y : ℕ) → p ≤ h → q ≤ h → x < w → y < w → q * w - y < p * w - x → 0 < q → (h - p < h - q) ⊎ ((h - p ≡ h - q) × (x < y))
-before-arith h p q w x y a b c d e f = elim (cases_lt q p) [
-  | inl k ↦ inl (omega arith)
-  | inr k ↦ elim (cases_lt p q) [
-    | inl l ↦ let m = mul-lt p q w l in absurd (omega arith)
-    | inr l ↦ let g : p ≡ q = omega arith in let n : p * w ≡ q * w = ap (λ z. z * w) g in inr (omega arith, omega arith)
-  ]
-]
+before-arith h p q w x y a b c d e f = search (arith, mul-lt)
 
 -- if i and j are 0 or 1 and 2 * x + i is below 2 * y + j, then x is below y, or x equals y and i is below j
 digits-arith : (x y i j : ℕ) → i < 2 → j < 2 → 2 * x + i < 2 * y + j → (x < y) ⊎ ((x ≡ y) × (i < j))
-digits-arith x y i j a b c = elim (cases_lt x y) [ inl k ↦ inl k | inr k ↦ inr (omega arith, omega arith) ]
+digits-arith x y i j a b c = search arith
 
 -- key a comes before key b: a has the smaller strip, or the same strip and the smaller rank, or the same strip and rank
 -- and the smaller side
@@ -113,12 +100,4 @@ before-test a b h = grind (arith, nat_tests)
 pub is_before-left : (v : ℕ) (a b : Cursor) → IsCursor v a → IsCursor v b → 0 < a.strips → 0 < b.strips → left_of (side_of v) b < left_of (side_of v) a → is_before (key_of v (place_of a)) (key_of v (place_of b)) ≡ true
 unfolding left_of
 is_before-left v a b i j k l m =
-    let s = side_of v in
-    let x = rank-bound s a i.row_in in
-    let y = rank-bound s b j.row_in in
-    let p = half_of-bound a.at_left in
-    let q = half_of-bound b.at_left in
-    rw (key_of-place v a i k, key_of-place v b j l) (before-test _ _ (elim (before-arith (8 + 2 * v) a.strips b.strips (2 * s) (2 * rank_of s a + half_of a.at_left) (2 * rank_of s b + half_of b.at_left) i.strips_in j.strips_in (omega arith) (omega arith) m l) [
-      | inl z ↦ inl z
-      | inr z ↦ inr (z.0, digits-arith (rank_of s a) (rank_of s b) (half_of a.at_left) (half_of b.at_left) p q z.1)
-    ]))
+    search (arith, rank-bound, half_of-bound, key_of-place, before-test, before-arith, digits-arith)

@@ -10,8 +10,7 @@ use Rattle.qr_layout.specs.declared.order.Cursor.{Cursor}
 use Rattle.qr_layout.specs.Region.{is_in_region, InRegion}
 use Rattle.qr_layout.specs.Version.{side_of}
 use Rattle.qr_layout.specs.Order.{key_of, is_before, IsOrder, IsOrderAfter}
-use Rattle.qr_layout.specs.Strips.{strip_at}
-use Rattle.qr_layout.specs.Steps.Order.{half_of, place_of, rank_of, left_of, next_of, IsCursor, places_within, to_come, first_cursor, cursor_at}
+use Rattle.qr_layout.specs.Steps.Order.{half_of, place_of, left_of, next_of, IsCursor, places_within, to_come, first_cursor, cursor_at}
 use Rattle.qr_layout.proofs.lemmas.order.ListLemmas.{Rises}
 use Rattle.qr_layout.proofs.lemmas.region.RegionLemmas.{row-in, col-in, col-not_timing}
 use Rattle.qr_layout.proofs.lemmas.order.PathLemmas.{half_of-bound, rank-bound, mul-lt, mul-le_one, next-left, next-IsCursor, is_before-left}
@@ -48,21 +47,12 @@ Contains-tail x m xs h = (suc h.0, (let l = h.1 in omega arith), h.2)
 -- if position a has n + 1 positions left, then it is in a strip
 pub strips-positive : (s : ℕ) (a : Cursor) (n : ℕ) → left_of s a ≡ suc n → 0 < a.strips
 unfolding left_of
-strips-positive s a n e = elim (cases_lt 0 a.strips) [
-  | inl k ↦ k
-  | inr z ↦ let q : a.strips ≡ 0 = omega arith in let m : a.strips * (2 * s) ≡ 0 * (2 * s) = ap (λ x. x * (2 * s)) q in absurd (omega arith)
-]
+strips-positive s a n e = search arith
 
 -- with w positions in each strip: if position x of strip p and position y of strip q have equally many positions left,
 -- then p equals q and x equals y
 same-arith : (p q w x y : ℕ) → x < w → y < w → 0 < p → 0 < q → p * w - x ≡ q * w - y → (p ≡ q) × (x ≡ y)
-same-arith p q w x y a b k l e = elim (cases_lt p q) [
-  | inl m ↦ let n = mul-lt p q w m in let o = mul-le_one p w k in absurd (omega arith)
-  | inr m ↦ elim (cases_lt q p) [
-    | inl t ↦ let n = mul-lt q p w t in let o = mul-le_one q w l in absurd (omega arith)
-    | inr t ↦ let g : p ≡ q = omega arith in let n : p * w ≡ q * w = ap (λ z. z * w) g in let o = mul-le_one p w k in (g, omega arith)
-  ]
-]
+same-arith p q w x y a b k l e = search (arith, mul-lt, mul-le_one)
 
 -- if i and j are 0 or 1 and 2 * x + i equals 2 * y + j, then x equals y and i equals j
 digits-same : (x y i j : ℕ) → i < 2 → j < 2 → 2 * x + i ≡ 2 * y + j → (x ≡ y) × (i ≡ j)
@@ -83,24 +73,13 @@ rank-same s x y false k l e = e
 -- in version v, a position a in a strip has at least one position left, because a itself is counted
 left-positive : (v : ℕ) (a : Cursor) → IsCursor v a → 0 < a.strips → 0 < left_of (side_of v) a
 unfolding left_of
-left-positive v a i k = let o = mul-le_one a.strips (2 * side_of v) k in let r = rank-bound (side_of v) a i.row_in in let h = half_of-bound a.at_left in omega arith
+left-positive v a i k = search (arith, mul-le_one, rank-bound, half_of-bound)
 
 -- in version v, two positions a and b with equally many positions left are the same position
 same-cursor : (v : ℕ) (a b : Cursor) → IsCursor v a → IsCursor v b → 0 < a.strips → 0 < b.strips → left_of (side_of v) a ≡ left_of (side_of v) b → a ≡ b
 unfolding left_of
 same-cursor v a b i j k l e =
-    let s = side_of v in
-    let x = rank-bound s a i.row_in in
-    let y = rank-bound s b j.row_in in
-    let p = half_of-bound a.at_left in
-    let q = half_of-bound b.at_left in
-    let t = same-arith a.strips b.strips (2 * s) (2 * rank_of s a + half_of a.at_left) (2 * rank_of s b + half_of b.at_left) (omega arith) (omega arith) k l e in
-    let d = digits-same (rank_of s a) (rank_of s b) (half_of a.at_left) (half_of b.at_left) p q t.1 in
-    let f : cond (strip_at b.strips).upward (s - 1 - a.row) a.row ≡ rank_of s b = ap (λ z. cond (strip_at z).upward (s - 1 - a.row) a.row) (sym t.0) ∙ d.0 in
-    let r = rank-same s a.row b.row (strip_at b.strips).upward i.row_in j.row_in f in
-    let h = half_of-same a.at_left b.at_left d.1 in
-    let st = t.0 in
-    λ z. record { strips = st z; row = r z; at_left = h z }
+    search (arith, rank-bound, half_of-bound, same-arith, digits-same, rank-same, half_of-same)
 
 -- ---- the walk, n positions at a time
 
@@ -131,7 +110,7 @@ stops v zero top a i e l = rw places-nil tt
 stops v (suc n) top a i e l =
     let k = strips-positive (side_of v) a n e in
     let d = next-left (side_of v) a k i.row_in in
-    rw places-suc (stops-cond v n top a (is_in_region v a.row (place_of a).col) _ (λ t. (a, i, k, omega arith, refl, t)) (stops v n top (next_of (side_of v) a) (next-IsCursor v a i k) (omega arith) (omega arith)))
+    search (arith, places-suc, stops-cond, next-IsCursor, stops v n top (next_of (side_of v) a) (next-IsCursor v a i k) (omega arith) (omega arith))
 
 -- if the list xs rises and x has the relation R to each item of xs, then the list xs with x in front, if the test t
 -- passes, rises
@@ -165,9 +144,7 @@ finds v (suc n) a b i e j l h t =
     let d = next-left s a k i.row_in in
     elim (cases_lt (left_of s b) (suc n)) [
       | inl m ↦ rw places-suc (contains-cond (place_of a) (place_of b) (is_in_region v a.row (place_of a).col) _ (finds v n (next_of s a) b (next-IsCursor v a i k) (omega arith) j l (omega arith) t))
-      | inr m ↦ let g : a ≡ b = same-cursor v a b i j k l (omega arith) in
-          let u : is_in_region v a.row (place_of a).col ≡ true = subst (λ (z : Cursor). InRegion v (place_of z)) (sym g) t in
-          rw (places-suc, u) (Contains-head (place_of a) (place_of b) _ (ap place_of g))
+      | inr m ↦ search (arith, same-cursor, places-suc, Contains-head)
     ]
 
 -- ---- the beginning, and the position of a place
@@ -199,7 +176,7 @@ start-left v = grind (arith, nat_tests)
 -- in version v, no position b has more positions left than the beginning of the walk
 start-most : (v : ℕ) (b : Cursor) → IsCursor v b → left_of (side_of v) b ≤ left_of (side_of v) (first_cursor v)
 unfolding left_of
-start-most v b j = let m = mul-le-mul_right (2 * side_of v) j.strips_in in omega (arith, m, start-left v)
+start-most v b j = search (arith, mul-le-mul_right, start-left)
 
 -- ---- the order
 
@@ -211,7 +188,7 @@ to_come-start v =
     let n = left_of s (first_cursor v) in
     let i = start-IsCursor v in
     record {
-      in_region = All-from_recursion (InRegion v) _ (All-weaker_rec (Stop v n) (InRegion v) (λ m w. w.5) _ (stops v n n (first_cursor v) i refl (omega arith)));
+      in_region = search (arith, All-from_recursion, All-weaker_rec, stops);
       complete = λ m h.
           let b = cursor_at m in
           let e = at-place m (col-not_timing v m h) in
@@ -237,9 +214,7 @@ reaches v (suc n) a b i e j l h =
     let d = next-left s a k i.row_in in
     elim (cases_lt (left_of s b) (suc n)) [
       | inl m ↦ rw places-suc (reach-cond v (place_of a) (is_in_region v a.row (place_of a).col) _ _ (reaches v n (next_of s a) b (next-IsCursor v a i k) (omega arith) j l (omega arith)))
-      | inr m ↦ let g : a ≡ b = same-cursor v a b i j k l (omega arith) in
-          let f : suc n ≡ left_of s b = omega arith in
-          ([], ap (λ (z : Cursor). places_within v (suc n) z) g ∙ ap (λ k. places_within v k b) f)
+      | inr m ↦ search (arith, same-cursor)
     ]
 
 -- the modules from position a on are the module at a, if it is in the encoding region, and the modules from the next
@@ -250,15 +225,12 @@ to_come-next v a i k =
     let s = side_of v in
     let d = next-left s a k i.row_in in
     let e : left_of s a ≡ suc (left_of s (next_of s a)) = omega arith in
-    ap (λ n. places_within v n a) e ∙ places-suc v (left_of s (next_of s a)) a
+    search (arith, places-suc)
 
 -- past the last strip the walk yields no module
 pub to_come-end : (v : ℕ) (a : Cursor) → a.strips ≡ 0 → to_come v a ≡ []
 unfolding to_come left_of
-to_come-end v a e =
-    let m : a.strips * (2 * side_of v) ≡ 0 * (2 * side_of v) = ap (λ x. x * (2 * side_of v)) e in
-    let z : left_of (side_of v) a ≡ 0 = omega arith in
-    ap (λ n. places_within v n a) z ∙ places-nil v a
+to_come-end v a e = search (arith, places-nil)
 
 -- in version v, the modules that the walk yields after the position of module m are the modules that come after m in the
 -- order
@@ -290,21 +262,17 @@ step-cursor v a b i k f = rw f (next-IsCursor v a i k)
 
 -- if the code steps from position a to position b, then b has fewer positions left than a
 pub step-left : (v : ℕ) (a b : Cursor) → IsCursor v a → 0 < a.strips → b ≡ next_of (side_of v) a → left_of (side_of v) b < left_of (side_of v) a
-step-left v a b i k f = rw f (let d = next-left (side_of v) a k i.row_in in omega arith)
+step-left v a b i k f = search (arith, next-left)
 
 -- if the code steps from position a to position b, and the module m at a is in the encoding region, then the modules from
 -- a on are m and the modules from b on
 pub step-yields : (v : ℕ) (a b : Cursor) (m : Module) (t : Bool) → IsCursor v a → 0 < a.strips → b ≡ next_of (side_of v) a → m ≡ place_of a → t ≡ is_in_region v m.row m.col → t ≡ true → to_come v a ≡ m ∷ to_come v b
-step-yields v a b m t i k f g h j =
-    let q : is_in_region v a.row (place_of a).col ≡ true = subst (λ (z : Module). is_in_region v z.row z.col ≡ true) g (sym h ∙ j) in
-    rw (f, g) (to_come-next v a i k ∙ ap (λ z. cond z (place_of a ∷ to_come v (next_of (side_of v) a)) (to_come v (next_of (side_of v) a))) q)
+step-yields v a b m t i k f g h j = search (arith, to_come-next)
 
 -- if the code steps from position a to position b, and the module m at a is not in the encoding region, then the modules
 -- from a on are the modules from b on
 pub step-passes : (v : ℕ) (a b : Cursor) (m : Module) (t : Bool) → IsCursor v a → 0 < a.strips → b ≡ next_of (side_of v) a → m ≡ place_of a → t ≡ is_in_region v m.row m.col → t ≡ false → to_come v a ≡ to_come v b
-step-passes v a b m t i k f g h j =
-    let q : is_in_region v a.row (place_of a).col ≡ false = subst (λ (z : Module). is_in_region v z.row z.col ≡ false) g (sym h ∙ j) in
-    rw f (to_come-next v a i k ∙ ap (λ z. cond z (place_of a ∷ to_come v (next_of (side_of v) a)) (to_come v (next_of (side_of v) a))) q)
+step-passes v a b m t i k f g h j = search (arith, to_come-next)
 
 -- if the code resumes the walk after module m of the encoding region, at position b, then the modules from b on are the
 -- modules that come after m in the order

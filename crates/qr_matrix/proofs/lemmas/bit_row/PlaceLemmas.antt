@@ -1,12 +1,11 @@
 -- The bits of a bit row, one by one: what operations on words do to each bit.
-use Rattle.std.proofs.Common.{◌≢◌, List, length, get_or, set, ◌≡◌, ℕ, zero, suc, ◌+◌, ◌-◌, ◌*◌, ◌/◌, ◌%◌, ◌^◌, ◌<◌, ◌≤◌, min, eqb, ltb, Bool, true, false, not, ◌&&◌, cond, bit_and, bit_or, bit_xor, max, ◌||◌, count_ones, refl, sym, ap, ◌∙◌, subst, inl, inr, arith}
+use Rattle.std.proofs.Common.{◌≢◌, List, length, get_or, set, ◌≡◌, ℕ, zero, suc, ◌+◌, ◌-◌, ◌*◌, ◌/◌, ◌%◌, ◌^◌, ◌<◌, ◌≤◌, eqb, ltb, Bool, true, false, not, ◌&&◌, cond, bit_and, bit_or, bit_xor, ◌||◌, count_ones, refl, sym, ap, ◌∙◌, subst, arith}
 use Rattle.std.specs.Int.{bit_at}
 use lib.Count.{ones, ones_in}
 use Rattle.std.proofs.lemmas.Nat.{and_le_l, ones_cat, ones-le, shr-shr, shr_split, mod_below, pow_pos, shr_below}
 use Rattle.std.proofs.lemmas.Nat.Bits.{bit_at_above, bit_at_and, bit_at_or, bit_at_xor, bit_at-lt, bit_at_cat_low, bit_at_ones, bit_at_ones_above, bit_at-suc, bit_at_cat_high, bit_at-zero, shr_and_one}
 use Rattle.std.proofs.Math.ListN.{length-set}
 use Rattle.std.proofs.lemmas.List.{get_or_past, get_or-set_same, get_or-set_other}
-use Rattle.std.proofs.lemmas.Bool.{cases_lt, cases_eq}
 use Rattle.std.proofs.lemmas.Bool.Decides.{nat_tests}
 use Rattle.qr_matrix.specs.Steps.{AreWords}
 use Rattle.qr_matrix.specs.BitRow.{has, has_bit, bit_row_number}
@@ -14,23 +13,15 @@ use Rattle.qr_matrix.proofs.lemmas.bit_row.WordLemmas.{three, three-below}
 use Rattle.qr_matrix.specs.Penalty.{count_below, is_same, sum_below}
 use Rattle.qr_matrix.proofs.lemmas.bit_row.SumLemmas.{sum_below-same}
 
--- the minimum z of two bits x and y is 1 exactly if x and y are both 1
-and-bits : (x y z : ℕ) → x < 2 → y < 2 → z ≡ min x y → eqb z 1 ≡ (eqb x 1 && eqb y 1)
-and-bits x y z a b e = grind (arith, nat_tests)
-
 -- bit c of the conjunction of a and b is set exactly if it is set in a and in b
 pub has_bit-and : (a b c : ℕ) → has_bit (bit_and a b) c ≡ (has_bit a c && has_bit b c)
 unfolding has_bit
-has_bit-and a b c = and-bits (bit_at a c) (bit_at b c) (bit_at (bit_and a b) c) (bit_at-lt a c) (bit_at-lt b c) (bit_at_and a b c)
-
--- the maximum z of two bits x and y is 1 exactly if x or y is 1
-or-bits : (x y z : ℕ) → x < 2 → y < 2 → z ≡ max x y → eqb z 1 ≡ (eqb x 1 || eqb y 1)
-or-bits x y z a b e = grind (arith, nat_tests)
+has_bit-and a b c = grind (arith, nat_tests, bit_at-lt, bit_at_and)
 
 -- bit c of the disjunction of a and b is set exactly if it is set in a or in b
 pub has_bit-or : (a b c : ℕ) → has_bit (bit_or a b) c ≡ (has_bit a c || has_bit b c)
 unfolding has_bit
-has_bit-or a b c = or-bits (bit_at a c) (bit_at b c) (bit_at (bit_or a b) c) (bit_at-lt a c) (bit_at-lt b c) (bit_at_or a b c)
+has_bit-or a b c = grind (arith, nat_tests, bit_at-lt, bit_at_or)
 
 -- the sum z of two bits x and y, modulo 2, is 1 exactly if x and y differ
 xor-bits : (x y z : ℕ) → x < 2 → y < 2 → z ≡ (x + y) % 2 → eqb z 1 ≡ not (is_same (eqb x 1) (eqb y 1))
@@ -45,12 +36,12 @@ xor-bits (suc (suc x)) y z a b e = absurd (omega arith)
 -- bit c of the exclusive or of a and b is set exactly if a and b differ in bit c
 pub has_bit-xor : (a b c : ℕ) → has_bit (bit_xor a b) c ≡ not (is_same (has_bit a c) (has_bit b c))
 unfolding has_bit
-has_bit-xor a b c = xor-bits (bit_at a c) (bit_at b c) (bit_at (bit_xor a b) c) (bit_at-lt a c) (bit_at-lt b c) (bit_at_xor a b c)
+has_bit-xor a b c = search (arith, xor-bits, bit_at-lt, bit_at_xor)
 
 -- bit c of n shifted down by k is bit c + k of n
 pub has_bit-shr : (n k c : ℕ) → has_bit (n / 2 ^ k) c ≡ has_bit n (c + k)
 unfolding has_bit
-has_bit-shr n k c = ap (λ z. eqb (z % 2) 1) (shr-shr n k c ∙ ap (λ z. n / 2 ^ z) (swap k c))
+has_bit-shr n k c = search (arith, shr-shr)
   where
     swap : (k c : ℕ) → k + c ≡ c + k
     swap k c = omega arith
@@ -58,10 +49,7 @@ has_bit-shr n k c = ap (λ z. eqb (z % 2) 1) (shr-shr n k c ∙ ap (λ z. n / 2 
 -- in the number whose s lowest bits are 1, bit c is set exactly if c is below s
 pub has_bit-ones : (s c : ℕ) → has_bit (2 ^ s - 1) c ≡ ltb c s
 unfolding has_bit
-has_bit-ones s c = elim (cases_lt c s) [
-  | inl h ↦ let e = bit_at_ones s c h in grind (arith, nat_tests)
-  | inr h ↦ let e = bit_at_ones_above s c h in grind (arith, nat_tests)
-]
+has_bit-ones s c = search (arith, bit_at_ones, nat_tests, bit_at_ones_above)
 
 -- a number x below 2 has x % 2 bits that are set
 one_bit : (x : ℕ) → x < 2 → ones x ≡ x % 2
@@ -79,11 +67,7 @@ ones-bits (suc n) N h =
     let split : high * 2 ^ n + low ≡ N = shr_split N n in
     let low_is = mod_below N (2 ^ n) (pow_pos n) in
     let high_is : high < 2 ^ 1 = shr_below N 1 n (subst (λ z. N < 2 ^ z) (more n) h) in
-    let cat : ones N ≡ ones high + ones low = ap ones (sym split) ∙ ones_cat n high low low_is in
-    let top = one_bit high high_is in
-    let rest = ones-bits n low low_is in
-    let same = sum_below-same n (λ c. bit_at low c) (λ c. bit_at N c) (λ c l. sym (bit_at_cat_low high n low c l) ∙ ap (λ z. bit_at z c) split) in
-    omega arith
+    search (arith, ones_cat, one_bit, sum_below-same, bit_at_cat_low, ones-bits n low low_is)
   where
     more : (n : ℕ) → suc n ≡ 1 + n
     more n = omega arith
@@ -102,15 +86,11 @@ ones-count n N h = ones-bits n N h ∙ sum_below-same n (λ c. bit_at N c) (λ c
 -- bit c of a bit row that is shifted up by one is bit c - 1 of the bit row, and bit 0 is not set
 pub has_bit-up : (n c : ℕ) → c < 192 → has_bit (n * 2 % 2 ^ 192) c ≡ (ltb 0 c && has_bit n (c - 1))
 unfolding has_bit
-has_bit-up n zero h = let e : n * 2 % 2 ^ 192 / 2 ^ 0 % 2 ≡ 0 = omega arith in ap (λ z. eqb z 1) e
+has_bit-up n zero h = search arith
 has_bit-up n (suc c) h =
-    let e : n * 2 / 2 ^ 192 * 2 ^ 192 + n * 2 % 2 ^ 192 ≡ n * 2 = shr_split (n * 2) 192 in
     let f = bit_at_cat_low (n * 2 / 2 ^ 192) 192 (n * 2 % 2 ^ 192) (suc c) h in
     let g = bit_at-suc (n * 2) c in
-    let i : n * 2 / 2 ≡ n = omega arith in
-    let j : suc c - 1 ≡ c = omega arith in
-    let k : bit_at (n * 2 % 2 ^ 192) (suc c) ≡ bit_at n (suc c - 1) = sym f ∙ (ap (λ z. bit_at z (suc c)) e ∙ (g ∙ (ap (λ z. bit_at z c) i ∙ ap (λ z. bit_at n z) (sym j)))) in
-    ap (λ z. eqb z 1) k ∙ first (eqb (bit_at n (suc c - 1)) 1) (ltb 0 (suc c)) (grind (arith, nat_tests))
+    grind (arith, shr_split, nat_tests)
   where
     first : (b t : Bool) → t ≡ true → b ≡ (t && b)
     first b t e = subst (λ z. b ≡ (z && b)) (sym e) refl
@@ -120,19 +100,19 @@ has_bit-up n (suc c) h =
 -- each bit below 64 of a bit row is the same bit of its low word
 pub has_bit-low : (a b d c : ℕ) → c < 64 → has_bit (three a b d) c ≡ has_bit a c
 unfolding has_bit
-has_bit-low a b d c h = ap (λ z. eqb z 1) (bit_at_cat_low (d * 2 ^ 64 + b) 64 a c h)
+has_bit-low a b d c h = search (arith, bit_at_cat_low)
 
 -- bit c of a bit row, from 64 to 127, is bit c - 64 of its middle word
 pub has_bit-middle : (a b d c : ℕ) → a < 2 ^ 64 → 64 ≤ c → c < 128 → has_bit (three a b d) c ≡ has_bit b (c - 64)
 unfolding has_bit
-has_bit-middle a b d c h k l = ap (λ z. eqb z 1) (bit_at_cat_high (d * 2 ^ 64 + b) 64 a c h k ∙ bit_at_cat_low d 64 b (c - 64) (omega arith))
+has_bit-middle a b d c h k l = cc (bit_at_cat_high (d * 2 ^ 64 + b) 64 a c h k, bit_at_cat_low d 64 b (c - 64) (omega arith))
 
 -- bit c of a bit row, from 128 on, is bit c - 128 of its high word
 pub has_bit-high : (a b d c : ℕ) → a < 2 ^ 64 → b < 2 ^ 64 → 128 ≤ c → has_bit (three a b d) c ≡ has_bit d (c - 128)
 unfolding has_bit
 has_bit-high a b d c h k l =
     let e : c - 64 - 64 ≡ c - 128 = omega arith in
-    ap (λ z. eqb z 1) (bit_at_cat_high (d * 2 ^ 64 + b) 64 a c h (omega arith) ∙ (bit_at_cat_high d 64 b (c - 64) k (omega arith) ∙ ap (bit_at d) e))
+    cc (bit_at_cat_high (d * 2 ^ 64 + b) 64 a c h (omega arith), bit_at_cat_high d 64 b (c - 64) k (omega arith))
 
 -- ---- one bit by its word
 
@@ -141,27 +121,12 @@ pub words-small : (ws : List ℕ) → AreWords ws → (j : ℕ) → get_or ws j 
 words-small ws (l, a, b, d) zero = a
 words-small ws (l, a, b, d) (suc zero) = b
 words-small ws (l, a, b, d) (suc (suc zero)) = d
-words-small ws (l, a, b, d) (suc (suc (suc j))) = let e = get_or_past ws (suc (suc (suc j))) 0 (omega arith) in omega arith
+words-small ws (l, a, b, d) (suc (suc (suc j))) = search (arith, get_or_past)
 
 -- bit i of a bit row is bit i % 64 of word i / 64
 pub has-place : (ws : List ℕ) (i : ℕ) → ((k : ℕ) → get_or ws k 0 < 2 ^ 64) → i < 192 → has ws i ≡ has_bit (get_or ws (i / 64) 0) (i % 64)
 unfolding has bit_row_number
-has-place ws i w l = elim (cases_lt i 64) [
-  | inl h ↦
-      let q : i / 64 ≡ 0 = omega arith in
-      let m : i % 64 ≡ i = omega arith in
-      has_bit-low (get_or ws 0 0) (get_or ws 1 0) (get_or ws 2 0) i h ∙ sym (ap (λ z. has_bit (get_or ws z 0) (i % 64)) q ∙ ap (has_bit (get_or ws 0 0)) m)
-  | inr h ↦ elim (cases_lt i 128) [
-    | inl k ↦
-        let q : i / 64 ≡ 1 = omega arith in
-        let m : i % 64 ≡ i - 64 = omega arith in
-        has_bit-middle (get_or ws 0 0) (get_or ws 1 0) (get_or ws 2 0) i (w 0) h k ∙ sym (ap (λ z. has_bit (get_or ws z 0) (i % 64)) q ∙ ap (has_bit (get_or ws 1 0)) m)
-    | inr k ↦
-        let q : i / 64 ≡ 2 = omega arith in
-        let m : i % 64 ≡ i - 128 = omega arith in
-        has_bit-high (get_or ws 0 0) (get_or ws 1 0) (get_or ws 2 0) i (w 0) (w 1) k ∙ sym (ap (λ z. has_bit (get_or ws z 0) (i % 64)) q ∙ ap (has_bit (get_or ws 2 0)) m)
-  ]
-]
+has-place ws i w l = search (arith, has_bit-low, has_bit-middle, has_bit-high)
 
 -- no bit from 192 on is set in a bit row
 pub has-past : (ws : List ℕ) (i : ℕ) → ((k : ℕ) → get_or ws k 0 < 2 ^ 64) → 192 ≤ i → has ws i ≡ false
@@ -171,71 +136,38 @@ has-past ws i w l = ap (λ z. eqb z 1) (bit_at_above (three (get_or ws 0 0) (get
 -- the bit that the code reads is bit c of the bit row
 pub at-step : (ws : List ℕ) (c k : ℕ) → ((j : ℕ) → get_or ws j 0 < 2 ^ 64) → c < 192 → k ≡ c / 64 → eqb (bit_and (get_or ws k 0 / 2 ^ (c % 64)) 1) 1 ≡ has ws c
 unfolding has_bit
-at-step ws c k w h e = ap (λ n. eqb n 1) (shr_and_one (get_or ws k 0) (c % 64)) ∙ (ap (λ n. eqb (bit_at (get_or ws n 0) (c % 64)) 1) e ∙ sym (has-place ws c w h))
+at-step ws c k w h e = search (arith, shr_and_one, has-place)
 
 -- all words are still below 2 ^ 64 after one of them is replaced by a number x below 2 ^ 64
 pub set-small : (ws : List ℕ) (k x : ℕ) → k < length ws → x < 2 ^ 64 → ((j : ℕ) → get_or ws j 0 < 2 ^ 64) → (j : ℕ) → get_or (set ws k x) j 0 < 2 ^ 64
-set-small ws k x l m w j = elim (cases_eq j k) [
-  | inl e ↦ let f = ap (λ z. get_or (set ws k x) z 0) e ∙ get_or-set_same ws k x 0 l in omega arith
-  | inr e ↦ let f = get_or-set_other ws k j x 0 e in let g = w j in omega arith
-]
+set-small ws k x l m w j = search (arith, get_or-set_same, get_or-set_other)
 
 -- three words of 64 bits are still three words of 64 bits after one of them is replaced by such a word
 pub set-words : (ws : List ℕ) (k x : ℕ) → k < 3 → x < 2 ^ 64 → AreWords ws → AreWords (set ws k x)
-set-words ws k x l m w =
-    let n = set-small ws k x (omega (arith, w.0)) m (words-small ws w) in
-    (length-set ws k x ∙ w.0, n 0, n 1, n 2)
+set-words ws k x l m w = search (arith, set-small, words-small, length-set)
 
 -- the conjunction of a word with any number is a word
 pub and-small : (n m : ℕ) → n < 2 ^ 64 → bit_and n m < 2 ^ 64
 and-small n m h = let e = and_le_l n m in omega arith
-
--- two numbers that differ do not pass the test of equality
-eqb-other : (i c : ℕ) → i ≢ c → eqb i c ≡ false
-eqb-other i c h = grind (arith, nat_tests)
 
 -- a bit row in which one word is replaced by a word that differs from it in bit c % 64 alone is the bit row with bit c
 -- set to d
 pub put-step : (ws : List ℕ) (c k x : ℕ) (d : Bool) → length ws ≡ 3 → ((j : ℕ) → get_or ws j 0 < 2 ^ 64) → x < 2 ^ 64 → c < 192 → k ≡ c / 64 → eqb (bit_at x (c % 64)) 1 ≡ d → ((j : ℕ) → j < 64 → j ≢ c % 64 → bit_at x j ≡ bit_at (get_or ws k 0) j) → (i : ℕ) → has (set ws k x) i ≡ cond (eqb i c) d (has ws i)
 unfolding has_bit
 put-step ws c k x d l w m h e here there i =
-    let kin : k < length ws = omega arith in
-    let v = set-small ws k x kin m w in
-    elim (cases_lt i 192) [
-      | inl b ↦ has-place (set ws k x) i v b ∙ elim (cases_eq (i / 64) k) [
-        | inl f ↦ ap (λ z. eqb (bit_at (get_or (set ws k x) z 0) (i % 64)) 1) f ∙ (ap (λ z. eqb (bit_at z (i % 64)) 1) (get_or-set_same ws k x 0 kin) ∙ elim (cases_eq (i % 64) (c % 64)) [
-          | inl g ↦
-              let t : i ≡ c = omega arith in
-              let u : eqb i c ≡ true = grind (arith, nat_tests) in
-              ap (λ z. eqb (bit_at x z) 1) g ∙ (here ∙ sym (ap (λ z. cond z d (has ws i)) u))
-          | inr g ↦
-              let u = eqb-other i c (λ t. g (ap (λ z. z % 64) t)) in
-              ap (λ z. eqb z 1) (there (i % 64) (omega arith) g) ∙ (ap (λ z. eqb (bit_at (get_or ws z 0) (i % 64)) 1) (sym f) ∙ (sym (has-place ws i w b) ∙ sym (ap (λ z. cond z d (has ws i)) u)))
-        ])
-        | inr f ↦
-            let u = eqb-other i c (λ t. f (ap (λ z. z / 64) t ∙ sym e)) in
-            ap (λ z. eqb (bit_at z (i % 64)) 1) (get_or-set_other ws k (i / 64) x 0 f) ∙ (sym (has-place ws i w b) ∙ sym (ap (λ z. cond z d (has ws i)) u))
-      ]
-      | inr b ↦
-          let u = eqb-other i c (λ t. omega arith) in
-          has-past (set ws k x) i v b ∙ sym (ap (λ z. cond z d (has ws i)) u ∙ has-past ws i w b)
-    ]
+    grind (arith, set-small, has-place, get_or-set_same, nat_tests, get_or-set_other, has-past)
 
 -- ---- four places
 
 -- the n lowest bits of m are the bits of m % 2 ^ n
 pub low-bits : (n m k : ℕ) → k < n → has_bit (m % 2 ^ n) k ≡ has_bit m k
 unfolding has_bit
-low-bits n m k l = ap (λ z. eqb z 1) (sym (bit_at_cat_low (m / 2 ^ n) n (m % 2 ^ n) k l) ∙ ap (λ z. bit_at z k) (shr_split m n))
+low-bits n m k l = cc (bit_at_cat_low (m / 2 ^ n) n (m % 2 ^ n) k l, shr_split m n)
 
 -- the n bits from place c of a bit row on, which are in one word, are the lowest bits of a number
 places-step : (ws : List ℕ) (n c i k : ℕ) → ((j : ℕ) → get_or ws j 0 < 2 ^ 64) → c < 192 → c % 64 + n ≤ 64 → i ≡ c / 64 → k < n
     → has_bit (get_or ws i 0 / 2 ^ (c % 64) % 2 ^ n) k ≡ has ws (c + k)
-places-step ws n c i k w h m e l =
-    let q : (c + k) / 64 ≡ i = omega arith in
-    let r : (c + k) % 64 ≡ k + c % 64 = omega arith in
-    low-bits n (get_or ws i 0 / 2 ^ (c % 64)) k l ∙ (has_bit-shr (get_or ws i 0) (c % 64) k
-    ∙ sym (has-place ws (c + k) w (omega arith) ∙ (ap (λ z. has_bit (get_or ws z 0) ((c + k) % 64)) q ∙ ap (has_bit (get_or ws i 0)) r)))
+places-step ws n c i k w h m e l = search (arith, low-bits, has_bit-shr, has-place)
 
 -- the four bits that the code reads are the bits c to c + 3 of the bit row
 pub four-step : (ws : List ℕ) (c i k : ℕ) → ((j : ℕ) → get_or ws j 0 < 2 ^ 64) → c < 192 → c % 4 ≡ 0 → i ≡ c / 64 → k < 4 → has_bit (get_or ws i 0 / 2 ^ (c % 64) % 16) k ≡ has ws (c + k)
@@ -249,28 +181,18 @@ eight-step ws c i k w h m e l = places-step ws 8 c i k w h (omega arith) e l
 -- words had them before
 pub word-step : (ws : List ℕ) (k x : ℕ) (f : ℕ → Bool) → length ws ≡ 3 → ((j : ℕ) → get_or ws j 0 < 2 ^ 64) → x < 2 ^ 64 → k < 3 → ((j : ℕ) → j < 64 → has_bit x j ≡ f (64 * k + j)) → ((i : ℕ) → (i / 64 ≡ k → ⊥) → has ws i ≡ f i) → (i : ℕ) → has (set ws k x) i ≡ f i
 word-step ws k x f l w m n here there i =
-    let v = set-small ws k x (omega arith) m w in
-    elim (cases_lt i 192) [
-      | inl b ↦ has-place (set ws k x) i v b ∙ elim (cases_eq (i / 64) k) [
-        | inl e ↦
-            let q : 64 * k + i % 64 ≡ i = omega arith in
-            ap (λ z. has_bit (get_or (set ws k x) z 0) (i % 64)) e ∙ (ap (λ z. has_bit z (i % 64)) (get_or-set_same ws k x 0 (omega arith)) ∙ (here (i % 64) (omega arith) ∙ ap f q))
-        | inr e ↦ ap (λ z. has_bit z (i % 64)) (get_or-set_other ws k (i / 64) x 0 e) ∙ (sym (has-place ws i w b) ∙ there i e)
-      ]
-      | inr b ↦ has-past (set ws k x) i v b ∙ (sym (has-past ws i w b) ∙ there i (λ e. omega arith))
-    ]
+    search (arith, set-small, has-place, get_or-set_same, get_or-set_other, has-past)
 
 -- no bit below s is set in a number that is shifted up by s
 pub has_bit-shl-low : (d s j : ℕ) → j < s → has_bit (d * 2 ^ s) j ≡ false
 unfolding has_bit
 has_bit-shl-low d s j l =
     let e : d * 2 ^ s + 0 ≡ d * 2 ^ s = omega arith in
-    ap (λ z. eqb (bit_at z j) 1) (sym e) ∙ (ap (λ z. eqb z 1) (bit_at_cat_low d s 0 j l ∙ bit_at-zero j))
+    cc (bit_at_cat_low d s 0 j l, bit_at-zero j)
 
 -- bit s + k of a number that is shifted up by s is bit k of the number
 pub has_bit-shl-high : (d s k : ℕ) → has_bit (d * 2 ^ s) (s + k) ≡ has_bit d k
 unfolding has_bit
 has_bit-shl-high d s k =
     let e : d * 2 ^ s + 0 ≡ d * 2 ^ s = omega arith in
-    let f : s + k - s ≡ k = omega arith in
-    ap (λ z. eqb (bit_at z (s + k)) 1) (sym e) ∙ ap (λ z. eqb z 1) (bit_at_cat_high d s 0 (s + k) (pow_pos s) (omega arith) ∙ ap (bit_at d) f)
+    search (arith, bit_at_cat_high, pow_pos)

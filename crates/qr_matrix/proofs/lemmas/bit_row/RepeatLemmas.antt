@@ -1,5 +1,5 @@
 -- A pattern of six bits, repeated over three words.
-use Rattle.std.proofs.Common.{◌≡◌, ℕ, zero, suc, ◌*◌, ◌/◌, ◌%◌, ◌^◌, ◌<◌, Bool, true, false, ◌&&◌, bit_or, refl, inl, inr, subst, arith}
+use Rattle.std.proofs.Common.{◌≡◌, ℕ, zero, suc, ◌*◌, ◌/◌, ◌%◌, ◌^◌, ◌<◌, Bool, true, false, ◌&&◌, bit_or, refl, inl, inr, arith}
 use Rattle.std.proofs.lemmas.Bool.{cases_lt}
 use Rattle.qr_matrix.specs.BitRow.{has_bit}
 use Rattle.qr_matrix.specs.Penalty.{is_same, all_below}
@@ -20,7 +20,7 @@ pub below-at : (n : ℕ) (p : ℕ → Bool) → all_below n p ≡ true → (k : 
 below-at zero p h k l = absurd (omega arith)
 below-at (suc n) p h k l = elim (cases_lt k n) [
   | inl m ↦ below-at n p (&&-right (p n) _ h) k m
-  | inr m ↦ let e : n ≡ k = omega arith in subst (λ (z : ℕ). p z ≡ true) e (&&-left (p n) _ h)
+  | inr m ↦ search (arith, &&-left)
 ]
 
 -- colours that are the same

@@ -28,19 +28,11 @@ sum_below-scale m (suc n) f = let a = sum_below-scale m n f in omega arith
 pub sum_below-one : (n m : ℕ) (f : ℕ → ℕ) → m < n → sum_below n (λ k. cond (eqb k m) (f k) 0) ≡ f m
 sum_below-one zero m f h = absurd (omega arith)
 sum_below-one (suc n) m f h = elim (cases_lt m n) [
-  | inl l ↦
-      let e : eqb n m ≡ false = grind (arith, nat_tests) in
-      let a = ap (λ z. cond z (f n) 0) e in
-      let b = sum_below-one n m f l in
-      omega arith
+  | inl l ↦ search (arith, nat_tests, sum_below-one n m f l)
   | inr l ↦
-      let g : n ≡ m = omega arith in
       let e : eqb n m ≡ true = grind (arith, nat_tests) in
-      let a = ap (λ z. cond z (f n) 0) e in
       let b = sum_below-same n (λ k. cond (eqb k m) (f k) 0) (λ k. 0) (λ k i. let e : eqb k m ≡ false = grind (arith, nat_tests) in ap (λ z. cond z (f k) 0) e) in
-      let d = sum_below-zero n in
-      let i = ap f g in
-      omega arith
+      search (arith, sum_below-zero)
 ]
 
 -- the sum of f r c over the rows r below n and the columns c below m is the same column by column as row by row
@@ -54,21 +46,21 @@ sum_below-cut s zero f e = ap (λ z. sum_below z f) (plain s)
   where
     plain : (s : ℕ) → 0 + s ≡ s
     plain s = omega arith
-sum_below-cut s (suc d) f e = ap (λ z. sum_below z f) (step s d) ∙ (let a = sum_below-cut s d f e in let b = e (d + s) (omega arith) in omega arith)
+sum_below-cut s (suc d) f e = ap (λ z. sum_below z f) (step s d) ∙ (let a = sum_below-cut s d f e in omega arith)
   where
     step : (s d : ℕ) → suc d + s ≡ suc (d + s)
     step s d = omega arith
 
 -- if the tests p and q agree on each k below n, then as many numbers below n pass p as pass q
 pub count_below-same : (n : ℕ) (p q : ℕ → Bool) → ((k : ℕ) → k < n → p k ≡ q k) → count_below n p ≡ count_below n q
-count_below-same n p q e = sum_below-same n (λ k. cond (p k) 1 0) (λ k. cond (q k) 1 0) (λ k l. ap (λ b. cond b 1 0) (e k l))
+count_below-same n p q e = search (arith, sum_below-same)
 
 -- if the tests p and q agree on each c below n, and q fails for each c from s on, then as many numbers below n pass p as
 -- numbers below s pass q
 pub count_below-cut : (n s : ℕ) (p q : ℕ → Bool) → s ≤ n → ((c : ℕ) → c < n → p c ≡ q c) → ((c : ℕ) → s ≤ c → q c ≡ false) → count_below n p ≡ count_below s q
 count_below-cut n s p q l e f =
     let d : n - s + s ≡ n = omega arith in
-    count_below-same n p q e ∙ (ap (λ z. count_below z q) (sym d) ∙ sum_below-cut s (n - s) (λ c. cond (q c) 1 0) (λ c k. ap (λ b. cond b 1 0) (f c k)))
+    count_below-same n p q e ∙ (search (arith, sum_below-cut))
 
 -- if a is the sum of f below n, b is f n and d is a + b, then d is the sum of f below n + 1
 pub sum_below-more : (n a b d : ℕ) (f : ℕ → ℕ) → a ≡ sum_below n f → b ≡ f n → d ≡ a + b → d ≡ sum_below (n + 1) f

@@ -9,25 +9,19 @@ three a b c = (c * 2 ^ 64 + b) * 2 ^ 64 + a
 
 -- the conjunctions of the words of two bit rows are the words of the conjunction of the two bit rows
 pub three-and : (a b c d e f : ℕ) → a < 2 ^ 64 → b < 2 ^ 64 → d < 2 ^ 64 → e < 2 ^ 64 → three (bit_and a d) (bit_and b e) (bit_and c f) ≡ bit_and (three a b c) (three d e f)
-three-and a b c d e f ha hb hd he =
-    sym (and_block 64 (c * 2 ^ 64 + b) (f * 2 ^ 64 + e) a d ha hd ∙ ap (λ z. z * 2 ^ 64 + bit_and a d) (and_block 64 c f b e hb he))
+three-and a b c d e f ha hb hd he = omega (arith, and_block)
 
 -- the exclusive ors of the words of two bit rows are the words of the exclusive or of the two bit rows
 pub three-xor : (a b c d e f : ℕ) → a < 2 ^ 64 → b < 2 ^ 64 → d < 2 ^ 64 → e < 2 ^ 64 → three (bit_xor a d) (bit_xor b e) (bit_xor c f) ≡ bit_xor (three a b c) (three d e f)
-three-xor a b c d e f ha hb hd he =
-    sym (xor_block 64 (c * 2 ^ 64 + b) (f * 2 ^ 64 + e) a d ha hd ∙ ap (λ z. z * 2 ^ 64 + bit_xor a d) (xor_block 64 c f b e hb he))
+three-xor a b c d e f ha hb hd he = omega (arith, xor_block)
 
 -- the disjunctions of the words of two bit rows are the words of the disjunction of the two bit rows
 pub three-or : (a b c d e f : ℕ) → a < 2 ^ 64 → b < 2 ^ 64 → d < 2 ^ 64 → e < 2 ^ 64 → three (bit_or a d) (bit_or b e) (bit_or c f) ≡ bit_or (three a b c) (three d e f)
-three-or a b c d e f ha hb hd he =
-    sym (or_block 64 (c * 2 ^ 64 + b) (f * 2 ^ 64 + e) a d ha hd ∙ ap (λ z. z * 2 ^ 64 + bit_or a d) (or_block 64 c f b e hb he))
+three-or a b c d e f ha hb hd he = omega (arith, or_block)
 
 -- the numbers of set bits of the three words of a bit row add up to the number of set bits of the bit row
 pub three-ones : (a b c : ℕ) → a < 2 ^ 64 → b < 2 ^ 64 → count_ones a + count_ones b + count_ones c ≡ count_ones (three a b c)
-three-ones a b c ha hb =
-    let p = ones_cat 64 (c * 2 ^ 64 + b) a ha in
-    let q = ones_cat 64 c b hb in
-    omega arith
+three-ones a b c ha hb = omega (arith, ones_cat)
 
 -- a bit row of three words is below 2 ^ 192
 pub three-below : (a b c : ℕ) → a < 2 ^ 64 → b < 2 ^ 64 → c < 2 ^ 64 → three a b c < 2 ^ 192
@@ -40,18 +34,15 @@ two-down j k h l hl =
     let p = pow-add 2 j k in
     let q = h / 2 ^ k in
     let m = h % 2 ^ k in
-    let hm : m < 2 ^ k = mod_below h (2 ^ k) (pow_pos k) in
     let hs = shr_split h k in
     let ls = shr_split l k in
     let lm = mod_below l (2 ^ k) (pow_pos k) in
     let e : h * 2 ^ j ≡ q * 2 ^ (j + k) + m * 2 ^ j = ap (λ z. z * 2 ^ j) (sym hs) ∙ product q m (2 ^ j) (2 ^ k) (2 ^ (j + k)) p in
-    let below : m * 2 ^ j < 2 ^ (j + k) = subst (λ z. m * 2 ^ j < 2 ^ z) (swap k j) (shl_below m k j hm) in
-    let f : h * 2 ^ j % 2 ^ (j + k) ≡ m * 2 ^ j = ap (λ z. z % 2 ^ (j + k)) e ∙ mod_low q (j + k) (m * 2 ^ j) below in
-    let g : bit_or (l / 2 ^ k) (m * 2 ^ j) ≡ m * 2 ^ j + l / 2 ^ k = or_comm (l / 2 ^ k) (m * 2 ^ j) ∙ or_shifted m j (l / 2 ^ k) (shr_below l j k hl) in
-    let s : h * 2 ^ (j + k) + l ≡ (h * 2 ^ j + l / 2 ^ k) * 2 ^ k + l % 2 ^ k = whole h l (2 ^ j) (2 ^ k) (2 ^ (j + k)) (l / 2 ^ k) (l % 2 ^ k) p ls in
-    let t = ap (λ z. z / 2 ^ k) s ∙ shr_high (h * 2 ^ j + l / 2 ^ k) k (l % 2 ^ k) lm in
-    let u = ap (λ z. bit_or (l / 2 ^ k) z) f in
-    omega arith
+    let below : m * 2 ^ j < 2 ^ (j + k) = search (arith, shl_below) in
+    let f : h * 2 ^ j % 2 ^ (j + k) ≡ m * 2 ^ j = search (arith, mod_low) in
+    let g : bit_or (l / 2 ^ k) (m * 2 ^ j) ≡ m * 2 ^ j + l / 2 ^ k = search (arith, or_comm, or_shifted, shr_below) in
+    let s : h * 2 ^ (j + k) + l ≡ (h * 2 ^ j + l / 2 ^ k) * 2 ^ k + l % 2 ^ k = search arith in
+    search (arith, shr_high)
   where
     swap : (k j : ℕ) → k + j ≡ j + k
     swap k j = omega arith
@@ -72,9 +63,7 @@ pub three-down : (a b c k : ℕ) → k < 64 → a < 2 ^ 64 → b < 2 ^ 64 → th
 three-down a b c k hk ha hb =
     let e : 64 - k + k ≡ 64 = omega arith in
     let p = at-64 (64 - k) k (c * 2 ^ 64 + b) a e ha in
-    let q = at-64 (64 - k) k c b e hb in
-    let r : (c * 2 ^ 64 + b) * 2 ^ (64 - k) % 2 ^ 64 ≡ b * 2 ^ (64 - k) % 2 ^ 64 = ap (λ z. z % 2 ^ 64) (spread c b (2 ^ (64 - k))) ∙ mul-add-mod_self_right (c * 2 ^ (64 - k)) (2 ^ 64) (b * 2 ^ (64 - k)) in
-    sym (p ∙ (ap (λ z. z * 2 ^ 64 + bit_or (a / 2 ^ k) ((c * 2 ^ 64 + b) * 2 ^ (64 - k) % 2 ^ 64)) q ∙ ap (λ z. (c / 2 ^ k * 2 ^ 64 + bit_or (b / 2 ^ k) (c * 2 ^ (64 - k) % 2 ^ 64)) * 2 ^ 64 + bit_or (a / 2 ^ k) z) r))
+    search (arith, at-64, mul-add-mod_self_right)
   where
     spread : (c b J : ℕ) → (c * 2 ^ 64 + b) * J ≡ c * J * 2 ^ 64 + b * J
     spread c b J = omega arith
@@ -88,20 +77,12 @@ three-low n x e = omega arith
 -- if n is m + 64 and x is 2 ^ m - 1, then the bit row with a low word of ones and the middle word x has its n lowest bits
 -- set
 pub three-middle : (n m x : ℕ) → m + 64 ≡ n → x ≡ 2 ^ m - 1 → three (2 ^ 64 - 1) x 0 ≡ 2 ^ n - 1
-three-middle n m x e f =
-    let p = pow-add 2 m 64 in
-    let q = pow_pos m in
-    let g = ap (λ z. 2 ^ z) e in
-    omega arith
+three-middle n m x e f = search (arith, pow-add, pow_pos)
 
 -- if n is m + 128 and x is 2 ^ m - 1, then the bit row with two words of ones and the high word x has its n lowest bits
 -- set
 pub three-high : (n m x : ℕ) → m + 128 ≡ n → x ≡ 2 ^ m - 1 → three (2 ^ 64 - 1) (2 ^ 64 - 1) x ≡ 2 ^ n - 1
-three-high n m x e f =
-    let p = pow-add 2 m 128 in
-    let q = pow_pos m in
-    let g = ap (λ z. 2 ^ z) e in
-    omega arith
+three-high n m x e f = search (arith, pow-add, pow_pos)
 
 -- ---- a shift up by one bit
 
@@ -110,11 +91,8 @@ up-low : (b a : ℕ) → a < 2 ^ 64 → bit_or (b * 2 % 2 ^ 64) (a / 2 ^ 63) ≡
 up-low b a h =
     let e : b * 2 % 2 ^ 64 ≡ b % 2 ^ 63 * 2 ^ 1 = omega arith in
     let f : a / 2 ^ 63 < 2 ^ 1 = omega arith in
-    ap (λ z. bit_or z (a / 2 ^ 63)) e ∙ (or_shifted (b % 2 ^ 63) 1 (a / 2 ^ 63) f ∙ ap (λ z. z + a / 2 ^ 63) (sym e))
+    cc (or_shifted (b % 2 ^ 63) 1 (a / 2 ^ 63) f)
 
 -- a bit row is shifted up by one bit word by word, where the highest bit of each word moves into the word above it
 pub three-up : (a b c : ℕ) → a < 2 ^ 64 → b < 2 ^ 64 → c < 2 ^ 64 → three (a * 2 % 2 ^ 64) (bit_or (b * 2 % 2 ^ 64) (a / 2 ^ 63)) (bit_or (c * 2 % 2 ^ 64) (b / 2 ^ 63)) ≡ three a b c * 2 % 2 ^ 192
-three-up a b c ha hb hc =
-    let p = up-low b a ha in
-    let q = up-low c b hb in
-    omega arith
+three-up a b c ha hb hc = omega (arith, up-low)

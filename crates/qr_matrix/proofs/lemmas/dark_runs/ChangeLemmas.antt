@@ -11,9 +11,7 @@ use Rattle.qr_matrix.proofs.lemmas.bit_row.BoolLemmas.{and-false}
 -- if the colour does not change at place c + 1, this place has the colour of place c
 kept : (line : ℕ → Bool) (c : ℕ) → is_change line (suc c) ≡ false → line (suc c) ≡ line c
 unfolding is_change
-kept line c e =
-    let p : suc c - 1 ≡ c = omega arith in
-    same (line (suc c)) (line c) (grind (arith, nat_tests))
+kept line c e = search (arith, nat_tests)
   where
     same : (a b : Bool) → not (is_same a b) ≡ false → a ≡ b
     same true true f = refl
@@ -24,9 +22,7 @@ kept line c e =
 -- if the colour changes at place c + 1, this place has the other colour than place c
 changed : (line : ℕ → Bool) (c : ℕ) → is_change line (suc c) ≡ true → line (suc c) ≡ not (line c)
 unfolding is_change
-changed line c e =
-    let p : suc c - 1 ≡ c = omega arith in
-    other (line (suc c)) (line c) (grind (arith, nat_tests))
+changed line c e = search (arith, nat_tests)
   where
     other : (a b : Bool) → not (is_same a b) ≡ true → a ≡ not b
     other true true f = cc
@@ -45,7 +41,7 @@ steady line a (suc d) none =
 steady-to : (line : ℕ → Bool) (a b : ℕ) → a ≤ b → ((c : ℕ) → a < c → c ≤ b → is_change line c ≡ false) → line b ≡ line a
 steady-to line a b le none =
     let e : a + (b - a) ≡ b = omega arith in
-    ap line (sym e) ∙ steady line a (b - a) (λ c l m. none c l (omega arith))
+    search (arith, steady)
 
 -- if the colour does not change at any place up to n, then place n is light
 light-before : (line : ℕ → Bool) (n : ℕ) → ((c : ℕ) → c ≤ n → is_change line c ≡ false) → line n ≡ false
@@ -83,17 +79,8 @@ pub run-end-is : (g : Grid) (row col f end : ℕ) (later : ℕ → Bool) → col
     → ((c : ℕ) → c < 192 → later c ≡ (is_change (colour g row) c && not (ltb c (col + 1))))
     → ((c : ℕ) → c < f → later c ≡ false) → (f < 192 → later f ≡ true) → end ≡ min f g.side → IsRunEnd g row col end
 run-end-is g row col f end later l s is before here e =
-    let passed : (c : ℕ) → col < c → not (ltb c (col + 1)) ≡ true = λ c k. grind (arith, nat_tests) in
-    let stays : (c : ℕ) → col < c → c < end → is_change (colour g row) c ≡ false =
-    λ c k m. left-fails _ _ (sym (is c (omega arith)) ∙ before c (omega arith)) (passed c k) in
-    let later_on : f < 192 → col < f = λ k. elim (cases_lt col f) [
-      | inl m ↦ m
-      | inr m ↦
-          let t : ltb f (col + 1) ≡ true = grind (arith, nat_tests) in
-          let u : not (ltb f (col + 1)) ≡ true = (both (is_change (colour g row) f) (not (ltb f (col + 1))) (sym (is f k) ∙ here k)).1 in
-          let h : false ≡ true = ap not (sym t) ∙ u in cc
-    ] in
-    let after : col < end = elim (cases_lt f 192) [ inl k ↦ let m = later_on k in omega arith | inr k ↦ omega arith ] in
+    let stays : (c : ℕ) → col < c → c < end → is_change (colour g row) c ≡ false = search (arith, left-fails) in
+    let after : col < end = search arith in
     let same : (c : ℕ) → col ≤ c → c < end → colour g row c ≡ colour g row col =
     λ c k m. steady-to (colour g row) col c k (λ i a b. stays i a (omega arith)) in
     record {
@@ -102,10 +89,9 @@ run-end-is g row col f end later l s is before here e =
       same = same;
       differs = λ k h.
           let n : end ≡ suc (end - 1) = omega arith in
-          let t : is_change (colour g row) end ≡ true = let q : end ≡ f = omega arith in ap (is_change (colour g row)) q ∙ (both _ _ (sym (is f (omega arith)) ∙ here (omega arith))).0 in
+          let t : is_change (colour g row) end ≡ true = search (arith, both) in
           let o = changed (colour g row) (end - 1) (ap (is_change (colour g row)) (sym n) ∙ t) in
-          let p = same (end - 1) (omega arith) (omega arith) in
-          turned (colour g row col) (sym h ∙ (ap (colour g row) n ∙ (o ∙ ap not p)));
+          search arith;
     }
   where
     turned : (b : Bool) → b ≡ not b → ⊥
@@ -120,11 +106,11 @@ row-from g row col k = leb col k && colour g row k
 
 -- from `col` on, `row-from g row col` has the colours of the row
 from-here : (g : Grid) (row col k : ℕ) → col ≤ k → row-from g row col k ≡ colour g row k
-from-here g row col k l = let t : leb col k ≡ true = grind (arith, nat_tests) in ap (λ b. b && colour g row k) t
+from-here g row col k l = search (arith, nat_tests)
 
 -- before `col`, `row-from g row col` is light
 from-before : (g : Grid) (row col k : ℕ) → k < col → row-from g row col k ≡ false
-from-before g row col k l = let t : leb col k ≡ false = grind (arith, nat_tests) in ap (λ b. b && colour g row k) t
+from-before g row col k l = search (arith, nat_tests)
 
 -- two rows that have the same colours at c and at the place before it both change at c, or both do not
 changes-alike : (f h : ℕ → Bool) (c : ℕ) → f c ≡ h c → f (c - 1) ≡ h (c - 1) → is_change f c ≡ is_change h c
@@ -133,14 +119,13 @@ changes-alike f h c p q = λ i. not (is_same (p i) (ltb 0 c && q i))
 
 -- `row-from g row 0` changes at the same places as the row
 pub from-start : (g : Grid) (row c : ℕ) → is_change (colour g row) c ≡ is_change (row-from g row 0) c
-from-start g row c =
-    changes-alike (colour g row) (row-from g row 0) c (sym (from-here g row 0 c (omega arith))) (sym (from-here g row 0 (c - 1) (omega arith)))
+from-start g row c = search (arith, changes-alike, from-here)
 
 -- if place c and the place before it are light, the colour does not change at c
 quiet : (line : ℕ → Bool) (c : ℕ) → line c ≡ false → (0 < c → line (c - 1) ≡ false) → is_change line c ≡ false
 unfolding is_change
 quiet line zero e f = ap (λ b. not (is_same b false)) e
-quiet line (suc c) e f = let d = f (omega arith) in rw (e, d) (grind (arith, nat_tests))
+quiet line (suc c) e f = search (arith, nat_tests)
 
 -- two equal places pass the test of equality
 is-place : (c p : ℕ) → c ≡ p → eqb c p ≡ true
@@ -148,7 +133,7 @@ is-place c p e = grind (arith, nat_tests)
 
 -- a test that place p alone is removed from is unchanged at any other place c
 other-place : (a : Bool) (c p : ℕ) → c ≢ p → (a && not (eqb c p)) ≡ a
-other-place true c p ne = let t : eqb c p ≡ false = grind (arith, nat_tests) in ap not t
+other-place true c p ne = search (arith, nat_tests)
 other-place false c p ne = refl
 
 -- in this module, `old` is true exactly at the changes of `row-from g row col`

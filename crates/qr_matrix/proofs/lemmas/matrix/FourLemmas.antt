@@ -54,7 +54,6 @@ four-set ws c k b bits l w h n f g few =
     word-step ws k (bit_or word (b * 2 ^ s % 2 ^ 64)) (λ p. has ws p || leb c p && ltb p (c + 4) && has_bit bits (p - c)) l w (or_lt 64 word _ (w k) small) (omega arith)
     (λ j m.
     let p = 64 * k + j in
-    let r : c ≡ 64 * (c / 64) + s = omega arith in
     let t : leb s j ≡ leb c p = grind (arith, nat_tests) in
     let u : j - s ≡ p - c = omega arith in
     let q : p / 64 ≡ k = omega arith in

@@ -1,7 +1,5 @@
 -- Rows of words, seen as a square of colours: what reading and writing a bit row does to the colours.
-use Rattle.std.proofs.Common.{◌≡◌, ℕ, ◌<◌, ◌≤◌, Bool, true, false, not, ◌&&◌, ◌||◌, cond, eqb, ltb, leb, ◌+◌, List, [], ◌∷◌, length, get_or, set, replicate, refl, sym, ap, subst, ◌∙◌, inl, inr, arith}
-use mathlib.Core.Path.{fun_ext}
-use Rattle.std.proofs.lemmas.Bool.{cases_lt, cases_eq}
+use Rattle.std.proofs.Common.{◌≡◌, ℕ, ◌<◌, ◌≤◌, Bool, true, false, not, ◌&&◌, ◌||◌, cond, eqb, ltb, leb, ◌+◌, List, [], ◌∷◌, length, get_or, set, replicate, refl, ap, ◌∙◌, arith}
 use Rattle.std.proofs.lemmas.Bool.Decides.{nat_tests}
 use Rattle.std.proofs.lemmas.List.{get_or_past, get_or_read, get_or-replicate, length-replicate, get_or-set_same, get_or-set_other}
 use Rattle.std.proofs.lemmas.Nat.Bits.{bit_at-zero}
@@ -25,29 +23,18 @@ dark-under rows r c l = ap (λ z. has z c) (get_or_past rows r [] l) ∙ has-non
 -- the square of side s with the colours of `rows` has the same colour as `rows` at each place, also outside the square,
 -- if there are s rows and no bit from s on is set
 colour-is : (s : ℕ) (rows : List (List ℕ)) (r c : ℕ) → length rows ≡ s → ((r c : ℕ) → s ≤ c → dark_in rows r c ≡ false) → colour (square s (dark_in rows)) r c ≡ dark_in rows r c
-colour-is s rows r c e h = elim (cases_lt r s) [
-  | inl l ↦ elim (cases_lt c s) [
-    | inl m ↦ colour-square s (dark_in rows) r c l m
-    | inr m ↦ colour-outside s (dark_in rows) r c (inr m) ∙ sym (h r c m)
-  ]
-  | inr l ↦ colour-outside s (dark_in rows) r c (inl l) ∙ sym (dark-under rows r c (omega arith))
-]
-
--- the colours of `rows` and those of their square g are the same function, if there are s rows and no bit from s on is
--- set
-pub colours-are : (s : ℕ) (rows : List (List ℕ)) (g : Grid) → square s (dark_in rows) ≡ g → length rows ≡ s → ((r c : ℕ) → s ≤ c → dark_in rows r c ≡ false) → dark_in rows ≡ colour g
-colours-are s rows g v e h = sym (fun_ext (λ r. fun_ext (λ c. colour-is s rows r c e h))) ∙ ap colour v
+colour-is s rows r c e h = search (arith, colour-square, colour-outside, dark-under)
 
 -- ---- the steps of a matrix
 
 -- the words that are read at the index `row` are the bit row of this row
 read-line : (rows : List (List ℕ)) (row i : ℕ) (words : List ℕ) → i ≡ row → row < length rows → words ≡ get_or rows i words → words ≡ get_or rows row []
-read-line rows row i words e l w = get_or_read rows i words (omega arith) w [] ∙ ap (λ z. get_or rows z []) e
+read-line rows row i words e l w = search (arith, get_or_read)
 
 -- bit c of the bit row that is read is the colour of the square g in column c of this row
 pub row-read : (s row i : ℕ) (rows : List (List ℕ)) (words : List ℕ) (g : Grid) → square s (dark_in rows) ≡ g → i ≡ row → row < length rows → length rows ≡ s → ((r c : ℕ) → s ≤ c → dark_in rows r c ≡ false) → words ≡ get_or rows i words → (c : ℕ) → has words c ≡ colour g row c
 unfolding dark_in
-row-read s row i rows words g v e l q h w c = ap (λ z. has z c) (read-line rows row i words e l w) ∙ ap (λ (f : ℕ → ℕ → Bool). f row c) (colours-are s rows g v q h)
+row-read s row i rows words g v e l q h w c = grind (arith, read-line, colour-is)
 
 -- no bit from s on is set in the bit row that is read
 pub row-past : (s row i : ℕ) (rows : List (List ℕ)) (words : List ℕ) → i ≡ row → row < length rows → ((r c : ℕ) → s ≤ c → dark_in rows r c ≡ false) → words ≡ get_or rows i words → (c : ℕ) → s ≤ c → has words c ≡ false
@@ -58,52 +45,31 @@ row-past s row i rows words e l h w c k = ap (λ z. has z c) (read-line rows row
 -- and all other places have their old colours
 dark-set : (rows : List (List ℕ)) (row col : ℕ) (words : List ℕ) (b : Bool) → row < length rows → ((i : ℕ) → has words i ≡ cond (eqb i col) b (has (get_or rows row []) i)) → (r c : ℕ) → dark_in (set rows row words) r c ≡ cond (eqb r row && eqb c col) b (dark_in rows r c)
 unfolding dark_in
-dark-set rows row col words b l h r c = elim (cases_eq r row) [
-  | inl e ↦
-      let t : eqb r row ≡ true = grind (arith, nat_tests) in
-      ap (λ z. has (get_or (set rows row words) z []) c) e ∙ (ap (λ z. has z c) (get_or-set_same rows row words [] l)
-      ∙ (h c ∙ (ap (λ z. cond (eqb c col) b (has (get_or rows z []) c)) (sym e) ∙ ap (λ z. cond (z && eqb c col) b (has (get_or rows r []) c)) (sym t))))
-  | inr e ↦
-      let t : eqb r row ≡ false = grind (arith, nat_tests) in
-      ap (λ z. has z c) (get_or-set_other rows row r words [] e) ∙ ap (λ z. cond (z && eqb c col) b (has (get_or rows r []) c)) (sym t)
-]
+dark-set rows row col words b l h r c = search (arith, nat_tests, get_or-set_same, get_or-set_other)
 
 -- after bit `col` of the bit row of index i is set to b, the place in this row and column has the colour b, and all
 -- other places have their old colours
 pub rows-set : (s row col i : ℕ) (rows : List (List ℕ)) (words new : List ℕ) (b : Bool) → i ≡ row → row < length rows → words ≡ get_or rows i words → ((k : ℕ) → has new k ≡ cond (eqb k col) b (has words k)) → (r c : ℕ) → dark_in (set rows i new) r c ≡ cond (eqb r row && eqb c col) b (dark_in rows r c)
-rows-set s row col i rows words new b e l q h r c =
-    let w : words ≡ get_or rows row [] = get_or_read rows i words (omega arith) q [] ∙ ap (λ z. get_or rows z []) e in
-    ap (λ z. dark_in (set rows z new) r c) e ∙ dark-set rows row col new b l (λ k. h k ∙ ap (λ z. cond (eqb k col) b (has z k)) w) r c
+rows-set s row col i rows words new b e l q h r c = search (arith, get_or_read, dark-set)
 
 -- after one place within the side is set, still no bit from s on is set
 pub inside-set : (s row col : ℕ) (rows new : List (List ℕ)) (b : Bool) → col < s → ((r c : ℕ) → dark_in new r c ≡ cond (eqb r row && eqb c col) b (dark_in rows r c)) → ((r c : ℕ) → s ≤ c → dark_in rows r c ≡ false) → (r c : ℕ) → s ≤ c → dark_in new r c ≡ false
-inside-set s row col rows new b l h i r c k =
-    let e : eqb c col ≡ false = grind (arith, nat_tests) in
-    h r c ∙ (ap (λ z. cond z b (dark_in rows r c)) (and-false (eqb r row) (eqb c col) e) ∙ i r c k)
+inside-set s row col rows new b l h i r c k = search (arith, nat_tests, and-false)
 
 -- after one place is set to b, the square is the old square g with this place painted b
 pub write-step : (s row col : ℕ) (rows new : List (List ℕ)) (g : Grid) (b : Bool) → square s (dark_in rows) ≡ g → ((r c : ℕ) → dark_in new r c ≡ cond (eqb r row && eqb c col) b (dark_in rows r c)) → square s (dark_in new) ≡ painted g row col b
-write-step s row col rows new g b v h =
-    square-same s (dark_in new) (λ r c. cond (eqb r row && eqb c col) b (colour (square s (dark_in rows)) r c)) (λ r c l m. h r c ∙ ap (λ z. cond (eqb r row && eqb c col) b z) (sym (colour-square s (dark_in rows) r c l m)))
-    ∙ ap (λ (z : Grid). painted z row col b) v
+write-step s row col rows new g b v h = search (arith, square-same, colour-square)
 
 -- ---- a bit row that is written
 
 -- after a bit row is written, its row has the colours of the written bits, and all other rows have their old colours
 pub line-set : (rows : List (List ℕ)) (row i : ℕ) (words : List ℕ) → i ≡ row → row < length rows → (r c : ℕ) → dark_in (set rows i words) r c ≡ cond (eqb r row) (has words c) (dark_in rows r c)
 unfolding dark_in
-line-set rows row i words f l r c = ap (λ z. has (get_or (set rows z words) r []) c) f ∙ elim (cases_eq r row) [
-  | inl e ↦
-      let t : eqb r row ≡ true = grind (arith, nat_tests) in
-      ap (λ z. has (get_or (set rows row words) z []) c) e ∙ (ap (λ z. has z c) (get_or-set_same rows row words [] l) ∙ ap (λ z. cond z (has words c) (has (get_or rows r []) c)) (sym t))
-  | inr e ↦
-      let t : eqb r row ≡ false = grind (arith, nat_tests) in
-      ap (λ z. has z c) (get_or-set_other rows row r words [] e) ∙ ap (λ z. cond z (has words c) (has (get_or rows r []) c)) (sym t)
-]
+line-set rows row i words f l r c = search (arith, nat_tests, get_or-set_same, get_or-set_other)
 
 -- after a bit row is written that has no bit from s on set, still no bit from s on is set in any row
 pub line-inside : (s row : ℕ) (rows new : List (List ℕ)) (words : List ℕ) → ((r c : ℕ) → dark_in new r c ≡ cond (eqb r row) (has words c) (dark_in rows r c)) → ((c : ℕ) → s ≤ c → has words c ≡ false) → ((r c : ℕ) → s ≤ c → dark_in rows r c ≡ false) → (r c : ℕ) → s ≤ c → dark_in new r c ≡ false
-line-inside s row rows new words h w i r c k = h r c ∙ both_false (eqb r row) (has words c) (dark_in rows r c) (w c k) (i r c k)
+line-inside s row rows new words h w i r c k = search arith
   where
     both_false : (t x y : Bool) → x ≡ false → y ≡ false → cond t x y ≡ false
     both_false true x y e f = e
@@ -112,9 +78,7 @@ line-inside s row rows new words h w i r c k = h r c ∙ both_false (eqb r row) 
 -- after a bit row is written whose bits below s are the colours f, the square is the old square g with this row
 -- replaced by f
 pub line-write : (s row : ℕ) (rows new : List (List ℕ)) (g : Grid) (words : List ℕ) (f : ℕ → Bool) → square s (dark_in rows) ≡ g → ((r c : ℕ) → dark_in new r c ≡ cond (eqb r row) (has words c) (dark_in rows r c)) → ((c : ℕ) → c < s → has words c ≡ f c) → square s (dark_in new) ≡ with_row g row f
-line-write s row rows new g words f v h e =
-    square-same s (dark_in new) (λ r c. cond (eqb r row) (f c) (colour (square s (dark_in rows)) r c)) (λ r c l m. h r c ∙ (ap (λ z. cond (eqb r row) z (dark_in rows r c)) (e c m) ∙ ap (λ z. cond (eqb r row) (f c) z) (sym (colour-square s (dark_in rows) r c l m))))
-    ∙ ap (λ (z : Grid). with_row z row f) v
+line-write s row rows new g words f v h e = search (arith, square-same, colour-square)
 
 -- if bit d is the bit p of the plain row, inverted where x is set, and x is set where w and r are both set, then d is
 -- the inverse of p where w and r are both set, and p elsewhere
@@ -132,11 +96,11 @@ masked-bit d false w r x e f = e ∙ (ap (λ z. not (is_same false z)) f ∙ tol
 
 -- a bit that is set neither in the plain row nor in `within` is not set in the masked row
 pub masked-past : (d p w r x : Bool) → d ≡ not (is_same p x) → x ≡ (w && r) → p ≡ false → w ≡ false → d ≡ false
-masked-past d p w r x e f g h = e ∙ (ap (λ z. not (is_same z x)) g ∙ ap (λ z. not (is_same false z)) (f ∙ ap (λ z. z && r) h))
+masked-past d p w r x e f g h = cc
 
 -- a square is the same with row f and with row h, if f and h have the same colours
 pub with_row-same : (g : Grid) (row : ℕ) (f h : ℕ → Bool) → ((c : ℕ) → c < g.side → f c ≡ h c) → with_row g row f ≡ with_row g row h
-with_row-same g row f h e = square-same g.side (λ r c. cond (eqb r row) (f c) (colour g r c)) (λ r c. cond (eqb r row) (h c) (colour g r c)) (λ r c l m. ap (λ z. cond (eqb r row) z (colour g r c)) (e c m))
+with_row-same g row f h e = search (arith, square-same)
 
 -- the bits below `right` and not below `left` are the columns from `left` to before `right`
 among : (left right c : ℕ) → (ltb c right && not (ltb c left)) ≡ (leb left c && ltb c right)
@@ -144,7 +108,7 @@ among left right c = grind (arith, nat_tests)
 
 -- the columns from `left` to before `right` are those before `right` that are not before `left`
 pub columns-are : (left right c : ℕ) (x a b : Bool) → x ≡ (a && not b) → a ≡ ltb c right → b ≡ ltb c left → x ≡ (leb left c && ltb c right)
-columns-are left right c x a b f ea eb = f ∙ (ap (λ z. z && not b) ea ∙ (ap (λ z. ltb c right && not z) eb ∙ among left right c))
+columns-are left right c x a b f ea eb = cc (among left right c)
 
 -- bit p with the bit t added is dark where t is set
 pub filled-dark : (p t : Bool) → (p || t) ≡ cond t true p
@@ -162,49 +126,31 @@ filled-light false false = refl
 
 -- the grid that a matrix is seen as is the square of its own colours
 pub view-square : (s : ℕ) (rows : List (List ℕ)) (g : Grid) → square s (dark_in rows) ≡ g → g ≡ square g.side (colour g)
-view-square s rows g v = subst (λ (x : Grid). x ≡ square x.side (colour x)) v (square-same s (dark_in rows) (colour (square s (dark_in rows))) (λ r c l m. sym (colour-square s (dark_in rows) r c l m)))
+view-square s rows g v = search (arith, square-same, colour-square)
 
 -- ---- rectangles
 
 -- a square is unchanged by a rectangle without rows
 pub rectangle-none : (g : Grid) (top left right : ℕ) (dark : Bool) → g ≡ square g.side (colour g) → g ≡ with_rectangle g top top left right dark
-rectangle-none g top left right dark e = e ∙ square-same g.side (colour g) (λ r c. cond (leb top r && ltb r top && leb left c && ltb c right) dark (colour g r c)) (λ r c l m.
-    let t : (leb top r && ltb r top) ≡ false = grind (arith, nat_tests) in
-    ap (λ z. cond (z && leb left c && ltb c right) dark (colour g r c)) (sym t))
+rectangle-none g top left right dark e = search (arith, square-same, nat_tests)
 
 -- a rectangle to before `row`, followed by one more row of the same columns, is the rectangle to before row + 1
 pub rectangle-row : (g h : Grid) (top row left right : ℕ) (dark : Bool) → top ≤ row → h ≡ with_rectangle g top row left right dark → with_row h row (λ c. cond (leb left c && ltb c right) dark (colour h row c)) ≡ with_rectangle g top (row + 1) left right dark
 rectangle-row g h top row left right dark k e =
     ap (λ (x : Grid). with_row x row (λ c. cond (leb left c && ltb c right) dark (colour x row c))) e
-    ∙ square-same g.side (λ r c. cond (eqb r row) (cond (leb left c && ltb c right) dark (colour (with_rectangle g top row left right dark) row c)) (colour (with_rectangle g top row left right dark) r c)) (λ r c. cond (leb top r && ltb r (row + 1) && leb left c && ltb c right) dark (colour g r c)) (λ r c l m. elim (cases_eq r row) [
-      | inl a ↦
-          let t : eqb r row ≡ true = grind (arith, nat_tests) in
-          let u : (leb top r && ltb r (row + 1)) ≡ true = grind (arith, nat_tests) in
-          let w : (leb top row && ltb row row) ≡ false = grind (arith, nat_tests) in
-          ap (λ z. cond z (cond (leb left c && ltb c right) dark (colour (with_rectangle g top row left right dark) row c)) (colour (with_rectangle g top row left right dark) r c)) t
-          ∙ (ap (λ z. cond (leb left c && ltb c right) dark z) (colour-square g.side (λ r c. cond (leb top r && ltb r row && leb left c && ltb c right) dark (colour g r c)) row c (omega arith) m ∙ (ap (λ z. cond (z && leb left c && ltb c right) dark (colour g row c)) w ∙ ap (λ z. colour g z c) (sym a)))
-          ∙ ap (λ z. cond (z && leb left c && ltb c right) dark (colour g r c)) (sym u))
-      | inr a ↦
-          let t : eqb r row ≡ false = grind (arith, nat_tests) in
-          let u : (leb top r && ltb r row) ≡ (leb top r && ltb r (row + 1)) = grind (arith, nat_tests) in
-          ap (λ z. cond z (cond (leb left c && ltb c right) dark (colour (with_rectangle g top row left right dark) row c)) (colour (with_rectangle g top row left right dark) r c)) t
-          ∙ (colour-square g.side (λ r c. cond (leb top r && ltb r row && leb left c && ltb c right) dark (colour g r c)) r c l m ∙ ap (λ z. cond (z && leb left c && ltb c right) dark (colour g r c)) u)
-    ])
+    ∙ square-same g.side (λ r c. cond (eqb r row) (cond (leb left c && ltb c right) dark (colour (with_rectangle g top row left right dark) row c)) (colour (with_rectangle g top row left right dark) r c)) (λ r c. cond (leb top r && ltb r (row + 1) && leb left c && ltb c right) dark (colour g r c)) (search (arith, nat_tests, colour-square))
 
 -- ---- the light square
 
 -- n equal rows have the length n
 pub rows-long : (n : ℕ) (rows : List (List ℕ)) → rows ≡ replicate n (0 ∷ 0 ∷ 0 ∷ []) → length rows ≡ n
-rows-long n rows e = ap (λ (z : List (List ℕ)). length z) e ∙ length-replicate n (0 ∷ 0 ∷ 0 ∷ [])
+rows-long n rows e = search (arith, length-replicate)
 
 -- rows whose words are 0 are light everywhere
 pub dark-replicate : (n : ℕ) (rows : List (List ℕ)) (r c : ℕ) → rows ≡ replicate n (0 ∷ 0 ∷ 0 ∷ []) → dark_in rows r c ≡ false
 unfolding dark_in
-dark-replicate n rows r c e = elim (cases_lt r n) [
-  | inl l ↦ ap (λ z. has z c) (ap (λ z. get_or z r []) e ∙ get_or-replicate n r (0 ∷ 0 ∷ 0 ∷ []) [] l) ∙ has-nothing c
-  | inr l ↦ let f = rows-long n rows e in dark-under rows r c (omega arith)
-]
+dark-replicate n rows r c e = search (arith, get_or-replicate, has-nothing, rows-long, dark-under)
 
 -- the square of rows that are light everywhere is the light square
 pub light-square : (s : ℕ) (rows : List (List ℕ)) → ((r c : ℕ) → dark_in rows r c ≡ false) → square s (dark_in rows) ≡ square s (λ _ _. false)
-light-square s rows h = square-same s (dark_in rows) (λ _ _. false) (λ r c _ _. h r c)
+light-square s rows h = search (arith, square-same)

@@ -1,6 +1,5 @@
 -- The modules that cost a point for a run are as many as the points that the runs cost.
-use Rattle.std.proofs.Common.{◌≡◌, ℕ, zero, suc, ◌+◌, ◌-◌, ◌*◌, ◌<◌, ◌≤◌, List, ltb, Bool, true, false, not, ◌&&◌, ◌||◌, cond, refl, sym, ap, ◌∙◌, inl, inr, true≢false, arith}
-use Rattle.std.proofs.lemmas.Bool.{cases_lt}
+use Rattle.std.proofs.Common.{◌≡◌, ℕ, zero, suc, ◌+◌, ◌-◌, ◌*◌, ◌<◌, ◌≤◌, List, ltb, Bool, true, false, not, ◌&&◌, ◌||◌, cond, refl, sym, ◌∙◌, true≢false, arith}
 use Rattle.std.proofs.lemmas.Bool.Decides.{nat_tests}
 use Rattle.qr_matrix.specs.BitRow.{has}
 use Rattle.qr_matrix.specs.Penalty.{count_below, sum_below}
@@ -17,44 +16,9 @@ one_before s line c = ltb 0 c && begins_five s line (c - 1)
 two_before : ℕ → (ℕ → Bool) → ℕ → Bool
 two_before s line c = ltb 1 c && begins_five s line (c - 2)
 
--- the tests of four pairs of neighbours that these two need
-five-one : (s : ℕ) (line : ℕ → Bool) (c : ℕ) → 0 < c → begins_five s line (c - 1) ≡ ((joins s line (c - 1) && joins s line c) && (joins s line (c + 1) && joins s line (c + 2)))
-unfolding begins_five
-five-one s line c h =
-    let e : c - 1 + 1 ≡ c = omega arith in
-    let f : c - 1 + 2 ≡ c + 1 = omega arith in
-    let g : c - 1 + 3 ≡ c + 2 = omega arith in
-    λ i. (joins s line (c - 1) && joins s line (e i)) && (joins s line (f i) && joins s line (g i))
-
-five-two : (s : ℕ) (line : ℕ → Bool) (c : ℕ) → 1 < c → begins_five s line (c - 2) ≡ ((joins s line (c - 2) && joins s line (c - 1)) && (joins s line c && joins s line (c + 1)))
-unfolding begins_five
-five-two s line c h =
-    let e : c - 2 + 1 ≡ c - 1 = omega arith in
-    let f : c - 2 + 2 ≡ c = omega arith in
-    let g : c - 2 + 3 ≡ c + 1 = omega arith in
-    λ i. (joins s line (c - 2) && joins s line (e i)) && (joins s line (f i) && joins s line (g i))
-
--- if five modules of one colour begin at module c, they begin at the module before it exactly if it has the same colour
-long-same : (j a b d e : Bool) → (((a && b) && (d && e)) && not j) ≡ (((a && b) && (d && e)) && not ((j && a) && (b && d)))
-long-same true true true true e = refl
-long-same false true true true e = refl
-long-same j true true false e = refl
-long-same j true false d e = refl
-long-same j false b d e = refl
-
 long-is : (s : ℕ) (line : ℕ → Bool) (c : ℕ) → begins_long_run s line c ≡ (begins_five s line c && not (one_before s line c))
 unfolding begins_long_run begins_five one_before
-long-is s line c = elim (cases_lt 0 c) [
-  | inl l ↦
-      let t : ltb 0 c ≡ true = grind (arith, nat_tests) in
-      let f = begins_five s line c in
-      ap (λ z. f && not (z && joins s line (c - 1))) t
-      ∙ (long-same (joins s line (c - 1)) (joins s line c) (joins s line (c + 1)) (joins s line (c + 2)) (joins s line (c + 3))
-      ∙ (ap (λ z. f && not z) (sym (five-one s line c l)) ∙ ap (λ z. f && not (z && begins_five s line (c - 1))) (sym t)))
-  | inr l ↦
-      let t : ltb 0 c ≡ false = grind (arith, nat_tests) in
-      ap (λ z. begins_five s line c && not (z && joins s line (c - 1))) t ∙ ap (λ z. begins_five s line c && not (z && begins_five s line (c - 1))) (sym t)
-]
+long-is s line c = search arith
 
 -- if five modules of one colour begin at the second module before module c, but not at the module before it, then they
 -- do not begin at module c
@@ -68,15 +32,7 @@ gap false j a b d e h k = absurd (true≢false (sym h))
 
 gap-is : (s : ℕ) (line : ℕ → Bool) (c : ℕ) → two_before s line c ≡ true → one_before s line c ≡ false → begins_five s line c ≡ false
 unfolding two_before one_before begins_five
-gap-is s line c h k = elim (cases_lt 1 c) [
-  | inl l ↦
-      let t : ltb 1 c ≡ true = grind (arith, nat_tests) in
-      let u : ltb 0 c ≡ true = grind (arith, nat_tests) in
-      gap (joins s line (c - 2)) (joins s line (c - 1)) (joins s line c) (joins s line (c + 1)) (joins s line (c + 2)) (joins s line (c + 3))
-      (sym (five-two s line c l) ∙ (ap (λ z. z && begins_five s line (c - 2)) (sym t) ∙ h))
-      (sym (five-one s line c (omega arith)) ∙ (ap (λ z. z && begins_five s line (c - 1)) (sym u) ∙ k))
-  | inr l ↦ let t : ltb 1 c ≡ false = grind (arith, nat_tests) in absurd (true≢false (sym h ∙ ap (λ z. z && begins_five s line (c - 2)) t))
-]
+gap-is s line c h k = search arith
 
 -- the points that are counted at a module, and the points that are still owed for the runs before it
 owed : Bool → Bool → ℕ
@@ -94,30 +50,19 @@ step false false false h = refl
 -- the points that are owed after module n
 owed-next : (s : ℕ) (line : ℕ → Bool) (n m : ℕ) → m ≡ n + 1 → owed (one_before s line m) (two_before s line m) ≡ owed (begins_five s line n) (one_before s line n)
 unfolding one_before two_before
-owed-next s line n m h =
-    let t : ltb 0 m ≡ true = grind (arith, nat_tests) in
-    let u : ltb 1 m ≡ ltb 0 n = grind (arith, nat_tests) in
-    let e : m - 1 ≡ n = omega arith in
-    let f : m - 2 ≡ n - 1 = omega arith in
-    λ i. owed (t i && begins_five s line (e i)) (u i && begins_five s line (f i))
+owed-next s line n m h = search (arith, nat_tests, owed)
 
 -- the points of module c
 point-step : (s : ℕ) (line : ℕ → Bool) (c : ℕ) → cond (begins_five s line c) 1 0 + 2 * cond (begins_long_run s line c) 1 0 + owed (one_before s line c) (two_before s line c)
     ≡ cond (is_charged s line c) 1 0 + owed (begins_five s line c) (one_before s line c)
 unfolding is_charged one_before two_before
-point-step s line c =
-    ap (λ z. cond (begins_five s line c) 1 0 + 2 * cond z 1 0 + owed (one_before s line c) (two_before s line c)) (long-is s line c)
-    ∙ step (begins_five s line c) (one_before s line c) (two_before s line c) (gap-is s line c)
+point-step s line c = grind (arith, owed, one_before, two_before, long-is, step, gap-is)
 
 -- after the first n modules, the points of the runs and the points of the modules differ by the points that are owed
 points-sum : (s : ℕ) (line : ℕ → Bool) (n : ℕ) → sum_below n (λ c. cond (begins_five s line c) 1 0 + 2 * cond (begins_long_run s line c) 1 0) ≡ count_below n (is_charged s line) + owed (one_before s line n) (two_before s line n)
 unfolding owed one_before two_before
 points-sum s line zero = refl
-points-sum s line (suc n) =
-    let a = points-sum s line n in
-    let b = point-step s line n in
-    let e = owed-next s line n (suc n) (omega arith) in
-    omega arith
+points-sum s line (suc n) = search (arith, point-step, owed-next, points-sum s line n)
 
 -- the cost of the runs is the number of modules that cost a point
 pub charged-cost : (s : ℕ) (line : ℕ → Bool) → count_below s (is_charged s line) ≡ place_cost s line
@@ -126,16 +71,12 @@ charged-cost s line =
     let a = points-sum s line s in
     let b = sum_below-add s (λ c. cond (begins_five s line c) 1 0) (λ c. 2 * cond (begins_long_run s line c) 1 0) in
     let d = sum_below-scale 2 s (λ c. cond (begins_long_run s line c) 1 0) in
-    let e = ap (λ z. owed z (two_before s line s)) (and-false (ltb 0 s) (begins_five s line (s - 1)) (five-past s line (s - 1) (omega arith))) in
-    let f = ap (owed false) (and-false (ltb 1 s) (begins_five s line (s - 2)) (five-past s line (s - 2) (omega arith))) in
-    omega arith
+    search (arith, owed, two_before, and-false, five-past)
 
 -- no module past the side costs a point
 charged-past : (s : ℕ) (line : ℕ → Bool) (c : ℕ) → s ≤ c → is_charged s line c ≡ false
 unfolding is_charged
-charged-past s line c h =
-    none (begins_five s line c) (ltb 0 c && begins_five s line (c - 1)) (ltb 1 c && begins_five s line (c - 2))
-    (five-past s line c (omega arith)) (and-false (ltb 0 c) (begins_five s line (c - 1)) (five-past s line (c - 1) (omega arith))) (and-false (ltb 1 c) (begins_five s line (c - 2)) (five-past s line (c - 2) (omega arith)))
+charged-past s line c h = search (arith, five-past, and-false)
   where
     none : (a b d : Bool) → a ≡ false → b ≡ false → d ≡ false → ((a || b) || d) ≡ false
     none a b d e f g = λ i. (e i || f i) || g i

@@ -1,6 +1,5 @@
 -- Bit operations on neighbouring rows compute the tests of all columns at once.
-use Rattle.std.proofs.Common.{◌≡◌, ℕ, ◌+◌, ◌-◌, ◌<◌, ◌≤◌, List, [], ◌∷◌, eqb, ltb, Bool, true, false, not, ◌&&◌, ◌||◌, cond, refl, sym, ap, ◌∙◌, inl, inr, arith}
-use Rattle.std.proofs.lemmas.Bool.{cases_lt}
+use Rattle.std.proofs.Common.{◌≡◌, ℕ, ◌+◌, ◌-◌, ◌<◌, ◌≤◌, List, [], ◌∷◌, eqb, ltb, Bool, true, false, not, ◌&&◌, ◌||◌, cond, refl, ap, ◌∙◌, arith}
 use Rattle.std.proofs.lemmas.Bool.Decides.{nat_tests}
 use Rattle.std.proofs.lemmas.Nat.Bits.{bit_at-zero}
 use Rattle.qr_matrix.specs.BitRow.{has, has_bit, bit_row_number}
@@ -21,24 +20,19 @@ has-nothing c = ap (λ z. eqb z 1) (bit_at-zero c)
 -- where column c is below s and the place is joined to the place below it
 pub joins-down-bit : (s : ℕ) (line : ℕ → Bool) (c r : ℕ) (x i d : Bool) → r + 1 < s → x ≡ (i && not d) → i ≡ ltb c s → d ≡ not (is_same (line r) (line (r + 1))) → x ≡ (ltb c s && joins s line r)
 unfolding joins
-joins-down-bit s line c r x i d h e f g =
-    let t : ltb (r + 1) s ≡ true = grind (arith, nat_tests) in
-    e ∙ (ap (λ z. z && not d) f ∙ (ap (λ z. ltb c s && not z) g ∙ (ap (λ z. ltb c s && z) (not-not (is_same (line r) (line (r + 1)))) ∙ ap (λ z. ltb c s && (z && is_same (line r) (line (r + 1)))) (sym t))))
+joins-down-bit s line c r x i d h e f g = search (arith, nat_tests, not-not)
 
 -- in the last row no place is joined to a place below it
 pub joins-down-none : (s : ℕ) (line : ℕ → Bool) (c r : ℕ) (x : Bool) → s ≤ r + 1 → x ≡ false → x ≡ (ltb c s && joins s line r)
-joins-down-none s line c r x h e = e ∙ sym (and-false (ltb c s) (joins s line r) (joins-past s line r h))
+joins-down-none s line c r x h e = search (arith, and-false, joins-past)
 
 -- a test that column c is below s fails from s on
 past : (s c : ℕ) (b : Bool) → s ≤ c → (ltb c s && b) ≡ false
-past s c b h = let e : ltb c s ≡ false = grind (arith, nat_tests) in ap (λ z. z && b) e
+past s c b h = search (arith, nat_tests)
 
 -- a test that fails from s on is the same as this test together with the test that c is below s
 pub guarded : (s c : ℕ) (b : Bool) → (s ≤ c → b ≡ false) → b ≡ (ltb c s && b)
-guarded s c b h = elim (cases_lt c s) [
-  | inl l ↦ let e : ltb c s ≡ true = grind (arith, nat_tests) in sym (ap (λ z. z && b) e)
-  | inr l ↦ h l ∙ sym (past s c b l)
-]
+guarded s c b h = search (arith, nat_tests, past)
 
 -- four tests that are each guarded by u are the same as the guard u together with the four tests
 guarded-five : (u a b d e : Bool) → (((u && a) && (u && b)) && ((u && d) && (u && e))) ≡ (u && ((a && b) && (d && e)))
@@ -49,9 +43,7 @@ guarded-five false a b d e = refl
 -- where column c is below s and five equal places of it begin in row r
 pub five-down-bit : (s : ℕ) (line : ℕ → Bool) (c r : ℕ) (x y z p q m n : Bool) → x ≡ (y && z) → y ≡ (p && q) → z ≡ (m && n) → p ≡ (ltb c s && joins s line r) → q ≡ (ltb c s && joins s line (r + 1)) → m ≡ (ltb c s && joins s line (r + 2)) → n ≡ (ltb c s && joins s line (r + 3)) → x ≡ (ltb c s && begins_five s line r)
 unfolding begins_five
-five-down-bit s line c r x y z p q m n ex ey ez ep eq em en =
-    let e = guarded-five (ltb c s) (joins s line r) (joins s line (r + 1)) (joins s line (r + 2)) (joins s line (r + 3)) in
-    cc
+five-down-bit s line c r x y z p q m n ex ey ez ep eq em en = search (arith, guarded-five)
 
 -- the guard u of three tests, of which the last two have the guards t and w too, is the guard of their disjunction
 guarded-three : (u t w f g h : Bool) → (((u && f) || (t && (u && g))) || (w && (u && h))) ≡ (u && ((f || (t && g)) || (w && h)))
@@ -80,13 +72,7 @@ pub share-of : (s : ℕ) (dark : ℕ → ℕ → Bool) (r : ℕ) (t f a b : List
     → ((c : ℕ) → has f c ≡ (ltb c s && begins_five s (λ i. dark i c) r)) → ((c : ℕ) → has a c ≡ (ltb 0 r && (ltb c s && begins_five s (λ i. dark i c) (r - 1))))
     → ((c : ℕ) → has b c ≡ (ltb 1 r && (ltb c s && begins_five s (λ i. dark i c) (r - 2)))) → size_of t ≡ row_share s dark r
 unfolding row_share is_charged
-share-of s dark r t f a b l ht hf ha hb = guarded-size s t (λ c. is_charged s (λ i. dark i c) r) l (λ c.
-    let e = guarded-three (ltb c s) (ltb 0 r) (ltb 1 r) (begins_five s (λ i. dark i c) r) (begins_five s (λ i. dark i c) (r - 1)) (begins_five s (λ i. dark i c) (r - 2)) in
-    let x = ht c in
-    let y = hf c in
-    let z = ha c in
-    let w = hb c in
-    cc)
+share-of s dark r t f a b l ht hf ha hb = search (arith, guarded-size, guarded-three)
 
 -- the shares of all rows sum to the costs of all columns
 pub shares-are-columns : (s : ℕ) (dark : ℕ → ℕ → Bool) → sum_below s (row_share s dark) ≡ sum_below s (λ c. place_cost s (λ r. dark r c))

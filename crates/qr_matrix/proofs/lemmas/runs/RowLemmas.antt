@@ -1,5 +1,5 @@
 -- Bit operations on a bit row compute the tests of a row.
-use Rattle.std.proofs.Common.{◌≡◌, ℕ, ◌+◌, ◌-◌, ◌<◌, ◌≤◌, List, ltb, Bool, false, not, ◌&&◌, ap, ◌∙◌, arith}
+use Rattle.std.proofs.Common.{◌≡◌, ℕ, ◌+◌, ◌-◌, ◌<◌, ◌≤◌, List, ltb, Bool, false, not, ◌&&◌, arith}
 use Rattle.std.proofs.lemmas.Bool.Decides.{nat_tests}
 use Rattle.qr_matrix.specs.BitRow.{has}
 use Rattle.qr_matrix.specs.Steps.{size_of}
@@ -22,30 +22,20 @@ size-is s words q l e f = count_below-cut 192 s (has words) q l e f
 -- just where module c is joined to the module after it
 pub joins-bit : (s : ℕ) (line : ℕ → Bool) (c : ℕ) (r i d y : Bool) → 0 < s → r ≡ (i && not d) → i ≡ ltb c (s - 1) → d ≡ not (is_same (line c) y) → y ≡ line (c + 1) → r ≡ joins s line c
 unfolding joins
-joins-bit s line c r i d y h e f g k =
-    let l : ltb c (s - 1) ≡ ltb (c + 1) s = grind (arith, nat_tests) in
-    let m : not d ≡ is_same (line c) (line (c + 1)) = ap not g ∙ (not-not (is_same (line c) y) ∙ ap (is_same (line c)) k) in
-    let n : i ≡ ltb (c + 1) s = f ∙ l in
-    e ∙ (ap (λ z. z && not d) n ∙ ap (λ z. ltb (c + 1) s && z) m)
+joins-bit s line c r i d y h e f g k = search (arith, nat_tests, not-not)
 
 -- neither the last module nor a module c past the side is joined to a module after it
 pub joins-past : (s : ℕ) (line : ℕ → Bool) (c : ℕ) → s ≤ c + 1 → joins s line c ≡ false
 unfolding joins
-joins-past s line c h = false-and (ltb (c + 1) s) (is_same (line c) (line (c + 1))) (grind (arith, nat_tests))
+joins-past s line c h = search (arith, false-and, nat_tests)
 
 -- no five modules of one colour begin at one of the last four modules, or past the side
 pub five-past : (s : ℕ) (line : ℕ → Bool) (c : ℕ) → s ≤ c + 4 → begins_five s line c ≡ false
 unfolding begins_five
-five-past s line c h =
-    and-false (joins s line c && joins s line (c + 1)) (joins s line (c + 2) && joins s line (c + 3)) (and-false (joins s line (c + 2)) (joins s line (c + 3)) (joins-past s line (c + 3) (omega arith)))
+five-past s line c h = search (arith, and-false, joins-past)
 
 -- if bit f is set just where the four modules from module c on are each joined to the module after them, then f is set
 -- just where five modules of one colour begin at module c
 pub five-bit : (s : ℕ) (line j : ℕ → Bool) (c : ℕ) (f : Bool) → ((c : ℕ) → j c ≡ joins s line c) → f ≡ ((j c && j (c + 1)) && (j (c + 2) && j (c + 3))) → f ≡ begins_five s line c
 unfolding begins_five
-five-bit s line j c f h e =
-    let a = h c in
-    let b = h (c + 1) in
-    let d = h (c + 2) in
-    let g = h (c + 3) in
-    cc
+five-bit s line j c f h e = search arith

@@ -1,6 +1,6 @@
 -- The cost of the maximal runs of a row or column is the cost that is counted module by module.
-use Rattle.std.proofs.Common.{◌≡◌, ℕ, zero, suc, ◌+◌, ◌-◌, ◌*◌, ◌<◌, ◌≤◌, ◌⊎◌, inl, inr, eqb, ltb, leb, Bool, true, false, not, ◌&&◌, ◌||◌, cond, refl, sym, ap, ◌∙◌, subst, arith}
-use Rattle.std.proofs.lemmas.Bool.{cases_lt, false≢true}
+use Rattle.std.proofs.Common.{◌≡◌, ℕ, zero, suc, ◌+◌, ◌-◌, ◌*◌, ◌<◌, ◌≤◌, ◌⊎◌, inl, inr, eqb, ltb, leb, Bool, true, false, not, ◌&&◌, ◌||◌, cond, refl, sym, ap, ◌∙◌, arith}
+use Rattle.std.proofs.lemmas.Bool.{cases_lt}
 use Rattle.std.proofs.lemmas.Bool.Decides.{nat_tests}
 use Rattle.qr_matrix.specs.Penalty.{all_below, is_same, is_run, run_cost, sum_below}
 use Rattle.qr_matrix.specs.Runs.{joins, begins_five, begins_long_run, place_cost}
@@ -25,7 +25,7 @@ all_below-false : (k : ℕ) (p : ℕ → Bool) (i : ℕ) → i < k → p i ≡ f
 all_below-false zero p i h e = absurd (omega arith)
 all_below-false (suc k) p i h e = elim (cases_lt i k) [
   | inl l ↦ and-false (p k) (all_below k p) (all_below-false k p i l e)
-  | inr l ↦ let g : k ≡ i = omega arith in ap (λ z. z && all_below k p) (ap p g ∙ e)
+  | inr l ↦ search arith
 ]
 
 -- ---- the number of modules after a module that belong to its run
@@ -36,39 +36,21 @@ unfoldable ahead : (ℕ → Bool) → ℕ → ℕ → ℕ
 ahead j zero a = 0
 ahead j (suc n) a = cond (j a) (suc (ahead j n (a + 1))) 0
 
--- two colours a and b that pass the test `is_same` are equal
-same-true : (a b : Bool) → is_same a b ≡ true → a ≡ b
-same-true true true e = refl
-same-true true false e = sym e
-same-true false true e = e
-same-true false false e = refl
-
 -- two equal colours a and b pass the test `is_same`
 same-self : (a b : Bool) → a ≡ b → is_same a b ≡ true
 same-self true b e = sym e
 same-self false b e = ap not (sym e)
 
--- if the conjunction of a and b is true, then a and b are true
-and-both : (a b : Bool) → (a && b) ≡ true → (a ≡ true) × (b ≡ true)
-and-both true b e = (refl, e)
-and-both false b e = absurd (false≢true e)
-
 -- if module a is joined to the module after it, then there is a module after it, which has the colour of module a
 joins-true : (s : ℕ) (line : ℕ → Bool) (a : ℕ) → joins s line a ≡ true → (a + 1 < s) × (line (a + 1) ≡ line a)
 unfolding joins
-joins-true s line a h =
-    let e = and-both (ltb (a + 1) s) (is_same (line a) (line (a + 1))) h in
-    let t = e.0 in
-    (grind (arith, nat_tests), sym (same-true (line a) (line (a + 1)) e.1))
+joins-true s line a h = search arith
 
 -- if module a is not joined to the module after it, then module a is the last module, or the module after it has another
 -- colour
 joins-false : (s : ℕ) (line : ℕ → Bool) (a : ℕ) → joins s line a ≡ false → (s ≤ a + 1) ⊎ (is_same (line a) (line (a + 1)) ≡ false)
 unfolding joins
-joins-false s line a h = elim (cases_lt (a + 1) s) [
-  | inl l ↦ let t : ltb (a + 1) s ≡ true = grind (arith, nat_tests) in inr (ap (λ z. z && is_same (line a) (line (a + 1))) (sym t) ∙ h)
-  | inr l ↦ inl l
-]
+joins-false s line a h = search (arith, nat_tests)
 
 -- if module a is joined to the module after it, then it has one module more ahead than the module after it
 ahead-true : (j : ℕ → Bool) (n a : ℕ) → j a ≡ true → ahead j (suc n) a ≡ suc (ahead j n (a + 1))
@@ -92,12 +74,8 @@ stretch s line (suc n) a (suc k) e p h = elim (true_or_false (joins s line a)) [
   | inl t ↦
       let f = ahead-true (joins s line) n a t in
       let u = joins-true s line a t in
-      let u0 = u.0 in
-      let w = stretch s line n (a + 1) k (omega arith) (omega arith) (omega arith) in
-      let w0 = w.0 in
-      let g : a + suc k ≡ a + 1 + k = omega arith in
-      (omega arith, ap line g ∙ (w.1 ∙ u.1))
-  | inr t ↦ let f = ahead-false (joins s line) (suc n) a t in absurd (omega arith)
+      search (arith, stretch s line n (a + 1) k (omega arith) (omega arith) (omega arith))
+  | inr t ↦ search (arith, ahead-false)
 ]
 
 -- the module after the modules that module a has ahead is past the side or has another colour than module a
@@ -107,19 +85,8 @@ stretch-end s line (suc n) a e p = elim (true_or_false (joins s line a)) [
   | inl t ↦
       let f = ahead-true (joins s line) n a t in
       let u = joins-true s line a t in
-      let u0 = u.0 in
-      let g : a + 1 + suc (ahead (joins s line) n (a + 1)) ≡ a + suc (ahead (joins s line) (suc n) a) = omega arith in
-      elim (stretch-end s line n (a + 1) (omega arith) (omega arith)) [
-        | inl w ↦ inl (omega arith)
-        | inr w ↦ inr (ap (λ z. is_same (line z) (line a)) (sym g) ∙ (ap (λ z. is_same (line (a + 1 + suc (ahead (joins s line) n (a + 1)))) z) (sym u.1) ∙ w))
-      ]
-  | inr t ↦
-      let f = ahead-false (joins s line) (suc n) a t in
-      let g : a + 1 ≡ a + suc (ahead (joins s line) (suc n) a) = omega arith in
-      elim (joins-false s line a t) [
-        | inl w ↦ inl (omega arith)
-        | inr w ↦ inr (ap (λ z. is_same (line z) (line a)) (sym g) ∙ (turn (line (a + 1)) (line a) ∙ w))
-      ]
+      search (arith, stretch-end s line n (a + 1) (omega arith) (omega arith))
+  | inr t ↦ search (arith, ahead-false, joins-false)
 ]
   where
     turn : (a b : Bool) → is_same a b ≡ is_same b a
@@ -140,7 +107,7 @@ run_len s line a = suc (ahead (joins s line) (s - a) a)
 
 -- if p, q and r are true, then the conjunction of p, q, h and r is h
 four : (p q h r : Bool) → p ≡ true → q ≡ true → r ≡ true → (((p && q) && h) && r) ≡ h
-four p q h r a b c = subst (λ z. (((z && q) && h) && r) ≡ h) (sym a) (subst (λ z. ((z && h) && r) ≡ h) (sym b) (subst (λ z. (h && z) ≡ h) (sym c) (last h)))
+four p q h r a b c = search arith
   where
     last : (h : Bool) → (h && true) ≡ h
     last true = refl
@@ -155,40 +122,16 @@ is_run-is s line a k l =
     let d : 0 < s - a = omega arith in
     let m = ahead (joins s line) (s - a) a in
     let before = stretch s line (s - a) a in
-    let p = λ (i : ℕ). is_same (line (a + i)) (line a) in
     elim (cases_lt k (suc m)) [
-      | inl h ↦
-          let u = before k n d (omega arith) in
-          let u0 = u.0 in
-          let x : eqb (a + k) s ≡ false = grind (arith, nat_tests) in
-          let y : eqb k (suc m) ≡ false = grind (arith, nat_tests) in
-          let z : (eqb (a + k) s || not (p k)) ≡ false = ap (λ v. v || not (p k)) x ∙ ap not (same-self (line (a + k)) (line a) u.1) in
-          and-false (leb (a + k) s && all_below k p && heads line a) (eqb (a + k) s || not (p k)) z ∙ sym (and-false (heads line a) (eqb k (suc m)) y)
+      | inl h ↦ search (arith, nat_tests, same-self, and-false)
       | inr h ↦ elim (cases_lt (suc m) k) [
         | inl g ↦
             let y : eqb k (suc m) ≡ false = grind (arith, nat_tests) in
             elim (stretch-end s line (s - a) a n d) [
-              | inl w ↦
-                  let x : leb (a + k) s ≡ false = grind (arith, nat_tests) in
-                  ap (λ v. v && all_below k p && heads line a && (eqb (a + k) s || not (p k))) x ∙ sym (and-false (heads line a) (eqb k (suc m)) y)
-              | inr w ↦
-                  let x = all_below-false k p (suc m) g w in
-                  ap (λ v. leb (a + k) s && v && heads line a && (eqb (a + k) s || not (p k))) x
-                  ∙ (ap (λ v. v && heads line a && (eqb (a + k) s || not (p k))) (and-false (leb (a + k) s) false refl)
-                  ∙ sym (and-false (heads line a) (eqb k (suc m)) y))
+              | inl w ↦ search (arith, nat_tests, and-false)
+              | inr w ↦ search (arith, all_below-false, and-false)
             ]
-        | inr g ↦
-            let e : k ≡ suc m = omega arith in
-            let u = before m n d (omega arith) in
-            let u0 = u.0 in
-            let y : eqb k (suc m) ≡ true = grind (arith, nat_tests) in
-            let x : leb (a + k) s ≡ true = grind (arith, nat_tests) in
-            let z = all_below-true k p (λ i b. same-self (line (a + i)) (line a) (before i n d (omega arith)).1) in
-            let t : (eqb (a + k) s || not (p k)) ≡ true = elim (stretch-end s line (s - a) a n d) [
-              | inl w ↦ (let v : eqb (a + k) s ≡ true = grind (arith, nat_tests) in ap (λ f. f || not (p k)) v)
-              | inr w ↦ or-true (eqb (a + k) s) (not (p k)) (ap not (ap p e ∙ w))
-            ] in
-            four (leb (a + k) s) (all_below k p) (heads line a) (eqb (a + k) s || not (p k)) x z t ∙ (last (heads line a) ∙ ap (λ v. heads line a && v) (sym y))
+        | inr g ↦ search (arith, nat_tests, all_below-true, same-self, stretch-end, four)
       ]
     ]
   where
@@ -209,7 +152,7 @@ run_at s line a l =
     let m = run_len s line a in
     let u = (stretch s line (s - a) a (ahead (joins s line) (s - a) a) (omega arith) (omega arith) (omega arith)).0 in
     sum_below-same (s + 1) (λ k. cond (leb 5 k && is_run s line a k) (k - 2) 0) (λ k. cond (eqb k m) (cond (leb 5 k && heads line a) (k - 2) 0) 0)
-    (λ k i. ap (λ z. cond (leb 5 k && z) (k - 2) 0) (is_run-is s line a k l) ∙ turn (leb 5 k) (heads line a) (eqb k m) (k - 2))
+    (search (arith, is_run-is))
     ∙ sum_below-one (s + 1) m (λ k. cond (leb 5 k && heads line a) (k - 2) 0) (omega arith)
   where
     turn : (u h e : Bool) (x : ℕ) → cond (u && (h && e)) x 0 ≡ cond e (cond (u && h) x 0) 0
@@ -230,14 +173,7 @@ left s line a = ahead (joins s line) (s - a) a
 -- modules ahead
 left-is : (s : ℕ) (line : ℕ → Bool) (a : ℕ) → left s line a ≡ cond (joins s line a) (suc (left s line (a + 1))) 0
 unfolding ahead
-left-is s line a = elim (cases_lt a s) [
-  | inl h ↦
-      let e : s - a ≡ suc (s - (a + 1)) = omega arith in
-      ap (λ z. ahead (joins s line) z a) e ∙ step (joins s line) (s - (a + 1)) a
-  | inr h ↦
-      let f = joins-past s line a (omega arith) in
-      ahead-false (joins s line) (s - a) a f ∙ ap (λ z. cond z (suc (left s line (a + 1))) 0) (sym f)
-]
+left-is s line a = search (arith, joins-past, ahead-false)
   where
     step : (j : ℕ → Bool) (n a : ℕ) → ahead j (suc n) a ≡ cond (j a) (suc (ahead j n (a + 1))) 0
     step j n a = refl
@@ -255,9 +191,7 @@ five-from a b c d e false j k l p q r s = grind (arith, nat_tests)
 -- five modules of one colour begin at module a just when it has at least four modules ahead
 five-is : (s : ℕ) (line : ℕ → Bool) (a : ℕ) → begins_five s line a ≡ leb 4 (left s line a)
 unfolding begins_five
-five-is s line a =
-    five-from (left s line a) (left s line (a + 1)) (left s line (a + 2)) (left s line (a + 3)) (left s line (a + 4)) (joins s line a) (joins s line (a + 1)) (joins s line (a + 2)) (joins s line (a + 3))
-    (left-is s line a) (next 1 2 (omega arith)) (next 2 3 (omega arith)) (next 3 4 (omega arith))
+five-is s line a = search (arith, five-from, left-is)
   where
     next : (i k : ℕ) → a + i + 1 ≡ a + k → left s line (a + i) ≡ cond (joins s line (a + i)) (suc (left s line (a + k))) 0
     next i k e = left-is s line (a + i) ∙ ap (λ z. cond (joins s line (a + i)) (suc (left s line z)) 0) e
@@ -265,21 +199,7 @@ five-is s line a =
 -- no module before module a belongs to its run just when no module before a is joined to it
 heads-is : (s : ℕ) (line : ℕ → Bool) (a : ℕ) → a < s → heads line a ≡ not (ltb 0 a && joins s line (a - 1))
 unfolding joins
-heads-is s line a h = elim (cases_lt 0 a) [
-  | inl l ↦
-      let e : eqb a 0 ≡ false = grind (arith, nat_tests) in
-      let f : ltb 0 a ≡ true = grind (arith, nat_tests) in
-      let g : ltb (a - 1 + 1) s ≡ true = grind (arith, nat_tests) in
-      let i : a - 1 + 1 ≡ a = omega arith in
-      ap (λ z. z || not (is_same (line (a - 1)) (line a))) e
-      ∙ (ap (λ z. not (is_same (line (a - 1)) (line z))) (sym i)
-      ∙ (ap (λ z. not (z && is_same (line (a - 1)) (line (a - 1 + 1)))) (sym g)
-      ∙ ap (λ z. not (z && (ltb (a - 1 + 1) s && is_same (line (a - 1)) (line (a - 1 + 1))))) (sym f)))
-  | inr l ↦
-      let e : eqb a 0 ≡ true = grind (arith, nat_tests) in
-      let f : ltb 0 a ≡ false = grind (arith, nat_tests) in
-      ap (λ z. z || not (is_same (line (a - 1)) (line a))) e ∙ ap (λ z. not (z && (ltb (a - 1 + 1) s && is_same (line (a - 1)) (line (a - 1 + 1))))) (sym f)
-]
+heads-is s line a h = search (arith, nat_tests)
 
 -- the cost of the maximal run that begins at module a, or 0 if no run begins at a or the run is shorter than 5 modules
 abbrev cost_at : ℕ → (ℕ → Bool) → ℕ → ℕ
@@ -306,50 +226,28 @@ balance a b false false e = grind (arith, nat_tests)
 
 -- the open cost at module a + 1 is the number of modules that it has ahead, less 3, if module a is joined to it, else 0
 open-next : (s : ℕ) (line : ℕ → Bool) (a : ℕ) → open_at s line (a + 1) ≡ cond (joins s line a) (left s line (a + 1) - 3) 0
-open-next s line a =
-    let e : ltb 0 (a + 1) ≡ true = grind (arith, nat_tests) in
-    let f : a + 1 - 1 ≡ a = omega arith in
-    ap (λ z. cond (z && joins s line (a + 1 - 1)) (left s line (a + 1) - 3) 0) e ∙ ap (λ z. cond (joins s line z) (left s line (a + 1) - 3) 0) f
+open-next s line a = search (arith, nat_tests)
 
 -- a run of five modules or more begins at module a just when it has at least four modules ahead and the module before it
 -- is not joined to it
 begins_long_run-is : (s : ℕ) (line : ℕ → Bool) (a : ℕ) → begins_long_run s line a ≡ (leb 4 (left s line a) && not (ltb 0 a && joins s line (a - 1)))
 unfolding begins_long_run
-begins_long_run-is s line a = ap (λ z. z && not (ltb 0 a && joins s line (a - 1))) (five-is s line a)
-
--- equal tests a and b count as equal numbers
-as-number : (a b : Bool) → a ≡ b → cond {A = ℕ} a 1 0 ≡ cond {A = ℕ} b 1 0
-as-number a b e = ap (λ z. cond {A = ℕ} z 1 0) e
+begins_long_run-is s line a = cc (five-is s line a)
 
 -- the cost counted at module a plus the open cost at module a + 1 equals the cost of the run that begins at a plus the
 -- open cost at a
 place-step : (s : ℕ) (line : ℕ → Bool) (a : ℕ) → a < s → place_at s line a + open_at s line (a + 1) ≡ cost_at s line a + open_at s line a
-place-step s line a h =
-    let f = ltb 0 a && joins s line (a - 1) in
-    let b = balance (left s line a) (left s line (a + 1)) (joins s line a) (ltb 0 a && joins s line (a - 1)) (left-is s line a) in
-    let p = as-number (begins_five s line a) _ (five-is s line a) in
-    let q = as-number (begins_long_run s line a) _ (begins_long_run-is s line a) in
-    let r = open-next s line a in
-    let t = ap (λ z. cond (leb 5 (run_len s line a) && z) (run_len s line a - 2) 0) (heads-is s line a h) in
-    omega arith
+place-step s line a h = grind (arith, balance, left-is, five-is, begins_long_run-is, open-next, heads-is)
 
 -- the cost counted at the first n modules plus the open cost at module n equals the cost of the runs that begin at the
 -- first n modules
 places-sum : (s : ℕ) (line : ℕ → Bool) (n : ℕ) → n ≤ s → sum_below n (place_at s line) + open_at s line n ≡ sum_below n (cost_at s line)
 places-sum s line zero h = refl
-places-sum s line (suc n) h =
-    let a = places-sum s line n (omega arith) in
-    let b = place-step s line n (omega arith) in
-    let e : n + 1 ≡ suc n = omega arith in
-    let f = ap (open_at s line) e in
-    omega arith
+places-sum s line (suc n) h = search (arith, place-step, places-sum s line n (omega arith))
 
 -- the open cost past the last module, at s, is 0
 open-end : (s : ℕ) (line : ℕ → Bool) → open_at s line s ≡ 0
-open-end s line = elim (cases_lt 0 s) [
-  | inl h ↦ ap (λ z. cond z (left s line s - 3) 0) (and-false (ltb 0 s) (joins s line (s - 1)) (joins-past s line (s - 1) (omega arith)))
-  | inr h ↦ let e : ltb 0 s ≡ false = grind (arith, nat_tests) in ap (λ z. cond (z && joins s line (s - 1)) (left s line s - 3) 0) e
-]
+open-end s line = search (arith, and-false, joins-past, nat_tests)
 
 -- the cost of the maximal runs of s modules is 1 for each module at which five modules of one colour begin, and 2 more for
 -- each such module before which there is no module or a module of another colour
