@@ -239,10 +239,12 @@ uint8_t qrproved_read(const uint8_t *modules, size_t modules_len, uint32_t side,
  * side   number of modules on a side: 21, 25, and so on to 177
  * bytes  the buffer for the content; QRPROVED_BYTES_MAX bytes suffice for any symbol
  *
- * The format information is the level and the mask, and a symbol contains two copies of it. The first copy, which is beside
- * the top left finder pattern, is used if at most three of its 15 modules are wrong. If more than three are wrong, or if
- * some block cannot be mended with this level and mask, the second copy is used on the same condition. In the format
- * information a module that is not known is read as a dark module.
+ * The format information is the level and the mask, and a symbol contains two copies of it, of 15 modules each. Beside a
+ * level and a mask, a copy costs 1 for each module that is not known and 2 for each other module that is wrong. A level and a
+ * mask are tried if a copy costs at most 6, so at most two pairs are. Of those with which every block can be mended, the one
+ * beside which both copies together cost less is used; at the same cost, the one of the first copy, which is beside the top
+ * left finder pattern. So a symbol whose blocks can be mended is mended to exactly itself if both copies together cost at
+ * most 13, as with any six wrong modules; and also if one copy costs at most 6, and no other pair that is tried mends it.
  *
  * In each block the call mends at most changed_allowed wrong codewords, which is the number that the standard allows. A
  * codeword with a module that is not known counts half as much as a wrong codeword. In each block, add the number of such
@@ -264,9 +266,9 @@ uint8_t qrproved_read(const uint8_t *modules, size_t modules_len, uint32_t side,
  *   SIDE      no version has this side
  *   ROOM      modules_len is less than side times side
  *   SETTINGS  a byte among the first side times side bytes is more than 2
- *   FORMAT    both copies differ from the format information of every level and mask in more than three modules
- *   CHECK     with each level and mask whose format information differs from a copy in at most three modules, some block
- *             has more codewords that are wrong or not known than can be mended
+ *   FORMAT    each copy costs more than 6 beside every level and mask
+ *   CHECK     with each level and mask beside which a copy costs at most 6, some block has more codewords that are wrong or
+ *             not known than can be mended
  *   SEGMENTS  the mended data codewords cannot be parsed
  *   ROOM      bytes_len is less than the number of bytes that the symbol contains
  *   DONE      the call succeeded

@@ -158,6 +158,28 @@ class Case:
         lost = to_word(self.square, self.version, 0, word)
         return self.damaged(codewords + lost + self.numbers.some(self.second, 3), len(lost) + 3, self.bound)
 
+    def toward_another_level(self, copy):
+        """Nothing is wrong but the modules of a copy that make it near to the word of another level, with the same mask: of as
+        many blocks, if there is one, and then a weaker level mends them too. At most six modules are wrong in all."""
+        alike = [level for level in LEVELS if level != self.level
+                 and squares.BLOCKS[level][self.version - 1] == self.block_count] or [it for it in LEVELS if it != self.level]
+        word = format_word(self.level, self.mask) ^ format_word(self.numbers.one(alike), self.mask)
+        apart = [place for i, place in enumerate((self.first, self.second)[copy]) if word >> i & 1]
+        wrong = self.numbers.some(apart, len(apart) - 3)
+        more = self.numbers.some((self.second, self.first)[copy], self.numbers.below(7 - len(wrong)))
+        return self.damaged(wrong + more, len(wrong) + len(more), 0)
+
+    def six_of_the_format(self):
+        """Any six modules of both copies are wrong, and the codewords of each block to the bound."""
+        return self.damaged(self.codewords_wrong() + self.numbers.some(self.first + self.second, 6), 6, self.bound)
+
+    def format_not_known(self):
+        """Of both copies k modules are not known and t others are wrong, with k + 2t = 13; codewords are wrong to the bound."""
+        wrong = self.numbers.below(7)
+        places = self.numbers.some(self.first + self.second, 13 - wrong)
+        square, wanted = self.damaged(self.codewords_wrong() + places[:wrong], 13 - wrong, self.bound)
+        return unread(square, places[wrong:]), {**wanted, "wrong_modules": wanted["wrong_modules"] + 13 - 2 * wrong}
+
     def one_more(self):
         """One more codeword of a block is wrong: what the decoder says is wanted."""
         more = [0] * self.block_count
@@ -212,9 +234,12 @@ class Case:
         return square, reading(square, self.version)
 
     def first_copy_not_known(self):
-        """No module of the first copy of the format information is known: what the model says is wanted."""
-        square = unread(self.square, self.first)
-        return square, reading(square, self.version)
+        """No module of the first copy of the format information is known, and in the second three are wrong or six not known."""
+        if self.numbers.below(2):
+            square, wanted = self.damaged(self.numbers.some(self.second, 3), 18, 0)
+            return unread(square, self.first), {**wanted, "wrong_modules": 18}
+        places = self.first + self.numbers.some(self.second, 6)
+        return unread(self.square, places), {**self.wanted, "wrong_modules": 21, "wrong_format_modules": 21}
 
     def outside_not_known(self):
         """No function pattern, no version information and no remainder bit is known."""
@@ -244,6 +269,10 @@ class Case:
         yield "damaged to the bound, and three modules of the first copy", self.to_the_bound()
         yield "damaged to the bound, the first copy and all patterns lost, three modules of the second", self.without_first_copy()
         yield "damaged to the bound, the first copy near to a wrong word, three modules of the second", self.by_a_wrong_first_copy()
+        yield "the first copy near to the word of another level", self.toward_another_level(0)
+        yield "the second copy near to the word of another level", self.toward_another_level(1)
+        yield "damaged to the bound, and six modules of the format information", self.six_of_the_format()
+        yield "damaged to the bound, and modules of the format information not known", self.format_not_known()
         yield "one more codeword wrong", self.one_more()
         yield "one more codeword wrong, nearer to another message", self.nearer_to_another()
         yield "modules not known and codewords wrong to the bound", self.not_known()

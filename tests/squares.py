@@ -321,14 +321,18 @@ def parsed(data, version):
 
 # ---- the reading of a damaged square
 
-def near_format(square, version, copy):
-    """Returns the level and the mask whose format information differs in three modules at most from a copy, or None."""
-    word = sum(square[place] << i for i, place in enumerate(layout(version).formats[copy]))
-    for level in LEVELS:
-        for mask in range(8):
-            if bin(word ^ format_word(level, mask)).count("1") <= 3:
-                return level, mask
-    return None
+def format_cost(given, version, level, mask):
+    """Returns for each copy of the format information how many modules are not known, and twice how many others are wrong."""
+    word = format_word(level, mask)
+    return [sum(1 if given[place] == 2 else 2 * (given[place] != word >> i & 1) for i, place in enumerate(copy))
+            for copy in layout(version).formats]
+
+
+def formats_near(given, version):
+    """Returns the levels and masks that are near to a copy, with a cost of at most 6: the least cost of both copies first."""
+    costs = {(level, mask): format_cost(given, version, level, mask) for level in LEVELS for mask in range(8)}
+    near = [it for copy in (0, 1) for it in costs if costs[it][copy] <= 6]
+    return sorted(dict.fromkeys(near), key=lambda it: sum(costs[it]))
 
 
 def erased_in(square, version):
@@ -365,12 +369,12 @@ def differences(a, b):
 
 def reading(given, version):
     """Returns what a damaged square says, in the words of the library's struct; or the name of the status. A module is 0, 1, or
-    2 if it is not known; in the format information it is then taken as 1."""
+    2 if it is not known."""
     erased, square = erased_in(given, version), bytes(min(module, 1) for module in given)
-    near = [near_format(square, version, copy) for copy in (0, 1)]
-    if near == [None, None]:
+    near = formats_near(given, version)
+    if not near:
         return "FORMAT"
-    for level, mask in dict.fromkeys(it for it in near if it):
+    for level, mask in near:
         found = mended_codewords(square, version, level, mask, erased)
         if found:
             break

@@ -7,7 +7,6 @@ pub mod block
 pub mod erasures
 pub mod format
 pub mod message
-pub mod unread
 pub mod mending
 pub mod series
 pub mod laws

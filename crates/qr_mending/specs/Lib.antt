@@ -3,7 +3,6 @@ pub mod Erasures
 pub mod Distance
 pub mod Format
 pub mod Message
-pub mod Unread
 pub mod Mending
 pub mod Series
 pub mod Modules

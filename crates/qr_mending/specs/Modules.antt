@@ -9,7 +9,7 @@ use Rattle.qr_layout.specs.Order.{IsOrder}
 use Rattle.qr_matrix.specs.Grid.{Grid, colour}
 use Rattle.qr_symbol.specs.Interleaving.{block_len, correction_sizes, codeword_count, data_sizes, IsPositionOrder, Position}
 use Rattle.qr_symbol.specs.Distance.{blocks_in}
-use Rattle.qr_mending.specs.declared.format.FormatCopy.TheVariants.{First}
+use Rattle.qr_mending.specs.declared.format.FormatCopy.TheVariants.{First, Second}
 use Rattle.qr_mending.specs.Format.{bit_difference, bit_differences, copy_bit}
 use Rattle.qr_mending.specs.Message.{tolerance_of}
 
@@ -44,11 +44,11 @@ part_differences g h places positions first i (suc n) =
     + part_differences g h places positions first i n
 
 -- `DifferInFewModules v l g h` holds if the squares `g` and `h` of modules differ in few modules. The two squares have
--- version `v` and level `l`. In the first copy of the format information at most three modules differ. In each block,
+-- version `v` and level `l`. At most six of the 30 modules of format information differ. In each block,
 -- the number of modules that differ is at most the number of codewords that can be corrected in a block
 -- (ISO/IEC 18004:2015, 7.5.1, 7.9.1).
 pub record DifferInFewModules (v : ℕ) (l : Level) (g h : Grid) : Type 0 where
-  pub format : bit_differences 15 (copy_bit First g) (copy_bit First h) ≤ 3
+  pub format : bit_differences 15 (copy_bit First g) (copy_bit First h) + bit_differences 15 (copy_bit Second g) (copy_bit Second h) ≤ 6
   pub places : List Module
   pub order : IsOrder v places
   pub data_positions : List Position

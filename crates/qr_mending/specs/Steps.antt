@@ -5,4 +5,3 @@ pub mod Sums
 pub mod Polynomial
 pub mod Errors
 pub mod Roots
-pub mod Marks

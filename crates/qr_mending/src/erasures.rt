@@ -112,6 +112,9 @@ pub fn mend_with_erasures(
     if unread > spare {
         return None;
     }
+    if is_block(divisor, codewords) {
+        return Some(0);
+    }
     let mended = candidate(divisor.count(), spare, erased, codewords);
     let misread = count_misread(codewords, erased, mended.as_slice());
     if unread + 2 * misread > spare || !is_block(divisor, mended.as_slice()) {

@@ -3,13 +3,12 @@
 //! nothing: the contract of such a function is the law. Each function that contains code mends one or more symbols, and
 //! its contract is a law about the result.
 
-ghost use Rattle.std.specs.Prelude.{◌≡◌, ◌≢◌, ◌↔◌, ◌⊎◌, Err, ℕ, ◌*◌, ◌/◌, ◌≤◌, false, List, length, replicate, Option, None, Some, MatchResult};
+ghost use Rattle.std.specs.Prelude.{◌≡◌, ◌≢◌, ◌↔◌, ◌⊎◌, Err, ℕ, ◌*◌, ◌/◌, ◌<◌, ◌≤◌, false, List, length, replicate, Option, None, Some, MatchResult};
 ghost use Rattle.std.specs.List.{All};
 ghost use Rattle.qr_layout.specs.declared.level.Level.{Level};
 ghost use Rattle.qr_bits.specs.declared.modes.Rule.{Rule};
 ghost use Rattle.qr_bits.specs.Parsing.{Content};
-ghost use Rattle.qr_matrix.specs.Difference.{difference_count};
-ghost use Rattle.qr_matrix.specs.Grid.{Grid, IsSquare};
+ghost use Rattle.qr_matrix.specs.Grid.{Grid, IsSquare, light};
 ghost use Rattle.qr_symbol.specs.declared.fault.ReadFault.{ReadFault};
 ghost use Rattle.qr_symbol.specs.Distance.{blocks_in};
 ghost use Rattle.qr_symbol.specs.Encoding.{IsSymbol};
@@ -22,15 +21,14 @@ ghost use Rattle.qr_mending.specs.Block.{IsMended};
 ghost use Rattle.qr_mending.specs.Erasures.{read_of, IsMendedWithErasures};
 ghost use Rattle.qr_mending.specs.Distance.{SymbolsLieApart};
 ghost use Rattle.qr_mending.specs.declared.format.FormatCopy.{FormatCopy};
-ghost use Rattle.qr_mending.specs.Format.{IsNearFormat};
+ghost use Rattle.qr_mending.specs.Format.{format_cost, IsNearFormat};
 ghost use Rattle.qr_mending.specs.Message.{protection_of, tolerance_of, IsMendedIn};
-ghost use Rattle.qr_mending.specs.Mending.{wrong_count, wrong_format_modules, wrong_format_modules_without, HasFormat, HasFormatWithout, HasWrongModules, HasWrongModulesWithout, HoldsDamaged, HoldsDamagedWithout, IsMendedReading, IsMendedReadingWithout, IsUnmended, IsUnmendedWithout};
+ghost use Rattle.qr_mending.specs.Mending.{wrong_format_modules, wrong_modules, HasFormat, HasWrongModules, HoldsDamaged, IsMendedReading, IsUnmended};
 ghost use Rattle.qr_mending.specs.Modules.{DifferInFewModules};
 ghost use Rattle.qr_mending.specs.Series.{AreDamagedSquares, IsUnmendedSeries};
 
-use crate::mending::{Mended, mend_symbol};
+use crate::mending::{Mended, mend_symbol, mend_symbol_without};
 use crate::series::mend_series;
-use crate::without::mend_symbol_without;
 use qr_bits::Rule;
 use qr_layout::{Level, Version};
 use qr_matrix::Matrix;
@@ -65,8 +63,8 @@ pub fn blocks_without_erasures_are_mended_alike()
 /// At most one pair of level and mask is near to a given copy of the format information in a symbol. A pair of level
 /// and mask is near to a copy if the format information of the pair differs from the copy in at most three modules.
 pub fn near_format_is_one()
-    ensures { (copy : FormatCopy) (g : Grid) (l k : Level) (m n : ℕ) → IsNearFormat copy g l m → IsNearFormat copy g k n
-        → (l ≡ k) × (m ≡ n) }
+    ensures { (unknown : Grid) (copy : FormatCopy) (g : Grid) (l k : Level) (m n : ℕ) → IsNearFormat unknown copy g l m
+        → IsNearFormat unknown copy g k n → (l ≡ k) × (m ≡ n) }
 {}
 
 /// In seven combinations of version and level, the number of codewords that can be corrected in a block agrees with
@@ -87,7 +85,8 @@ pub fn tolerances_compute()
 /// A message is the list of the data codewords of a symbol. The codewords that were read from a damaged symbol can be
 /// mended to at most one message. A damaged symbol determines the number of changed codewords in each block.
 pub fn mended_messages_are_one(version: Version, level: Level)
-    ensures { (cw m n x y : List ℕ) → IsMendedIn version level cw m x → IsMendedIn version level cw n y
+    ensures { (unknown : Grid) (cw m n x y : List ℕ) → IsMendedIn unknown version level cw m x
+        → IsMendedIn unknown version level cw n y
         → (m ≡ n) × (x ≡ y) }
 {}
 
@@ -95,23 +94,23 @@ pub fn mended_messages_are_one(version: Version, level: Level)
 /// the level, the mask and the number of changed codewords in each block. The law holds for symbols whose modules were
 /// all read, and for symbols with modules that were not read.
 pub fn mended_readings_are_one()
-    ensures { (unknown : Option Grid) (g : Grid) (v w : ℕ) (l k : Level) (m n : ℕ) (p q : Content) (x y : List ℕ)
-        → IsMendedReadingWithout unknown g v l m p x → IsMendedReadingWithout unknown g w k n q y
+    ensures { (unknown : Grid) (g : Grid) (v w : ℕ) (l k : Level) (m n : ℕ) (p q : Content) (x y : List ℕ)
+        → IsMendedReading unknown g v l m p x → IsMendedReading unknown g w k n q y
         → (v ≡ w) × (l ≡ k) × (m ≡ n) × (p ≡ q) × (x ≡ y) }
 {}
 
 /// A damaged symbol determines the number of its wrong modules. A module is wrong if it was not read, or if it does not
 /// have the colour that it has in the undamaged symbol.
 pub fn wrong_modules_are_one()
-    ensures { (unknown : Option Grid) (g : Grid) (v w : ℕ) (l k : Level) (m n : ℕ) (x y : List ℕ) (a b : ℕ)
-        → HasWrongModulesWithout unknown g v l m x a → HasWrongModulesWithout unknown g w k n y b → a ≡ b }
+    ensures { (unknown : Grid) (g : Grid) (v w : ℕ) (l k : Level) (m n : ℕ) (x y : List ℕ) (a b : ℕ)
+        → HasWrongModules unknown g v l m x a → HasWrongModules unknown g w k n y b → a ≡ b }
 {}
 
 /// If no module of a damaged symbol is wrong, its square of modules is equal to the square of the undamaged symbol.
 /// Conversely, if the two squares of the damaged and the undamaged symbol are equal, no module is wrong.
 pub fn sound_squares_are_symbols()
     ensures { (g : Grid) (v : ℕ) (l : Level) (mask : ℕ) (changed : List ℕ) (wrong : ℕ)
-        → IsSquare g.side g → (w : HasWrongModules g v l mask changed wrong)
+        → IsSquare g.side g → (w : HasWrongModules (light g.side) g v l mask changed wrong)
         → (wrong ≡ 0) ↔ (g ≡ grid_of v l mask w.differs.codewords) }
 {}
 
@@ -119,7 +118,7 @@ pub fn sound_squares_are_symbols()
 /// a square that can be read without mending changes no codeword.
 pub fn readings_are_mended_readings()
     ensures { (g : Grid) (p : Content) → (h : IsReading g p)
-        → IsMendedReading g h.version h.level h.mask p (replicate (blocks_in h.version h.level) 0) }
+        → IsMendedReading (light g.side) g h.version h.level h.mask p (replicate (blocks_in h.version h.level) 0) }
 {}
 
 /// The result of mending a symbol contains a list with the number of changed codewords of each block. The list of the
@@ -127,49 +126,35 @@ pub fn readings_are_mended_readings()
 /// block. For every version and level, the number of codewords that can be corrected in a block is at least 2 and at
 /// most 15.
 pub fn changes_are_bounded()
-    ensures some { (unknown : Option Grid) (g : Grid) (v : ℕ) (l : Level) (m : ℕ) (p : Content) (x : List ℕ)
-        → IsMendedReadingWithout unknown g v l m p x → 1 ≤ length x }
-    ensures few { (unknown : Option Grid) (g : Grid) (v : ℕ) (l : Level) (m : ℕ) (p : Content) (x : List ℕ)
-        → IsMendedReadingWithout unknown g v l m p x → All (λ n. n ≤ tolerance_of v l) x }
+    ensures some { (unknown : Grid) (g : Grid) (v : ℕ) (l : Level) (m : ℕ) (p : Content) (x : List ℕ)
+        → IsMendedReading unknown g v l m p x → 1 ≤ length x }
+    ensures few { (unknown : Grid) (g : Grid) (v : ℕ) (l : Level) (m : ℕ) (p : Content) (x : List ℕ)
+        → IsMendedReading unknown g v l m p x → All (λ n. n ≤ tolerance_of v l) x }
     ensures tolerance { (v : ℕ) (l : Level) → 1 ≤ v → v ≤ 40 → (2 ≤ tolerance_of v l) × (tolerance_of v l ≤ 15) }
 {}
 
 /// If a damaged symbol can be mended and read, it can be refused only for lack of memory.
 pub fn mended_readings_are_not_refused()
-    ensures { (unknown : Option Grid) (g : Grid) (v : ℕ) (l : Level) (m : ℕ) (p : Content) (x : List ℕ) (e : ReadFault)
-        → IsMendedReadingWithout unknown g v l m p x → IsUnmendedWithout unknown g e → e ≡ ReadFault.Memory }
+    ensures { (unknown : Grid) (g : Grid) (v : ℕ) (l : Level) (m : ℕ) (p : Content) (x : List ℕ) (e : ReadFault)
+        → IsMendedReading unknown g v l m p x → IsUnmended unknown g e → e ≡ ReadFault.Memory }
 {}
 
 /// Apart from lack of memory, there is at most one fault for which a given damaged symbol is refused.
 pub fn mending_refusals_are_one()
-    ensures { (unknown : Option Grid) (g : Grid) (e f : ReadFault) → IsUnmendedWithout unknown g e
-        → IsUnmendedWithout unknown g f
+    ensures { (unknown : Grid) (g : Grid) (e f : ReadFault) → IsUnmended unknown g e
+        → IsUnmended unknown g f
         → (e ≡ ReadFault.Memory) ⊎ (f ≡ ReadFault.Memory) ⊎ (e ≡ f) }
 {}
 
-/// The definition `IsUnmended` lists the reasons for each fault of mending a symbol. If `mend_symbol` returns a fault
-/// other than `Memory`, `IsUnmended` holds for the damaged symbol and this fault. Conversely, if `IsUnmended` holds for
-/// the damaged symbol and a fault other than `Memory`, `mend_symbol` returns this fault unless memory is refused.
-pub fn mendings_are_refused_exactly(alloc: Global, damaged: &Matrix) -> Result<Mended, ReadFault>
-    ensures { (e : ReadFault) → e ≢ ReadFault.Memory
-        → (result ≡ Err e) ↔ ((result ≢ Err ReadFault.Memory) × IsUnmended damaged.now e) }
-{
-    mend_symbol(alloc, damaged)
-}
-
-/// The definition `IsUnmendedWithout` lists the reasons for each fault of mending a symbol in which some modules could
-/// not be read. If `mend_symbol_without` returns a fault other than `Memory`, `IsUnmendedWithout` holds for the damaged
-/// symbol and this fault. Conversely, if `IsUnmendedWithout` holds for the damaged symbol and a fault other than
-/// `Memory`, `mend_symbol_without` returns this fault unless memory is refused. A module was not read if it is dark in
-/// the square `unknown`.
-pub fn mendings_without_are_refused_exactly(
+/// A symbol is refused for a fault other than `Memory` exactly if `IsUnmended` lists the fault, unless memory is refused.
+pub fn mendings_are_refused_exactly(
     alloc: Global,
     damaged: &Matrix,
     unknown: &Matrix,
 ) -> Result<Mended, ReadFault>
     requires { unknown.now.side ≡ damaged.now.side }
     ensures { (e : ReadFault) → e ≢ ReadFault.Memory
-        → (result ≡ Err e) ↔ ((result ≢ Err ReadFault.Memory) × IsUnmendedWithout (Some unknown.now) damaged.now e) }
+        → (result ≡ Err e) ↔ ((result ≢ Err ReadFault.Memory) × IsUnmended unknown.now damaged.now e) }
 {
     mend_symbol_without(alloc, damaged, unknown)
 }
@@ -182,35 +167,23 @@ pub fn symbols_lie_apart(version: Version)
     ensures { SymbolsLieApart version }
 {}
 
-/// If the symbol of an input is damaged, mending the symbol yields exactly this input, or memory is refused. `damaged`
-/// may be any square of modules with as many rows as the symbol, under two conditions. The first condition is that no
-/// block has more wrong codewords than the function `changed_max` returns. The second condition is that at most three
-/// modules of the first copy of the format information are wrong. If the symbol cannot be mended with the first copy of
-/// the format information, it is enough that at most three modules of the second copy are wrong. The modules of the
-/// function patterns, the version information and the remainder bits may have any colour. The result contains the exact
-/// numbers of changed codewords and of wrong modules.
-pub fn damaged_symbols_are_mended(alloc: Global, damaged: &Matrix) -> Result<Mended, ReadFault>
-    ensures { (smallest : ℕ) (l : Level) (rule : Rule) (x : List ℕ) (v mask : ℕ) (g : Grid) (changed : List ℕ)
-        → 1 ≤ smallest → (s : IsSymbol smallest l rule x v mask g) → damaged.now.side ≡ g.side
-        → HasFormat v damaged.now l mask → HoldsDamaged v l mask damaged.now s.made.message changed
-        → MatchResult result
-        (λ m. (m.version ≡ v) × (m.level ≡ l) × (m.mask ≡ mask)
-        × (m.parsed ≡ record { header = None; segments = s.made.segments; bytes = x })
-        × (m.changed.items ≡ changed) × (m.wrong_modules ≡ difference_count damaged.now g)
-        × (m.wrong_format_modules ≡ wrong_format_modules damaged.now l mask)) (λ e. e ≡ ReadFault.Memory) }
-{
-    mend_symbol(alloc, damaged)
-}
+/// The level and the mask with which a symbol is read are those of it, if the 30 modules of format information cost at most
+/// 13 with them: one for each module that was not read, two for each misread one. They are so too if they are near to one
+/// copy, whatever the other shows, and no others that are near to a copy mend the symbol.
+pub fn formats_are_found()
+    ensures sure { (unknown : Grid) (v : ℕ) (g : Grid) (l : Level) (mask : ℕ) → mask < 8 → format_cost unknown g l mask ≤ 13
+        → HasFormat unknown v g l mask }
+    ensures alone { (unknown : Grid) (v : ℕ) (g : Grid) (l : Level) (mask : ℕ) (copy : FormatCopy)
+        → IsNearFormat unknown copy g l mask
+        → ((other : FormatCopy) (k : Level) (n : ℕ) → IsNearFormat unknown other g k n → (message changed : List ℕ)
+        → HoldsDamaged unknown v k n g message changed → (k ≡ l) × (n ≡ mask))
+        → HasFormat unknown v g l mask }
+{}
 
-/// If the symbol of an input is damaged and some modules could not be read, mending the symbol yields exactly this
-/// input, or memory is refused. A module that could not be read is dark in the square `unknown`, and its codeword is
-/// called erased. `damaged` may be any square of modules with as many rows as the symbol, under two conditions. The
-/// first condition is that in each block the number of erased codewords, plus twice the number of misread codewords, is
-/// at most twice the result of `changed_max`. The second condition is that in `damaged` at most three modules of the
-/// first copy of the format information have a wrong colour. If the symbol cannot be mended with the first copy of the
-/// format information, it is enough that at most three modules of the second copy have a wrong colour in `damaged`. The
-/// result contains the exact numbers of misread codewords and of wrong modules.
-pub fn damaged_symbols_without_modules_are_mended(
+/// If the symbol of an input is damaged, mending yields exactly this input, or memory is refused. Its blocks have to be within
+/// what can be mended, and the format information has to give its level and mask (`formats_are_found`). All else may be
+/// ruined. The numbers of misread codewords and of wrong modules are exact.
+pub fn damaged_symbols_are_mended(
     alloc: Global,
     damaged: &Matrix,
     unknown: &Matrix,
@@ -218,24 +191,20 @@ pub fn damaged_symbols_without_modules_are_mended(
     requires { unknown.now.side ≡ damaged.now.side }
     ensures { (smallest : ℕ) (l : Level) (rule : Rule) (x : List ℕ) (v mask : ℕ) (g : Grid) (misread : List ℕ)
         → 1 ≤ smallest → (s : IsSymbol smallest l rule x v mask g) → damaged.now.side ≡ g.side
-        → HasFormatWithout (Some unknown.now) v damaged.now l mask
-        → HoldsDamagedWithout (Some unknown.now) v l mask damaged.now s.made.message misread
+        → HasFormat unknown.now v damaged.now l mask
+        → HoldsDamaged unknown.now v l mask damaged.now s.made.message misread
         → MatchResult result
         (λ m. (m.version ≡ v) × (m.level ≡ l) × (m.mask ≡ mask)
         × (m.parsed ≡ record { header = None; segments = s.made.segments; bytes = x })
-        × (m.changed.items ≡ misread) × (m.wrong_modules ≡ wrong_count unknown.now damaged.now g)
-        × (m.wrong_format_modules ≡ wrong_format_modules_without (Some unknown.now) damaged.now l mask))
-        (λ e. e ≡ ReadFault.Memory) }
+        × (m.changed.items ≡ misread) × (m.wrong_modules ≡ wrong_modules unknown.now damaged.now g)
+        × (m.wrong_format_modules ≡ wrong_format_modules unknown.now damaged.now l mask)) (λ e. e ≡ ReadFault.Memory) }
 {
     mend_symbol_without(alloc, damaged, unknown)
 }
 
-/// If few modules of the symbol of an input are wrong, mending the symbol yields exactly this input, or memory is
-/// refused. The law has two conditions. The first condition is that no block has more wrong modules than the function
-/// `changed_max` returns. The second condition is that at most three modules of the first copy of the format
-/// information are wrong. The function `changed_max` returns the number of codewords that can be corrected in a block.
-/// The modules of the function patterns, the second copy of the format information, the version information and the
-/// remainder bits may have any colour.
+/// If few modules of the symbol of an input are wrong, mending yields exactly this input, or memory is refused: at most six of
+/// the 30 modules of format information, and in each block at most `changed_max`. Those of function patterns, version
+/// information and remainder bits may have any colour.
 pub fn few_wrong_modules_are_mended(alloc: Global, damaged: &Matrix) -> Result<Mended, ReadFault>
     ensures { (smallest : ℕ) (l : Level) (rule : Rule) (x : List ℕ) (v mask : ℕ) (g : Grid) → 1 ≤ smallest
         → (s : IsSymbol smallest l rule x v mask g) → damaged.now.side ≡ g.side → DifferInFewModules v l damaged.now g

@@ -1,8 +1,6 @@
-//! Mends damaged QR Code symbols: reads them and corrects their wrong codewords (ISO/IEC 18004:2015, 7.5.1, 7.9.1 and
-//! 12, Annexes B and C). A symbol contains two copies of its format information. To find the level and the mask of a
-//! symbol, one copy of its format information is compared with the format information of each level and mask. A level
-//! and a mask are found if their format information differs from the compared copy in at most three modules. A block
-//! can be mended if the number of its wrong codewords is at most the number that the standard allows.
+//! Mends damaged QR Code symbols: reads them and corrects their damage (ISO/IEC 18004:2015, 7.5.1, 7.9.1 and 12, Annexes B and
+//! C). A block is mended if no more of its codewords are wrong than the standard allows. The level and the mask are found by
+//! the two copies of the format information, and by the blocks, which they have to mend.
 #![tactic(auto)]
 
 mod block;
@@ -17,12 +15,9 @@ mod polynomial;
 mod roots;
 mod series;
 mod sums;
-mod unread;
-mod without;
 
 pub use block::mend;
 pub use erasures::mend_with_erasures;
-pub use mending::{Mended, mend_symbol};
+pub use mending::{Mended, mend_symbol, mend_symbol_without};
 pub use message::changed_max;
 pub use series::mend_series;
-pub use without::mend_symbol_without;

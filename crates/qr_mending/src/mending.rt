@@ -1,62 +1,63 @@
-//! Reads damaged symbols and corrects their wrong codewords (ISO/IEC 18004:2015, 7.5.1, 7.9.1 and 12).
+//! Mends and reads damaged symbols (ISO/IEC 18004:2015, 7.5.1, 7.9.1 and 12). The square `unknown` is dark where a module of
+//! `matrix` was not read. `marks` has a byte for each codeword of the symbol, which is 0 exactly if all its modules were read.
 
-ghost use Rattle.std.specs.Prelude.{◌≡◌, ◌<◌, ◌⊎◌, length, IfErr, IfOk, Option, MatchOption, MatchResult};
+ghost use Rattle.std.specs.Prelude.{◌≡◌, ◌<◌, ◌≤◌, length, IfErr, IfOk, Some, MatchOption, MatchResult};
 ghost use Rattle.qr_layout.specs.Blocks.{data_codewords_of};
 ghost use Rattle.qr_layout.specs.Version.{side_of, total_codewords_of};
-ghost use Rattle.qr_matrix.specs.Grid.{Grid};
+ghost use Rattle.qr_matrix.specs.Grid.{colour, light};
+ghost use Rattle.qr_matrix.specs.Penalty.{sum_below};
 ghost use Rattle.qr_symbol.specs.declared.fault.ReadFault.{ReadFault};
 ghost use Rattle.qr_mending.specs.declared.format.FormatCopy.{FormatCopy};
-ghost use Rattle.qr_mending.specs.Format.{IsNearFormat};
-ghost use Rattle.qr_mending.specs.Mending.{wrong_format_modules, DiffersFromSymbol, HasFormat, HasFormatWithout, HasWrongModules, HoldsDamaged, HoldsDamagedWithout, IsMendedReading, IsOfNoUse, IsOfNoUseWithout, IsUnmended};
-ghost use Rattle.qr_mending.specs.Steps.Marks.{HasMarks};
+ghost use Rattle.qr_mending.specs.Format.{format_cost, wrong_bit, IsNearFormat};
+ghost use Rattle.qr_mending.specs.Mending.{wrong_format_modules, wrong_modules, DiffersFromSymbol, HasFormat, HasWrongModules, HoldsDamaged, IsMendedReading, IsOfNoUse, IsUnmended};
+ghost use Rattle.qr_mending.specs.Message.{AreMarks};
 
-use crate::format::{FormatCopy, near_format_of, near_format_of_either, wrong_format_modules};
-use crate::message::MendedMessage;
-use crate::unread::mend_codewords;
+use crate::format::{
+    FormatCopy, format_cost, near_format_of, near_format_of_either, wrong_bit, wrong_format_modules,
+};
+use crate::message::{MendedMessage, mend_message, read_marks};
 use qr_bits::{Parsed, parse};
 use qr_layout::{Level, Version};
-use qr_matrix::{Matrix, differences};
+use qr_matrix::Matrix;
 use qr_symbol::{ReadFault, draw_symbol, interleave, read_codewords};
 use std::alloc::{AllocError, Global};
 
-// The mended data codewords of a damaged symbol. The symbol was read with the level `level` and the mask `mask`.
-// `message` contains the mended data codewords. `changed` contains for each block the number of its codewords that were
-// misread.
+// Where both copies cost at most this, every other level and mask cost more.
+const COST_CERTAIN: u8 = 13;
+
+// A symbol whose blocks were mended, with the level and the mask of which this was done.
 #[derive(Drop)]
-pub(crate) struct MendedSquare {
-    pub level: Level,
-    pub mask: u8,
-    pub message: Vec<u8>,
-    pub changed: Vec<usize>,
+struct MendedSquare {
+    level: Level,
+    mask: u8,
+    message: Vec<u8>,
+    changed: Vec<usize>,
 }
 
-// Mends the symbol in `matrix` by means of one copy of its format information. The symbol is read with the level and
-// the mask whose format information differs from this copy in at most three modules. `marks` is empty, or contains for
-// each codeword a mark that shows which modules of the codeword were not read. An erased codeword is known to be
-// unreadable. A codeword is erased if its mark is not 0. If `marks` is empty, no codeword is erased. Returns `None` if
-// the format information of every level and mask differs from this copy in more than three modules. If some block has
-// more erased and misread codewords than can be corrected, `None` is returned.
+// Mends the symbol with the level and the mask that are near to the copy, or returns `None` if that cannot be done.
 fn mend_by(
     alloc: Global,
     version: Version,
     copy: FormatCopy,
     matrix: &Matrix,
+    unknown: &Matrix,
     marks: &[u8],
 ) -> Result<Option<MendedSquare>, ReadFault>
     requires side { matrix.now.side ≡ side_of version }
-    requires marks { (length marks.now ≡ 0) ⊎ (length marks.now ≡ total_codewords_of version) }
-    ensures mended { (unknown : Option Grid) → HasMarks unknown version marks.now → IfOk result
-        (λ o. MatchOption o (IsOfNoUseWithout unknown copy version matrix.now)
-        (λ m. IsNearFormat copy matrix.now m.level m.mask
-        × HoldsDamagedWithout unknown version m.level m.mask matrix.now m.message.items m.changed.items
+    requires unknown_side { unknown.now.side ≡ side_of version }
+    requires marks { length marks.now ≡ total_codewords_of version }
+    requires erased { AreMarks version unknown.now marks.now }
+    ensures mended { IfOk result (λ o. MatchOption o (IsOfNoUse unknown.now copy version matrix.now)
+        (λ m. IsNearFormat unknown.now copy matrix.now m.level m.mask
+        × HoldsDamaged unknown.now version m.level m.mask matrix.now m.message.items m.changed.items
         × (length m.message.items ≡ data_codewords_of version m.level))) }
     ensures fault { IfErr result (λ e. e ≡ ReadFault.Memory) }
 {
-    let Some((level, mask)) = near_format_of(matrix, version, copy) else {
+    let Some((level, mask)) = near_format_of(matrix, unknown, version, copy) else {
         return Ok(None);
     };
     let codewords = read_codewords(alloc, version, mask, matrix)?;
-    match mend_codewords(alloc, version, level, &codewords, marks) {
+    match mend_message(alloc, version, level, &codewords, marks) {
         Ok(MendedMessage { message, changed }) => Ok(Some(MendedSquare {
             level,
             mask,
@@ -68,51 +69,102 @@ fn mend_by(
     }
 }
 
-// Mends the symbol in `matrix` by means of the first copy of its format information. If the symbol cannot be mended
-// with the first copy, the second copy of the format information is used. `marks` is empty, or contains for each
-// codeword a mark that shows which modules of the codeword were not read. An erased codeword is known to be unreadable.
-// A codeword is erased if its mark is not 0. If `marks` is empty, no codeword is erased. Returns `None` if the symbol
-// can be mended with neither copy of its format information.
-pub(crate) fn mend_by_either(
+// What the format information costs with the level and the mask of a mended symbol.
+fn cost_of(matrix: &Matrix, unknown: &Matrix, version: Version, mended: &MendedSquare) -> u8
+    requires side { matrix.now.side ≡ side_of version }
+    requires unknown_side { unknown.now.side ≡ side_of version }
+    requires mask_in { mended.now.mask < 8 }
+    ensures { result ≡ format_cost unknown.now matrix.now mended.now.level mended.now.mask }
+{
+    format_cost(matrix, unknown, version, mended.level, mended.mask)
+}
+
+// Mends the symbol with the level and the mask of the least rank, or returns `None` if no level and mask near to a copy mend
+// it. The second copy is not tried where the first gives a pair that is certain.
+fn mend_by_either(
     alloc: Global,
     version: Version,
     matrix: &Matrix,
+    unknown: &Matrix,
     marks: &[u8],
 ) -> Result<Option<MendedSquare>, ReadFault>
     requires side { matrix.now.side ≡ side_of version }
-    requires marks { (length marks.now ≡ 0) ⊎ (length marks.now ≡ total_codewords_of version) }
-    ensures mended { (unknown : Option Grid) → HasMarks unknown version marks.now → IfOk result
-        (λ o. MatchOption o ((any : FormatCopy) → IsOfNoUseWithout unknown any version matrix.now)
-        (λ m. HasFormatWithout unknown version matrix.now m.level m.mask
-        × HoldsDamagedWithout unknown version m.level m.mask matrix.now m.message.items m.changed.items
+    requires unknown_side { unknown.now.side ≡ side_of version }
+    requires marks { length marks.now ≡ total_codewords_of version }
+    requires erased { AreMarks version unknown.now marks.now }
+    ensures mended { IfOk result (λ o. MatchOption o ((any : FormatCopy) → IsOfNoUse unknown.now any version matrix.now)
+        (λ m. HasFormat unknown.now version matrix.now m.level m.mask
+        × HoldsDamaged unknown.now version m.level m.mask matrix.now m.message.items m.changed.items
         × (length m.message.items ≡ data_codewords_of version m.level))) }
     ensures fault { IfErr result (λ e. e ≡ ReadFault.Memory) }
 {
-    match mend_by(alloc, version, FormatCopy::First, matrix, marks)? {
-        Some(mended) => Ok(Some(mended)),
-        None => mend_by(alloc, version, FormatCopy::Second, matrix, marks),
+    let Some(first) = mend_by(alloc, version, FormatCopy::First, matrix, unknown, marks)? else {
+        return mend_by(alloc, version, FormatCopy::Second, matrix, unknown, marks);
+    };
+    let cost = cost_of(matrix, unknown, version, &first);
+    if cost <= COST_CERTAIN {
+        return Ok(Some(first));
     }
+    let Some(second) = mend_by(alloc, version, FormatCopy::Second, matrix, unknown, marks)? else {
+        return Ok(Some(first));
+    };
+    if cost_of(matrix, unknown, version, &second) < cost {
+        return Ok(Some(second));
+    }
+    Ok(Some(first))
 }
 
-// Mends the symbol in `matrix`. Every module of the symbol counts as read. Returns `None` if the symbol can be mended
-// with neither copy of its format information.
+// Reads the marks of the codewords, and mends the symbol.
 fn mend_square(
     alloc: Global,
     version: Version,
     matrix: &Matrix,
+    unknown: &Matrix,
 ) -> Result<Option<MendedSquare>, ReadFault>
-    requires { matrix.now.side ≡ side_of version }
-    ensures mended { IfOk result (λ o. MatchOption o ((any : FormatCopy) → IsOfNoUse any version matrix.now)
-        (λ m. HasFormat version matrix.now m.level m.mask
-        × HoldsDamaged version m.level m.mask matrix.now m.message.items m.changed.items
+    requires side { matrix.now.side ≡ side_of version }
+    requires unknown_side { unknown.now.side ≡ side_of version }
+    ensures mended { IfOk result (λ o. MatchOption o ((any : FormatCopy) → IsOfNoUse unknown.now any version matrix.now)
+        (λ m. HasFormat unknown.now version matrix.now m.level m.mask
+        × HoldsDamaged unknown.now version m.level m.mask matrix.now m.message.items m.changed.items
         × (length m.message.items ≡ data_codewords_of version m.level))) }
     ensures fault { IfErr result (λ e. e ≡ ReadFault.Memory) }
 {
-    mend_by_either(alloc, version, matrix, &[])
+    let marks = read_marks(alloc, version, unknown)?;
+    mend_by_either(alloc, version, matrix, unknown, &marks)
 }
 
-// Draws the undamaged symbol with the data codewords `message`. Returns the number of modules in which `matrix` differs
-// from this symbol.
+// The number of wrong modules in row `row`: not read, or of another colour than in `symbol`.
+fn wrong_in_row(unknown: &Matrix, matrix: &Matrix, symbol: &Matrix, row: u8) -> u32
+    requires unknown_side { unknown.now.side ≡ matrix.now.side }
+    requires side { symbol.now.side ≡ matrix.now.side }
+    requires row_in { row < matrix.now.side }
+    ensures value { result ≡ sum_below matrix.now.side
+        (λ c. wrong_bit (colour unknown.now row c) (colour matrix.now row c) (colour symbol.now row c)) }
+    ensures most { result ≤ matrix.now.side }
+{
+    let mut wrong = 0u32;
+    for col in 0..matrix.side() {
+        let is_unknown = unknown.dark(row, col);
+        let dark = matrix.dark(row, col);
+        wrong += u32::from(wrong_bit(is_unknown, dark, symbol.dark(row, col)));
+    }
+    wrong
+}
+
+// The number of wrong modules in all rows.
+fn count_wrong(unknown: &Matrix, matrix: &Matrix, symbol: &Matrix) -> u32
+    requires unknown_side { unknown.now.side ≡ matrix.now.side }
+    requires side { symbol.now.side ≡ matrix.now.side }
+    ensures { result ≡ wrong_modules unknown.now matrix.now symbol.now }
+{
+    let mut wrong = 0u32;
+    for row in 0..matrix.side() {
+        wrong += wrong_in_row(unknown, matrix, symbol, row);
+    }
+    wrong
+}
+
+// The number of wrong modules beside the undamaged symbol, which is drawn for it.
 fn count_wrong_modules(
     alloc: Global,
     version: Version,
@@ -120,15 +172,17 @@ fn count_wrong_modules(
     mask: u8,
     message: &[u8],
     matrix: &Matrix,
+    unknown: &Matrix,
 ) -> Result<u32, AllocError>
     requires whole { length message.now ≡ data_codewords_of version level }
     requires mask_in { mask < 8 }
     requires side { matrix.now.side ≡ side_of version }
-    ensures { IfOk result (DiffersFromSymbol matrix.now version level mask message.now) }
+    requires unknown_side { unknown.now.side ≡ side_of version }
+    ensures { IfOk result (DiffersFromSymbol unknown.now matrix.now version level mask message.now) }
 {
     let codewords = interleave(alloc, version, level, message)?;
     let symbol = draw_symbol(alloc, version, level, &codewords, mask)?;
-    Ok(differences(matrix, &symbol))
+    Ok(count_wrong(unknown, matrix, &symbol))
 }
 
 /// The content of a damaged symbol after its damage was corrected, and numbers that describe the damage.
@@ -153,36 +207,44 @@ pub struct Mended {
     pub changed: Vec<usize>,
 }
 
-/// Reads a damaged symbol and corrects its wrong codewords (ISO/IEC 18004:2015, 7.5.1, 7.9.1 and 12). The version
-/// follows from the number of rows of `matrix`. The level and the mask are found by means of the first copy of the
-/// format information, which is beside the top left finder pattern. The copy of the format information that is used
-/// differs in at most three modules from the format information of the level and mask that are found. If no level and
-/// mask are found with the first copy, or if some block cannot be mended, the second copy of the format information is
-/// used. The function `changed_max` returns the largest number of wrong codewords that are corrected in a block. The
-/// function patterns, the version information and the remainder bits have no effect on the content that is read. Wrong
-/// modules of the function patterns, the version information and the remainder bits are counted in
-/// `Mended::wrong_modules`.
+/// Reads a damaged symbol and corrects its damage (ISO/IEC 18004:2015, 7.5.1, 7.9.1 and 12). A module that was not read is
+/// dark in the square `unknown`, which has the side of `matrix`, and its codeword is called erased.
+///
+/// A block is mended if its erased codewords, and twice its misread ones, are at most twice `changed_max`. The level and the
+/// mask are found by the two copies of the format information, of 15 modules each. A copy admits a level and a mask if the
+/// modules of it that were not read, and twice those that are misread, are at most 6. Of the pairs that a copy admits and
+/// that mend every block, at most two, the one with the least such sum over both copies is taken, and of two with the same
+/// sum the one that the first copy admits.
+///
+/// So a symbol is mended to exactly itself if its blocks can be mended and that sum is at most 13 over both copies, as with
+/// any six wrong modules. Function patterns, version information and remainder bits have no effect on the content; their
+/// wrong modules are counted in `Mended::wrong_modules`.
 ///
 /// # Errors
 ///
-/// Returns `Side` if no version has as many rows as `matrix`. Returns `Format` if the format information of every level
-/// and mask differs from both copies in more than three modules. Returns `Check` if some block has more wrong codewords
-/// than can be corrected, whichever copy of the format information is used. Returns `Segments` if the mended data
-/// codewords cannot be parsed. Returns `Memory` if memory is refused.
-pub fn mend_symbol(alloc: Global, matrix: &Matrix) -> Result<Mended, ReadFault>
+/// Returns `Side` if no version has the side of `matrix`, `Format` if no copy admits a level and a mask, `Check` if no pair
+/// that a copy admits mends every block, `Segments` if the mended data codewords cannot be parsed, and `Memory` if memory is
+/// refused.
+pub fn mend_symbol_without(
+    alloc: Global,
+    matrix: &Matrix,
+    unknown: &Matrix,
+) -> Result<Mended, ReadFault>
+    requires { unknown.now.side ≡ matrix.now.side }
     ensures mended { MatchResult result
-        (λ m. IsMendedReading matrix.now m.version m.level m.mask m.parsed m.changed.items) (IsUnmended matrix.now) }
-    ensures format { IfOk result (λ m. m.wrong_format_modules ≡ wrong_format_modules matrix.now m.level m.mask) }
+        (λ m. IsMendedReading unknown.now matrix.now m.version m.level m.mask m.parsed m.changed.items)
+        (IsUnmended unknown.now matrix.now) }
+    ensures format { IfOk result (λ m. m.wrong_format_modules ≡ wrong_format_modules unknown.now matrix.now m.level m.mask) }
     ensures modules { IfOk result
-        (λ m. HasWrongModules matrix.now m.version m.level m.mask m.changed.items m.wrong_modules) }
+        (λ m. HasWrongModules unknown.now matrix.now m.version m.level m.mask m.changed.items m.wrong_modules) }
 {
     let Some(version) = Version::of_side(matrix.side()) else {
         return Err(ReadFault::Side);
     };
-    let Some(_) = near_format_of_either(matrix, version) else {
+    let Some(_) = near_format_of_either(matrix, unknown, version) else {
         return Err(ReadFault::Format);
     };
-    let Some(mended) = mend_square(alloc, version, matrix)? else {
+    let Some(mended) = mend_square(alloc, version, matrix, unknown)? else {
         return Err(ReadFault::Check);
     };
     let MendedSquare {
@@ -192,8 +254,10 @@ pub fn mend_symbol(alloc: Global, matrix: &Matrix) -> Result<Mended, ReadFault>
         changed,
     } = mended;
     let parsed = parse(alloc, &message, version)?;
-    let wrong_format_modules = wrong_format_modules(matrix, version, level, mask);
-    let wrong_modules = count_wrong_modules(alloc, version, level, mask, &message, matrix)?;
+    let wrong_format_modules = wrong_format_modules(matrix, unknown, version, level, mask);
+    let wrong_modules = count_wrong_modules(
+        alloc, version, level, mask, &message, matrix, unknown,
+    )?;
     Ok(Mended {
         version,
         level,
@@ -203,4 +267,22 @@ pub fn mend_symbol(alloc: Global, matrix: &Matrix) -> Result<Mended, ReadFault>
         wrong_modules,
         changed,
     })
+}
+
+/// As `mend_symbol_without`, for a symbol of which every module was read.
+///
+/// # Errors
+///
+/// Those of `mend_symbol_without`.
+pub fn mend_symbol(alloc: Global, matrix: &Matrix) -> Result<Mended, ReadFault>
+    ensures mended { MatchResult result
+        (λ m. IsMendedReading (light matrix.now.side) matrix.now m.version m.level m.mask m.parsed m.changed.items)
+        (IsUnmended (light matrix.now.side) matrix.now) }
+    ensures format { IfOk result
+        (λ m. m.wrong_format_modules ≡ wrong_format_modules (light matrix.now.side) matrix.now m.level m.mask) }
+    ensures modules { IfOk result (λ m. HasWrongModules (light matrix.now.side) matrix.now m.version m.level m.mask
+        m.changed.items m.wrong_modules) }
+{
+    let unknown = Matrix::new(alloc, matrix.side())?;
+    mend_symbol_without(alloc, matrix, &unknown)
 }

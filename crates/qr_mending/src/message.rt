@@ -1,109 +1,188 @@
-//! Mends the message of a damaged symbol: corrects the wrong codewords of each block. The message of a symbol is its
-//! data codewords (ISO/IEC 18004:2015, 7.5.1 and 7.6).
+//! Mends the message of a damaged symbol, which is its data codewords. A codeword is erased if one of its modules was not
+//! read (ISO/IEC 18004:2015, 7.5.1, 7.6 and 7.7.3).
 
-ghost use Rattle.std.specs.Prelude.{◌≡◌, ℕ, ◌+◌, ◌*◌, ◌≤◌, ◌⊎◌, ◌++◌, List, length, Err, IfOk, IfErr};
+ghost use Rattle.std.specs.Prelude.{◌≡◌, ℕ, ◌+◌, ◌*◌, ◌<◌, ◌≤◌, ◌==◌, ◌⊎◌, ◌++◌, not, map, List, length, Err, IfOk, IfErr, IfSome, IfNone};
 ghost use Rattle.qr_field.specs.Polynomial.{IsCorrection};
-ghost use Rattle.qr_field.specs.Distance.{differences};
-ghost use Rattle.qr_layout.specs.Blocks.{data_codewords_of};
-ghost use Rattle.qr_layout.specs.Version.{total_codewords_of};
+ghost use Rattle.qr_field.specs.Distance.{erasures, errors};
+ghost use Rattle.qr_layout.specs.Blocks.{blocks_of, data_codewords_of};
+ghost use Rattle.qr_layout.specs.Version.{side_of, total_codewords_of};
 ghost use Rattle.qr_symbol.specs.declared.fault.ReadFault.{ReadFault};
-ghost use Rattle.qr_symbol.specs.Interleaving.{block_count, codeword_count, data_sizes, correction_sizes};
-ghost use Rattle.qr_mending.specs.Message.{protection_of, tolerance_of, AreMended, IsMendedIn, IsMendedMessage};
-ghost use Rattle.qr_mending.specs.Unread.{spare_of};
+ghost use Rattle.qr_symbol.specs.Interleaving.{block_count, block_len, codeword_count, data_sizes, correction_sizes};
+ghost use Rattle.qr_mending.specs.Erasures.{read_of};
+ghost use Rattle.qr_mending.specs.Message.{received, protection_of, spare_of, tolerance_of, AreInBlocks, AreMarks, AreMended, IsMendedMessage};
 
-use crate::block::mend;
+use crate::erasures::mend_with_erasures;
 use qr_field::Divisor;
-use qr_layout::{Blocks, Level, Version};
+use qr_layout::{Blocks, Level, Version, walk};
+use qr_matrix::Matrix;
 use qr_symbol::{BlockSizes, ReadFault};
-use std::alloc::Global;
+use std::alloc::{AllocError, Global};
 
-// A mended block. `message` contains the data codewords of the block. `changed` is the number of codewords of the block
-// that were misread. Codewords that are known to be unreadable are not counted.
-#[derive(Drop)]
-pub(crate) struct MendedBlock {
-    pub message: Vec<u8>,
-    pub changed: usize,
-}
-
-// Mends a damaged block in which at most `t` codewords are wrong. `message` contains the data codewords that were read,
-// and `checks` contains the error correction codewords that were read. Returns `ReadFault::Check` if the codewords that
-// were read differ from every block in more than `t` codewords.
-fn mend_block(
+// Returns a mark for each codeword of a symbol. The mark of a codeword is a byte with one bit for each of the eight
+// modules of the codeword. The bit of a module is 1 if the module is dark in the square `unknown`, which means that the
+// module was not read. So the mark of a codeword is 0 exactly if all its modules were read.
+pub(crate) fn read_marks(
     alloc: Global,
-    divisor: &Divisor,
-    t: usize,
-    message: &[u8],
-    checks: &[u8],
-) -> Result<MendedBlock, ReadFault>
-    requires count { length checks.now ≡ divisor.now }
-    requires half { 2 * t ≤ divisor.now }
-    requires most { length message.now + length checks.now ≤ 255 }
-    ensures long { IfOk result (λ m. length m.message.items ≡ length message.now) }
-    ensures near { IfOk result (λ m. m.changed ≤ t) }
-    ensures mended { IfOk result (λ m. (e : List ℕ) × IsCorrection m.message.items divisor.now e
-        × (m.changed ≡ differences (message.now ++ checks.now) (m.message.items ++ e))) }
-    ensures refused { result ≡ Err ReadFault.Check → (d e : List ℕ) → length d ≡ length message.now
-        → IsCorrection d divisor.now e → differences (message.now ++ checks.now) (d ++ e) ≤ t → ⊥ }
-    ensures fault { IfErr result (λ e. (e ≡ ReadFault.Memory) ⊎ (e ≡ ReadFault.Check)) }
+    version: Version,
+    unknown: &Matrix,
+) -> Result<Vec<u8>, AllocError>
+    requires { unknown.now.side ≡ side_of version }
+    ensures marks { IfOk result (λ marks. AreMarks version unknown.now marks.items) }
+    ensures many { IfOk result (λ marks. length marks.items ≡ total_codewords_of version) }
 {
-    let mut codewords = Vec::with_capacity(alloc, message.len() + checks.len())?;
-    codewords.extend_from_slice(message)?;
-    codewords.extend_from_slice(checks)?;
-    let Some(changed) = mend(divisor, t, codewords.as_mut_slice()) else {
-        return Err(ReadFault::Check);
-    };
-    codewords.truncate(message.len());
-    Ok(MendedBlock {
-        message: codewords,
-        changed,
-    })
+    let mut marks = Vec::with_capacity(alloc, usize::from(version.total_codewords()))?;
+    let mut begun = 0u8;
+    let mut width = 0u8;
+    for module in walk(version) {
+        begun = 2 * begun + u8::from(unknown.dark(module.row, module.col));
+        width += 1;
+        if width == 8 {
+            marks.push(begun)?;
+            begun = 0;
+            width = 0;
+        }
+    }
+    Ok(marks)
 }
 
-// A mended message, which is the data codewords of a symbol. `message` contains the data codewords of all blocks, in
-// the order of the blocks. `changed` contains for each block the number of codewords that were misread. Codewords that
-// are known to be unreadable are not counted.
+// The codewords of a symbol, or the marks of these codewords, in the order of the blocks. The mark of a codeword shows
+// which of its modules were not read. `data` contains the data codewords or their marks. `checks` contains the error
+// correction codewords or their marks.
+#[derive(Drop)]
+struct InBlocks {
+    data: Vec<u8>,
+    checks: Vec<u8>,
+}
+
+// Undoes the interleaving of the codewords of a symbol, or of the marks of these codewords. `interleaved` contains the
+// codewords or the marks in interleaved order. Returns the codewords or the marks in the order of the blocks.
+fn in_blocks(alloc: Global, blocks: Blocks, interleaved: &[u8]) -> Result<InBlocks, AllocError>
+    requires { length interleaved.now ≡ codeword_count (data_sizes blocks) + codeword_count (correction_sizes blocks) }
+    ensures { IfOk result (λ b. AreInBlocks blocks interleaved.now b.data.items b.checks.items) }
+{
+    let data = BlockSizes::of_data(blocks).gather(alloc, interleaved)?;
+    let checks = BlockSizes::of_corrections(blocks).gather(alloc, &interleaved[data.len()..])?;
+    Ok(InBlocks { data, checks })
+}
+
+// Returns the block with index `block`: its data codewords, followed by its error correction codewords. If `parts`
+// contains marks instead of codewords, returns the marks of the codewords of the block.
+fn block_of(
+    alloc: Global,
+    blocks: Blocks,
+    parts: &InBlocks,
+    block: usize,
+) -> Result<Vec<u8>, AllocError>
+    requires within { block < block_count (data_sizes blocks) }
+    requires data { length parts.now.data.items ≡ codeword_count (data_sizes blocks) }
+    requires checks { length parts.now.checks.items ≡ codeword_count (correction_sizes blocks) }
+    ensures value { IfOk result
+        (λ codewords. codewords.items ≡ received blocks parts.now.data.items parts.now.checks.items block) }
+    ensures len { IfOk result (λ codewords. length codewords.items ≡ block_len (data_sizes blocks) block + blocks.ec_len) }
+{
+    let data = BlockSizes::of_data(blocks).part(&parts.data, block);
+    let checks = BlockSizes::of_corrections(blocks).part(&parts.checks, block);
+    let mut codewords = Vec::new(alloc);
+    codewords.extend_from_slice(data)?;
+    codewords.extend_from_slice(checks)?;
+    Ok(codewords)
+}
+
+// Returns for each mark in `marks` whether its codeword is erased. If a mark is not 0, some module of its codeword was
+// not read, and the codeword is erased.
+fn erased_of(alloc: Global, marks: &[u8]) -> Result<Vec<bool>, AllocError>
+    ensures { IfOk result (λ erased. erased.items ≡ map (λ mark. not (mark == 0)) marks.now) }
+{
+    let mut erased = Vec::with_capacity(alloc, marks.len())?;
+    for i in 0..marks.len() {
+        erased.push(marks[i] != 0)?;
+    }
+    Ok(erased)
+}
+
+// A mended block: its data codewords, and how many of its codewords were misread.
+#[derive(Drop)]
+struct MendedBlock {
+    message: Vec<u8>,
+    changed: usize,
+}
+
+// A mended message: the data codewords in the order of the blocks, and how many codewords of each block were misread.
 #[derive(Drop)]
 pub(crate) struct MendedMessage {
     pub message: Vec<u8>,
     pub changed: Vec<usize>,
 }
 
-// Mends all blocks of a symbol. A block can be mended if at most `t` of its codewords are wrong. `codewords` contains
-// the data codewords that were read, and `checks` contains the error correction codewords that were read. In
-// `codewords` and in `checks`, the blocks come one after the other.
+// Mends a damaged block in which some codewords are erased and other codewords may be misread. `erased` is true at the
+// index of each erased codeword. To correct an erased codeword, one error correction codeword is needed. To correct a
+// misread codeword, two error correction codewords are needed. Returns `None` if more than `spare` error correction
+// codewords are needed to mend the block.
+fn mend_block(
+    divisor: &Divisor,
+    spare: usize,
+    erased: &[bool],
+    mut codewords: Vec<u8>,
+) -> Option<MendedBlock>
+    requires spare { spare ≤ divisor.now }
+    requires least { divisor.now ≤ length codewords.items }
+    requires most { length codewords.items ≤ 255 }
+    requires marks { length erased.now ≡ length codewords.items }
+    ensures long { IfSome result (λ m. length m.message.items + divisor.now ≡ length codewords.items) }
+    ensures near { IfSome result (λ m. erasures (read_of codewords.items erased.now) + 2 * m.changed ≤ spare) }
+    ensures mended { IfSome result (λ m. (e : List ℕ) × IsCorrection m.message.items divisor.now e
+        × (m.changed ≡ errors (read_of codewords.items erased.now) (m.message.items ++ e))) }
+    ensures refused { IfNone result ((d e : List ℕ) → length d + divisor.now ≡ length codewords.items
+        → IsCorrection d divisor.now e
+        → erasures (read_of codewords.items erased.now) + 2 * errors (read_of codewords.items erased.now) (d ++ e) ≤ spare
+        → ⊥) }
+{
+    let len = codewords.len() - divisor.count();
+    let Some(changed) = mend_with_erasures(divisor, spare, erased, codewords.as_mut_slice()) else {
+        return None;
+    };
+    codewords.truncate(len);
+    Some(MendedBlock {
+        message: codewords,
+        changed,
+    })
+}
+
+// Mends all blocks of a symbol. A block can be mended if at most `spare` error correction codewords are needed to
+// correct its damage. `received` contains the codewords that were read, and `marks` contains the marks of these
+// codewords. A codeword is erased if its mark is not 0.
 fn mend_parts(
     alloc: Global,
     blocks: Blocks,
-    t: usize,
-    codewords: &[u8],
-    checks: &[u8],
+    spare: usize,
+    received: &InBlocks,
+    marks: &InBlocks,
 ) -> Result<MendedMessage, ReadFault>
-    requires codewords { length codewords.now ≡ codeword_count (data_sizes blocks) }
-    requires checks { length checks.now ≡ codeword_count (correction_sizes blocks) }
+    requires codewords { length received.now.data.items ≡ codeword_count (data_sizes blocks) }
+    requires checks { length received.now.checks.items ≡ codeword_count (correction_sizes blocks) }
+    requires marks { length marks.now.data.items ≡ codeword_count (data_sizes blocks) }
+    requires check_marks { length marks.now.checks.items ≡ codeword_count (correction_sizes blocks) }
     requires least { 1 ≤ blocks.ec_len }
     requires most { blocks.ec_len ≤ 30 }
     requires few { blocks.short_len + 1 + blocks.ec_len ≤ 255 }
-    requires half { 2 * t ≤ blocks.ec_len }
-    ensures mended { IfOk result (λ m. AreMended blocks t codewords.now checks.now (block_count (data_sizes blocks))
-        m.message.items m.changed.items) }
-    ensures refused { result ≡ Err ReadFault.Check → (message changed : List ℕ)
-        → AreMended blocks t codewords.now checks.now (block_count (data_sizes blocks)) message changed → ⊥ }
+    requires spare { spare ≤ blocks.ec_len }
+    ensures mended { IfOk result (λ m. AreMended blocks spare received.now.data.items received.now.checks.items
+        marks.now.data.items marks.now.checks.items (block_count (data_sizes blocks)) m.message.items m.changed.items) }
+    ensures refused { result ≡ Err ReadFault.Check → (message misread : List ℕ)
+        → AreMended blocks spare received.now.data.items received.now.checks.items
+        marks.now.data.items marks.now.checks.items (block_count (data_sizes blocks)) message misread → ⊥ }
     ensures fault { IfErr result (λ e. (e ≡ ReadFault.Memory) ⊎ (e ≡ ReadFault.Check)) }
 {
-    let sizes = BlockSizes::of_data(blocks);
-    let check_sizes = BlockSizes::of_corrections(blocks);
+    let count = BlockSizes::of_data(blocks).count();
     let divisor = Divisor::new(usize::from(blocks.ec_len));
-    let mut message = Vec::with_capacity(alloc, codewords.len())?;
-    let mut changed = Vec::with_capacity(alloc, sizes.count())?;
-    for block in 0..sizes.count() {
-        let received = sizes.part(codewords, block);
-        let mended = mend_block(
-            alloc,
-            &divisor,
-            t,
-            received,
-            check_sizes.part(checks, block),
-        )?;
+    let mut message = Vec::with_capacity(alloc, received.data.len())?;
+    let mut changed = Vec::with_capacity(alloc, count)?;
+    for block in 0..count {
+        let codewords = block_of(alloc, blocks, received, block)?;
+        let erased = erased_of(alloc, &block_of(alloc, blocks, marks, block)?)?;
+        let Some(mended) = mend_block(&divisor, spare, &erased, codewords) else {
+            return Err(ReadFault::Check);
+        };
         message.extend_from_slice(&mended.message)?;
         changed.push(mended.changed)?;
     }
@@ -111,29 +190,29 @@ fn mend_parts(
 }
 
 // Returns the mended message of a damaged symbol. The message is the data codewords in the order of the blocks.
-// `codewords` contains the interleaved codewords that were read from the symbol. A block can be mended if at most `t`
-// of its codewords are wrong.
+// `codewords` contains the interleaved codewords that were read. `marks` contains the mark of each codeword, in the
+// order of `codewords`. A codeword is erased if its mark is not 0; any other codeword may be misread.
 fn mend_blocks(
     alloc: Global,
     blocks: Blocks,
-    t: usize,
+    spare: usize,
     codewords: &[u8],
+    marks: &[u8],
 ) -> Result<MendedMessage, ReadFault>
-    requires whole { length codewords.now
-        ≡ codeword_count (data_sizes blocks) + codeword_count (correction_sizes blocks) }
+    requires whole { length codewords.now ≡ codeword_count (data_sizes blocks) + codeword_count (correction_sizes blocks) }
+    requires marks { length marks.now ≡ codeword_count (data_sizes blocks) + codeword_count (correction_sizes blocks) }
     requires least { 1 ≤ blocks.ec_len }
     requires most { blocks.ec_len ≤ 30 }
     requires few { blocks.short_len + 1 + blocks.ec_len ≤ 255 }
-    requires half { 2 * t ≤ blocks.ec_len }
-    ensures mended { IfOk result (λ m. IsMendedMessage blocks t codewords.now m.message.items m.changed.items) }
-    ensures refused { result ≡ Err ReadFault.Check → (message changed : List ℕ)
-        → IsMendedMessage blocks t codewords.now message changed → ⊥ }
+    requires spare { spare ≤ blocks.ec_len }
+    ensures mended { IfOk result (λ m. IsMendedMessage blocks spare codewords.now marks.now m.message.items m.changed.items) }
+    ensures refused { result ≡ Err ReadFault.Check → (message misread : List ℕ)
+        → IsMendedMessage blocks spare codewords.now marks.now message misread → ⊥ }
     ensures fault { IfErr result (λ e. (e ≡ ReadFault.Memory) ⊎ (e ≡ ReadFault.Check)) }
 {
-    let sizes = BlockSizes::of_data(blocks);
-    let received = sizes.gather(alloc, codewords)?;
-    let checks = BlockSizes::of_corrections(blocks).gather(alloc, &codewords[received.len()..])?;
-    mend_parts(alloc, blocks, t, &received, &checks)
+    let received = in_blocks(alloc, blocks, codewords)?;
+    let unread = in_blocks(alloc, blocks, marks)?;
+    mend_parts(alloc, blocks, spare, &received, &unread)
 }
 
 // Returns the number of error correction codewords of a block that are not used to correct errors (ISO/IEC 18004:2015,
@@ -152,7 +231,7 @@ fn protection(version: Version, level: Level) -> u8
 
 // Returns how many error correction codewords of a block may be used to correct wrong codewords. The block belongs to a
 // symbol of this version and level.
-pub(crate) fn spare(version: Version, level: Level) -> u8
+fn spare(version: Version, level: Level) -> u8
     ensures { result ≡ spare_of version level }
 {
     let count = version.blocks(level).ec_len;
@@ -170,22 +249,26 @@ pub fn changed_max(version: Version, level: Level) -> u8
 }
 
 // Returns the mended message of a damaged symbol of this version and level. The message is the data codewords in the
-// order of the blocks. `codewords` contains the interleaved codewords that were read from the symbol; some of these
-// codewords may be wrong.
+// order of the blocks. `codewords` contains the interleaved codewords that were read. `marks` contains the mark of each
+// codeword, in the order of `codewords`. A codeword is erased if its mark is not 0; any other codeword may be misread.
 pub(crate) fn mend_message(
     alloc: Global,
     version: Version,
     level: Level,
     codewords: &[u8],
+    marks: &[u8],
 ) -> Result<MendedMessage, ReadFault>
-    requires { length codewords.now ≡ total_codewords_of version }
-    ensures mended { IfOk result (λ m. IsMendedIn version level codewords.now m.message.items m.changed.items) }
+    requires codewords { length codewords.now ≡ total_codewords_of version }
+    requires marks { length marks.now ≡ total_codewords_of version }
+    ensures mended { IfOk result (λ m. IsMendedMessage (blocks_of version level) (spare_of version level)
+        codewords.now marks.now m.message.items m.changed.items) }
     ensures many { IfOk result (λ m. length m.message.items ≡ data_codewords_of version level) }
-    ensures refused { result ≡ Err ReadFault.Check → (message changed : List ℕ)
-        → IsMendedIn version level codewords.now message changed → ⊥ }
+    ensures refused { result ≡ Err ReadFault.Check → (message misread : List ℕ)
+        → IsMendedMessage (blocks_of version level) (spare_of version level) codewords.now marks.now message misread
+        → ⊥ }
     ensures fault { IfErr result (λ e. (e ≡ ReadFault.Memory) ⊎ (e ≡ ReadFault.Check)) }
 {
     let blocks = version.blocks(level);
-    let t = usize::from(changed_max(version, level));
-    mend_blocks(alloc, blocks, t, codewords)
+    let most = usize::from(spare(version, level));
+    mend_blocks(alloc, blocks, most, codewords, marks)
 }

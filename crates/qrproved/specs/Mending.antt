@@ -1,12 +1,12 @@
 -- Defines what the function `qrproved_mend` for C writes when it reads a damaged symbol, and when it writes nothing. In
 -- the buffer of modules that this function reads, the byte 2 is a module whose colour is not known.
-use Rattle.std.specs.Prelude.{◌≡◌, ℕ, ◌+◌, ◌*◌, ◌<◌, ◌≤◌, ◌==◌, if◌then◌else◌, Option, None, Some, List, ◌++◌, drop, length, slice_index_or, take}
-use Rattle.std.specs.List.{All, Any, Contains, count_by}
+use Rattle.std.specs.Prelude.{◌≡◌, ℕ, ◌+◌, ◌*◌, ◌<◌, ◌≤◌, ◌==◌, List, ◌++◌, drop, length, slice_index_or, take}
+use Rattle.std.specs.List.{All, Any, Contains}
 use Rattle.qr_layout.specs.declared.level.Level.{Level}
 use Rattle.qr_bits.specs.Parsing.{Content}
 use Rattle.qr_matrix.specs.Grid.{Grid, square}
 use Rattle.qr_symbol.specs.declared.fault.ReadFault.{ReadFault}
-use Rattle.qr_mending.specs.Mending.{wrong_format_modules_without, HasWrongModulesWithout, IsMendedReadingWithout, IsUnmendedWithout}
+use Rattle.qr_mending.specs.Mending.{wrong_format_modules, HasWrongModules, IsMendedReading, IsUnmended}
 use Rattle.qr_mending.specs.Message.{tolerance_of}
 use Rattle.qrproved.specs.declared.mending.QrprovedMended.{QrprovedMended}
 use Rattle.qrproved.specs.Modules.{square_of_bytes}
@@ -18,12 +18,6 @@ use Rattle.qrproved.specs.Settings.{level_of}
 -- of the symbol, row by row [own].
 abbrev pub square_of_unknown : ℕ → List ℕ → Grid
 square_of_unknown side bytes = square side (λ row col. slice_index_or bytes (row * side + col) 0 == 2)
-
--- `unknown_in side bytes` is a square with `side` rows that shows which modules of a symbol are not known. A module of
--- this square is dark if its byte in `bytes` is 2, and light otherwise. If no module has the byte 2, the value is
--- `None` [own].
-abbrev pub unknown_in : ℕ → List ℕ → Option Grid
-unknown_in side bytes = if count_by (λ b. b == 2) (take (side * side) bytes) == 0 then None else Some (square_of_unknown side bytes)
 
 -- `AreModules modules side` holds if each byte of the square in the buffer `modules` is 0, 1 or 2. The square has
 -- `side` rows, and the buffer has a byte for each of its modules [own].
@@ -49,8 +43,8 @@ pub record IsGreatest (xs : List ℕ) (n : ℕ) : Type 0 where
 -- known are not counted in `changed`. The fourth number is the largest number of codewords that can be corrected in a
 -- block (ISO/IEC 18004:2015, 7.5.1, 7.9.1).
 pub record TellsDamage (m : QrprovedMended) (changed : List ℕ) (side : ℕ) (modules : List ℕ) : Type 0 where
-  pub whole : HasWrongModulesWithout (unknown_in side modules) (square_of_bytes side modules) m.version (level_of m.level) m.mask changed m.wrong_modules
-  pub format : m.wrong_format_modules ≡ wrong_format_modules_without (unknown_in side modules) (square_of_bytes side modules) (level_of m.level) m.mask
+  pub whole : HasWrongModules (square_of_unknown side modules) (square_of_bytes side modules) m.version (level_of m.level) m.mask changed m.wrong_modules
+  pub format : m.wrong_format_modules ≡ wrong_format_modules (square_of_unknown side modules) (square_of_bytes side modules) (level_of m.level) m.mask
   pub most : IsGreatest changed m.changed_most
   pub allowed : m.changed_allowed ≡ tolerance_of m.version (level_of m.level)
 
@@ -63,7 +57,7 @@ pub record IsGivenMended (modules : List ℕ) (side : ℕ) (before after : List 
   pub content : Content
   pub changed : List ℕ
   pub level : m.level < 4
-  pub read : IsMendedReadingWithout (unknown_in side modules) (square_of_bytes side modules) m.version (level_of m.level) m.mask content changed
+  pub read : IsMendedReading (square_of_unknown side modules) (square_of_bytes side modules) m.version (level_of m.level) m.mask content changed
   pub room : length content.bytes ≤ length before
   pub holds : after ≡ content.bytes ++ drop (length content.bytes) before
   pub len : m.len ≡ length content.bytes
@@ -79,10 +73,10 @@ pub record HasMoreMendedBytes (modules : List ℕ) (side : ℕ) (buffer : List �
   pub level : Level
   pub mask : ℕ
   pub changed : List ℕ
-  pub read : IsMendedReadingWithout (unknown_in side modules) (square_of_bytes side modules) version level mask content changed
+  pub read : IsMendedReading (square_of_unknown side modules) (square_of_bytes side modules) version level mask content changed
   pub room : length buffer < length content.bytes
 
 -- `IsUnmendedAt modules side fault` holds if mending the square in `modules` may fail with the fault `fault`. The
 -- square has `side` rows, and the byte of each module is 0, 1 or 2 [own].
 abbrev pub IsUnmendedAt : List ℕ → ℕ → ReadFault → Type 0
-IsUnmendedAt modules side fault = AreModules modules side × IsUnmendedWithout (unknown_in side modules) (square_of_bytes side modules) fault
+IsUnmendedAt modules side fault = AreModules modules side × IsUnmended (square_of_unknown side modules) (square_of_bytes side modules) fault

@@ -2,14 +2,14 @@
 //! 7.5.1, 7.9.1 and 12).
 
 ghost use Rattle.std.specs.Prelude.{◌≡◌, ◌≢◌, ◌*◌, ◌<◌, ◌≤◌, ◌==◌, ◌↔◌, ◌⊎◌, length, IfOk, MatchBool, MatchResult};
-ghost use Rattle.std.specs.List.{All, Any, count_by};
+ghost use Rattle.std.specs.List.{All, Any};
 ghost use Rattle.qr_bits.specs.declared.fault.ParseFault.{ParseFault};
 ghost use Rattle.qr_symbol.specs.declared.fault.ReadFault.{ReadFault};
-ghost use Rattle.qr_mending.specs.Mending.{wrong_format_modules_without, HasWrongModulesWithout, IsMendedReadingWithout, IsUnmendedWithout};
+ghost use Rattle.qr_mending.specs.Mending.{wrong_format_modules, HasWrongModules, IsMendedReading, IsUnmended};
 ghost use Rattle.qr_mending.specs.Message.{tolerance_of};
 ghost use Rattle.qrproved.specs.Modules.{square_of_bytes};
 ghost use Rattle.qrproved.specs.Reading.{IsSide, TellsHeader};
-ghost use Rattle.qrproved.specs.Mending.{square_of_unknown, unknown_in, HasMoreMendedBytes, HasOtherByte, IsGivenMended, IsGreatest, IsUnmendedAt};
+ghost use Rattle.qrproved.specs.Mending.{square_of_unknown, HasMoreMendedBytes, HasOtherByte, IsGivenMended, IsGreatest, IsUnmendedAt};
 ghost use Rattle.qrproved.specs.Settings.{level_of};
 
 use crate::modules::{area, matrix_of};
@@ -20,7 +20,7 @@ use qr_mending::laws::{
     changes_are_bounded, mended_readings_are_not_refused, mended_readings_are_one,
     mending_refusals_are_one,
 };
-use qr_mending::{Mended, changed_max, mend_symbol, mend_symbol_without};
+use qr_mending::{Mended, changed_max, mend_symbol_without};
 use qr_symbol::{Matrix, ReadFault};
 use std::alloc::{AllocError, Global};
 
@@ -70,16 +70,6 @@ fn are_modules(modules: &[u8]) -> bool
     modules.iter().all(|module| *module <= NOT_KNOWN)
 }
 
-// Returns the number of modules in `modules` that are not known.
-fn count_unknown(modules: &[u8]) -> usize
-    ensures { result ≡ count_by (λ b. b == 2) modules.now }
-{
-    modules
-        .iter()
-        .filter(|module| **module == NOT_KNOWN)
-        .count()
-}
-
 // Returns a square with `side` rows that shows which modules are not known. A module of the returned square is dark if
 // its byte in `modules` is 2, and light otherwise.
 fn unknown_of(alloc: Global, modules: &[u8], side: u8) -> Result<Matrix, AllocError>
@@ -107,18 +97,15 @@ fn mend_modules(alloc: Global, modules: &[u8], side: u8) -> Result<Mended, ReadF
     requires most { side ≤ 177 }
     requires room { side * side ≤ length modules.now }
     ensures mended { MatchResult result
-        (λ m. IsMendedReadingWithout (unknown_in side modules.now) (square_of_bytes side modules.now) m.version m.level
+        (λ m. IsMendedReading (square_of_unknown side modules.now) (square_of_bytes side modules.now) m.version m.level
         m.mask m.parsed m.changed.items)
-        (IsUnmendedWithout (unknown_in side modules.now) (square_of_bytes side modules.now)) }
+        (IsUnmended (square_of_unknown side modules.now) (square_of_bytes side modules.now)) }
     ensures format { IfOk result (λ m. m.wrong_format_modules
-        ≡ wrong_format_modules_without (unknown_in side modules.now) (square_of_bytes side modules.now) m.level m.mask) }
-    ensures modules { IfOk result (λ m. HasWrongModulesWithout (unknown_in side modules.now)
+        ≡ wrong_format_modules (square_of_unknown side modules.now) (square_of_bytes side modules.now) m.level m.mask) }
+    ensures modules { IfOk result (λ m. HasWrongModules (square_of_unknown side modules.now)
         (square_of_bytes side modules.now) m.version m.level m.mask m.changed.items m.wrong_modules) }
 {
     let matrix = matrix_of(alloc, modules, side)?;
-    if count_unknown(&modules[..area(side)]) == 0 {
-        return mend_symbol(alloc, &matrix);
-    }
     let unknown = unknown_of(alloc, modules, side)?;
     mend_symbol_without(alloc, &matrix, &unknown)
 }

@@ -12,19 +12,19 @@ abbrev level : ℕ → Level
 level k = get_or (L ∷ M ∷ Q ∷ H ∷ []) k L
 
 -- if the copy is near to none of the four levels in the list, it is near to no level
-every : (copy : FormatCopy) (g : Grid) → ((k : ℕ) → k < 4 → (mask : ℕ) → IsNearFormat copy g (level k) mask → ⊥) →
-    (l : Level) (mask : ℕ) → IsNearFormat copy g l mask → ⊥
-every copy g none L = none 0 (omega arith)
-every copy g none M = none 1 (omega arith)
-every copy g none Q = none 2 (omega arith)
-every copy g none H = none 3 (omega arith)
+every : (unknown : Grid) (copy : FormatCopy) (g : Grid) → ((k : ℕ) → k < 4 → (mask : ℕ) → IsNearFormat unknown copy g (level k) mask → ⊥) →
+    (l : Level) (mask : ℕ) → IsNearFormat unknown copy g l mask → ⊥
+every unknown copy g none L = none 0 (omega arith)
+every unknown copy g none M = none 1 (omega arith)
+every unknown copy g none Q = none 2 (omega arith)
+every unknown copy g none H = none 3 (omega arith)
 
 pub loop-level-preserved : goal.loop-level-preserved
 loop-level-preserved c = λ k less mask f.
     elim (cases_lt k c.loop-level.level-index) [
       | inl l ↦ c.loop-level.invariant k l mask f
-      | inr l ↦ let e : k ≡ c.loop-level.level-index = omega arith in c.in_default.ensures mask (subst (λ (i : ℕ). IsNearFormat c.args.copy c.args.matrix.now (level i) mask) e f)
+      | inr l ↦ let e : k ≡ c.loop-level.level-index = omega arith in c.in_default.ensures mask (subst (λ (i : ℕ). IsNearFormat c.args.unknown.now c.args.copy c.args.matrix.now (level i) mask) e f)
     ]
 
 pub returns : goal.returns
-returns c = every c.args.copy c.args.matrix.now (λ k l. c.loop-level.invariant k (omega (arith, c.loop-level-test.false)))
+returns c = every c.args.unknown.now c.args.copy c.args.matrix.now (λ k l. c.loop-level.invariant k (omega (arith, c.loop-level-test.false)))

@@ -1,4 +1,5 @@
-use Rattle.std.proofs.Common.{inl, arith}
+use Rattle.std.proofs.Common.{arith}
+use Rattle.qr_matrix.specs.Grid.{light}
 use Rattle.std.specs.Prelude.{None}
 use Rattle.qr_symbol.proofs.Facts.{symbol-format, symbol-holds}
 use Rattle.qr_mending.proofs.lemmas.laws.DamageLemmas.{symbol-mended, symbol-mended-as}
@@ -10,7 +11,8 @@ returns c = λ smallest l rule x v mask g least s side few.
     let w = s.version in
     let first = w.least in
     let damaged = c.args.damaged.now in
-    let f = few-format v l mask damaged g (symbol-format v l rule x None mask g (omega (arith, least, first)) w.most s.made) few in
+    let u = light damaged.side in
+    let f = few-format v l mask s.made.codewords damaged g (omega (arith, least, first)) w.most s.made.drawn (symbol-format v l rule x None mask g (omega (arith, least, first)) w.most s.made) few in
     let d = few-held v l mask damaged g s.made.message (omega (arith, least, first)) w.most (symbol-holds v l rule x None mask g (omega (arith, least, first)) w.most s.made) few in
-    symbol-mended-as None damaged v l mask (record { header = None; segments = s.made.segments; bytes = x }) d.0 c.mend_symbol.result
-    (symbol-mended None smallest l rule x v mask g damaged d.0 least s side (inl f) d.1) c.mend_symbol.ensures.mended
+    symbol-mended-as u damaged v l mask (record { header = None; segments = s.made.segments; bytes = x }) d.0 c.mend_symbol.result
+    (symbol-mended u smallest l rule x v mask g damaged d.0 least s side f d.1) c.mend_symbol.ensures.mended

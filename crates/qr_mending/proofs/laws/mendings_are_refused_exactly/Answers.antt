@@ -1,4 +1,3 @@
-use Rattle.std.specs.Prelude.{None}
 use Rattle.qr_mending.specs.Mending.{IsMendedReading, IsUnmended}
 use Rattle.qr_symbol.proofs.Facts.{exactly}
 use Rattle.qr_mending.proofs.lemmas.mending.MendingLemmas.{mended-not-refused, unmended-one}
@@ -7,5 +6,6 @@ use Rattle.qr_mending.proofs.laws.mendings_are_refused_exactly.Goals as goal
 pub returns : goal.returns
 returns c =
     let g = c.args.damaged.now in
-    exactly (λ m. IsMendedReading g m.version m.level m.mask m.parsed m.changed.items) (IsUnmended g) c.mend_symbol.result
-    c.mend_symbol.ensures.mended (λ m e. mended-not-refused None g m.version m.level m.mask m.parsed m.changed.items e) (unmended-one None g)
+    let u = c.args.unknown.now in
+    exactly (λ m. IsMendedReading u g m.version m.level m.mask m.parsed m.changed.items) (IsUnmended u g) c.mend_symbol_without.result
+    c.mend_symbol_without.ensures.mended (λ m e. mended-not-refused u g m.version m.level m.mask m.parsed m.changed.items e) (unmended-one u g)

@@ -1,4 +1,4 @@
-use Rattle.std.specs.Prelude.{None}
+use Rattle.qr_matrix.specs.Grid.{light}
 use Rattle.qr_symbol.proofs.Facts.{exactly, joined-refused, unjoined-one}
 use Rattle.qr_mending.specs.Mending.{IsUnmended}
 use Rattle.qr_mending.specs.Series.{IsMendedContent, IsMendedSeries, IsUnmendedSeries}
@@ -10,5 +10,5 @@ pub returns : goal.returns
 returns c =
     let gs = c.args.damaged.now in
     exactly (λ bytes. IsMendedSeries gs bytes.items) (IsUnmendedSeries gs) c.mend_series.result c.mend_series.ensures
-    (λ bytes e. joined-refused IsMendedContent IsUnmended content-one content-refused gs bytes.items e)
-    (unjoined-one IsMendedContent IsUnmended content-refused (unmended-one None) gs)
+    (λ bytes e. joined-refused IsMendedContent (λ g. IsUnmended (light g.side) g) content-one content-refused gs bytes.items e)
+    (unjoined-one IsMendedContent (λ g. IsUnmended (light g.side) g) content-refused (λ g. unmended-one (light g.side) g) gs)

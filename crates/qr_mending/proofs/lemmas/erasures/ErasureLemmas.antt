@@ -40,6 +40,19 @@ read-unmarked [] k = refl
 read-unmarked (x ∷ xs) zero = ap (λ z. Some x ∷ z) (read-unmarked xs zero)
 read-unmarked (x ∷ xs) (suc k) = ap (λ z. Some x ∷ z) (read-unmarked xs k)
 
+-- no codeword is misread beside what was read itself
+pub errors-self : (xs : List ℕ) (es : List Bool) → errors (read_of xs es) xs ≡ 0
+errors-self [] es = refl
+errors-self (x ∷ xs) [] =
+    let here = difference-same x x refl in
+    let rest = errors-self xs [] in
+    omega (arith, here, rest)
+errors-self (x ∷ xs) (true ∷ es) = errors-self xs es
+errors-self (x ∷ xs) (false ∷ es) =
+    let here = difference-same x x refl in
+    let rest = errors-self xs es in
+    omega (arith, here, rest)
+
 -- the number of erased codewords is the number of marked ones
 pub erasures-marked : (xs : List ℕ) (es : List Bool) → length es ≡ length xs →
     erasures (read_of xs es) ≡ count_by (λ e. e) es

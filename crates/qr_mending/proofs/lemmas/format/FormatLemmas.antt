@@ -1,8 +1,7 @@
 -- Any two words of the format information differ in at least seven bits, so at most one word is near to what was read.
 use Rattle.std.specs.Prelude.{Option, None, Some, MatchOption}
-use Rattle.std.proofs.Common.{◌≡◌, ℕ, zero, suc, ◌+◌, ◌<◌, ◌≤◌, Bool, true, false, ◌||◌, eqb, ltb, refl, sym, ◌∙◌, ap, inl, inr, arith}
+use Rattle.std.proofs.Common.{◌≡◌, ℕ, zero, suc, ◌+◌, ◌*◌, ◌<◌, ◌≤◌, Bool, true, false, ◌||◌, eqb, ltb, refl, ap, inl, inr, arith}
 use Rattle.std.proofs.lemmas.Bool.{cases_eq, ne_eqb}
-use mathlib.Core.Bool.{beq, not}
 use borrow.Author.Tests.{ltb-true}
 use Rattle.qr_layout.specs.declared.level.Level.{Level}
 use Rattle.qr_layout.specs.Format.{remainder_of, format_with, five_bits, format_word_of}
@@ -12,28 +11,33 @@ use Rattle.qr_matrix.specs.Penalty.{sum_below}
 use Rattle.qr_symbol.specs.Symbol.{word_bit}
 use Rattle.qr_mending.specs.declared.format.FormatCopy.{FormatCopy}
 use Rattle.qr_mending.specs.declared.format.FormatCopy.TheVariants.{First, Second}
-use Rattle.qr_mending.specs.Format.{bit_difference, bit_differences, copy_bit, IsNearFormat}
+use Rattle.qr_mending.specs.Format.{bit_cost, bit_difference, bit_differences, copy_bit, copy_cost, format_cost, IsNearFormat}
 use Rattle.qr_symbol.proofs.Facts.{level-small, level-one}
 
 -- ---- three words
 
--- the difference of two bits is at most the sum of their differences from a third bit
-bit-between : (r p q : Bool) → bit_difference p q ≤ bit_difference r p + bit_difference r q
-bit-between true true true = omega arith
-bit-between true true false = omega arith
-bit-between true false true = omega arith
-bit-between true false false = omega arith
-bit-between false true true = omega arith
-bit-between false true false = omega arith
-bit-between false false true = omega arith
-bit-between false false false = omega arith
+-- twice the difference of two bits is at most what a module costs beside both
+bit-between : (u r p q : Bool) → 2 * bit_difference p q ≤ bit_cost u r p + bit_cost u r q
+bit-between true r true true = omega arith
+bit-between true r true false = omega arith
+bit-between true r false true = omega arith
+bit-between true r false false = omega arith
+bit-between false true true true = omega arith
+bit-between false true true false = omega arith
+bit-between false true false true = omega arith
+bit-between false true false false = omega arith
+bit-between false false true true = omega arith
+bit-between false false true false = omega arith
+bit-between false false false true = omega arith
+bit-between false false false false = omega arith
 
--- the differences of two lists of bits are at most the sum of their differences from a third list
-bits-between : (n : ℕ) (r p q : ℕ → Bool) → bit_differences n p q ≤ bit_differences n r p + bit_differences n r q
-bits-between zero r p q = omega arith
-bits-between (suc n) r p q =
-    let e = bit-between (r n) (p n) (q n) in
-    let f = bits-between n r p q in
+-- twice the differences of two words are at most what the modules of a copy cost beside both
+bits-between : (n : ℕ) (u r p q : ℕ → Bool) →
+    2 * bit_differences n p q ≤ sum_below n (λ i. bit_cost (u i) (r i) (p i)) + sum_below n (λ i. bit_cost (u i) (r i) (q i))
+bits-between zero u r p q = omega arith
+bits-between (suc n) u r p q =
+    let e = bit-between (u n) (r n) (p n) (q n) in
+    let f = bits-between n u r p q in
     omega (arith, e, f)
 
 -- ---- the distance of the words
@@ -60,60 +64,46 @@ far i j l m o =
     let d = bit_differences 15 (word_bit (format_with i)) (word_bit (format_with j)) in
     ltb-true 6 d (second (eqb i j) (ltb 6 d) (below-at 32 (is-far i) (below-at 32 (λ k. below 32 (is-far k)) all-far i l) j m) (ne_eqb i j o))
 
--- the law of near format information
-pub near-one : (copy : FormatCopy) (g : Grid) (l k : Level) (m n : ℕ) → IsNearFormat copy g l m → IsNearFormat copy g k n →
-    (l ≡ k) × (m ≡ n)
+-- beside two words a copy costs at least 14
+pub copies-apart : (unknown : Grid) (copy : FormatCopy) (g : Grid) (l k : Level) (m n : ℕ) → m < 8 → n < 8 →
+    (five_bits l m ≡ five_bits k n → ⊥) → 14 ≤ copy_cost unknown copy g l m + copy_cost unknown copy g k n
 unfolding format_word_of
-near-one copy g l k m n h j =
-    let p = h.in_range in
-    let q = j.in_range in
+copies-apart unknown copy g l k m n p q o =
     let s = level-small l in
     let t = level-small k in
-    let a = five_bits l m in
-    let b = five_bits k n in
-    elim (cases_eq a b) [
-      | inl e ↦ (level-one l k (omega arith), omega arith)
-      | inr o ↦
-          let apart = far a b (omega arith) (omega arith) o in
-          let between = bits-between 15 (copy_bit copy g) (word_bit (format_with a)) (word_bit (format_with b)) in
-          absurd (omega (arith, apart, between, h.near, j.near))
-    ]
+    let apart = far (five_bits l m) (five_bits k n) (omega arith) (omega arith) o in
+    let between = bits-between 15 (copy_bit copy unknown) (copy_bit copy g) (word_bit (format_with (five_bits l m))) (word_bit (format_with (five_bits k n))) in
+    omega (arith, apart, between)
+
+-- equal numbers of five bits are those of one level and mask
+five-one : (l k : Level) (m n : ℕ) → m < 8 → n < 8 → five_bits l m ≡ five_bits k n → (l ≡ k) × (m ≡ n)
+five-one l k m n p q e =
+    let s = level-small l in
+    let t = level-small k in
+    (level-one l k (omega arith), omega arith)
+
+-- at most one level and mask are near to a copy
+pub near-one : (unknown : Grid) (copy : FormatCopy) (g : Grid) (l k : Level) (m n : ℕ) → IsNearFormat unknown copy g l m →
+    IsNearFormat unknown copy g k n → (l ≡ k) × (m ≡ n)
+near-one unknown copy g l k m n h j = elim (cases_eq (five_bits l m) (five_bits k n)) [
+  | inl e ↦ five-one l k m n h.in_range j.in_range e
+  | inr o ↦
+      let apart = copies-apart unknown copy g l k m n h.in_range j.in_range o in
+      absurd (omega (arith, apart, h.near, j.near))
+]
+
+-- beside at most one level and mask both copies cost at most 13
+pub sure-one : (unknown g : Grid) (l k : Level) (m n : ℕ) → m < 8 → n < 8 → format_cost unknown g l m ≤ 13 →
+    format_cost unknown g k n ≤ 13 → (l ≡ k) × (m ≡ n)
+sure-one unknown g l k m n p q h j = elim (cases_eq (five_bits l m) (five_bits k n)) [
+  | inl e ↦ five-one l k m n p q e
+  | inr o ↦
+      let a = copies-apart unknown First g l k m n p q o in
+      let b = copies-apart unknown Second g l k m n p q o in
+      absurd (omega (arith, a, b, h, j))
+]
 
 -- ---- the count
-
--- bits that differ count as 1
-differs : (a b : Bool) → not (beq a b) ≡ true → bit_difference a b ≡ 1
-differs true true h = cc
-differs true false h = refl
-differs false true h = refl
-differs false false h = cc
-
--- bits that agree count as 0
-agrees : (a b : Bool) → not (beq a b) ≡ false → bit_difference a b ≡ 0
-agrees true true h = refl
-agrees true false h = cc
-agrees false true h = cc
-agrees false false h = refl
-
--- the number of differences, with one bit more
-bits-more : (n : ℕ) (p q : ℕ → Bool) → bit_differences (n + 1) p q ≡ bit_difference (p n) (q n) + bit_differences n p q
-bits-more n p q = let e : n + 1 ≡ suc n = omega arith in ap (λ k. bit_differences k p q) e
-
--- one bit more, which differs
-pub count-differs : (n count new : ℕ) (p q : ℕ → Bool) (a b : Bool) → a ≡ p n → b ≡ q n → not (beq a b) ≡ true →
-    new ≡ count + 1 → count ≡ bit_differences n p q → new ≡ bit_differences (n + 1) p q
-count-differs n count new p q a b e f h m c =
-    let d : bit_difference (p n) (q n) ≡ 1 =
-    ap (λ z. bit_difference z (q n)) (sym e) ∙ (ap (bit_difference a) (sym f) ∙ differs a b h) in
-    omega (arith, d, m, c, bits-more n p q)
-
--- one bit more, which agrees
-pub count-agrees : (n count new : ℕ) (p q : ℕ → Bool) (a b : Bool) → a ≡ p n → b ≡ q n → not (beq a b) ≡ false →
-    new ≡ count → count ≡ bit_differences n p q → new ≡ bit_differences (n + 1) p q
-count-agrees n count new p q a b e f h m c =
-    let d : bit_difference (p n) (q n) ≡ 0 =
-    ap (λ z. bit_difference z (q n)) (sym e) ∙ (ap (bit_difference a) (sym f) ∙ agrees a b h) in
-    omega (arith, d, m, c, bits-more n p q)
 
 -- one module more in a sum
 pub sum-more : (n count b new : ℕ) (f : ℕ → ℕ) → count ≡ sum_below n f → b ≡ f n → new ≡ count + b → new ≡ sum_below (n + 1) f

@@ -1,5 +1,5 @@
 -- Bounds on the number of codewords of a block that may be changed, and that were changed.
-use Rattle.std.proofs.Common.{◌≡◌, ℕ, ◌≤◌, ◌&&◌, true, leb, Option, None, Some, List, length, refl, arith}
+use Rattle.std.proofs.Common.{◌≡◌, ℕ, ◌≤◌, ◌&&◌, true, leb, List, length, refl, arith}
 use Rattle.std.specs.List.{All}
 use Rattle.std.proofs.lemmas.List.Elements.{All-from_get_or}
 use borrow.Author.Tests.{leb-true}
@@ -10,7 +10,7 @@ use Rattle.qr_bits.specs.Parsing.{Content}
 use Rattle.qr_matrix.specs.Grid.{Grid}
 use Rattle.qr_matrix.proofs.Facts.{&&-left, &&-right}
 use Rattle.qr_mending.specs.Message.{tolerance_of}
-use Rattle.qr_mending.specs.Mending.{IsMendedReadingWithout}
+use Rattle.qr_mending.specs.Mending.{IsMendedReading}
 
 -- in each version and level, from 2 to 15 codewords may be changed, computed
 tolerance-all : every (λ l v. leb 2 (tolerance_of v l) && leb (tolerance_of v l) 15) ≡ true
@@ -24,23 +24,15 @@ tolerance-bounds v l a b =
     (leb-true _ _ (&&-left (leb 2 (tolerance_of v l)) _ t), leb-true _ _ (&&-right (leb 2 (tolerance_of v l)) _ t))
 
 -- a mended square has at least one block
-pub changes-some : (unknown : Option Grid) (g : Grid) (v : ℕ) (l : Level) (m : ℕ) (p : Content) (x : List ℕ) → IsMendedReadingWithout unknown g v l m p x → 1 ≤ length x
-changes-some None g v l m p x h =
-    let sized = h.form.sized in
-    let d = h.form.damaged.mended.mended in
-    let w = blocks-sound l v sized.least sized.most in
-    omega (arith, d.many, w.some)
-changes-some (Some unknown) g v l m p x h =
+pub changes-some : (unknown : Grid) (g : Grid) (v : ℕ) (l : Level) (m : ℕ) (p : Content) (x : List ℕ) → IsMendedReading unknown g v l m p x → 1 ≤ length x
+changes-some unknown g v l m p x h =
     let sized = h.form.sized in
     let d = h.form.damaged.mended.mended.mended in
     let w = blocks-sound l v sized.least sized.most in
     omega (arith, d.many, w.some)
 
 -- in each block at most as many codewords were changed as may be changed
-pub changes-few : (unknown : Option Grid) (g : Grid) (v : ℕ) (l : Level) (m : ℕ) (p : Content) (x : List ℕ) → IsMendedReadingWithout unknown g v l m p x → All (λ n. n ≤ tolerance_of v l) x
-changes-few None g v l m p x h =
-    let d = h.form.damaged.mended.mended in
-    All-from_get_or (λ n. n ≤ tolerance_of v l) x 0 (λ i k. (d.each i (omega (arith, d.many))).near)
-changes-few (Some unknown) g v l m p x h =
+pub changes-few : (unknown : Grid) (g : Grid) (v : ℕ) (l : Level) (m : ℕ) (p : Content) (x : List ℕ) → IsMendedReading unknown g v l m p x → All (λ n. n ≤ tolerance_of v l) x
+changes-few unknown g v l m p x h =
     let d = h.form.damaged.mended.mended.mended in
     All-from_get_or (λ n. n ≤ tolerance_of v l) x 0 (λ i k. let b = d.each i (omega (arith, d.many)) in omega (arith, b.near))

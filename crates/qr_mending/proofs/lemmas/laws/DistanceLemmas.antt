@@ -26,7 +26,7 @@ second-col : (s i : ℕ) → 21 ≤ s → i < 15 → (second_place s i).col < s
 second-col s i m l = elim (cases_lt i 8) [ inl k ↦ grind (arith, nat_tests) | inr k ↦ grind (arith, nat_tests) ]
 
 -- the bits of each copy in a symbol are those of the word of its level and mask
-shown : (copy : FormatCopy) (v : ℕ) (l : Level) (mask : ℕ) (cw : List ℕ) (i : ℕ) → 1 ≤ v → v ≤ 40 → mask < 8 → i < 15 →
+pub shown : (copy : FormatCopy) (v : ℕ) (l : Level) (mask : ℕ) (cw : List ℕ) (i : ℕ) → 1 ≤ v → v ≤ 40 → mask < 8 → i < 15 →
     copy_bit copy (grid_of v l mask cw) i ≡ word_bit (format_word_of l mask) i
 unfolding colour_of
 shown First v l mask cw i p q h r = (format-read v l mask cw p q h).bits i r

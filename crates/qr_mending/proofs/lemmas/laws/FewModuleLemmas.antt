@@ -1,5 +1,5 @@
 -- A symbol with few wrong modules is a damaged form of the symbol that it was.
-use Rattle.std.proofs.Common.{◌≡◌, ℕ, ◌+◌, ◌<◌, ◌≤◌, List, [], ◌++◌, map, drop, length, get_or, refl, sym, ◌∙◌, subst, arith}
+use Rattle.std.proofs.Common.{◌≡◌, ℕ, ◌+◌, ◌<◌, ◌≤◌, List, [], ◌++◌, map, drop, length, get_or, refl, sym, ◌∙◌, ap, subst, arith}
 use Rattle.std.specs.List.{range_with_len}
 use Rattle.std.proofs.lemmas.List.{get_or-drop, length-drop}
 use Rattle.std.proofs.lemmas.List.FromFn.{get_or-map-range_with_len, length-map-range_with_len}
@@ -7,34 +7,42 @@ use Rattle.qr_field.specs.Distance.{difference, differences}
 use Rattle.qr_layout.specs.declared.level.Level.{Level}
 use Rattle.qr_layout.specs.Blocks.{blocks_of}
 use Rattle.qr_layout.specs.Format.{format_word_of}
-use Rattle.qr_matrix.specs.Grid.{Grid}
-use Rattle.qr_symbol.specs.Symbol.{word_bit}
+use Rattle.qr_matrix.specs.Grid.{Grid, light}
+use Rattle.qr_symbol.specs.Symbol.{grid_of, word_bit}
 use Rattle.qr_symbol.specs.Interleaving.{block_count, block_len, codeword_count, data_sizes, correction_sizes, part_of}
 use Rattle.qr_symbol.specs.Reading.{IsFormat, IsMessage}
 use Rattle.qr_symbol.proofs.Facts.{check-len, sizes-whole, data-sizes-whole, gather-some, read-some}
-use Rattle.qr_mending.specs.declared.format.FormatCopy.TheVariants.{First}
-use Rattle.qr_mending.specs.Format.{copy_bit, IsNearFormat}
-use Rattle.qr_mending.specs.Message.{received, tolerance_of, IsMendedBlock}
-use Rattle.qr_mending.specs.Mending.{HoldsDamaged}
+use Rattle.qr_mending.specs.declared.format.FormatCopy.TheVariants.{First, Second}
+use Rattle.qr_mending.specs.Format.{copy_bit}
+use Rattle.qr_mending.specs.Message.{received, tolerance_of}
+use Rattle.qr_mending.specs.Mending.{HasFormat, HoldsDamaged}
 use Rattle.qr_mending.specs.Modules.{module_differences, modules_of, part_differences, DifferInFewModules}
-use Rattle.qr_mending.proofs.lemmas.laws.DistanceLemmas.{bits-alike}
+use Rattle.qr_mending.proofs.lemmas.laws.DistanceLemmas.{bits-alike, shown}
 use Rattle.qr_mending.proofs.lemmas.message.MessageLemmas.{part-len}
 use Rattle.qr_mending.proofs.lemmas.laws.ModuleLemmas.{differences-join, held-many, part-near, interleaved-near}
-use Rattle.qr_mending.proofs.lemmas.laws.UndamagedLemmas.{final-parts}
+use Rattle.qr_mending.proofs.lemmas.laws.UndamagedLemmas.{copy-light, final-parts}
+use Rattle.qr_mending.proofs.lemmas.message.LightLemmas.{light-mended, IsPlainBlock}
+use Rattle.qr_mending.proofs.lemmas.mending.MendingLemmas.{sure-format}
 
--- the format information of the square is near to that of the symbol
-pub few-format : (v : ℕ) (l : Level) (mask : ℕ) (g h : Grid) → IsFormat h l mask → DifferInFewModules v l g h → IsNearFormat First g l mask
-few-format v l mask g h f w = record {
-  in_range = f.in_range;
-  near =
-      let same = bits-alike 15 (copy_bit First g) (word_bit (format_word_of l mask)) (copy_bit First g) (copy_bit First h) (λ i k. refl) (λ i k. sym (f.bits i k)) in
-      let few = w.format in
-      omega (arith, same, few);
-}
+-- the second copy shows the format information too
+second-shown : (v : ℕ) (l : Level) (mask : ℕ) (cw : List ℕ) (h : Grid) → 1 ≤ v → v ≤ 40 → mask < 8 → h ≡ grid_of v l mask cw →
+    (i : ℕ) → i < 15 → copy_bit Second h i ≡ word_bit (format_word_of l mask) i
+second-shown v l mask cw h p q m e i k = ap (λ (z : Grid). copy_bit Second z i) e ∙ shown Second v l mask cw i p q m k
+
+-- the format information of the square costs at most 12
+pub few-format : (v : ℕ) (l : Level) (mask : ℕ) (cw : List ℕ) (g h : Grid) → 1 ≤ v → v ≤ 40 → h ≡ grid_of v l mask cw → IsFormat h l mask →
+    DifferInFewModules v l g h → HasFormat (light g.side) v g l mask
+few-format v l mask cw g h p q e f w =
+    let first = bits-alike 15 (copy_bit First g) (word_bit (format_word_of l mask)) (copy_bit First g) (copy_bit First h) (λ i k. refl) (λ i k. sym (f.bits i k)) in
+    let second = bits-alike 15 (copy_bit Second g) (word_bit (format_word_of l mask)) (copy_bit Second g) (copy_bit Second h) (λ i k. refl) (λ i k. sym (second-shown v l mask cw h p q f.in_range e i k)) in
+    let few = w.format in
+    let a = copy-light g.side First g l mask in
+    let b = copy-light g.side Second g l mask in
+    sure-format (light g.side) v g l mask f.in_range (omega (arith, first, second, few, a, b))
 
 -- a square that differs from a symbol in few modules contains a damaged form of its message
 pub few-held : (v : ℕ) (l : Level) (mask : ℕ) (g h : Grid) (d : List ℕ) → 1 ≤ v → v ≤ 40 → IsMessage v l mask h d →
-    DifferInFewModules v l g h → (changed : List ℕ) × HoldsDamaged v l mask g d changed
+    DifferInFewModules v l g h → (changed : List ℕ) × HoldsDamaged (light g.side) v l mask g d changed
 few-held v l mask g h d p q m w =
     let b = blocks_of v l in
     let own = data_sizes b in
@@ -70,7 +78,7 @@ few-held v l mask g h d p q m w =
     (subst (λ (z : ℕ). difference (get_or cw (n + k) 0) z ≤ module_differences g h (modules_of w.places (n + k))) (sym (get_or-drop n interleaved k 0))
     (interleaved-near v mask g h w.places cw interleaved (n + k) p q w.order read.1 m.read (omega (arith, r, sum)))))
     (omega (arith, l)) (block_len sizes i) (omega arith) in
-    let each : (i : ℕ) → i < block_count own → IsMendedBlock b (tolerance_of v l) xs es d (count i) i =
+    let each : (i : ℕ) → i < block_count own → IsPlainBlock b (tolerance_of v l) xs es d (count i) i =
     λ i r. record {
       correction = get_or checks i [];
       corrects = m.interleaved.each i r;
@@ -89,16 +97,9 @@ few-held v l mask g h d p q m w =
       record {
         codewords = cw;
         held = read.1;
-        mended = record {
-          codewords = xs;
-          checks = es;
-          gathered = first.1;
-          rest = rest.1;
-          mended = record {
-            long = long;
-            many = length-map-range_with_len count 0 (block_count own);
-            each = λ i r. subst (λ (k : ℕ). IsMendedBlock b (tolerance_of v l) xs es d k i) (sym (get_or-map-range_with_len count 0 (block_count own) i i 0 r (omega arith))) (each i r);
-          };
-        };
+        mended =
+            light-mended v mask g.side l g cw xs es d changed p q read.1 (record { gathered = first.1; rest = rest.1 }) long
+            (length-map-range_with_len count 0 (block_count own))
+            (λ i r. subst (λ (k : ℕ). IsPlainBlock b (tolerance_of v l) xs es d k i) (sym (get_or-map-range_with_len count 0 (block_count own) i i 0 r (omega arith))) (each i r));
       },
     )

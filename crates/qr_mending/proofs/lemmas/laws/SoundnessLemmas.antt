@@ -1,21 +1,24 @@
 -- The number of wrong modules of a square, which is 0 exactly if the square is the symbol.
-use Rattle.std.proofs.Common.{◌≡◌, ℕ, List, sym, ◌∙◌, ap, subst, arith}
-use Rattle.std.specs.Prelude.{◌↔◌, Option}
+use Rattle.std.proofs.Common.{◌≡◌, ℕ, zero, suc, ◌<◌, ◌+◌, Bool, true, false, cond, List, refl, sym, ◌∙◌, ap, subst, arith}
+use Rattle.std.specs.Prelude.{◌↔◌, not}
 use Rattle.qr_layout.specs.declared.level.Level.{Level}
 use Rattle.qr_layout.specs.Blocks.{blocks_of}
 use Rattle.qr_layout.specs.Version.{side_of}
-use Rattle.qr_matrix.specs.Grid.{Grid, IsSquare, colour, square}
+use Rattle.qr_matrix.specs.Grid.{Grid, IsSquare, colour, light, square}
+use Rattle.qr_matrix.specs.Penalty.{is_same, sum_below}
+use Rattle.qr_mending.specs.Format.{wrong_bit}
+use Rattle.qr_mending.proofs.lemmas.message.LightLemmas.{colour-light}
 use Rattle.qr_matrix.specs.Difference.{difference_count}
 use Rattle.qr_matrix.proofs.Facts.{colour-square, no-difference, square-same}
 use Rattle.qr_symbol.specs.Interleaving.{IsInterleaved}
 use Rattle.qr_symbol.specs.Symbol.{colour_of, grid_of}
 use Rattle.qr_symbol.proofs.Facts.{final-one}
-use Rattle.qr_mending.specs.Mending.{wrong_modules_without, DiffersFromSymbolWithout, HasWrongModules, HasWrongModulesWithout}
+use Rattle.qr_mending.specs.Mending.{wrong_modules, DiffersFromSymbol, HasWrongModules}
 use Rattle.qr_mending.proofs.lemmas.mending.MendingLemmas.{form-one}
 
 -- a square differs from the symbol of its message in one number of modules
-pub differs-one : (unknown : Option Grid) (g : Grid) (v w : ℕ) (l k : Level) (m n : ℕ) (p q : List ℕ) (a b : ℕ) → v ≡ w → l ≡ k → m ≡ n → p ≡ q →
-    DiffersFromSymbolWithout unknown g v l m p a → DiffersFromSymbolWithout unknown g w k n q b → a ≡ b
+pub differs-one : (unknown : Grid) (g : Grid) (v w : ℕ) (l k : Level) (m n : ℕ) (p q : List ℕ) (a b : ℕ) → v ≡ w → l ≡ k → m ≡ n → p ≡ q →
+    DiffersFromSymbol unknown g v l m p a → DiffersFromSymbol unknown g w k n q b → a ≡ b
 differs-one unknown g v w l k m n p q a b ev el em ep h j =
     let here : IsInterleaved v l p j.codewords =
     subst (λ (z : ℕ). IsInterleaved z l p j.codewords) (sym ev)
@@ -26,11 +29,11 @@ differs-one unknown g v w l k m n p q a b ev el em ep h j =
     ap (λ (z : ℕ). grid_of z l m h.codewords) ev
     ∙ (ap (λ (z : Level). grid_of w z m h.codewords) el
     ∙ (ap (λ (z : ℕ). grid_of w k z h.codewords) em ∙ ap (grid_of w k n) same)) in
-    h.count ∙ (ap (wrong_modules_without unknown g) grids ∙ sym j.count)
+    h.count ∙ (ap (wrong_modules unknown g) grids ∙ sym j.count)
 
 -- a square has at most one number of wrong modules
-pub wrong-one : (unknown : Option Grid) (g : Grid) (v w : ℕ) (l k : Level) (m n : ℕ) (x y : List ℕ) (a b : ℕ) → HasWrongModulesWithout unknown g v l m x a →
-    HasWrongModulesWithout unknown g w k n y b → a ≡ b
+pub wrong-one : (unknown : Grid) (g : Grid) (v w : ℕ) (l k : Level) (m n : ℕ) (x y : List ℕ) (a b : ℕ) → HasWrongModules unknown g v l m x a →
+    HasWrongModules unknown g w k n y b → a ≡ b
 wrong-one unknown g v w l k m n x y a b h j =
     let o = form-one unknown g v w l k m n h.message j.message x y h.form j.form in
     differs-one unknown g v w l k m n h.message j.message a b o.0 o.1 o.2 o.3 h.differs j.differs
@@ -48,9 +51,31 @@ same-square g v l mask cw whole side =
       (λ e. none.1 (λ r c p q. ap (λ (z : Grid). colour z r c) e)),
     )
 
+-- equal terms have equal sums
+sum-same : (n : ℕ) (f h : ℕ → ℕ) → ((k : ℕ) → k < n → f k ≡ h k) → sum_below n f ≡ sum_below n h
+sum-same zero f h e = refl
+sum-same (suc n) f h e =
+    let here = e n (omega arith) in
+    let rest = sum-same n f h (λ k l. e k (omega arith)) in
+    omega (arith, here, rest)
+
+-- with all modules read, the wrong modules are those that differ
+wrong-read : (a b : Bool) → wrong_bit false a b ≡ cond (not (is_same a b)) 1 0
+wrong-read true true = refl
+wrong-read true false = refl
+wrong-read false true = refl
+wrong-read false false = refl
+
+wrong-light : (g h : Grid) → wrong_modules (light g.side) g h ≡ difference_count g h
+unfolding wrong_modules difference_count
+wrong-light g h =
+    sum-same g.side _ _ (λ r k. sum-same g.side _ _ (λ c l.
+    ap (λ z. wrong_bit z (colour g r c) (colour h r c)) (colour-light g.side r c) ∙ wrong-read (colour g r c) (colour h r c)))
+
 -- no module is wrong exactly if the square is the symbol
 pub sound-is : (g : Grid) (v : ℕ) (l : Level) (mask : ℕ) (changed : List ℕ) (wrong : ℕ) → IsSquare g.side g →
-    (w : HasWrongModules g v l mask changed wrong) → (wrong ≡ 0) ↔ (g ≡ grid_of v l mask w.differs.codewords)
+    (w : HasWrongModules (light g.side) g v l mask changed wrong) → (wrong ≡ 0) ↔ (g ≡ grid_of v l mask w.differs.codewords)
 sound-is g v l mask changed wrong whole w =
     let same = same-square g v l mask w.differs.codewords whole w.form.sized.side in
-    ((λ e. same.0 (sym w.differs.count ∙ e)), (λ e. w.differs.count ∙ same.1 e))
+    let light = wrong-light g (grid_of v l mask w.differs.codewords) in
+    ((λ e. same.0 (sym light ∙ (sym w.differs.count ∙ e))), (λ e. w.differs.count ∙ (light ∙ same.1 e)))

@@ -1,5 +1,5 @@
 -- A square that is read without mending is read as the same content with mending, and no codeword is changed.
-use Rattle.std.proofs.Common.{◌≡◌, ℕ, zero, suc, ◌+◌, ◌<◌, ◌≤◌, Bool, true, false, List, [], ◌++◌, map, take, drop, length, get_or, refl, sym, ◌∙◌, ap, subst, inl, arith}
+use Rattle.std.proofs.Common.{◌≡◌, ℕ, zero, suc, ◌+◌, ◌*◌, ◌<◌, ◌≤◌, Bool, true, false, List, [], ◌++◌, map, take, drop, length, get_or, refl, sym, ◌∙◌, ap, subst, arith}
 use Rattle.std.proofs.lemmas.List.{length-map, take_all, take_at, drop_at, get_or-take, get_or-drop, ext_get_or, length-replicate, get_or-replicate}
 use lib.ListN.{replicate}
 use Rattle.qr_field.specs.Polynomial.{IsCorrection}
@@ -10,18 +10,22 @@ use Rattle.qr_layout.specs.declared.level.Level.{Level}
 use Rattle.qr_layout.specs.Blocks.{blocks_of}
 use Rattle.qr_layout.specs.Format.{format_word_of}
 use Rattle.qr_bits.specs.Parsing.{Content}
-use Rattle.qr_matrix.specs.Grid.{Grid}
+use Rattle.qr_matrix.specs.Grid.{Grid, light}
 use Rattle.qr_symbol.specs.Symbol.{word_bit}
 use Rattle.qr_symbol.specs.Interleaving.{block_count, block_len, start_of, codeword_count, IsPosition, codeword_at, data_sizes, correction_sizes, block_of, check_at, IsFinalMessage, IsGathered, part_of}
 use Rattle.qr_symbol.specs.Steps.Interleaving.{IsChecks}
 use Rattle.qr_symbol.specs.Distance.{blocks_in}
-use Rattle.qr_symbol.specs.Reading.{IsFormat, IsReading}
-use Rattle.qr_mending.specs.declared.format.FormatCopy.TheVariants.{First}
-use Rattle.qr_mending.specs.Format.{bit_difference, bit_differences, copy_bit, IsNearFormat}
-use Rattle.qr_mending.specs.Message.{tolerance_of, IsMendedMessage}
-use Rattle.qr_mending.specs.Mending.{IsMendedReading}
+use Rattle.qr_symbol.specs.Reading.{IsFormat, IsRead, IsReading}
+use Rattle.qr_mending.specs.declared.format.FormatCopy.{FormatCopy}
+use Rattle.qr_mending.specs.declared.format.FormatCopy.TheVariants.{First, Second}
+use Rattle.qr_matrix.specs.Penalty.{sum_below}
+use Rattle.qr_mending.specs.Format.{bit_cost, bit_difference, bit_differences, copy_bit, copy_cost, format_cost, IsNearFormat}
+use Rattle.qr_mending.specs.Message.{IsMendedIn}
+use Rattle.qr_mending.specs.Mending.{HasFormat, IsMendedReading}
 use Rattle.qr_symbol.proofs.Facts.{start-none, position, positions-many, check-len, checks-push, map-each, checks-one, data-sizes-whole}
 use Rattle.qr_mending.proofs.lemmas.message.MessageLemmas.{part-len}
+use Rattle.qr_mending.proofs.lemmas.message.LightLemmas.{colour-light, light-mended}
+use Rattle.qr_mending.proofs.lemmas.mending.MendingLemmas.{first-best}
 
 -- ---- codewords
 
@@ -114,34 +118,25 @@ final-parts b d cw n h =
     }
 
 -- a final sequence is a damaged form of its message in which no codeword is changed
-pub final-mended : (b : Blocks) (t : ℕ) (d cw : List ℕ) → length d ≡ codeword_count (data_sizes b) → IsFinalMessage b d cw →
-    IsMendedMessage b t cw d (replicate (block_count (data_sizes b)) 0)
-final-mended b t d cw n h =
+final-mended : (v mask s : ℕ) (l : Level) (g : Grid) (d cw : List ℕ) → 1 ≤ v → v ≤ 40 → IsRead v mask g cw →
+    length d ≡ codeword_count (data_sizes (blocks_of v l)) → IsFinalMessage (blocks_of v l) d cw →
+    IsMendedIn (light s) v l cw d (replicate (block_count (data_sizes (blocks_of v l))) 0)
+final-mended v mask s l g d cw p q r n h =
+    let b = blocks_of v l in
     let own = data_sizes b in
     let w = final-parts b d cw n h in
+    light-mended v mask s l g cw d w.checks d (replicate (block_count own) 0) p q r (record { gathered = w.gathered; rest = w.rest }) n
+    (length-replicate (block_count own) 0)
+    (λ i k.
+    let none = get_or-replicate (block_count own) i 0 0 k in
+    let c = get_or h.corrections i [] in
+    let block = part_of own d i ++ c in
     record {
-      codewords = d;
-      checks = w.checks;
-      gathered = w.gathered;
-      rest = w.rest;
-      mended = record {
-        long = n;
-        many = length-replicate (block_count own) 0;
-        each = λ i l.
-            let none = get_or-replicate (block_count own) i 0 0 l in
-            let c = get_or h.corrections i [] in
-            let block = part_of own d i ++ c in
-            record {
-              correction = c;
-              corrects = h.each i l;
-              near = omega (arith, none);
-              count =
-                  none
-                  ∙ (sym (differences-same block)
-                  ∙ ap (λ (z : List ℕ). differences (part_of own d i ++ z) block) (sym (w.same i l)));
-            };
-      };
-    }
+      correction = c;
+      corrects = h.each i k;
+      near = omega (arith, none);
+      count = none ∙ (sym (differences-same block) ∙ ap (λ (z : List ℕ). differences (part_of own d i ++ z) block) (sym (w.same i k)));
+    })
 
 -- ---- format information
 
@@ -158,18 +153,74 @@ bits-same (suc n) p q h =
     let rest = bits-same n p q (λ i l. h i (omega arith)) in
     omega (arith, here, rest)
 
+-- with all modules read, a copy costs twice its wrong modules
+pub cost-light : (n s : ℕ) (u p q : ℕ → Bool) → ((i : ℕ) → u i ≡ false) →
+    sum_below n (λ i. bit_cost (u i) (p i) (q i)) ≡ 2 * bit_differences n p q
+cost-light zero s u p q h = refl
+cost-light (suc n) s u p q h =
+    let here : bit_cost (u n) (p n) (q n) ≡ 2 * bit_difference (p n) (q n) = ap (λ z. bit_cost z (p n) (q n)) (h n) in
+    let rest = cost-light n s u p q h in
+    omega (arith, here, rest)
+
+pub copy-light : (s : ℕ) (copy : FormatCopy) (g : Grid) (l : Level) (mask : ℕ) →
+    copy_cost (light s) copy g l mask ≡ 2 * bit_differences 15 (copy_bit copy g) (word_bit (format_word_of l mask))
+copy-light s copy g l mask =
+    cost-light 15 s (copy_bit copy (light s)) (copy_bit copy g) (word_bit (format_word_of l mask)) (λ i. colour-light s _ _)
+
 -- exact format information is near
-format-near : (g : Grid) (l : Level) (mask : ℕ) → IsFormat g l mask → IsNearFormat First g l mask
-format-near g l mask h = record {
+format-near : (s : ℕ) (g : Grid) (l : Level) (mask : ℕ) → IsFormat g l mask → IsNearFormat (light s) First g l mask
+format-near s g l mask h = record {
   in_range = h.in_range;
-  near = let none = bits-same 15 (copy_bit First g) (word_bit (format_word_of l mask)) h.bits in omega (arith, none);
+  near =
+      let none = bits-same 15 (copy_bit First g) (word_bit (format_word_of l mask)) h.bits in
+      let cost = copy-light s First g l mask in
+      omega (arith, none, cost);
 }
+
+-- the differences of a list from a second are at most those of both from a third
+bit-triangle : (p q r : Bool) → bit_difference p q ≤ bit_difference p r + bit_difference q r
+bit-triangle true true true = omega arith
+bit-triangle true true false = omega arith
+bit-triangle true false true = omega arith
+bit-triangle true false false = omega arith
+bit-triangle false true true = omega arith
+bit-triangle false true false = omega arith
+bit-triangle false false true = omega arith
+bit-triangle false false false = omega arith
+
+bits-triangle : (n : ℕ) (p q r : ℕ → Bool) → bit_differences n p q ≤ bit_differences n p r + bit_differences n q r
+bits-triangle zero p q r = omega arith
+bits-triangle (suc n) p q r =
+    let e = bit-triangle (p n) (q n) (r n) in
+    let f = bits-triangle n p q r in
+    omega (arith, e, f)
+
+bits-moved : (n : ℕ) (p q r : ℕ → Bool) → ((i : ℕ) → i < n → p i ≡ q i) → bit_differences n p r ≡ bit_differences n q r
+bits-moved zero p q r h = refl
+bits-moved (suc n) p q r h =
+    let here : bit_difference (p n) (r n) ≡ bit_difference (q n) (r n) = ap (λ z. bit_difference z (r n)) (h n (omega arith)) in
+    let rest = bits-moved n p q r (λ i l. h i (omega arith)) in
+    omega (arith, here, rest)
+
+-- with an exact first copy no other level and mask cost less, whatever the second copy shows
+format-exact : (g : Grid) (v : ℕ) (l : Level) (mask : ℕ) → IsFormat g l mask → HasFormat (light g.side) v g l mask
+format-exact g v l mask h = first-best (light g.side) v g l mask (format-near g.side g l mask h) (λ k n f x y d.
+    let here = word_bit (format_word_of l mask) in
+    let there = word_bit (format_word_of k n) in
+    let none = bits-same 15 (copy_bit First g) here h.bits in
+    let moved = bits-moved 15 (copy_bit First g) here there h.bits in
+    let three = bits-triangle 15 (copy_bit Second g) here there in
+    let a = copy-light g.side First g l mask in
+    let b = copy-light g.side Second g l mask in
+    let c = copy-light g.side First g k n in
+    let e = copy-light g.side Second g k n in
+    omega (arith, none, moved, three, a, b, c, e))
 
 -- ---- squares
 
 -- a square that is read is mended with no codeword changed
 pub reading-mended : (g : Grid) (p : Content) → (h : IsReading g p) →
-    IsMendedReading g h.version h.level h.mask p (replicate (blocks_in h.version h.level) 0)
+    IsMendedReading (light g.side) g h.version h.level h.mask p (replicate (blocks_in h.version h.level) 0)
 reading-mended g p h =
     let v = h.version in
     let l = h.level in
@@ -178,11 +229,11 @@ reading-mended g p h =
       message = h.message;
       form = record {
         sized = h.sized;
-        format = inl (format-near g l h.mask h.format);
+        format = format-exact g v l h.mask h.format;
         damaged = record {
           codewords = m.codewords;
           held = m.read;
-          mended = final-mended (blocks_of v l) (tolerance_of v l) h.message m.codewords (m.many ∙ sym (data-sizes-whole v l h.sized.least h.sized.most)) m.interleaved;
+          mended = final-mended v h.mask g.side l g h.message m.codewords h.sized.least h.sized.most m.read (m.many ∙ sym (data-sizes-whole v l h.sized.least h.sized.most)) m.interleaved;
         };
       };
       parsed = h.parsed;

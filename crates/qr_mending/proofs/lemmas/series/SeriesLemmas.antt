@@ -1,9 +1,9 @@
 -- Damaged squares are mended one by one, and are joined to the bytes of the undamaged squares.
 use Rattle.std.proofs.Common.{◌≡◌, ℕ, List, [], ◌∷◌, sym, ◌∙◌, ap}
-use Rattle.std.specs.Prelude.{None, Result, Ok, Err, MatchResult}
+use Rattle.std.specs.Prelude.{Result, Ok, Err, MatchResult}
 use Rattle.qr_bits.specs.Bits.{bits_of}
 use Rattle.qr_bits.specs.Parsing.{Content, parse}
-use Rattle.qr_matrix.specs.Grid.{Grid}
+use Rattle.qr_matrix.specs.Grid.{Grid, light}
 use Rattle.qr_symbol.specs.declared.fault.ReadFault.{ReadFault}
 use Rattle.qr_symbol.specs.declared.fault.ReadFault.TheVariants as fault
 use Rattle.qr_symbol.specs.Reading.{IsReading}
@@ -15,11 +15,11 @@ use Rattle.qr_mending.proofs.lemmas.mending.MendingLemmas.{mended-reading-one, m
 
 -- a square is mended to at most one content
 pub content-one : (g : Grid) (c d : Content) → IsMendedContent g c → IsMendedContent g d → c ≡ d
-content-one g c d h k = (mended-reading-one None g h.0 k.0 h.1 k.1 h.2 k.2 c d h.3 k.3 h.4 k.4).3
+content-one g c d h k = (mended-reading-one (light g.side) g h.0 k.0 h.1 k.1 h.2 k.2 c d h.3 k.3 h.4 k.4).3
 
 -- a square that is mended is refused only for lack of memory
-pub content-refused : (g : Grid) (c : Content) (e : ReadFault) → IsMendedContent g c → IsUnmended g e → e ≡ fault.Memory
-content-refused g c e h u = mended-not-refused None g h.0 h.1 h.2 c h.3 e h.4 u
+pub content-refused : (g : Grid) (c : Content) (e : ReadFault) → IsMendedContent g c → IsUnmended (light g.side) g e → e ≡ fault.Memory
+content-refused g c e h u = mended-not-refused (light g.side) g h.0 h.1 h.2 c h.3 e h.4 u
 
 -- a damaged square is mended to the content that the whole square is read as
 damaged-content : (d w : Grid) (c : Content) → IsDamagedSquare d w → IsReading w c → IsMendedContent d c
@@ -61,4 +61,4 @@ damaged-joined ds ws x s h = record {
 pub mended-to : {T : Type 0} (bytes : T → List ℕ) (ds : List Grid) (x : List ℕ) (r : Result T ReadFault) → IsMendedSeries ds x →
     MatchResult r (λ b. IsMendedSeries ds (bytes b)) (IsUnmendedSeries ds) → MatchResult r (λ b. bytes b ≡ x) (λ e. e ≡ fault.Memory)
 mended-to bytes ds x (Ok b) h k = joining-one IsMendedContent content-one ds (bytes b) x k h
-mended-to bytes ds x (Err e) h k = joined-refused IsMendedContent IsUnmended content-one content-refused ds x e h k
+mended-to bytes ds x (Err e) h k = joined-refused IsMendedContent (λ g. IsUnmended (light g.side) g) content-one content-refused ds x e h k

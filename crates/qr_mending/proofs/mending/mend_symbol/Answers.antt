@@ -1,27 +1,23 @@
-use Rattle.std.proofs.Common.{length, sym, ap, ◌∙◌, arith}
-use Rattle.qr_layout.proofs.Facts.{laws-of}
+use Rattle.std.proofs.Common.{◌≡◌, ap, subst, ◌∙◌}
+use Rattle.std.specs.Prelude.{IfOk, MatchResult}
+use Rattle.qr_matrix.specs.Grid.{Grid, light}
+use Rattle.qr_mending.specs.Mending.{wrong_format_modules, HasWrongModules, IsMendedReading, IsUnmended}
 use Rattle.qr_mending.proofs.mending.mend_symbol.Goals as goal
 
-pub returns-in_default-clause-mended : goal.returns-in_default-clause-mended
-returns-in_default-clause-mended c = λ v s. c.in_default.ensures v s.least s.most (c.side.ensures.value ∙ s.side)
+pub returns-clause-mended : goal.returns-clause-mended
+returns-clause-mended c =
+    let g = c.args.matrix.now in
+    let same = c.in_ok-unknown.ensures ∙ ap light c.side.ensures.value in
+    subst (λ (u : Grid). MatchResult c.mend_symbol_without.result (λ m. IsMendedReading u g m.version m.level m.mask m.parsed m.changed.items) (IsUnmended u g)) same c.mend_symbol_without.ensures.mended
 
-pub returns-in_default-2-clause-mended : goal.returns-in_default-2-clause-mended
-returns-in_default-2-clause-mended c =
-    let found = c.in-Some.ensures in
-    let near = c.in-Some-near_format_of_either.ensures in
-    record {
-      version = c.in-Some.version;
-      sized = record { least = found.0; most = found.1; side = sym c.side.ensures.value ∙ found.2 };
-      copy = near.0;
-      level = c.in-Some-near_format_of_either.field-0.0;
-      mask = c.in-Some-near_format_of_either.field-0.1;
-      format = near.1;
-      useless = rw c.in_default-2.is at c.in_ok-mended.ensures.mended;
-    }
+pub returns-clause-format : goal.returns-clause-format
+returns-clause-format c =
+    let g = c.args.matrix.now in
+    let same = c.in_ok-unknown.ensures ∙ ap light c.side.ensures.value in
+    subst (λ (u : Grid). IfOk c.mend_symbol_without.result (λ m. m.wrong_format_modules ≡ wrong_format_modules u g m.level m.mask)) same c.mend_symbol_without.ensures.format
 
-pub parse-requires : goal.parse-requires
-parse-requires c =
-    let mended = rw c.in-Some-2.is at c.in_ok-mended.ensures.mended in
-    let most = (laws-of c.in-Some-2.mended.level c.in-Some.version (omega arith) (omega arith)).most in
-    let many = ap length c.deref.ensures.value ∙ mended.2 in
-    omega arith
+pub returns-clause-modules : goal.returns-clause-modules
+returns-clause-modules c =
+    let g = c.args.matrix.now in
+    let same = c.in_ok-unknown.ensures ∙ ap light c.side.ensures.value in
+    subst (λ (u : Grid). IfOk c.mend_symbol_without.result (λ m. HasWrongModules u g m.version m.level m.mask m.changed.items m.wrong_modules)) same c.mend_symbol_without.ensures.modules

@@ -1,34 +1,34 @@
-use Rattle.std.proofs.Common.{◌++◌, Err, ap, ◌∙◌, arith}
-use Rattle.std.proofs.lemmas.Result.{err_from_is_err_and}
-use Rattle.qr_symbol.specs.declared.fault.ReadFault.{ReadFault}
-use Rattle.qr_symbol.specs.declared.fault.ReadFault.TheVariants.{Check}
-use Rattle.qr_mending.proofs.lemmas.message.MessageLemmas.{push-mended, none-mended, same-fault}
+use Rattle.std.proofs.Common.{◌++◌, ◌∙◌, ap, arith}
+use Rattle.qr_symbol.specs.Interleaving.{block_count}
+use Rattle.qr_mending.proofs.lemmas.message.UnreadLemmas.{none-unread, push-unread}
 use Rattle.qr_mending.proofs.message.mend_parts.Goals as goal
 
-pub returns-in_err-mended-clause-refused : goal.returns-in_err-mended-clause-refused
-returns-in_err-mended-clause-refused c =
-    let i = c.loop-block.invariant in
+pub returns-in_default-clause-refused : goal.returns-in_default-clause-refused
+returns-in_default-clause-refused c =
+    let b = c.args.blocks in
+    let d = c.args.received.now in
+    let u = c.args.marks.now in
     λ e.
-    let p = err_from_is_err_and c.from_residual-in_err-mended.result c.from_residual-in_err-mended.ensures.1 in
-    none-mended c.args.blocks c.args.t c.args.codewords.now c.args.checks.now c.of_data-sizes.result c.of_corrections-check_sizes.result
-    c.new-divisor.result c.loop-block.block c.part-received.result.now c.part.result.now i.sizes i.check_sizes i.divisor
-    (omega arith) c.part-received.ensures.value c.part.ensures.value c.part-received.ensures.len
-    (c.in_err-mended.ensures.refused
-    (ap (λ (f : ReadFault). Err f) (same-fault c.from_residual-in_err-mended.result c.in_err-mended.field-0.0 p.0 Check p.1 p.2 e)))
+    none-unread b c.args.spare d.data.items d.checks.items u.data.items u.checks.items c.new-divisor.result c.loop-block.block
+    c.in_ok-codewords.codewords.items c.deref.result.now c.deref-in-loop-block.result.now c.loop-block.invariant.divisor (omega (arith, ap block_count c.of_data.ensures)) c.in_ok-codewords.ensures.value
+    (c.deref.ensures.value ∙ c.in_ok-block_of.ensures.value) (c.deref-in-loop-block.ensures.value ∙ c.in_ok-erased.ensures) c.in_ok-codewords.ensures.len
+    c.in_default.ensures.refused
 
 pub loop-block-preserved : goal.loop-block-preserved
 loop-block-preserved c =
+    let b = c.args.blocks in
+    let d = c.args.received.now in
+    let u = c.args.marks.now in
     let i = c.loop-block.invariant in
+    let m = c.in-Some.mended in
     record {
       so_far =
-          push-mended c.args.blocks c.args.t c.args.codewords.now c.args.checks.now c.of_data-sizes.result
-          c.of_corrections-check_sizes.result c.new-divisor.result c.loop-block.block c.in_ok-mended.mended.changed
-          c.part-received.result.now c.part.result.now c.loop-block.message.items c.loop-block.changed.items
-          c.in_ok-mended.mended.message.items c.extend_from_slice.new.self.items c.push.new.self.items i.sizes i.check_sizes
-          i.divisor (omega arith) c.part-received.ensures.value c.part.ensures.value c.part-received.ensures.len i.so_far
-          c.in_ok-mended.ensures.long c.in_ok-mended.ensures.mended c.in_ok-mended.ensures.near
-          (c.in_ok-extend_from_slice.ensures.items ∙ ap (λ z. c.loop-block.message.items ++ z) c.deref.ensures.value) c.in_ok-push.ensures.items;
-      sizes = i.sizes;
-      check_sizes = i.check_sizes;
+          push-unread b c.args.spare d.data.items d.checks.items u.data.items u.checks.items c.new-divisor.result
+          c.loop-block.block m.changed c.in_ok-codewords.codewords.items c.deref.result.now c.deref-in-loop-block.result.now c.loop-block.message.items
+          c.loop-block.changed.items m.message.items c.extend_from_slice.new.self.items c.push.new.self.items i.divisor
+          (omega (arith, ap block_count c.of_data.ensures)) c.in_ok-codewords.ensures.value (c.deref.ensures.value ∙ c.in_ok-block_of.ensures.value)
+          (c.deref-in-loop-block.ensures.value ∙ c.in_ok-erased.ensures) c.in_ok-codewords.ensures.len i.so_far c.in-Some.ensures.long c.in-Some.ensures.mended c.in-Some.ensures.near
+          (c.in_ok-extend_from_slice.ensures.items ∙ ap (λ z. c.loop-block.message.items ++ z) c.deref-in-loop-block-2.ensures.value)
+          c.in_ok-push.ensures.items;
       divisor = i.divisor;
     }

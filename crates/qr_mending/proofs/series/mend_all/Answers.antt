@@ -2,6 +2,7 @@ use Rattle.std.proofs.Common.{[], sym, subst}
 use Rattle.std.proofs.lemmas.Result.{err_from_is_err_and}
 use Rattle.qr_symbol.specs.Joining.{AreReadBy}
 use Rattle.qr_symbol.proofs.Facts.{readings-next, readings-none, unjoined-next}
+use Rattle.qr_matrix.specs.Grid.{light}
 use Rattle.qr_mending.specs.Mending.{IsUnmended}
 use Rattle.qr_mending.specs.Series.{IsMendedContent}
 use Rattle.qr_mending.proofs.series.mend_all.Goals as goal
@@ -12,7 +13,7 @@ loop-matrix-init c = subst (AreReadBy IsMendedContent []) (sym c.in_ok-contents.
 pub returns-in_err-mend_symbol : goal.returns-in_err-mend_symbol
 returns-in_err-mend_symbol c =
     let p = err_from_is_err_and c.from_residual-in_err-mend_symbol.result c.from_residual-in_err-mend_symbol.ensures.1 in
-    rw (p.1, p.2) (unjoined-next IsMendedContent IsUnmended (λ g v. v) c.args.damaged.now c.loop-matrix.matrix-index c.matrix-item.result c.loop-matrix.contents.items _ c.loop-matrix-test.true c.matrix-item.is c.loop-matrix.invariant c.in_err-mend_symbol.ensures.mended)
+    rw (p.1, p.2) (unjoined-next IsMendedContent (λ g. IsUnmended (light g.side) g) (λ g v. v) c.args.damaged.now c.loop-matrix.matrix-index c.matrix-item.result c.loop-matrix.contents.items _ c.loop-matrix-test.true c.matrix-item.is c.loop-matrix.invariant c.in_err-mend_symbol.ensures.mended)
 
 pub loop-matrix-preserved : goal.loop-matrix-preserved
 loop-matrix-preserved c =

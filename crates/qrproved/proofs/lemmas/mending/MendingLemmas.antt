@@ -1,8 +1,6 @@
 -- What the struct of a mended square contains, and which statuses a mended square cannot have.
-use Rattle.std.proofs.Common.{◌≡◌, ℕ, ◌*◌, ◌<◌, ◌≤◌, ◌==◌, Option, None, Some, true, false, List, ◌++◌, drop, length, take, sym, ◌∙◌, ap, subst, arith}
-use Rattle.std.proofs.lemmas.Bool.Decides.{nat_tests}
-use Rattle.std.specs.Prelude.{if◌then◌else◌, Bool}
-use Rattle.std.specs.List.{All, count_by}
+use Rattle.std.proofs.Common.{◌≡◌, ℕ, ◌*◌, ◌<◌, ◌≤◌, List, ◌++◌, drop, length, take, sym, ◌∙◌, ap, subst, arith}
+use Rattle.std.specs.List.{All}
 use Rattle.std.proofs.lemmas.List.Elements.{All-weaker}
 use Rattle.qr_layout.specs.declared.level.Level.{Level}
 use Rattle.qr_bits.specs.Parsing.{Content}
@@ -10,13 +8,13 @@ use Rattle.qr_matrix.specs.Grid.{Grid}
 use Rattle.qr_symbol.specs.declared.fault.ReadFault.{ReadFault}
 use Rattle.qr_symbol.specs.declared.fault.ReadFault.TheVariants as unread
 use Rattle.qr_mending.specs.declared.mending.Mended.{Mended}
-use Rattle.qr_mending.specs.Mending.{wrong_format_modules_without, HasWrongModulesWithout, IsMendedReadingWithout, IsUnmendedWithout}
+use Rattle.qr_mending.specs.Mending.{wrong_format_modules, HasWrongModules, IsMendedReading, IsUnmended}
 use Rattle.qr_mending.specs.Message.{tolerance_of}
 use Rattle.qrproved.specs.declared.mending.QrprovedMended.{QrprovedMended}
 use Rattle.qrproved.specs.Modules.{square_of_bytes}
 use Rattle.qrproved.specs.Reading.{TellsHeader}
 use Rattle.qrproved.specs.Settings.{level_of}
-use Rattle.qrproved.specs.Mending.{square_of_unknown, unknown_in, AreModules, HasMoreMendedBytes, HasOtherByte, IsGivenMended, IsGreatest}
+use Rattle.qrproved.specs.Mending.{square_of_unknown, AreModules, HasMoreMendedBytes, HasOtherByte, IsGivenMended, IsGreatest}
 
 -- if there is a byte for each module of the square, and each byte is 0, 1 or 2, these are modules
 pub all-modules : (modules : List ℕ) (side area : ℕ) → area ≡ side * side → area ≤ length modules → All (λ b. b ≤ 2) (take area modules) → AreModules modules side
@@ -35,31 +33,31 @@ few-changes x t most few = All-weaker (λ n. n ≤ t) (λ n. n ≤ 15) (λ n h. 
 
 -- a square that is mended has no fault except lack of memory
 abbrev pub MendedExclude : Type 0
-MendedExclude = (u : Option Grid) (g : Grid) (v : ℕ) (l : Level) (m : ℕ) (p : Content) (x : List ℕ) (e : ReadFault) → IsMendedReadingWithout u g v l m p x → IsUnmendedWithout u g e → e ≡ unread.Memory
+MendedExclude = (u : Grid) (g : Grid) (v : ℕ) (l : Level) (m : ℕ) (p : Content) (x : List ℕ) (e : ReadFault) → IsMendedReading u g v l m p x → IsUnmended u g e → e ≡ unread.Memory
 
 -- a square that is mended is not refused for a fault other than lack of memory
-pub not-unmended : (u : Option Grid) (g : Grid) (v : ℕ) (l : Level) (m : ℕ) (p : Content) (x : List ℕ) (e : ReadFault) → MendedExclude → IsMendedReadingWithout u g v l m p x → IsUnmendedWithout u g e → (e ≡ unread.Memory → ⊥) → ⊥
+pub not-unmended : (u : Grid) (g : Grid) (v : ℕ) (l : Level) (m : ℕ) (p : Content) (x : List ℕ) (e : ReadFault) → MendedExclude → IsMendedReading u g v l m p x → IsUnmended u g e → (e ≡ unread.Memory → ⊥) → ⊥
 not-unmended u g v l m p x e law r f known = known (law u g v l m p x e r f)
 
 -- the reading, stated with the version, the level and the mask that are in the struct
-read-told : (u : Option Grid) (g : Grid) (v w : ℕ) (l k : Level) (m n : ℕ) (p : Content) (x : List ℕ) → w ≡ v → k ≡ l → n ≡ m → IsMendedReadingWithout u g v l m p x → IsMendedReadingWithout u g w k n p x
+read-told : (u : Grid) (g : Grid) (v w : ℕ) (l k : Level) (m n : ℕ) (p : Content) (x : List ℕ) → w ≡ v → k ≡ l → n ≡ m → IsMendedReading u g v l m p x → IsMendedReading u g w k n p x
 read-told u g v w l k m n p x ev el em r =
-    subst (λ (z : ℕ). IsMendedReadingWithout u g z k n p x) (sym ev)
-    (subst (λ (z : Level). IsMendedReadingWithout u g v z n p x) (sym el) (subst (λ (z : ℕ). IsMendedReadingWithout u g v l z p x) (sym em) r))
+    subst (λ (z : ℕ). IsMendedReading u g z k n p x) (sym ev)
+    (subst (λ (z : Level). IsMendedReading u g v z n p x) (sym el) (subst (λ (z : ℕ). IsMendedReading u g v l z p x) (sym em) r))
 
 -- the wrong modules, stated in the same way
-wrong-told : (u : Option Grid) (g : Grid) (v w : ℕ) (l k : Level) (m n : ℕ) (x : List ℕ) (a b : ℕ) → w ≡ v → k ≡ l → n ≡ m → b ≡ a → HasWrongModulesWithout u g v l m x a → HasWrongModulesWithout u g w k n x b
+wrong-told : (u : Grid) (g : Grid) (v w : ℕ) (l k : Level) (m n : ℕ) (x : List ℕ) (a b : ℕ) → w ≡ v → k ≡ l → n ≡ m → b ≡ a → HasWrongModules u g v l m x a → HasWrongModules u g w k n x b
 wrong-told u g v w l k m n x a b ev el em e r =
-    subst (λ (z : ℕ). HasWrongModulesWithout u g z k n x b) (sym ev)
-    (subst (λ (z : Level). HasWrongModulesWithout u g v z n x b) (sym el)
-    (subst (λ (z : ℕ). HasWrongModulesWithout u g v l z x b) (sym em) (subst (λ (z : ℕ). HasWrongModulesWithout u g v l m x z) (sym e) r)))
+    subst (λ (z : ℕ). HasWrongModules u g z k n x b) (sym ev)
+    (subst (λ (z : Level). HasWrongModules u g v z n x b) (sym el)
+    (subst (λ (z : ℕ). HasWrongModules u g v l z x b) (sym em) (subst (λ (z : ℕ). HasWrongModules u g v l m x z) (sym e) r)))
 
 -- the struct contains what is read and the damage
 pub given-mended : (modules : List ℕ) (side : ℕ) (before put : List ℕ) (m : Mended) (t : QrprovedMended) (len : ℕ)
     → AreModules modules side
-    → IsMendedReadingWithout (unknown_in side modules) (square_of_bytes side modules) m.version m.level m.mask m.parsed m.changed.items
-    → m.wrong_format_modules ≡ wrong_format_modules_without (unknown_in side modules) (square_of_bytes side modules) m.level m.mask
-    → HasWrongModulesWithout (unknown_in side modules) (square_of_bytes side modules) m.version m.level m.mask m.changed.items m.wrong_modules
+    → IsMendedReading (square_of_unknown side modules) (square_of_bytes side modules) m.version m.level m.mask m.parsed m.changed.items
+    → m.wrong_format_modules ≡ wrong_format_modules (square_of_unknown side modules) (square_of_bytes side modules) m.level m.mask
+    → HasWrongModules (square_of_unknown side modules) (square_of_bytes side modules) m.version m.level m.mask m.changed.items m.wrong_modules
     → len ≡ length m.parsed.bytes → len ≤ length before → put ≡ m.parsed.bytes
     → t.len ≡ len → t.wrong_modules ≡ m.wrong_modules → t.version ≡ m.version
     → TellsHeader m.parsed.header t.has_header t.position t.last t.parity
@@ -68,7 +66,7 @@ pub given-mended : (modules : List ℕ) (side : ℕ) (before put : List ℕ) (m 
     → IsGivenMended modules side before (put ++ drop len before) t
 given-mended modules side before put m t len all r format whole long room same elen ewrong ev header small el em eformat most allowed =
     let g = square_of_bytes side modules in
-    let u = unknown_in side modules in
+    let u = square_of_unknown side modules in
     record {
       all_modules = all;
       content = m.parsed;
@@ -81,7 +79,7 @@ given-mended modules side before put m t len all r format whole long room same e
       header = header;
       damage = record {
         whole = wrong-told u g m.version t.version m.level (level_of t.level) m.mask t.mask m.changed.items m.wrong_modules t.wrong_modules ev el em ewrong whole;
-        format = eformat ∙ (format ∙ (ap (λ (z : Level). wrong_format_modules_without u g z m.mask) (sym el) ∙ ap (λ (z : ℕ). wrong_format_modules_without u g (level_of t.level) z) (sym em)));
+        format = eformat ∙ (format ∙ (ap (λ (z : Level). wrong_format_modules u g z m.mask) (sym el) ∙ ap (λ (z : ℕ). wrong_format_modules u g (level_of t.level) z) (sym em)));
         most = most;
         allowed = allowed ∙ (ap (λ (z : ℕ). tolerance_of z m.level) (sym ev) ∙ ap (λ (z : Level). tolerance_of t.version z) (sym el));
       };
@@ -89,7 +87,7 @@ given-mended modules side before put m t len all r format whole long room same e
 
 -- a square that is mended to more bytes than the buffer has
 pub more-bytes : (modules : List ℕ) (side : ℕ) (buffer : List ℕ) (m : Mended) (len : ℕ) → AreModules modules side
-    → IsMendedReadingWithout (unknown_in side modules) (square_of_bytes side modules) m.version m.level m.mask m.parsed m.changed.items
+    → IsMendedReading (square_of_unknown side modules) (square_of_bytes side modules) m.version m.level m.mask m.parsed m.changed.items
     → len ≡ length m.parsed.bytes → length buffer < len → HasMoreMendedBytes modules side buffer
 more-bytes modules side buffer m len all r long short = record {
   all_modules = all;
@@ -101,24 +99,3 @@ more-bytes modules side buffer m len all r long short = record {
   read = r;
   room = omega arith;
 }
-
--- the test whether a number is 0
-is-zero : (k : ℕ) → k ≡ 0 → true ≡ (k == 0)
-is-zero k h = grind (arith, nat_tests)
-
-not-zero : (k : ℕ) → (k ≡ 0 → ⊥) → false ≡ (k == 0)
-not-zero k h = grind (arith, nat_tests)
-
--- if no byte is 2, every module is known
-pub none-unknown : (P : Option Grid → Type 0) (side area n : ℕ) (bytes : List ℕ) → area ≡ side * side →
-    n ≡ count_by (λ b. b == 2) (take area bytes) → n ≡ 0 → P None → P (unknown_in side bytes)
-none-unknown P side area n bytes a e t p =
-    let none : count_by (λ b. b == 2) (take (side * side) bytes) ≡ 0 = ap (λ k. count_by (λ b. b == 2) (take k bytes)) (sym a) ∙ (sym e ∙ t) in
-    subst (λ (b : Bool). P (if b then None else Some (square_of_unknown side bytes))) (is-zero (count_by (λ b. b == 2) (take (side * side) bytes)) none) p
-
--- otherwise the modules with the byte 2 are not known
-pub some-unknown : (P : Option Grid → Type 0) (side area n : ℕ) (bytes : List ℕ) → area ≡ side * side →
-    n ≡ count_by (λ b. b == 2) (take area bytes) → (n ≡ 0 → ⊥) → P (Some (square_of_unknown side bytes)) → P (unknown_in side bytes)
-some-unknown P side area n bytes a e t p =
-    let same : count_by (λ b. b == 2) (take (side * side) bytes) ≡ n = ap (λ k. count_by (λ b. b == 2) (take k bytes)) (sym a) ∙ sym e in
-    subst (λ (b : Bool). P (if b then None else Some (square_of_unknown side bytes))) (not-zero (count_by (λ b. b == 2) (take (side * side) bytes)) (λ h. t (sym same ∙ h))) p

@@ -3,11 +3,11 @@ use Rattle.qr_bits.specs.Parsing.{Content}
 use Rattle.qr_matrix.specs.Grid.{Grid}
 use Rattle.qr_symbol.specs.declared.fault.ReadFault.TheVariants as unread
 use Rattle.qr_mending.specs.declared.mending.Mended.{Mended}
-use Rattle.qr_mending.specs.Mending.{IsUnmendedWithout}
+use Rattle.qr_mending.specs.Mending.{IsUnmended}
 use Rattle.qr_mending.specs.Message.{tolerance_of}
 use Rattle.qrproved.specs.Modules.{square_of_bytes}
 use Rattle.qrproved.specs.Reading.{IsSide}
-use Rattle.qrproved.specs.Mending.{unknown_in, AreModules, HasMoreMendedBytes}
+use Rattle.qrproved.specs.Mending.{square_of_unknown, AreModules, HasMoreMendedBytes}
 use Rattle.qrproved.proofs.lemmas.reading.ReadingLemmas.{side-status, room-status, format-status, check-status, segments-status}
 use Rattle.qrproved.proofs.lemmas.mending.MendingLemmas.{all-modules, few-changes, given-mended, more-bytes, no-other, not-unmended}
 use Rattle.qrproved.proofs.mending.qrproved_mend.Goals as goal
@@ -17,16 +17,16 @@ returns-in-Err-clause-side c =
     let same = c.side-side.ensures.value ∙ sym c.in-Some.ensures.2 in
     let g = square_of_bytes c.args.side c.args.modules.now in
     let u = rw same at c.in-Err.ensures.mended in
-    let o = unknown_in c.args.side c.args.modules.now in
+    let o = square_of_unknown c.args.side c.args.modules.now in
     let is : IsSide c.args.side = (c.in-Some.version, c.in-Some.ensures.0, c.in-Some.ensures.1, c.in-Some.ensures.2) in
-    rw c.read_status.ensures (side-status (IsUnmendedWithout o g) c.in-Err.fault (IsSide c.args.side) is u (λ none w. none w.0 (record { least = w.1; most = w.2; side = w.3 })))
+    rw c.read_status.ensures (side-status (IsUnmended o g) c.in-Err.fault (IsSide c.args.side) is u (λ none w. none w.0 (record { least = w.1; most = w.2; side = w.3 })))
 
 pub returns-in-Err-clause-room : goal.returns-in-Err-clause-room
 returns-in-Err-clause-room c =
     let same = c.side-side.ensures.value ∙ sym c.in-Some.ensures.2 in
     let g = square_of_bytes c.args.side c.args.modules.now in
     let u = rw same at c.in-Err.ensures.mended in
-    let o = unknown_in c.args.side c.args.modules.now in
+    let o = square_of_unknown c.args.side c.args.modules.now in
     rw c.read_status.ensures
     (room-status c.in-Err.fault (IsSide c.args.side) (length c.args.modules.now < c.args.side * c.args.side) (HasMoreMendedBytes c.args.modules.now c.args.side c.args.bytes.now)
     (λ q. omega (arith, (rw same at c.area-area.ensures)))
@@ -37,27 +37,27 @@ returns-in-Err-clause-format c =
     let same = c.side-side.ensures.value ∙ sym c.in-Some.ensures.2 in
     let g = square_of_bytes c.args.side c.args.modules.now in
     let u = rw same at c.in-Err.ensures.mended in
-    let o = unknown_in c.args.side c.args.modules.now in
+    let o = square_of_unknown c.args.side c.args.modules.now in
     let all = all-modules c.args.modules.now c.args.side c.area-area.result (rw same at c.area-area.ensures) c.if-modules-area.false c.if-not-are_modules.ensures in
-    rw c.read_status.ensures (format-status (IsUnmendedWithout o g) c.in-Err.fault (AreModules c.args.modules.now c.args.side) all (c.mending_refusals_are_one.ensures o g) u)
+    rw c.read_status.ensures (format-status (IsUnmended o g) c.in-Err.fault (AreModules c.args.modules.now c.args.side) all (c.mending_refusals_are_one.ensures o g) u)
 
 pub returns-in-Err-clause-check : goal.returns-in-Err-clause-check
 returns-in-Err-clause-check c =
     let same = c.side-side.ensures.value ∙ sym c.in-Some.ensures.2 in
     let g = square_of_bytes c.args.side c.args.modules.now in
     let u = rw same at c.in-Err.ensures.mended in
-    let o = unknown_in c.args.side c.args.modules.now in
+    let o = square_of_unknown c.args.side c.args.modules.now in
     let all = all-modules c.args.modules.now c.args.side c.area-area.result (rw same at c.area-area.ensures) c.if-modules-area.false c.if-not-are_modules.ensures in
-    rw c.read_status.ensures (check-status (IsUnmendedWithout o g) c.in-Err.fault (AreModules c.args.modules.now c.args.side) all (c.mending_refusals_are_one.ensures o g) u)
+    rw c.read_status.ensures (check-status (IsUnmended o g) c.in-Err.fault (AreModules c.args.modules.now c.args.side) all (c.mending_refusals_are_one.ensures o g) u)
 
 pub returns-in-Err-clause-segments : goal.returns-in-Err-clause-segments
 returns-in-Err-clause-segments c =
     let same = c.side-side.ensures.value ∙ sym c.in-Some.ensures.2 in
     let g = square_of_bytes c.args.side c.args.modules.now in
     let u = rw same at c.in-Err.ensures.mended in
-    let o = unknown_in c.args.side c.args.modules.now in
+    let o = square_of_unknown c.args.side c.args.modules.now in
     let all = all-modules c.args.modules.now c.args.side c.area-area.result (rw same at c.area-area.ensures) c.if-modules-area.false c.if-not-are_modules.ensures in
-    rw c.read_status.ensures (segments-status (IsUnmendedWithout o g) c.in-Err.fault (AreModules c.args.modules.now c.args.side) all (c.mending_refusals_are_one.ensures o g) (λ e. e) u)
+    rw c.read_status.ensures (segments-status (IsUnmended o g) c.in-Err.fault (AreModules c.args.modules.now c.args.side) all (c.mending_refusals_are_one.ensures o g) (λ e. e) u)
 
 pub returns-then-bytes-len-clause-room : goal.returns-then-bytes-len-clause-room
 returns-then-bytes-len-clause-room c =
@@ -66,7 +66,7 @@ returns-then-bytes-len-clause-room c =
     let is : IsSide c.args.side = (c.in-Some.version, c.in-Some.ensures.0, c.in-Some.ensures.1, c.in-Some.ensures.2) in
     let m = c.in-Ok.found in
     let r = rw same at c.in-Ok.ensures.mended in
-    let o = unknown_in c.args.side c.args.modules.now in
+    let o = square_of_unknown c.args.side c.args.modules.now in
     let long : c.len-len.result ≡ length m.parsed.bytes = omega (arith, c.len-len.ensures, ap (λ (z : Mended). length z.parsed.bytes) c.found.view_is) in
     (λ _. (is, inr ((λ k. absurd (omega arith)), more-bytes c.args.modules.now c.args.side c.args.bytes.now m c.len-len.result all r long c.if-bytes-len.true)), λ _. refl)
 
@@ -82,7 +82,7 @@ returns-then-bytes-len-clause-format c =
     let g = square_of_bytes c.args.side c.args.modules.now in
     let m = c.in-Ok.found in
     let r = rw same at c.in-Ok.ensures.mended in
-    let o = unknown_in c.args.side c.args.modules.now in (
+    let o = square_of_unknown c.args.side c.args.modules.now in (
       λ h. absurd (omega arith),
       λ w. absurd (not-unmended o g m.version m.level m.mask m.parsed m.changed.items unread.Format c.mended_readings_are_not_refused.ensures r w.1.1 (λ e. cc)),
     )
@@ -93,7 +93,7 @@ returns-then-bytes-len-clause-check c =
     let g = square_of_bytes c.args.side c.args.modules.now in
     let m = c.in-Ok.found in
     let r = rw same at c.in-Ok.ensures.mended in
-    let o = unknown_in c.args.side c.args.modules.now in (
+    let o = square_of_unknown c.args.side c.args.modules.now in (
       λ h. absurd (omega arith),
       λ w. absurd (not-unmended o g m.version m.level m.mask m.parsed m.changed.items unread.Check c.mended_readings_are_not_refused.ensures r w.1.1 (λ e. cc)),
     )
@@ -104,7 +104,7 @@ returns-then-bytes-len-clause-segments c =
     let g = square_of_bytes c.args.side c.args.modules.now in
     let m = c.in-Ok.found in
     let r = rw same at c.in-Ok.ensures.mended in
-    let o = unknown_in c.args.side c.args.modules.now in (
+    let o = square_of_unknown c.args.side c.args.modules.now in (
       λ h. absurd (omega arith),
       λ w. absurd (not-unmended o g m.version m.level m.mask m.parsed m.changed.items (unread.Segments w.1.0) c.mended_readings_are_not_refused.ensures r w.1.1.1 (λ e. cc)),
     )
@@ -114,7 +114,7 @@ mended_of-requires-clause-few c =
     let same = c.side-side.ensures.value ∙ sym c.in-Some.ensures.2 in
     let m = c.in-Ok.found in
     let r = rw same at c.in-Ok.ensures.mended in
-    let o = unknown_in c.args.side c.args.modules.now in
+    let o = square_of_unknown c.args.side c.args.modules.now in
     let bounds = c.changes_are_bounded.ensures in
     few-changes m.changed.items (tolerance_of m.version m.level) (bounds.tolerance m.version m.level r.form.sized.least r.form.sized.most).1
     (bounds.few o (square_of_bytes c.args.side c.args.modules.now) m.version m.level m.mask m.parsed m.changed.items r)
@@ -125,7 +125,7 @@ returns-else-bytes-len-clause-done c =
     let all = all-modules c.args.modules.now c.args.side c.area-area.result (rw same at c.area-area.ensures) c.if-modules-area.false c.if-not-are_modules.ensures in
     let m = c.in-Ok.found in
     let r = rw same at c.in-Ok.ensures.mended in
-    let o = unknown_in c.args.side c.args.modules.now in
+    let o = square_of_unknown c.args.side c.args.modules.now in
     let long : c.len-len.result ≡ length m.parsed.bytes = omega (arith, c.len-len.ensures, ap (λ (z : Mended). length z.parsed.bytes) c.found.view_is) in
     let put = c.copy_from_slice.ensures.after ∙ (c.deref.ensures.value ∙ ap (λ (z : Mended). z.parsed.bytes) c.found.view_is) in
     let format = (rw same at c.in-Ok.ensures.format) in
@@ -140,7 +140,7 @@ returns-else-bytes-len-clause-room c =
     let all = all-modules c.args.modules.now c.args.side c.area-area.result (rw same at c.area-area.ensures) c.if-modules-area.false c.if-not-are_modules.ensures in
     let m = c.in-Ok.found in
     let r = rw same at c.in-Ok.ensures.mended in
-    let o = unknown_in c.args.side c.args.modules.now in
+    let o = square_of_unknown c.args.side c.args.modules.now in
     let long : c.len-len.result ≡ length m.parsed.bytes = omega (arith, c.len-len.ensures, ap (λ (z : Mended). length z.parsed.bytes) c.found.view_is) in (
       λ h. absurd (omega arith),
       λ w. elim w.1 [
@@ -165,7 +165,7 @@ returns-else-bytes-len-clause-format c =
     let g = square_of_bytes c.args.side c.args.modules.now in
     let m = c.in-Ok.found in
     let r = rw same at c.in-Ok.ensures.mended in
-    let o = unknown_in c.args.side c.args.modules.now in (
+    let o = square_of_unknown c.args.side c.args.modules.now in (
       λ h. absurd (omega arith),
       λ w. absurd (not-unmended o g m.version m.level m.mask m.parsed m.changed.items unread.Format c.mended_readings_are_not_refused.ensures r w.1.1 (λ e. cc)),
     )
@@ -176,7 +176,7 @@ returns-else-bytes-len-clause-check c =
     let g = square_of_bytes c.args.side c.args.modules.now in
     let m = c.in-Ok.found in
     let r = rw same at c.in-Ok.ensures.mended in
-    let o = unknown_in c.args.side c.args.modules.now in (
+    let o = square_of_unknown c.args.side c.args.modules.now in (
       λ h. absurd (omega arith),
       λ w. absurd (not-unmended o g m.version m.level m.mask m.parsed m.changed.items unread.Check c.mended_readings_are_not_refused.ensures r w.1.1 (λ e. cc)),
     )
@@ -187,7 +187,7 @@ returns-else-bytes-len-clause-segments c =
     let g = square_of_bytes c.args.side c.args.modules.now in
     let m = c.in-Ok.found in
     let r = rw same at c.in-Ok.ensures.mended in
-    let o = unknown_in c.args.side c.args.modules.now in (
+    let o = square_of_unknown c.args.side c.args.modules.now in (
       λ h. absurd (omega arith),
       λ w. absurd (not-unmended o g m.version m.level m.mask m.parsed m.changed.items (unread.Segments w.1.0) c.mended_readings_are_not_refused.ensures r w.1.1.1 (λ e. cc)),
     )

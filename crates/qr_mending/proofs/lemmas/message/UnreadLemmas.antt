@@ -1,0 +1,205 @@
+-- A message of which some codewords were erased is mended block by block, to at most one message.
+use Rattle.std.proofs.Common.{◌≡◌, refl, ◌==◌, not, Bool, ℕ, ◌+◌, ◌-◌, ◌*◌, ◌/◌, ◌<◌, ◌≤◌, Option, List, [], ◌∷◌, ◌++◌, map, take, drop, length, length-append, get_or, sym, ◌∙◌, ap, subst, inl, inr, arith}
+use Rattle.std.proofs.lemmas.Bool.{cases_lt}
+use Rattle.std.proofs.lemmas.List.{length_push, get_or_append_left, get_or_push, ext_get_or}
+use Rattle.qr_field.specs.Polynomial.{IsCorrection}
+use Rattle.qr_field.specs.Distance.{erasures, errors}
+use Rattle.qr_layout.specs.declared.blocks.Blocks.{Blocks}
+use Rattle.qr_layout.specs.declared.level.Level.{Level}
+use Rattle.qr_layout.specs.declared.region.Module.{Module}
+use Rattle.qr_layout.specs.Blocks.{blocks_of}
+use Rattle.qr_layout.specs.Version.{total_codewords_of}
+use Rattle.qr_layout.proofs.Facts.{only_order}
+use Rattle.qr_matrix.specs.Grid.{Grid}
+use Rattle.qr_symbol.specs.Interleaving.{block_count, block_len, codeword_count, data_sizes, correction_sizes, part_of}
+use Rattle.qr_symbol.proofs.Facts.{bits-one, len-most, parts-same, start-next}
+use Rattle.qr_field.proofs.lemmas.laws.DistanceLemmas.{unambiguous-known}
+use Rattle.qr_field.proofs.Facts.{correction-one}
+use Rattle.qr_mending.specs.Erasures.{read_of, IsMendedWithErasures}
+use Rattle.qr_mending.specs.Message.{colour_at, read_by, received, spare_of, AreInBlocks, AreMarks, AreMended, IsMendedIn, IsMendedBlock, IsMendedMessage}
+use Rattle.qr_mending.proofs.lemmas.erasures.ErasureLemmas.{length-read}
+use Rattle.qr_mending.proofs.lemmas.message.MessageLemmas.{gathered-same, part-grown, part-last, part-len}
+
+-- ---- marks
+
+-- a square has at most one list of marks
+pub marks-one : (v : ℕ) (unknown : Grid) (xs ys : List ℕ) → AreMarks v unknown xs → AreMarks v unknown ys → xs ≡ ys
+marks-one v unknown xs ys g h =
+    bits-one xs ys g.bytes h.bytes
+    (g.bits
+    ∙ (ap (λ (ms : List Module). map (colour_at unknown) (take (8 * total_codewords_of v) ms)) (only_order v g.places h.places g.order h.order)
+    ∙ sym h.bits))
+
+-- ---- blocks
+
+-- a sequence is put back into blocks in at most one way
+in-blocks-one : (b : Blocks) (interleaved d e x y : List ℕ) → AreInBlocks b interleaved d e → AreInBlocks b interleaved x y → (d ≡ x) × (e ≡ y)
+in-blocks-one b interleaved d e x y g h =
+    (gathered-same (data_sizes b) interleaved d x g.gathered h.gathered, gathered-same (correction_sizes b) (drop (codeword_count (data_sizes b)) interleaved) e y g.rest h.rest)
+
+-- if what was read is a damaged form of no block, no data codewords with their error correction codewords are near
+-- enough to it
+pub none-erased : (n spare : ℕ) (codewords : List ℕ) (erased : List Bool) →
+    ((mended : List ℕ) → IsMendedWithErasures n spare (read_of codewords erased) mended → ⊥) →
+    (d e : List ℕ) → length d + n ≡ length codewords → IsCorrection d n e →
+    erasures (read_of codewords erased) + 2 * errors (read_of codewords erased) (d ++ e) ≤ spare → ⊥
+none-erased n spare codewords erased none d e long right near =
+    none (d ++ e) (record {
+      block = record { message = d; correction = e; whole = refl; corrects = right };
+      long = omega (arith, length-append d e, right.count, long, length-read codewords erased);
+      near = near;
+    })
+
+-- one block more
+unread-push : (b : Blocks) (spare : ℕ) (d e u w message misread es c : List ℕ) (n x : ℕ) → n < block_count (data_sizes b) →
+    AreMended b spare d e u w n message misread → length es ≡ block_len (data_sizes b) n → IsCorrection es b.ec_len c →
+    x ≡ errors (read_by (received b d e n) (received b u w n)) (es ++ c) →
+    erasures (read_by (received b d e n) (received b u w n)) + 2 * x ≤ spare →
+    AreMended b spare d e u w (n + 1) (message ++ es) (misread ++ x ∷ [])
+unread-push b spare d e u w message misread es c n x l h len right count near =
+    let sizes = data_sizes b in
+    let read : ℕ → List (Option ℕ) = λ i. read_by (received b d e i) (received b u w i) in
+    record {
+      long = omega (arith, length-append message es, h.long, len, start-next sizes n);
+      many = omega (arith, length_push misread x, h.many);
+      each = λ i m. elim (cases_lt i n) [
+        | inl k ↦
+            let old = h.each i k in
+            let same = part-grown sizes message es i n h.long k in
+            let there : get_or (misread ++ x ∷ []) i 0 ≡ get_or misread i 0 =
+            get_or_append_left misread (x ∷ []) 0 i (omega (arith, k, h.many)) in
+            record {
+              correction = old.correction;
+              corrects = subst (λ (z : List ℕ). IsCorrection z b.ec_len old.correction) (sym same) old.corrects;
+              near = omega (arith, there, old.near);
+              count = there ∙ (old.count ∙ ap (λ z. errors (read i) (z ++ old.correction)) (sym same));
+            }
+        | inr k ↦
+            let here : n ≡ i = omega arith in
+            let last = part-last sizes message es n h.long len in
+            let there : get_or (misread ++ x ∷ []) n 0 ≡ x = get_or_push misread x 0 n h.many in
+            subst (λ (j : ℕ). IsMendedBlock b spare (read j) (message ++ es) (get_or (misread ++ x ∷ []) j 0) j) here
+            (record {
+              correction = c;
+              corrects = subst (λ (z : List ℕ). IsCorrection z b.ec_len c) (sym last) right;
+              near = omega (arith, there, near);
+              count = there ∙ (count ∙ ap (λ z. errors (read n) (z ++ c)) (sym last));
+            })
+      ];
+    }
+
+-- ---- at most one message
+
+-- codewords with marks are a damaged form of at most one message
+unread-message-one : (b : Blocks) (spare : ℕ) (cw marks m n x y : List ℕ) → spare ≤ b.ec_len →
+    b.short_len + 1 + b.ec_len ≤ 255 → IsMendedMessage b spare cw marks m x → IsMendedMessage b spare cw marks n y →
+    (m ≡ n) × (x ≡ y)
+unread-message-one b spare cw marks m n x y enough few g h =
+    let c = data_sizes b in
+    let d = g.codewords in
+    let e = g.checks in
+    let u = g.unread in
+    let w = g.unread_checks in
+    let first = in-blocks-one b cw h.codewords h.checks d e h.in_blocks g.in_blocks in
+    let second = in-blocks-one b marks h.unread h.unread_checks u w h.marked g.marked in
+    let other : AreMended b spare d e u w (block_count c) n y =
+    subst (λ (z : List ℕ). AreMended b spare z e u w (block_count c) n y) first.0
+    (subst (λ (z : List ℕ). AreMended b spare h.codewords z u w (block_count c) n y) first.1
+    (subst (λ (z : List ℕ). AreMended b spare h.codewords h.checks z w (block_count c) n y) second.0
+    (subst (λ (z : List ℕ). AreMended b spare h.codewords h.checks h.unread z (block_count c) n y) second.1 h.mended))) in
+    let read : ℕ → List (Option ℕ) = λ i. read_by (received b d e i) (received b u w i) in
+    let part : (i : ℕ) → i < block_count c → part_of c m i ≡ part_of c n i =
+    λ i l.
+    let p = g.mended.each i l in
+    let q = other.each i l in
+    let lp = part-len c m i g.mended.long l in
+    let lq = part-len c n i other.long l in
+    let t = (spare - erasures (read i)) / 2 in
+    unambiguous-known b.ec_len t (part_of c m i) p.correction (part_of c n i) q.correction (read i) p.corrects q.corrects
+    (lp ∙ sym lq) (omega (arith, lp, len-most c i, few)) (omega (arith, p.near, enough)) (omega (arith, p.near, p.count)) (omega (arith, q.near, q.count)) in
+    let count : (i : ℕ) → i < block_count c → get_or x i 0 ≡ get_or y i 0 =
+    λ i l.
+    let p = g.mended.each i l in
+    let q = other.each i l in
+    let s = part i l in
+    let r : p.correction ≡ q.correction =
+    correction-one (part_of c n i) b.ec_len p.correction q.correction
+    (subst (λ (z : List ℕ). IsCorrection z b.ec_len p.correction) s p.corrects) q.corrects in
+    p.count
+    ∙ (ap (λ z. errors (read i) (z ++ p.correction)) s
+    ∙ (ap (λ z. errors (read i) (part_of c n i ++ z)) r ∙ sym q.count)) in (
+      parts-same c m n g.mended.long other.long part,
+      ext_get_or 0 x y (g.mended.many ∙ sym other.many) (λ i l. count i (omega (arith, l, g.mended.many))),
+    )
+
+-- codewords of which some are erased are a damaged form of at most one message
+pub beside-one : (unknown : Grid) (v : ℕ) (l : Level) (cw m n x y : List ℕ) →
+    (blocks_of v l).short_len + 1 + (blocks_of v l).ec_len ≤ 255 → IsMendedIn unknown v l cw m x →
+    IsMendedIn unknown v l cw n y → (m ≡ n) × (x ≡ y)
+beside-one unknown v l cw m n x y few g h =
+    let same = marks-one v unknown h.marks g.marks h.erased g.erased in
+    unread-message-one (blocks_of v l) (spare_of v l) cw g.marks m n x y (omega arith) few g.mended
+    (subst (λ (z : List ℕ). IsMendedMessage (blocks_of v l) (spare_of v l) cw z n y) same h.mended)
+
+-- ---- the steps of the code
+
+-- one block more, stated with the variables of the loop
+pub push-unread : (b : Blocks) (spare : ℕ) (d e u w : List ℕ) (n k x : ℕ) (codewords marks : List ℕ) (erased : List Bool)
+    (message misread es more counts : List ℕ) → n ≡ b.ec_len → k < block_count (data_sizes b) → codewords ≡ received b d e k →
+    marks ≡ received b u w k → erased ≡ map (λ mark. not (mark == 0)) marks → length codewords ≡ block_len (data_sizes b) k + b.ec_len →
+    AreMended b spare d e u w k message misread → length es + n ≡ length codewords →
+    ((c : List ℕ) × IsCorrection es n c × (x ≡ errors (read_of codewords erased) (es ++ c))) →
+    erasures (read_of codewords erased) + 2 * x ≤ spare → more ≡ message ++ es → counts ≡ misread ++ x ∷ [] →
+    AreMended b spare d e u w (k + 1) more counts
+push-unread b spare d e u w n k x codewords marks erased message misread es more counts en l ec em ee long h le c near push count =
+    let same : read_of codewords erased ≡ read_by (received b d e k) (received b u w k) =
+    ap (λ (z : List ℕ). read_of z erased) ec
+    ∙ (ap (read_of (received b d e k)) ee ∙ ap (read_by (received b d e k)) em) in
+    let right : IsCorrection es b.ec_len c.0 = subst (λ (z : ℕ). IsCorrection es z c.0) en c.1 in
+    let all : erasures (read_by (received b d e k) (received b u w k)) + 2 * x ≤ spare =
+    subst (λ (z : List (Option ℕ)). erasures z + 2 * x ≤ spare) same near in
+    subst (λ (z : List ℕ). AreMended b spare d e u w (k + 1) z counts) (sym push)
+    (subst (λ (z : List ℕ). AreMended b spare d e u w (k + 1) (message ++ es) z) (sym count)
+    (unread-push b spare d e u w message misread es c.0 k x l h (omega (arith, le, long, en)) right
+    (c.2 ∙ ap (λ (z : List (Option ℕ)). errors z (es ++ c.0)) same) all))
+
+-- if a block cannot be mended, the codewords are a damaged form of no message
+pub none-unread : (b : Blocks) (spare : ℕ) (d e u w : List ℕ) (n k : ℕ) (codewords marks : List ℕ) (erased : List Bool) →
+    n ≡ b.ec_len → k < block_count (data_sizes b) → codewords ≡ received b d e k → marks ≡ received b u w k →
+    erased ≡ map (λ mark. not (mark == 0)) marks → length codewords ≡ block_len (data_sizes b) k + b.ec_len →
+    ((x c : List ℕ) → length x + n ≡ length codewords → IsCorrection x n c →
+    erasures (read_of codewords erased) + 2 * errors (read_of codewords erased) (x ++ c) ≤ spare → ⊥) →
+    (message misread : List ℕ) → AreMended b spare d e u w (block_count (data_sizes b)) message misread → ⊥
+none-unread b spare d e u w n k codewords marks erased en l ec em ee long none message misread h =
+    let m = h.each k l in
+    let x = part_of (data_sizes b) message k in
+    let same : read_of codewords erased ≡ read_by (received b d e k) (received b u w k) =
+    ap (λ (z : List ℕ). read_of z erased) ec
+    ∙ (ap (read_of (received b d e k)) ee ∙ ap (read_by (received b d e k)) em) in
+    let near : erasures (read_by (received b d e k) (received b u w k)) + 2 * errors (read_by (received b d e k) (received b u w k)) (x ++ m.correction) ≤ spare =
+    omega (arith, m.near, m.count) in
+    none x m.correction (omega (arith, part-len (data_sizes b) message k h.long l, long, en))
+    (subst (λ (z : ℕ). IsCorrection x z m.correction) (sym en) m.corrects)
+    (subst (λ (z : List (Option ℕ)). erasures z + 2 * errors z (x ++ m.correction) ≤ spare) (sym same) near)
+
+-- codewords that cannot be mended are a damaged form of no message
+pub none-in-blocks : (b : Blocks) (spare : ℕ) (cw marks d e u w : List ℕ) → AreInBlocks b cw d e → AreInBlocks b marks u w →
+    ((message misread : List ℕ) → AreMended b spare d e u w (block_count (data_sizes b)) message misread → ⊥) →
+    (message misread : List ℕ) → IsMendedMessage b spare cw marks message misread → ⊥
+none-in-blocks b spare cw marks d e u w g h none message misread m =
+    let c = data_sizes b in
+    let first = in-blocks-one b cw m.codewords m.checks d e m.in_blocks g in
+    let second = in-blocks-one b marks m.unread m.unread_checks u w m.marked h in
+    none message misread
+    (subst (λ (z : List ℕ). AreMended b spare z e u w (block_count c) message misread) first.0
+    (subst (λ (z : List ℕ). AreMended b spare m.codewords z u w (block_count c) message misread) first.1
+    (subst (λ (z : List ℕ). AreMended b spare m.codewords m.checks z w (block_count c) message misread) second.0
+    (subst (λ (z : List ℕ). AreMended b spare m.codewords m.checks m.unread z (block_count c) message misread) second.1 m.mended))))
+
+-- mending by marks is mending with the modules that were not read
+pub beside-refused : (unknown : Grid) (v : ℕ) (l : Level) (cw marks : List ℕ) → AreMarks v unknown marks →
+    ((message misread : List ℕ) → IsMendedMessage (blocks_of v l) (spare_of v l) cw marks message misread → ⊥) →
+    (message misread : List ℕ) → IsMendedIn unknown v l cw message misread → ⊥
+beside-refused unknown v l cw marks a none message misread h =
+    none message misread
+    (subst (λ (z : List ℕ). IsMendedMessage (blocks_of v l) (spare_of v l) cw z message misread) (marks-one v unknown h.marks marks h.erased a) h.mended)

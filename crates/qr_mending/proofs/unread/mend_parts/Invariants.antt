@@ -1,9 +1,0 @@
-use Rattle.std.proofs.Common.{◌≡◌}
-use Rattle.qr_mending.specs.Unread.{AreMendedWithout}
-use Rattle.qr_mending.proofs.unread.mend_parts.Given as goal
-
-abbrev pub invariant-loop-block : goal.invariant-loop-block
-invariant-loop-block l = record {
-  so_far : AreMendedWithout l.fn.blocks l.spare l.received.data.items l.received.checks.items l.marks.data.items l.marks.checks.items l.block l.message.items l.changed.items;
-  divisor : l.divisor ≡ l.fn.blocks.ec_len;
-}
