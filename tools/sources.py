@@ -1,5 +1,5 @@
 """What the scripts beside this one read of the sources: the definitions of crates/*/specs, the functions of
-crates/*/src with their contracts, and the wrong bodies of crates/*/must-fail."""
+crates/*/src with their contracts, and the wrong bodies of crates/*/must-fail and crates/*/wrong."""
 import pathlib
 import re
 
@@ -76,9 +76,14 @@ def read_functions(crate, path, functions):
         add(name, public, members, "", doc_above(lines, at[0]) if at else [])
 
 
+def edits_of(crate):
+    """Returns the files of a crate's wrong bodies, those of must-fail/ first."""
+    return [edit for folder in ("must-fail", "wrong") for edit in sorted((CRATES / crate / folder).glob("*.edit"))]
+
+
 def read_edits(crate, edits):
-    """Adds a crate's must-fail edits: the name, the file, and the item that the first change is made in."""
-    for edit in sorted((CRATES / crate / "must-fail").glob("*.edit")):
+    """Adds a crate's wrong bodies: the name, the file, and the item that the first change is made in."""
+    for edit in edits_of(crate):
         path = CRATES / crate / re.search(r"^file: *(\S+)", edit.read_text("utf-8"), re.M).group(1)
         source, old = path.read_text("utf-8"), re.search(r"^old: ?(.*)", edit.read_text("utf-8"), re.M).group(1)
         upto = source[:source.find(old)] + old
