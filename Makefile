@@ -78,12 +78,17 @@ cross:
 static: all
 	$(CC) -O2 -static -o $(PROGRAM)-static $(OUT)/qrencode.o $(GLUE)
 
+# The gate.
 check:
 	@tests/all
 
-# What proves anew: the library and the program for aarch64.
-check-packages:
-	tests/aarch64 --build
+# All tests, without the gate's proofs of tests and without wrong bodies.
+test:
+	@tests/all --test
+
+# Each wrong body by itself.
+check-each:
+	@tests/wrong_bodies --each
 
 # The page calls the program by its name in its head and its examples; the lines of faults begin with qrencode under each name.
 install: $(if $(STATIC),static,all)
@@ -159,4 +164,4 @@ bench: all lib
 	bench/library
 	bench/memory
 
-.PHONY: all bench check check-packages cross install install-lib lib print-pc prove-lib static uninstall uninstall-lib wheel
+.PHONY: all bench check check-each cross install install-lib lib print-pc prove-lib static test uninstall uninstall-lib wheel
