@@ -70,8 +70,14 @@ fn are_modules(modules: &[u8]) -> bool
     modules.iter().all(|module| *module <= NOT_KNOWN)
 }
 
-// Returns a square with `side` rows that shows which modules are not known. A module of the returned square is dark if
-// its byte in `modules` is 2, and light otherwise.
+// Whether no byte of `modules` is that of a module that is not known.
+fn are_known(modules: &[u8]) -> bool
+    ensures { MatchBool result (All (λ b. b < 2) modules.now) (Any (λ b. 2 ≤ b) modules.now) }
+{
+    modules.iter().all(|module| *module < NOT_KNOWN)
+}
+
+// The square in which exactly the modules that are not known are dark.
 fn unknown_of(alloc: Global, modules: &[u8], side: u8) -> Result<Matrix, AllocError>
     requires least { 1 ≤ side }
     requires most { side ≤ 177 }
@@ -79,6 +85,9 @@ fn unknown_of(alloc: Global, modules: &[u8], side: u8) -> Result<Matrix, AllocEr
     ensures { IfOk result (λ m. m ≡ square_of_unknown side modules.now) }
 {
     let mut unknown = Matrix::new(alloc, side)?;
+    if are_known(modules) {
+        return Ok(unknown);
+    }
     let mut start = 0;
     for row in 0..side {
         for col in 0..side {
