@@ -1,5 +1,5 @@
 -- Any two words of the format information differ in at least seven bits, so at most one word is near to what was read.
-use Rattle.std.specs.Prelude.{Option, None, Some, MatchOption}
+use Rattle.std.specs.Prelude.{◌⊎◌, Option, None, Some, MatchOption}
 use Rattle.std.proofs.Common.{◌≡◌, ℕ, zero, suc, ◌+◌, ◌*◌, ◌<◌, ◌≤◌, Bool, true, false, cond, not, ◌&&◌, ◌||◌, eqb, ltb, refl, ap, inl, inr, arith}
 use Rattle.std.proofs.lemmas.Bool.{cases_eq, ne_eqb}
 use borrow.Author.Tests.{ltb-true}
@@ -96,6 +96,35 @@ near-one unknown copy g l k m n h j = elim (cases_eq (five_bits l m) (five_bits 
       let apart = copies-apart unknown copy g l k m n h.in_range j.in_range o in
       absurd (omega (arith, apart, h.near, j.near))
 ]
+
+-- different words of format information differ in at least seven bits
+pub words-apart : (l k : Level) (m n : ℕ) → m < 8 → n < 8 → ((l ≡ k) × (m ≡ n) → ⊥) →
+    7 ≤ bit_differences 15 (word_bit (format_word_of l m)) (word_bit (format_word_of k n))
+unfolding format_word_of
+words-apart l k m n p q o =
+    let s = level-small l in
+    let t = level-small k in
+    let apart = far (five_bits l m) (five_bits k n) (omega arith) (omega arith) (λ e. o (five-one l k m n p q e)) in
+    omega (arith, apart)
+
+-- beside two of them both copies cost at least 28
+pub costs-apart : (unknown g : Grid) (l k : Level) (m n : ℕ) → m < 8 → n < 8 → ((l ≡ k) × (m ≡ n) → ⊥) →
+    28 ≤ format_cost unknown g l m + format_cost unknown g k n
+costs-apart unknown g l k m n p q o =
+    let a = copies-apart unknown First g l k m n p q (λ e. o (five-one l k m n p q e)) in
+    let b = copies-apart unknown Second g l k m n p q (λ e. o (five-one l k m n p q e)) in
+    omega (arith, a, b)
+
+-- of three levels and masks that are near to a copy, two are the same
+pub near-two : (unknown g : Grid) (a b c : FormatCopy) (l k j : Level) (m n i : ℕ) → IsNearFormat unknown a g l m →
+    IsNearFormat unknown b g k n → IsNearFormat unknown c g j i →
+    ((l ≡ k) × (m ≡ n)) ⊎ (((l ≡ j) × (m ≡ i)) ⊎ ((k ≡ j) × (n ≡ i)))
+near-two unknown g First First c l k j m n i x y z = inl (near-one unknown First g l k m n x y)
+near-two unknown g Second Second c l k j m n i x y z = inl (near-one unknown Second g l k m n x y)
+near-two unknown g First Second First l k j m n i x y z = inr (inl (near-one unknown First g l j m i x z))
+near-two unknown g First Second Second l k j m n i x y z = inr (inr (near-one unknown Second g k j n i y z))
+near-two unknown g Second First First l k j m n i x y z = inr (inr (near-one unknown First g k j n i y z))
+near-two unknown g Second First Second l k j m n i x y z = inr (inl (near-one unknown Second g l j m i x z))
 
 -- beside at most one level and mask both copies cost at most 13
 pub sure-one : (unknown g : Grid) (l k : Level) (m n : ℕ) → m < 8 → n < 8 → format_cost unknown g l m ≤ 13 →
