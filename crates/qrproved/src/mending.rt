@@ -1,7 +1,7 @@
 //! Defines the function `qrproved_mend` for C, which reads a damaged symbol and reports its damage (ISO/IEC 18004:2015,
 //! 7.5.1, 7.9.1 and 12).
 
-ghost use Rattle.std.specs.Prelude.{◌≡◌, ◌≢◌, ◌*◌, ◌<◌, ◌≤◌, ◌==◌, ◌↔◌, ◌⊎◌, length, IfOk, MatchBool, MatchResult};
+ghost use Rattle.std.specs.Prelude.{true, ◌≡◌, ◌≢◌, ◌*◌, ◌<◌, ◌≤◌, ◌==◌, ◌↔◌, ◌⊎◌, length, IfOk, MatchBool, MatchResult};
 ghost use Rattle.std.specs.List.{All, Any};
 ghost use Rattle.qr_bits.specs.declared.fault.ParseFault.{ParseFault};
 ghost use Rattle.qr_symbol.specs.declared.fault.ReadFault.{ReadFault};
@@ -62,19 +62,27 @@ pub struct QrprovedMended {
 // The byte for a module that is not known.
 const NOT_KNOWN: u8 = 2;
 
-// Returns whether each byte of `modules` is 0, 1 or 2. The byte 0 is a light module, the byte 1 is a dark module, and
-// the byte 2 is a module that is not known.
+// Whether no byte of `modules` is more than 1. The loop does not stop at the first one, so that it takes many bytes at once.
+fn are_known(modules: &[u8]) -> bool
+    ensures { result ≡ true → All (λ b. b < 2) modules.now }
+{
+    let mut known = true;
+    for module in modules {
+        if *module >= NOT_KNOWN {
+            known = false;
+        }
+    }
+    known
+}
+
+// Whether each byte of `modules` is 0, 1 or 2.
 fn are_modules(modules: &[u8]) -> bool
     ensures { MatchBool result (All (λ b. b ≤ 2) modules.now) (Any (λ b. 2 < b) modules.now) }
 {
+    if are_known(modules) {
+        return true;
+    }
     modules.iter().all(|module| *module <= NOT_KNOWN)
-}
-
-// Whether no byte of `modules` is that of a module that is not known.
-fn are_known(modules: &[u8]) -> bool
-    ensures { MatchBool result (All (λ b. b < 2) modules.now) (Any (λ b. 2 ≤ b) modules.now) }
-{
-    modules.iter().all(|module| *module < NOT_KNOWN)
 }
 
 // The square in which exactly the modules that are not known are dark.

@@ -1,7 +1,7 @@
-use Rattle.std.proofs.Common.{◌≡◌, ◌<◌, ◌≤◌, ◌+◌, ◌*◌, ◌==◌, eqb, false, ℕ, List, length, get_or, slice_index_or, sym, ap, ◌∙◌, arith}
+use Rattle.std.proofs.Common.{◌≡◌, ◌<◌, ◌≤◌, ◌+◌, ◌*◌, ◌==◌, false, ℕ, List, length, get_or, slice_index_or, sym, ap, ◌∙◌, arith}
 use Rattle.std.specs.List.{All}
 use Rattle.std.proofs.lemmas.Bool.{ne_eqb}
-use Rattle.qr_matrix.specs.Grid.{light, square}
+use Rattle.qr_matrix.specs.Grid.{light}
 use Rattle.qrproved.specs.Mending.{square_of_unknown}
 use Rattle.qrproved.proofs.lemmas.modules.ModuleLemmas.{place-in}
 use Rattle.qr_matrix.proofs.Facts.{filled, fill-step, fill-row, fill-all, square-same}
@@ -41,4 +41,4 @@ all-known side modules room known =
 
 pub returns-then-are_known : goal.returns-then-are_known
 returns-then-are_known c =
-    c.in_ok-unknown.ensures ∙ all-known c.args.side c.args.modules.now c.requires.room (rw c.if-are_known.true at c.are_known.ensures)
+    c.in_ok-unknown.ensures ∙ all-known c.args.side c.args.modules.now c.requires.room (c.are_known.ensures c.if-are_known.true)
