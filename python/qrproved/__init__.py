@@ -243,8 +243,8 @@ def mend(modules: Bytes, side: int) -> Mended:
     side     modules on a side: 21, 25, and so on to SIDE_MAX
 
     In each block at most changed_allowed codewords are mended. A codeword with a module that is not known takes half as much of
-    the correction as a wrong one, and such a module of the format information is taken as a dark one. One copy of the format information has to have at most three
-    wrong modules. No other module has to be right.
+    the correction as a wrong one. Of the 30 modules of format information any six may be wrong, or 13 not known: the number not
+    known and twice the number of wrong ones are at most 13. No other module has to be right.
 
     Raises SideError, RoomError if there are too few modules, SettingsError if one is more than 2, FormatError if both
     copies of the format information are too damaged, CheckError if a block is, SegmentsError, and OutOfMemoryError.

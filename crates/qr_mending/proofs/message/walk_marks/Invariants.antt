@@ -3,7 +3,7 @@ use Rattle.std.specs.List.{All}
 use Rattle.qr_layout.specs.Order.{IsOrder}
 use Rattle.qr_bits.specs.Bits.{bits_of, field}
 use Rattle.qr_mending.specs.Message.{colour_at}
-use Rattle.qr_mending.proofs.message.read_marks.Given as goal
+use Rattle.qr_mending.proofs.message.walk_marks.Given as goal
 
 abbrev pub invariant-loop-module : goal.invariant-loop-module
 invariant-loop-module l = record {
