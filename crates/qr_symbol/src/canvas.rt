@@ -11,7 +11,7 @@ ghost use Rattle.qr_symbol.specs.Steps.Drawing.{masked_grid, plain_grid, region_
 
 use crate::drawing::draw_codewords;
 use crate::mask::set_masked;
-use crate::patterns::{draw_fixed, draw_format, draw_region};
+use crate::patterns::{draw_fixed, draw_format, region_of};
 use qr_layout::{Level, Version, format_word};
 use qr_matrix::Matrix;
 use std::alloc::{AllocError, Global};
@@ -44,8 +44,7 @@ impl Canvas {
         ensures version { IfOk result (λ c. c.version ≡ version) }
         ensures level { IfOk result (λ c. c.level ≡ level) }
     {
-        let mut region = Matrix::new(alloc, version.side())?;
-        draw_region(&mut region, version);
+        let region = region_of(alloc, version)?;
         let mut plain = Matrix::new(alloc, version.side())?;
         draw_fixed(&mut plain, version, SYMMETRIC_FORMAT);
         Ok(Canvas {

@@ -15,7 +15,7 @@ use crate::collecting::collect_codewords;
 use crate::fault::ReadFault;
 use crate::interleaving::deinterleave;
 use crate::mask::set_masked;
-use crate::patterns::{FORMAT_BITS, draw_region, is_bit_set};
+use crate::patterns::{FORMAT_BITS, is_bit_set, region_of};
 use qr_bits::{Parsed, parse};
 use qr_layout::{Level, Version, format_place, format_word};
 use qr_matrix::Matrix;
@@ -68,15 +68,6 @@ fn format_of(matrix: &Matrix) -> Option<(Level, u8)>
         }
     }
     None
-}
-
-// Returns the square of modules in which exactly the modules of the encoding region are dark.
-fn region_of(alloc: Global, version: Version) -> Result<Matrix, AllocError>
-    ensures { IfOk result (λ m. m ≡ region_grid version) }
-{
-    let mut region = Matrix::new(alloc, version.side())?;
-    draw_region(&mut region, version);
-    Ok(region)
 }
 
 // Reads the codewords from the modules of the encoding region, without undoing a mask pattern. In `region`, exactly the
