@@ -156,7 +156,7 @@ wheel:
 
 # The library as WebAssembly, the package for JavaScript with it inside, and the page with both inside.
 WASM = out/wasm/qrproved.wasm
-wasm: $(if $(call is_old,$(WASM))$(shell find ports/wasm -newer $(WASM)),build-wasm)
+wasm: $(if $(call is_old,$(WASM))$(shell test ! -e $(WASM) || find ports/wasm -newer $(WASM)),build-wasm)
 
 build-wasm: lib
 	ports/wasm/build out/wasm
