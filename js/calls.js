@@ -12,8 +12,7 @@ function code() {
 }
 
 /**
- * Compiles the module aside. Only a browser that refuses to compile it at once needs this, before the first call: those of Chromium
- * before 2023.
+ * Compiles the module aside, for a browser that refuses to compile it at once, as older ones do: before the first call.
  */
 export async function load() {
   library ??= (await WebAssembly.instantiate(code(), {})).instance.exports;
@@ -85,7 +84,8 @@ export function encodedSeries(input, version, level, rule) {
 /** Returns the fields that the structs of a symbol that was read and of one that was mended share, with the bytes. */
 function content(at, bytes, version) {
   const [has, position, last, parity] = [1, 2, 3, 4].map((k) => at.getUint8(version + k));
-  return { bytes: copied(bytes, Number(at.getBigUint64(0, true))), version: at.getUint8(version), header: has ? { position, last, parity } : null };
+  const header = has ? { position, last, parity } : null;
+  return { bytes: copied(bytes, Number(at.getBigUint64(0, true))), version: at.getUint8(version), header };
 }
 
 export function readOf(modules, side) {

@@ -125,11 +125,12 @@ export function mend(square: QRSymbol | Uint8Array): Mended;
  */
 export function draw(symbols: QRSymbol | QRSymbol[], options?: { type?: Drawing; margin?: number }): string;
 
-/** Compiles the module aside. Only browsers that refuse to compile it at the first call need it, those of Chromium before 2023. */
+/** Compiles the module aside, before the first call. Only browsers that refuse to compile it at the first call need it: older ones. */
 export function load(): Promise<void>;
 
 /** A refusal of the library. */
 export class QRError extends Error {
+  protected constructor();
   /** The number of the status in C. */
   readonly status: number;
   /** The name of the status in C, as 'TOO_LONG'. */

@@ -94,8 +94,8 @@ class Page:
 
     def click(self, name):
         """Clicks on the middle of an element."""
-        place = self.value(f"(() => {{ const it = document.getElementById('{name}'); it.scrollIntoView({{ block: 'center' }}); "
-                           "const { x, y, width, height } = it.getBoundingClientRect(); return [x + width / 2, y + height / 2] })()")
+        place = self.value(f"(() => {{ const it = document.getElementById('{name}'); it.scrollIntoView({{ block: 'center' }}); const at ="
+                           " it.getBoundingClientRect(); return [at.x + at.width / 2, at.y + at.height / 2] })()")
         for kind in ("mousePressed", "mouseReleased"):
             self.command("Input.dispatchMouseEvent", type=kind, x=place[0], y=place[1], button="left", clickCount=1)
 
@@ -107,15 +107,16 @@ class Page:
 
     def pdf(self, path):
         with open(path, "wb") as it:
-            it.write(base64.b64decode(self.command("Page.printToPDF", paperWidth=8.27, paperHeight=11.69, preferCSSPageSize=False)["data"]))
+            it.write(base64.b64decode(self.command("Page.printToPDF", paperWidth=8.27, paperHeight=11.69)["data"]))
 
 
 @contextlib.contextmanager
 def opened(chromium, room):
     """Yields a page of a Chromium that is started with a profile of its own, and ends it."""
     (theirs_at, to), (at, theirs_to) = os.pipe(), os.pipe()
-    words = ["sh", "-c", f'exec "$@" 3<&{theirs_at} 4>&{theirs_to}', "sh", chromium, *WORDS, f"--user-data-dir={room}/profile", "about:blank"]
-    ran = subprocess.Popen(words, pass_fds=[theirs_at, theirs_to], stdin=subprocess.DEVNULL, stdout=subprocess.DEVNULL, stderr=subprocess.DEVNULL)
+    words = ["sh", "-c", f'exec "$@" 3<&{theirs_at} 4>&{theirs_to}', "sh", chromium, *WORDS, f"--user-data-dir={room}/profile"]
+    silent = {"stdin": subprocess.DEVNULL, "stdout": subprocess.DEVNULL, "stderr": subprocess.DEVNULL}
+    ran = subprocess.Popen(words, pass_fds=[theirs_at, theirs_to], **silent)
     os.close(theirs_at)
     os.close(theirs_to)
     try:

@@ -51,12 +51,13 @@ function answer({ name, words, left }) {
     const top = Number(exports.heap_take(1n)) + 1, filler = Number(pages) * PAGE - Math.ceil(top / 16) * 16 - left;
     isReady = filler > 0 && exports.heap_take(BigInt(filler)) !== 0n;
   }
-  const rest = buffers.slice();
-  const given64 = words.map((it) => (it.length !== undefined ? BigInt(rest.shift().address) : it.long !== undefined ? BigInt(it.long) : it.number));
-  let status = isReady ? exports[name](...given64) & 255 : 254;
-  if (isReady && buffers.some((it) => memory().subarray(it.address + it.length, it.address + it.length + GUARD).some((byte) => byte !== MARK))) status = 255;
-  const written = buffers.filter((it) => it.isWritten).map((it) => (isReady ? memory().slice(it.address, it.address + it.length) : Buffer.alloc(it.length)));
-  send(Buffer.of(status), ...written);
+  if (!isReady) return send(Buffer.of(254), Buffer.alloc(buffers.reduce((sum, it) => sum + (it.isWritten ? it.length : 0), 0)));
+  const addresses = buffers.map((it) => BigInt(it.address));
+  const passed = words.map((it) => (it.length !== undefined ? addresses.shift() : it.long !== undefined ? BigInt(it.long) : it.number));
+  const status = exports[name](...passed) & 255, all = memory();
+  const isPast = buffers.some((it) => all.subarray(it.address + it.length, it.address + it.length + GUARD).some((byte) => byte !== MARK));
+  const written = buffers.filter((it) => it.isWritten).map((it) => all.slice(it.address, it.address + it.length));
+  return send(Buffer.of(isPast ? 255 : status), ...written);
 }
 
 for (let head = received(4); head; head = received(4)) answer(JSON.parse(received(head.readUInt32LE(0))));

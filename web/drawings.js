@@ -39,7 +39,7 @@ export function squareIn(drawing) {
   const texts = drawing.replaceAll('\r', '').replaceAll('\u00a0', ' ').split('\n');
   while (texts.length && !texts[0].trim()) texts.shift();
   while (texts.length && !texts.at(-1).trim()) texts.pop();
-  const width = Math.max(0, ...texts.map((text) => [...text].length)), isBlocks = /[\u2580\u2584\u2588]/u.test(drawing);
+  const width = texts.reduce((most, text) => Math.max(most, [...text].length), 0), isBlocks = /[\u2580\u2584\u2588]/u.test(drawing);
   // Spaces at the ends of lines are often lost.
   const full = texts.map((text) => text + ' '.repeat(width + (isBlocks ? 0 : width % 2) - [...text].length));
   const rows = width === 0 ? [] : isBlocks ? rowsOfBlocks(full) : rowsOfPairs(full);

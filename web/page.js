@@ -1,5 +1,7 @@
 /** The page: draws each symbol as its text is typed, a sheet of labels, and what a drawing contains. */
-import { CheckError, FormatError, QRError, TooLongError, TooManyError, draw, encode, encodeSeries, mend } from '../out/npm/package/qrproved.js';
+import {
+  CheckError, FormatError, QRError, TooLongError, TooManyError, draw, encode, encodeSeries, mend,
+} from '../out/npm/package/qrproved.js';
 import { squareIn } from './drawings.js';
 
 const on = (id) => document.getElementById(id);
@@ -36,17 +38,22 @@ function numberIn(id) {
 
 let symbols = []; // those that are shown
 
+function lengthOf(text) {
+  const { length } = new TextEncoder().encode(text);
+  return `${length.toLocaleString('en')} ${length === 1 ? 'byte' : 'bytes'}`;
+}
+
 function sentenceOf(error, text) {
-  const long = new TextEncoder().encode(text).length.toLocaleString('en');
-  if (error instanceof TooLongError) return `The text has ${long} bytes and does not fit one symbol at this level. Choose a lower level, or a series.`;
-  if (error instanceof TooManyError) return `The text has ${long} bytes and takes more than 16 symbols of this version. Choose a larger one.`;
+  const has = `The text has ${lengthOf(text)} and`;
+  if (error instanceof TooLongError) return `${has} does not fit one symbol at this level. Choose a lower level, or a series.`;
+  if (error instanceof TooManyError) return `${has} takes more than 16 symbols of this version. Choose a larger one.`;
   return `No symbol: ${error.message}.`;
 }
 
 function factsOf(text, margin) {
-  const [{ version, side, mask, level }] = symbols, long = new TextEncoder().encode(text).length;
+  const [{ version, side, mask, level }] = symbols;
   const what = symbols.length > 1 ? `${symbols.length} symbols of version ${version}-${level}` : `Version ${version}-${level}`;
-  const facts = [what, `${side} × ${side} modules`, ...(mask === null ? [] : [`mask ${mask}`]), `${long.toLocaleString('en')} ${long === 1 ? 'byte' : 'bytes'}`];
+  const facts = [what, `${side} × ${side} modules`, ...(mask === null ? [] : [`mask ${mask}`]), lengthOf(text)];
   return facts.join(', ') + (margin < 4 ? '. Scanners need a margin of 4 modules.' : '.');
 }
 
@@ -80,6 +87,10 @@ function save(name, type, content) {
   link.download = name;
   link.click();
   setTimeout(() => URL.revokeObjectURL(link.href), 60000);
+}
+
+function saveDocument() {
+  save('symbol.svg', 'image/svg+xml', draw(symbols, { type: 'SVG', margin: numberIn('margin') }));
 }
 
 function pngs() {
@@ -125,7 +136,7 @@ function showSheet() {
   on('print-sheet').disabled = figures.length === 0;
   const count = `${figures.length} ${figures.length === 1 ? 'label' : 'labels'}.`;
   if (width === null) say(on('sheet-facts'), 'A label is from 10 to 180 mm wide.', 'wide fault');
-  else if (refused.length) say(on('sheet-facts'), `${count} Too long for a symbol at this level: line ${refused.join(', ')}.`, 'wide fault');
+  else if (refused.length) say(on('sheet-facts'), `${count} Too long at this level: line ${refused.join(', ')}.`, 'wide fault');
   else say(on('sheet-facts'), count, 'wide');
 }
 
@@ -164,13 +175,14 @@ function showFound() {
   const drawing = on('pasted').value, square = squareIn(drawing);
   on('found-drawing').replaceChildren();
   if (drawing.trim() === '') return say(on('found'), 'Paste a drawing.');
-  if (square === null) return say(on('found'), 'There is no square of a symbol, with 21, 25, and so on to 177 modules on a side.', 'fault');
+  if (square === null) return say(on('found'), 'There is no square with 21, 25, and so on to 177 modules on a side.', 'fault');
   on('found-drawing').append(figureOf(picture(square), 'the drawing', ''));
   try {
     const found = mend(square.modules), { header } = found;
+    const place = header ? `, ${header.position + 1} of ${header.last + 1} of a series` : '';
     const rows = [
       ['Contains', [textOf(found)]],
-      ['Symbol', [`Version ${found.version}-${found.level}, mask ${found.mask}${header ? `, ${header.position + 1} of ${header.last + 1} of a series` : ''}`]],
+      ['Symbol', [`Version ${found.version}-${found.level}, mask ${found.mask}${place}`]],
       ['Damage', [damageOf(found, square.modules)]],
       ['Spent', spentOf(found, square.modules)],
     ];
@@ -223,13 +235,13 @@ for (const tab of TABS) {
   });
 }
 
-for (let version = 1; version <= 40; version++) on('version').append(new Option(`${version}, ${17 + 4 * version} modules wide`, version));
+for (let version = 1; version <= 40; version++) on('version').append(new Option(`${version}, ${17 + 4 * version} × ${17 + 4 * version}`, version));
 for (const id of ['text', 'level', 'version', 'margin', 'series']) on(id).addEventListener('input', show);
 for (const id of ['lines', 'sheet-level', 'width']) on(id).addEventListener('input', showSheet);
 for (const form of document.forms) form.addEventListener('submit', (event) => event.preventDefault());
 on('pasted').addEventListener('input', showFound);
 on('paste-sample').addEventListener('click', pasteSample);
-on('save-svg').addEventListener('click', () => save('symbol.svg', 'image/svg+xml', draw(symbols, { type: 'SVG', margin: numberIn('margin') })));
+on('save-svg').addEventListener('click', saveDocument);
 on('save-png').addEventListener('click', saveImages);
 on('copy').addEventListener('click', copy);
 for (const id of ['print-symbol', 'print-sheet']) on(id).addEventListener('click', () => print());

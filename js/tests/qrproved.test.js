@@ -47,7 +47,7 @@ const bytes = (length, start = 0) => Uint8Array.from({ length }, (_, k) => (star
 const inverted = (symbol, ...places) => symbol.modules.map((module, place) => (places.includes(place) ? 1 - module : module));
 
 /** Returns whether an error is of its class, with its status and its name in C. */
-const refused = (name, status, code) => (error) => error instanceof errors[name] && error instanceof errors.QRError && error instanceof Error
+const refused = (name, status, code) => (error) => [errors[name], errors.QRError, Error].every((kind) => error instanceof kind)
   && error.name === name && error.status === status && error.code === code && error.message !== '';
 
 test('eight digits at 1-M', () => {
@@ -80,7 +80,8 @@ test('inputs: strings as UTF-8, bytes as they are', () => {
   assert.deepEqual(read(encode(Buffer.from('buffer'))).text(), 'buffer');
   assert.throws(() => read(encode(Uint8Array.of(255))).text(), TypeError);
   assert.equal(read(encode('\ufeffmarked')).text(), '\ufeffmarked');
-  for (const wrong of [undefined, null, 12, ['a'], {}, new ArrayBuffer(2), '\ud800', 'a\udc00b']) assert.throws(() => encode(wrong), TypeError);
+  const others = [undefined, null, 12, ['a'], {}, new ArrayBuffer(2), '\ud800', 'a\udc00b'];
+  for (const wrong of others) assert.throws(() => encode(wrong), TypeError);
 });
 
 test('settings', () => {
@@ -134,9 +135,11 @@ test('series', () => {
 
 test('mending', () => {
   const symbol = encode('Shelf 12', { level: 'M' }), sound = mend(symbol), corner = 20 * 21 + 20;
-  assert.deepEqual([sound.text(), sound.level, sound.mask, sound.version, sound.isSound, sound.spent], ['Shelf 12', 'M', symbol.mask, 1, true, 0]);
+  assert.deepEqual([sound.text(), sound.level, sound.mask, sound.version], ['Shelf 12', 'M', symbol.mask, 1]);
+  assert.deepEqual([sound.isSound, sound.spent], [true, 0]);
   const one = mend(inverted(symbol, corner));
-  assert.deepEqual([one.text(), one.isSound, one.wrongModules, one.changedMost, one.changedAllowed, one.spent], ['Shelf 12', false, 1, 1, 4, 0.25]);
+  assert.deepEqual([one.text(), one.isSound, one.wrongModules], ['Shelf 12', false, 1]);
+  assert.deepEqual([one.changedMost, one.changedAllowed, one.spent], [1, 4, 0.25]);
   const unknown = symbol.modules.slice().fill(2, corner - 5);
   assert.deepEqual([mend(unknown).text(), mend(unknown).wrongModules, mend(unknown).changedMost], ['Shelf 12', 6, 0]);
   assert.equal(mend(inverted(symbol, 8)).wrongFormatModules, 1);
@@ -152,7 +155,8 @@ test('drawings', () => {
   assert.throws(() => symbol.png({ scale: 0 }), refused('SettingsError', 5, 'SETTINGS'));
   assert.throws(() => symbol.dark(21, 0), refused('SettingsError', 5, 'SETTINGS'));
   const ascii = symbol.text({ type: 'ASCII', margin: 0 }).split('\n');
-  assert.ok(ascii.slice(0, 21).every((line, row) => [...Array(21).keys()].every((k) => line.slice(2 * k, 2 * k + 2) === (symbol.dark(row, k) ? '##' : '  '))));
+  const drawn = (row) => Array.from({ length: 21 }, (_, column) => (symbol.dark(row, column) ? '##' : '  ')).join('');
+  assert.deepEqual(ascii, [...Array.from({ length: 21 }, (_, row) => drawn(row)), '']);
   assert.match(symbol.dataURL({ type: 'svg' }), /^data:image\/svg\+xml,%3C%3Fxml/);
   assert.equal(decodeURIComponent(symbol.dataURL({ type: 'svg', margin: 2 }).split(',', 2)[1]), symbol.svg({ margin: 2 }));
   assert.deepEqual(Buffer.from(symbol.dataURL().split(',')[1], 'base64'), Buffer.from(symbol.png()));
@@ -165,7 +169,9 @@ function chunks(png) {
   for (let at = 8; at < png.length;) {
     const length = view.getUint32(at), named = png.slice(at + 4, at + 8 + length);
     let sum = 0xFFFFFFFF;
-    for (const byte of named) for (let bit = 0, next = byte; bit < 8; bit++, next >>= 1) sum = (sum ^ next) & 1 ? sum >>> 1 ^ 0xEDB88320 : sum >>> 1;
+    for (const byte of named) {
+      for (let bit = 0; bit < 8; bit++) sum = (sum ^ byte >> bit) & 1 ? sum >>> 1 ^ 0xEDB88320 : sum >>> 1;
+    }
     assert.equal(view.getUint32(at + 8 + length), ~sum >>> 0, 'the check of a chunk');
     found.push([String.fromCharCode(...named.slice(0, 4)), named.slice(4)]);
     at += 12 + length;
