@@ -235,7 +235,10 @@ for (const tab of TABS) {
   });
 }
 
-for (let version = 1; version <= 40; version++) on('version').append(new Option(`${version}, ${17 + 4 * version} × ${17 + 4 * version}`, version));
+for (let version = 1; version <= 40; version++) {
+  const side = 17 + 4 * version;
+  on('version').append(new Option(`${version}, ${side} × ${side}`, version));
+}
 for (const id of ['text', 'level', 'version', 'margin', 'series']) on(id).addEventListener('input', show);
 for (const id of ['lines', 'sheet-level', 'width']) on(id).addEventListener('input', showSheet);
 for (const form of document.forms) form.addEventListener('submit', (event) => event.preventDefault());
