@@ -7,7 +7,10 @@ import { SettingsError, SideError } from './errors.js';
 import { imageOf } from './png.js';
 
 export { load } from './calls.js';
-export * from './errors.js';
+export {
+  CheckError, EmptyError, FormatError, OutOfMemoryError, QRError, RoomError, SegmentsError, SettingsError, SideError, TooLongError,
+  TooManyError,
+} from './errors.js';
 
 const LEVELS = ['L', 'M', 'Q', 'H'];
 const MODES = ['auto', 'byte', 'kanji'];

@@ -69,6 +69,6 @@ class Call:
 class Module(Library):
     """The module, called as the library is."""
 
-    def __init__(self, path, pages=None):  # pylint: disable=super-init-not-called
+    def __init__(self, path, pages=None):
         self.library = Remote(path, pages)
         self.modules, self.bytes = (ctypes.c_uint8 * 501264)(), (ctypes.c_uint8 * 7089)()
