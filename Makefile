@@ -159,9 +159,23 @@ uninstall-lib:
 wheel:
 	$(PYTHON) python/backend.py "$(LIBRARY_OUT)/$(SONAME)" "$(WHEELS)"
 
+# The library as WebAssembly, the package for JavaScript with it inside, and the page with both inside.
+WASM = out/wasm/qrproved.wasm
+wasm: $(if $(call is_old,$(WASM))$(shell test ! -e $(WASM) || find ports/wasm -newer $(WASM)),build-wasm)
+
+build-wasm: lib
+	ports/wasm/build out/wasm
+
+npm: wasm
+	js/build $(WASM) out/npm
+
+page: npm
+	web/build out/npm/package out/web
+
 bench: all lib
 	bench/instructions
 	bench/library
 	bench/memory
 
-.PHONY: all bench check check-each cross install install-lib lib print-pc prove-lib static test uninstall uninstall-lib wheel
+.PHONY: all bench build-wasm check check-each cross install install-lib lib npm page print-pc prove-lib static test uninstall \
+    uninstall-lib wasm wheel
