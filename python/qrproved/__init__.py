@@ -315,13 +315,15 @@ def encode(data: Input, *wrong: NoReturn, version: int = 1, level: Name = Level.
     return Symbol(symbol.version, symbol.side, symbol.mask, _first(modules, symbol.side ** 2), Level(settings[1]))
 
 
-def encode_series(data: Input, *wrong: NoReturn, version: int, level: Name = Level.L, rule: Name = Rule.AUTO) -> list[Symbol]:
+def encode_series(data: Input, *wrong: NoReturn, version: Optional[int] = None, level: Name = Level.L, rule: Name = Rule.AUTO) -> list[Symbol]:
     """Returns the symbols of the series of a text or of some bytes, all of `version`, from 1 to COUNT_MAX of them.
 
     Bytes that fit one symbol are one plain symbol. The rest is as for encode; TooManyError is raised where encode raises
     TooLongError: if the bytes take more than COUNT_MAX symbols.
     """
     _no_more("encode_series", "data, ", wrong, "version", "level", "rule")
+    if version is None:
+        raise TypeError("encode_series: the version of all symbols has to be given: encode_series(data, version=5)")
     settings, given = _settings(version, level, rule), _input(data)
     modules, series = (ctypes.c_uint8 * SERIES_MAX)(), _library.Series()
     raise_for(_calls.qrproved_encode_series(given, len(given), *settings, modules, SERIES_MAX, ctypes.byref(series)))
