@@ -6,6 +6,7 @@ ghost use Rattle.qr_layout.specs.Blocks.{data_codewords_of};
 ghost use Rattle.qr_layout.specs.Version.{side_of, total_codewords_of};
 ghost use Rattle.qr_matrix.specs.Grid.{light};
 ghost use Rattle.qr_symbol.specs.declared.fault.ReadFault.{ReadFault};
+ghost use Rattle.qr_symbol.specs.Reading.{IsOfVersion};
 ghost use Rattle.qr_mending.specs.declared.format.FormatCopy.{FormatCopy};
 ghost use Rattle.qr_mending.specs.Format.{format_cost, IsNearFormat};
 ghost use Rattle.qr_mending.specs.Mending.{wrong_format_modules, wrong_modules, DiffersFromSymbol, HasFormat, HasWrongModules, HoldsDamaged, IsMendedReading, IsOfNoUse, IsUnmended};
@@ -172,6 +173,19 @@ fn count_wrong_modules(
     Ok(count_wrong(unknown, matrix, symbol))
 }
 
+// Why the symbol is refused that no level and mask mend.
+fn refusal(version: Version, matrix: &Matrix, unknown: &Matrix) -> ReadFault
+    requires sized { IsOfVersion matrix.now version }
+    requires unknown_side { unknown.now.side ≡ side_of version }
+    requires useless { (any : FormatCopy) → IsOfNoUse unknown.now any version matrix.now }
+    ensures { IsUnmended unknown.now matrix.now result }
+{
+    match near_format_of_either(matrix, unknown, version) {
+        Some(_) => ReadFault::Check,
+        None => ReadFault::Format,
+    }
+}
+
 /// The content of a damaged symbol after its damage was corrected, and numbers that describe the damage.
 #[derive(Drop)]
 pub struct Mended {
@@ -228,11 +242,8 @@ pub fn mend_symbol_without(
     let Some(version) = Version::of_side(matrix.side()) else {
         return Err(ReadFault::Side);
     };
-    let Some(_) = near_format_of_either(matrix, unknown, version) else {
-        return Err(ReadFault::Format);
-    };
     let Some(mended) = mend_square(alloc, version, matrix, unknown)? else {
-        return Err(ReadFault::Check);
+        return Err(refusal(version, matrix, unknown));
     };
     let MendedSquare {
         level,

@@ -91,7 +91,7 @@ fn block_of(
 {
     let data = BlockSizes::of_data(blocks).part(&parts.data, block);
     let checks = BlockSizes::of_corrections(blocks).part(&parts.checks, block);
-    let mut codewords = Vec::new(alloc);
+    let mut codewords = Vec::with_capacity(alloc, data.len() + checks.len())?;
     codewords.extend_from_slice(data)?;
     codewords.extend_from_slice(checks)?;
     Ok(codewords)
