@@ -119,12 +119,23 @@ async function copy() {
 
 // ---- a sheet of labels
 
+let labels = new Map(); // the figures that are shown, by their level and line
+
+/** Returns the figure of a line: one that was shown before, if there is one. */
+function labelOf(line, level, before) {
+  const key = `${level} ${line}`, figure = before.get(key)?.pop() ?? figureOf(encode(line, { level }).svg(), line, line);
+  if (!labels.has(key)) labels.set(key, []);
+  labels.get(key).push(figure);
+  return figure;
+}
+
 function showSheet() {
-  const width = numberIn('width'), level = on('sheet-level').value, refused = [];
+  const width = numberIn('width'), level = on('sheet-level').value, refused = [], before = labels;
+  labels = new Map();
   const figures = on('lines').value.split('\n').flatMap((line, k) => {
     if (line.trim() === '') return [];
     try {
-      return [figureOf(encode(line, { level }).svg(), line, line)];
+      return [labelOf(line, level, before)];
     } catch (error) {
       if (!(error instanceof QRError || error instanceof TypeError)) throw error;
       refused.push(k + 1);
