@@ -120,6 +120,12 @@ install: $(if $(STATIC),static,all)
 uninstall:
 	rm -f "$(BINARY)" "$(MANUAL)" "$(DESTDIR)$(BASHDIR)/$(NAME)" "$(DESTDIR)$(ZSHDIR)/_$(NAME)"
 
+# What runs without the kit, with the commit and the kit that it was made with. The tree has to be that of a commit.
+dist:
+	tools/dist "$(DIST)"
+
+.PHONY: dist need-rt prove-hwcaps
+
 # Builds the library, unless the last build was by the same flags and no source is newer than it. For x86-64 it is built once
 # more for newer processors.
 library_is_old = $(shell test "$$(cat '$(1)/flags' 2>/dev/null)" = '$(2)' || echo flags)$(call is_old,$(1)/flags)
@@ -198,14 +204,10 @@ npm: wasm
 page: npm
 	web/build out/npm/package out/web
 
-# What runs without the kit, with the commit and the kit that it was made with. The tree has to be that of a commit.
-dist:
-	tools/dist "$(DIST)"
-
 bench: all lib
 	bench/instructions
 	bench/library
 	bench/memory
 
-.PHONY: all bench build-wasm check check-each cross dist install install-lib lib need-rt npm page print-pc prove-hwcaps prove-lib \
-    static test uninstall uninstall-lib wasm wheel
+.PHONY: all bench build-wasm check check-each cross install install-lib lib npm page print-pc prove-lib static test uninstall \
+    uninstall-lib wasm wheel
