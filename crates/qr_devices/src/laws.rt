@@ -1,7 +1,12 @@
 //! States laws of devices, which are readers and writers. The laws state how many interrupted calls are tried again,
 //! and how values of the public types are compared and cloned.
 
-ghost use Rattle.std.specs.Prelude.{◌≡◌, ◌-◌, ◌^◌, false};
+ghost use Rattle.std.specs.Prelude.{◌≡◌, ◌-◌, ◌^◌, false, Ok, Err};
+ghost use Rattle.qr_devices.specs.Device.{no_reads, no_writes, read_counted, write_counted, flush_counted};
+ghost use Rattle.qr_devices.specs.Trial.{free_of, moved};
+ghost use Rattle.qr_devices.specs.declared.device.Trouble.{Trouble};
+ghost use Rattle.qr_devices.specs.declared.trial.Faults.{Faults};
+ghost use Rattle.qr_devices.specs.declared.trial.Trial.{Trial};
 ghost use Rattle.qr_devices.specs.declared.device.TheConstants.{INTERRUPTIONS_MAX};
 
 pub use crate::derives::{
@@ -27,4 +32,16 @@ pub fn no_faults() -> Faults
 /// At most 999 interrupted calls are tried again while one input is read or one text is written.
 pub fn interruptions_are_limited()
     ensures { INTERRUPTIONS_MAX ≡ 999 }
+{}
+
+/// Examples of counts, worked out by hand.
+pub fn counts_compute()
+    ensures ends { (read_counted 4 (Ok 0) no_reads).ends ≡ 1 × (read_counted 0 (Ok 0) no_reads).ends ≡ 0 }
+    ensures past { (read_counted 4 (Ok 3) (read_counted 4 (Ok 0) no_reads)).past_end ≡ 1 }
+    ensures zeros { (write_counted 4 (Ok 0) no_writes).zeros ≡ 1 × (write_counted 0 (Ok 0) no_writes).zeros ≡ 0 }
+    ensures offered { (write_counted 3 (Ok 3) (write_counted 9 (Ok 4) no_writes)).offered ≡ 9 }
+    ensures settled { (flush_counted {T = Unit {0}} (Err Trouble.Failed) no_writes).settled ≡ false }
+    ensures late { (m : Faults) → m.interruptions ≡ 1 → m.fails_from ≡ 2 → m.at_most ≡ 0
+        → moved m 0 5 ≡ Err Trouble.Interrupted × moved m 1 5 ≡ Ok 1 × moved m 2 5 ≡ Err Trouble.Failed }
+    ensures stops { (t : Trial) → t.faults.stops_from ≡ t.writes.calls → free_of t ≡ 0 }
 {}

@@ -58,6 +58,7 @@ impl Trial {
     pub fn reader(alloc: Global, bytes: &[u8], faults: Faults) -> Result<Trial, AllocError>
         ensures left { IfOk result (λ t. bytes_left t ≡ bytes.now) }
         ensures unread { IfOk result (λ t. t.reads ≡ no_reads) }
+        ensures unwritten { IfOk result (λ t. t.writes ≡ no_writes) }
         ensures faults { IfOk result (λ t. t.faults ≡ faults) }
     {
         Ok(Trial {
@@ -78,6 +79,7 @@ impl Trial {
     pub fn writer(alloc: Global, room: usize, faults: Faults) -> Result<Trial, AllocError>
         ensures held { IfOk result (λ t. bytes_held t ≡ []) }
         ensures unwritten { IfOk result (λ t. t.writes ≡ no_writes) }
+        ensures unread { IfOk result (λ t. t.reads ≡ no_reads) }
         ensures faults { IfOk result (λ t. t.faults ≡ faults) }
         ensures room { IfOk result (λ t. t.room ≡ room) }
     {

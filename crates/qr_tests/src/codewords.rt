@@ -132,9 +132,14 @@ fn digits_that_fit(rt: HostRuntime) -> Result<(), Fail> {
     };
     let data = encode(&rt, &[b'7'; 41], most, None, Level::L)?;
     let version = Version::FIRST;
-    assert!(rt; data.len() <= 3706);
+    assert!(rt; data.len() == 19);
+    assert_eq!(rt;
+        data[18],
+        0b1001101_0,
+        "77 in seven bits, and one bit of terminator"
+    );
     let parsed = parse(rt.alloc(), &data, version)?;
-    assert_eq!(rt; parsed.bytes.len(), 41, "one bit of terminator");
+    assert_eq!(rt; parsed.bytes.len(), 41, "41 digits");
     let more = Segment {
         mode: Mode::Numeric,
         len: 42,

@@ -1,11 +1,15 @@
 //! Contains laws about the functions of the library. Each function of this file exists only for its contract, which is
 //! the law.
 
-ghost use Rattle.std.specs.Prelude.{◌≡◌, [], ◌∷◌, map, true, false, IfOk};
+ghost use Rattle.std.specs.Prelude.{◌≡◌, ◌≤◌, ℕ, [], ◌∷◌, map, true, false, IfOk};
 ghost use Rattle.qr_layout.specs.declared.level.Level.{Level};
 ghost use Rattle.qr_bits.specs.declared.modes.Rule.{Rule};
 ghost use Rattle.qrproved.specs.Laws.{BytesAreTheirSquare};
 ghost use Rattle.qrproved.specs.Modules.{byte_of};
+ghost use Rattle.qrproved.specs.Drawing.{drawing_of, AreDrawingSettings};
+ghost use Rattle.qrproved.specs.Mending.{square_of_unknown};
+ghost use Rattle.qr_matrix.specs.Grid.{colour};
+ghost use Rattle.qr_drawing.specs.declared.drawing.Drawing.{Drawing};
 ghost use Rattle.qrproved.specs.Settings.{level_of, rule_of};
 
 use crate::encoding::QrprovedSymbol;
@@ -37,13 +41,22 @@ pub fn statuses()
     ensures segments { SEGMENTS ≡ 10 }
 {}
 
-/// In calls of the library, the numbers 0 to 3 stand for the levels L, M, Q and H in this order. A rule determines
-/// which modes may be used. The numbers 0 to 2 stand for the rules `Auto`, `BytesOnly` and `WithKanji` in this order. A
-/// dark module is written as the byte 1, and a light module is written as the byte 0.
+/// In calls of the library, the numbers 0 to 3 stand for the levels L, M, Q and H, the numbers 0 to 2 for the rules
+/// `Auto`, `BytesOnly` and `WithKanji`, and the numbers 0 to 3 for the drawings ASCII, ASCIIi, UTF8 and SVG, in this
+/// order. A dark module is the byte 1, a light module the byte 0, and an unknown module the byte 2. A drawing has 1 to
+/// 16 squares of 1 to 177 rows, and a margin of 0 to 100 modules.
+#[tactic(auto, unfolding(qr_matrix::specs::Grid::rows_of, qr_matrix::specs::Grid::colour))]
 pub fn numbers()
     ensures levels { map level_of (0 ∷ 1 ∷ 2 ∷ 3 ∷ []) ≡ Level.L ∷ Level.M ∷ Level.Q ∷ Level.H ∷ [] }
     ensures rules { map rule_of (0 ∷ 1 ∷ 2 ∷ []) ≡ Rule.Auto ∷ Rule.BytesOnly ∷ Rule.WithKanji ∷ [] }
     ensures bytes { map byte_of (true ∷ false ∷ []) ≡ 1 ∷ 0 ∷ [] }
+    ensures drawings { map drawing_of (0 ∷ 1 ∷ 2 ∷ 3 ∷ []) ≡ Drawing.Ascii ∷ Drawing.AsciiInverse ∷ Drawing.Utf8 ∷ Drawing.Svg ∷ [] }
+    ensures most { AreDrawingSettings 177 16 3 100 }
+    ensures least { AreDrawingSettings 1 1 0 0 }
+    ensures range { (side count drawing margin : ℕ) → AreDrawingSettings side count drawing margin
+        → (side ≤ 177) × (count ≤ 16) × (drawing ≤ 3) × (margin ≤ 100) }
+    ensures unknown { colour (square_of_unknown 2 (0 ∷ 2 ∷ 0 ∷ 0 ∷ [])) 0 1 ≡ true }
+    ensures known { colour (square_of_unknown 2 (0 ∷ 2 ∷ 1 ∷ 3 ∷ [])) 1 1 ≡ false }
 {}
 
 /// If the modules of a square are written as bytes and then read as a square again, no module changes its colour.
