@@ -1,4 +1,5 @@
-# Builds the proved program, tests it, counts its instructions, and puts it and its manual page under PREFIX, by the name NAME.
+# Builds the proved program, tests it, counts its instructions, and puts it, its manual page and its completion for shells under
+# PREFIX, by the name NAME.
 # Also builds the library for C, puts it and its header there, and packs it into a wheel for Python. STRIP=1 leaves the names
 # of functions out of what is installed, and STATIC=1 installs the program that holds its C library.
 VERSION := $(shell cat VERSION)
@@ -7,6 +8,8 @@ BINDIR = $(PREFIX)/bin
 LIBDIR = $(PREFIX)/lib
 INCLUDEDIR = $(PREFIX)/include
 MANDIR = $(PREFIX)/share/man
+BASHDIR = $(PREFIX)/share/bash-completion/completions
+ZSHDIR = $(PREFIX)/share/zsh/site-functions
 STRIP =
 STATIC =
 
@@ -45,6 +48,12 @@ LIBRARIES = $(DESTDIR)$(LIBDIR)
 INCLUDES = $(DESTDIR)$(INCLUDEDIR)
 PYTHON = python3
 WHEELS = python/out
+DIST = out/dist
+
+# Processors for which the shared library is built once more, beside that for each of them: the loader takes it there.
+HWCAPS = $(if $(filter $(LIBRARY)/out/lib:x86-64,$(LIBRARY_OUT):$(CPU)),x86-64-v2)
+HWCAPS_OUT = out/$(HWCAPS)/lib
+HWCAPS_FOLDER = $(LIBRARIES)/glibc-hwcaps/$(HWCAPS)
 
 # The C below what is proved: the kit's, or for its other targets ours.
 KIT_C = $(shell dirname "$$(rt doc)")/c
@@ -62,9 +71,14 @@ else
 all: $(if $(call is_old,$(PROGRAM)),cross)
 endif
 
+# What proves needs the kit.
+need-rt:
+	@command -v rt >/dev/null 2>&1 || { echo "make: the program or the library is to be built, and the command 'rt' of the" \
+	    "Rattle kit is not here" >&2; exit 1; }
+
 # Proves the program for another target. The kit has no linker for it, and so ends by an error; but it writes an object file,
 # and only of a program that is proved.
-cross:
+cross: need-rt
 	mkdir -p $(OUT)
 	rm -f crates/qrencode/out/qrencode.o
 	touch $(OUT)/start
@@ -78,12 +92,17 @@ cross:
 static: all
 	$(CC) -O2 -static -o $(PROGRAM)-static $(OUT)/qrencode.o $(GLUE)
 
+# The gate.
 check:
 	@tests/all
 
-# What proves anew: the library and the program for aarch64.
-check-packages:
-	tests/aarch64 --build
+# All tests, without the gate's proofs of tests and without wrong bodies.
+test:
+	@tests/all --test
+
+# Each wrong body by itself.
+check-each:
+	@tests/wrong_bodies --each
 
 # The page calls the program by its name in its head and its examples; the lines of faults begin with qrencode under each name.
 install: $(if $(STATIC),static,all)
@@ -93,18 +112,33 @@ install: $(if $(STATIC),static,all)
 	sed -e "s/^\.Dt QRENCODE /.Dt $$(echo '$(NAME)' | tr '[:lower:]' '[:upper:]') /" -e 's/^\.Nm qrencode$$/.Nm $(NAME)/' \
 	    -e 's/^\(\.Dl .*\)qrencode /\1$(NAME) /' docs/qrencode.1 >"$(MANUAL)"
 	chmod 644 "$(MANUAL)"
+	mkdir -p "$(DESTDIR)$(BASHDIR)" "$(DESTDIR)$(ZSHDIR)"
+	sed 's/^\(complete .*\) qrencode$$/\1 $(NAME)/' completion/qrencode.bash >"$(DESTDIR)$(BASHDIR)/$(NAME)"
+	sed '1s/qrencode/$(NAME)/' completion/_qrencode >"$(DESTDIR)$(ZSHDIR)/_$(NAME)"
+	chmod 644 "$(DESTDIR)$(BASHDIR)/$(NAME)" "$(DESTDIR)$(ZSHDIR)/_$(NAME)"
 
 uninstall:
-	rm -f "$(BINARY)" "$(MANUAL)"
+	rm -f "$(BINARY)" "$(MANUAL)" "$(DESTDIR)$(BASHDIR)/$(NAME)" "$(DESTDIR)$(ZSHDIR)/_$(NAME)"
 
-# Builds the library, unless the last build was by the same flags and no source is newer than it.
-library_is_old = $(shell test "$$(cat '$(LIBRARY_OUT)/flags' 2>/dev/null)" = '$(LIBRARY_FLAGS)' || echo flags)$(call \
-    is_old,$(LIBRARY_OUT)/flags)
-lib: $(if $(library_is_old),prove-lib)
+# What runs without the kit, with the commit and the kit that it was made with. The tree has to be that of a commit.
+dist:
+	tools/dist "$(DIST)"
+
+.PHONY: dist need-rt prove-hwcaps
+
+# Builds the library, unless the last build was by the same flags and no source is newer than it. For x86-64 it is built once
+# more for newer processors.
+library_is_old = $(shell test "$$(cat '$(1)/flags' 2>/dev/null)" = '$(2)' || echo flags)$(call is_old,$(1)/flags)
+OLD_LIBRARY := $(if $(call library_is_old,$(LIBRARY_OUT),$(LIBRARY_FLAGS)),prove-lib)
+OLD_HWCAPS := $(if $(HWCAPS),$(if $(call library_is_old,$(HWCAPS_OUT),--cpu $(HWCAPS)),prove-hwcaps))
+lib: $(OLD_LIBRARY) $(OLD_HWCAPS)
+
+prove-hwcaps: $(OLD_LIBRARY)
+	$(MAKE) --no-print-directory prove-lib CPU=$(HWCAPS) LIBRARY_OUT=$(HWCAPS_OUT)
 
 # Proves the crate, and joins it with the glue for malloc, realloc and free. All other names than those of the header become
 # local, so that two such libraries do not clash in a program.
-prove-lib:
+prove-lib: need-rt
 	mkdir -p "$(LIBRARY_OUT)"
 	rm -f "$(LIBRARY_OUT)/flags"
 	echo '$(LIBRARY_FLAGS)' >"$(LIBRARY_OUT)/flags.new"
@@ -124,11 +158,14 @@ endif
 
 # Installs what `make lib` built.
 install-lib:
-	@test -e "$(LIBRARY_OUT)/$(SONAME)" || { echo "install-lib: the library is not built: run make lib" >&2; exit 1; }
+	@test -e "$(LIBRARY_OUT)/$(SONAME)" $(if $(HWCAPS),-a -e "$(HWCAPS_OUT)/$(SONAME)") || \
+	    { echo "install-lib: the library is not built: run make lib" >&2; exit 1; }
 	install -D -m 644 "$(LIBRARY_OUT)/libqrproved.a" "$(LIBRARIES)/libqrproved.a"
 	install -D -m 644 "$(LIBRARY_OUT)/$(SONAME)" "$(LIBRARIES)/$(SONAME)"
 	$(if $(STRIP),$(OBJCOPY) --strip-debug "$(LIBRARIES)/libqrproved.a")
 	$(if $(STRIP),$(OBJCOPY) --strip-unneeded "$(LIBRARIES)/$(SONAME)")
+	$(if $(HWCAPS),install -D -m 644 "$(HWCAPS_OUT)/$(SONAME)" "$(HWCAPS_FOLDER)/$(SONAME)")
+	$(if $(HWCAPS),$(if $(STRIP),$(OBJCOPY) --strip-unneeded "$(HWCAPS_FOLDER)/$(SONAME)"))
 	ln -sf $(SONAME) "$(LIBRARIES)/libqrproved.so"
 	install -D -m 644 include/qrproved.h "$(INCLUDES)/qrproved.h"
 	mkdir -p "$(LIBRARIES)/pkgconfig"
@@ -148,15 +185,29 @@ print-pc:
 
 uninstall-lib:
 	rm -f "$(LIBRARIES)/libqrproved.a" "$(LIBRARIES)/$(SONAME)" "$(LIBRARIES)/libqrproved.so"
-	rm -f "$(INCLUDES)/qrproved.h" "$(LIBRARIES)/pkgconfig/qrproved.pc"
+	rm -f "$(INCLUDES)/qrproved.h" "$(LIBRARIES)/pkgconfig/qrproved.pc" $(if $(HWCAPS),"$(HWCAPS_FOLDER)/$(SONAME)")
 
 # A wheel with the shared library that `make lib` built.
 wheel:
 	$(PYTHON) python/backend.py "$(LIBRARY_OUT)/$(SONAME)" "$(WHEELS)"
+
+# The library as WebAssembly, the package for JavaScript with it inside, and the page with both inside.
+WASM = out/wasm/qrproved.wasm
+wasm: $(if $(call is_old,$(WASM))$(shell test ! -e $(WASM) || find ports/wasm -newer $(WASM)),build-wasm)
+
+build-wasm: lib
+	ports/wasm/build out/wasm
+
+npm: wasm
+	js/build $(WASM) out/npm
+
+page: npm
+	web/build out/npm/package out/web
 
 bench: all lib
 	bench/instructions
 	bench/library
 	bench/memory
 
-.PHONY: all bench check check-packages cross install install-lib lib print-pc prove-lib static uninstall uninstall-lib wheel
+.PHONY: all bench build-wasm check check-each cross install install-lib lib npm page print-pc prove-lib static test uninstall \
+    uninstall-lib wasm wheel

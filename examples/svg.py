@@ -7,6 +7,6 @@ import qrproved
 try:
     text, file = sys.argv[1:]
     with open(file, "wb") as it:
-        it.write(qrproved.encode(text.encode()).svg())
+        it.write(qrproved.encode(text).svg())
 except (ValueError, OSError, qrproved.Error) as fault:
     sys.exit(f"svg.py: {fault}")

@@ -145,18 +145,37 @@ class Case:
         return self.damaged(self.codewords_wrong() + lost + self.numbers.some(self.second, 3) + others, len(lost) + 3, self.bound)
 
     def by_a_wrong_first_copy(self):
-        """The first copy is near to a wrong word, under which some block cannot be mended."""
+        """The first copy is near to a wrong word. If the blocks can be mended under that too, the decoder says what is wanted."""
         codewords = self.codewords_wrong()
-        received = inverted(self.square, codewords)
-        while True:
+        level, mask = self.level, self.mask
+        while (level, mask) == (self.level, self.mask):
             level, mask = self.numbers.one(LEVELS), self.numbers.below(8)
-            if (level, mask) != (self.level, self.mask) and not squares.mended_codewords(received, self.version, level, mask):
-                break
         word = format_word(level, mask)
         for bit in self.numbers.some(range(15), self.numbers.below(4)):
             word ^= 1 << bit
         lost = to_word(self.square, self.version, 0, word)
-        return self.damaged(codewords + lost + self.numbers.some(self.second, 3), len(lost) + 3, self.bound)
+        square, wanted = self.damaged(codewords + lost + self.numbers.some(self.second, 3), len(lost) + 3, self.bound)
+        if squares.mended_codewords(inverted(self.square, codewords), self.version, level, mask):
+            wanted = reading(square, self.version)
+        return square, wanted
+
+    def torn(self):
+        """A corner is torn off: its modules are not known, as many as can be mended. It has modules of one copy of the format
+        information at most, or modules of both that cost at most 13."""
+        at, last = layout(self.version), self.side - 1
+        blocks = squares.blocks(self.version, self.level)
+        block_of = {i: block for block, listed in enumerate(blocks) for i in listed}
+        owners = {place: n // 8 for n, place in enumerate(at.region)}
+        row, col = self.numbers.one([0, last]), self.numbers.one([0, last])
+        places = []
+        for k in range(1, self.side + 1):
+            corner = [abs(row - i) * self.side + abs(col - j) for i in range(k) for j in range(k)]
+            erased = [block_of[i] for i in {owners[place] for place in corner if place in owners}]
+            copies = [len(set(copy) & set(corner)) for copy in at.formats]
+            if max(map(erased.count, erased), default=0) > squares.spendable(self.version, self.level) or min(copies) and sum(copies) > 13:
+                break
+            places, of_format = corner, sum(copies)
+        return unread(self.square, places), {**self.wanted, "wrong_modules": len(places), "wrong_format_modules": of_format}
 
     def toward_another_level(self, copy):
         """Nothing is wrong but the modules of a copy that make it near to the word of another level, with the same mask: of as
@@ -273,6 +292,7 @@ class Case:
         yield "the second copy near to the word of another level", self.toward_another_level(1)
         yield "damaged to the bound, and six modules of the format information", self.six_of_the_format()
         yield "damaged to the bound, and modules of the format information not known", self.format_not_known()
+        yield "a corner torn off", self.torn()
         yield "one more codeword wrong", self.one_more()
         yield "one more codeword wrong, nearer to another message", self.nearer_to_another()
         yield "modules not known and codewords wrong to the bound", self.not_known()

@@ -1,9 +1,30 @@
-"""Runs programs under the allocator of tests/refusing_allocator.c, which refuses one growth of memory."""
+"""Runs programs under the allocator of tests/refusing_allocator.c, which refuses one growth of memory, and builds the program
+of crates/alloc_trials."""
 import os
 import subprocess
+import sys
 
 TOP = os.path.dirname(os.path.dirname(os.path.realpath(__file__)))
+sys.path.insert(0, f"{TOP}/tests/lib")
+from kit import Repository
+
 MOST = 5000  # growths: more than any call here takes
+TRIALS = os.path.realpath(os.environ.get("TRIALS", f"{TOP}/crates/alloc_trials/out/alloc_trials"))
+
+
+def build_trials():
+    """Builds the program of crates/alloc_trials and its object file, if one is missing or older than a source. Returns why that fails, or
+    None. (`rt ci` leaves no object file if an earlier run on the same machine proved the same files.)"""
+    if "TRIALS" in os.environ:
+        return None if os.access(TRIALS, os.X_OK) else f"{TRIALS} is no program"
+    repository, made = Repository(TOP), [TRIALS, f"{TRIALS}.o"]
+    files = [it for name in ["alloc_trials", *repository.below("alloc_trials")] for it in repository.files(name) if "/proofs/" not in it]
+    newest = max(map(os.path.getmtime, files))
+    if all(os.path.exists(it) and os.path.getmtime(it) >= newest for it in made):
+        return None
+    print("crates/alloc_trials is proved and built", flush=True)
+    ran = subprocess.run(["rt", "run", "--cpu", "x86-64", "--", "nothing"], cwd=repository.folder("alloc_trials"), capture_output=True, text=True)
+    return None if all(map(os.path.exists, made)) else f"crates/alloc_trials is not built: {(ran.stdout + ran.stderr)[-300:]}"
 
 
 def allocator_in(room, compiler):

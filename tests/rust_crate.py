@@ -8,7 +8,7 @@ from growths import TOP
 from libraries import check, counts
 
 TYPES = {"u8": "uint8_t", "c_uchar": "uint8_t", "u32": "uint32_t", "usize": "size_t"}
-CASES = 4  # where there is cargo
+CASES = 5  # where there is cargo
 
 
 def snake(name):
@@ -68,10 +68,28 @@ def of_rust(shared, room):
     said = tested(room, none)
     check("rust: without a library the build fails", "the library is not found" in said if isinstance(said, str) else said)
     if not shutil.which("pkg-config"):
-        counts["skipped"] += 2
+        counts["skipped"] += 3
         print("not tried: the crate for Cargo by pkg-config: there is no pkg-config")
         return
     made = subprocess.run(["make", "-s", "-C", TOP, "install-lib", f"PREFIX={prefix}"], capture_output=True, text=True)
     check("rust: make install-lib", (made.returncode, made.stderr), (0, ""))
-    found = {"PKG_CONFIG_PATH": f"{prefix}/lib/pkgconfig", "LD_LIBRARY_PATH": f"{prefix}/lib"}
+    found = {"PKG_CONFIG_PATH": f"{prefix}/lib/pkgconfig"}
     check("rust: the tests pass with the library that pkg-config finds", tested(room, found), (3, True))
+    check("rust: a program with the README's build script finds the library", of_program(room, found), "21\n")
+
+
+def of_program(room, env):
+    """Runs a program of another crate, which uses the build script of the README; returns what it writes."""
+    with open(f"{room}/crate/README.md", encoding="utf-8") as it:
+        script = re.search(r"```rust,no_run\n(.*?)```", it.read(), re.DOTALL).group(1)
+    files = {"Cargo.toml": '[package]\nname = "label"\nversion = "1.0.0"\nedition = "2021"\n[dependencies]\nqrproved = { path = "../crate" }\n',
+             "build.rs": f"fn main() {{\n{script}}}\n",
+             "src/main.rs": 'use qrproved::{encode, Level, Rule, Version};\nfn main() {\n    println!("{}", encode(b"A", Version::MIN, Level::L,'
+                            ' Rule::Auto).unwrap().side());\n}\n'}
+    os.makedirs(f"{room}/label/src")
+    for name, text in files.items():
+        with open(f"{room}/label/{name}", "w", encoding="utf-8") as it:
+            it.write(text)
+    ran = subprocess.run(["cargo", "run", "--offline", "--quiet"], cwd=f"{room}/label", capture_output=True, text=True, timeout=600,
+                         env={**os.environ, "CARGO_TARGET_DIR": f"{room}/target", "CARGO_NET_OFFLINE": "true", **env})
+    return ran.stdout if ran.returncode == 0 else ran.stderr[-600:]

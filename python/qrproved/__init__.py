@@ -1,21 +1,25 @@
 """QR Code symbols (ISO/IEC 18004:2015, QR Code Model 2) by the library libqrproved.
 
-encode and encode_series draw bytes as a symbol or as a series of symbols; read reads a symbol that is as it was drawn; mend
-reads a damaged one, and says how damaged it is. draw, and the methods of a Symbol, draw symbols as text or as SVG. Modules are bytes, row by row from the top left, without the quiet zone of
-four light modules that a drawing needs on each side.
+encode and encode_series encode a text or bytes as a symbol or as a series of symbols. A Symbol is drawn by its methods: as
+PNG, as SVG or as text. read reads a symbol that is as it was drawn; mend reads a damaged one, and says how damaged it is.
+parse_drawing finds the modules of a drawing. Modules are bytes, row by row from the top left, without the quiet zone of four
+light modules that a drawing needs on each side.
 
 Each refusal is an exception of the class Error. A number that is out of range is refused, and one that is no integer, as a
 bool or a float, is a TypeError. Calls may run side by side in any number of threads.
 """
 from __future__ import annotations
 
+import base64
 import ctypes
 import operator
+import os
 from dataclasses import dataclass
 from enum import IntEnum
-from typing import TYPE_CHECKING, NamedTuple, Optional, Union
+from typing import TYPE_CHECKING, NamedTuple, NoReturn, Optional, Union
 
-from . import _library
+from . import _library, _png
+from ._drawings import parse_drawing
 from ._errors import (CheckError, EmptyError, Error, FormatError, OutOfMemoryError, RoomError, SegmentsError, SettingsError,
                       SideError, TooLongError, TooManyError, raise_for)
 from ._library import BYTES_MAX, COUNT_MAX, MARGIN_MAX, SERIES_MAX, SIDE_MAX, SYMBOL_MAX
@@ -24,13 +28,16 @@ if TYPE_CHECKING:
     from collections.abc import Sequence
 
     Bytes = Union[bytes, bytearray, memoryview]
+    Input = Union[str, bytes, bytearray, memoryview]
+    Name = Union[int, str]
 
-__all__ = ["BYTES_MAX", "COUNT_MAX", "MARGIN_MAX", "SERIES_MAX", "SIDE_MAX", "SYMBOL_MAX", "CheckError", "Content", "Drawing",
+__all__ = ["BYTES_MAX", "COUNT_MAX", "MARGIN_MAX", "SCALE_MAX", "SERIES_MAX", "SIDE_MAX", "SYMBOL_MAX", "CheckError", "Content", "Drawing",
            "EmptyError", "Error", "FormatError", "Header", "Level", "Mended", "OutOfMemoryError", "RoomError", "Rule",
            "SegmentsError", "SettingsError", "SideError", "Symbol", "TooLongError", "TooManyError", "draw", "encode",
-           "encode_series", "mend", "read"]
+           "encode_series", "mend", "parse_drawing", "read"]
 
 _calls = _library.load()
+SCALE_MAX = 100
 
 
 class Level(IntEnum):
@@ -66,9 +73,10 @@ class Drawing(IntEnum):
     """A document of its own, one unit of length for a module."""
 
 
-@dataclass(frozen=True)
+@dataclass(frozen=True, repr=False)
 class Symbol:
-    """The modules of a symbol. symbol[row, column] is True if that module is dark; both are from 0 to side - 1."""
+    """The modules of a symbol. symbol[row, column] is True if that module is dark; both are from 0 to side - 1. str(symbol)
+    is its drawing by half blocks, so that print(symbol) shows it on a dark terminal."""
 
     version: int
     """From 1 to 40."""
@@ -78,6 +86,8 @@ class Symbol:
     """From 0 to 7; None in a series, whose call does not return it."""
     modules: bytes
     """side * side bytes, row by row: 1 is dark, 0 is light."""
+    level: Optional[Level] = None
+    """The level that it was encoded at; None if that was not said."""
 
     def __getitem__(self, place: tuple[int, int]) -> bool:
         row, column = place
@@ -85,18 +95,76 @@ class Symbol:
             raise IndexError(f"row and column are from 0 to {self.side - 1}, and not {row} and {column}")
         return self.modules[row * self.side + column] != 0
 
+    def __repr__(self) -> str:
+        level = "" if self.level is None else f"-{self.level.name}"
+        mask = "" if self.mask is None else f", mask {self.mask}"
+        return f"<Symbol {self.version}{level}{mask}>"
+
+    def __str__(self) -> str:
+        return self.text().rstrip("\n")
+
     def rows(self) -> list[list[bool]]:
         """Returns the rows from the top, each from the left; True is dark."""
         starts = range(0, len(self.modules), self.side)
         return [[module != 0 for module in self.modules[start:start + self.side]] for start in starts]
 
-    def svg(self, *, margin: int = 4) -> bytes:
+    def png(self, *wrong: NoReturn, scale: int = 8, margin: int = 4) -> bytes:
+        """Returns the drawing as a PNG picture of black and white.
+
+        scale   the pixels of a module on each side, from 1 to SCALE_MAX
+        margin  light modules on each side, from 0 to MARGIN_MAX; a scanner needs 4
+
+        Raises SettingsError if a number is out of range, and RoomError if there are too few modules.
+        """
+        _no_more("png", "", wrong, "scale", "margin")
+        pixels, light = _setting("scale", scale, 1, SCALE_MAX), _setting("margin", margin, 0, MARGIN_MAX)
+        if len(self.modules) < self.side * self.side:
+            raise RoomError("a symbol has side * side modules")
+        return _png.png(self.modules, self.side, pixels, light)
+
+    def svg(self, *wrong: NoReturn, margin: int = 4) -> bytes:
         """Returns the drawing as an SVG document, with `margin` light modules on each side. Raises as draw does."""
+        _no_more("svg", "", wrong, "margin")
         return draw([self], drawing=Drawing.SVG, margin=margin)
 
-    def text(self, *, drawing: int = Drawing.UTF8, margin: int = 4) -> str:
+    def text(self, *wrong: NoReturn, drawing: Name = Drawing.UTF8, margin: int = 4) -> str:
         """Returns the drawing as text, with `margin` light modules on each side. Raises as draw does."""
+        _no_more("text", "", wrong, "drawing", "margin")
         return draw([self], drawing=drawing, margin=margin).decode()
+
+    def save(self, path: Union[str, os.PathLike[str]], *wrong: NoReturn, scale: int = 8, margin: int = 4) -> None:
+        """Writes the drawing to a file whose name ends in .png, .svg or .txt. `scale` is that of a PNG picture alone."""
+        _no_more("save", "path, ", wrong, "scale", "margin")
+        suffix = os.path.splitext(os.fspath(path))[1].lower()
+        drawing = self._drawn(suffix, scale, margin)
+        with open(path, "wb") as file:
+            file.write(drawing)
+
+    def data_uri(self, *wrong: NoReturn, kind: str = "png", scale: int = 8, margin: int = 4) -> str:
+        """Returns the drawing as a URI that holds it, as for the attribute src of an image: `kind` is 'png' or 'svg'."""
+        _no_more("data_uri", "", wrong, "kind", "scale", "margin")
+        if kind not in ("png", "svg"):
+            raise SettingsError(f"kind is 'png' or 'svg', and not {kind!r}")
+        media = {"png": "image/png", "svg": "image/svg+xml"}[kind]
+        return f"data:{media};base64,{base64.b64encode(self._drawn('.' + kind, scale, margin)).decode()}"
+
+    def _drawn(self, suffix: str, scale: int, margin: int) -> bytes:
+        if suffix == ".png":
+            return self.png(scale=scale, margin=margin)
+        if suffix == ".svg":
+            return self.svg(margin=margin)
+        if suffix == ".txt":
+            return self.text(margin=margin).encode()
+        raise SettingsError(f"the name of the file ends in .png, .svg or .txt, and not in {suffix!r}")
+
+    def _repr_png_(self) -> bytes:
+        return self.png(scale=4)
+
+    def _repr_svg_(self) -> str:
+        """Returns the SVG drawing with a size, four pixels a module, and without the line that makes it a document."""
+        width = 4 * (self.side + 8)
+        element = self.svg().decode().split("?>\n", 1)[-1]
+        return element.replace("<svg ", f'<svg width="{width}" height="{width}" ', 1)
 
 
 class Header(NamedTuple):
@@ -168,8 +236,37 @@ def _setting(name: str, value: int, least: int, most: int) -> int:
     return number
 
 
-def _settings(version: int, level: int, rule: int) -> tuple[int, int, int]:
-    return _setting("version", version, 1, 40), _setting("level", level, 0, 3), _setting("rule", rule, 0, 2)
+def _named(name: str, kind: type[IntEnum], value: Name) -> int:
+    """Returns the number of a member of an enumeration, which is given as itself, as its number or by its name."""
+    if not isinstance(value, str):
+        return _setting(name, value, 0, len(kind) - 1)
+    member = kind.__members__.get(value.upper().replace("-", "_"))
+    if member is None:
+        *others, last = [repr(it.name if kind is Level else it.name.lower()) for it in kind]
+        raise SettingsError(f"{name} is {', '.join(others)} or {last}, and not {value!r}")
+    return member.value
+
+
+def _settings(version: int, level: Name, rule: Name) -> tuple[int, int, int]:
+    return _setting("version", version, 1, 40), _named("level", Level, level), _named("rule", Rule, rule)
+
+
+def _no_more(call: str, first: str, wrong: Sequence[object], *names: str) -> None:
+    """Refuses arguments without a name, with the call that was meant."""
+    if not wrong:
+        return
+    free, said = list(names), []
+    for value in wrong:
+        wanted = "level" if isinstance(value, (Level, str)) else "rule" if isinstance(value, Rule) else free[0] if free else ""
+        name = wanted if wanted in free else free[0] if free else None
+        if name is None:
+            break
+        free.remove(name)
+        shown = repr(value.name) if isinstance(value, IntEnum) else repr(value)
+        said.append(f"{name}={shown}")
+    *others, last = names
+    listed = f"{', '.join(others)} and {last} are" if others else f"{last} is"
+    raise TypeError(f"{call}: {listed} given by name: {call}({first}{', '.join(said)})")
 
 
 def _side(value: int) -> int:
@@ -184,89 +281,109 @@ def _copied(data: Bytes) -> bytes:
     return memoryview(data).tobytes()
 
 
+def _input(data: Input) -> bytes:
+    """Returns the bytes of an input: those of a text are its UTF-8."""
+    return data.encode() if isinstance(data, str) else _copied(data)
+
+
+def _square(modules: Union[Symbol, Bytes], side: Optional[int]) -> tuple[Bytes, int]:
+    """Returns modules and their side, which a symbol has itself."""
+    if isinstance(modules, Symbol):
+        return modules.modules, _side(modules.side if side is None else side)
+    return modules, _side(side)  # type: ignore[arg-type]
+
+
 def _first(buffer: ctypes.Array[ctypes.c_uint8], length: int) -> bytes:
     return bytes(memoryview(buffer)[:length])
 
 
-def encode(data: Bytes, *, version: int = 1, level: int = Level.M, rule: int = Rule.AUTO) -> Symbol:
-    """Returns the symbol of some bytes, of the least version from `version` on that holds them.
+def encode(data: Input, *wrong: NoReturn, version: int = 1, level: Name = Level.L, rule: Name = Rule.AUTO) -> Symbol:
+    """Returns the symbol of a text or of some bytes, of the least version from `version` on that holds them.
 
-    data     from 1 byte to BYTES_MAX; a text has to be encoded first, as by text.encode()
+    data     a text, whose UTF-8 is encoded, or bytes; from 1 byte to BYTES_MAX
     version  the smallest version that may be taken, from 1 to 40
-    level    a Level, or its number
-    rule     a Rule, or its number
+    level    a Level, its name ('Q' or 'q') or its number
+    rule     a Rule, its name ('bytes_only') or its number
 
     Raises SettingsError if a number is out of range, EmptyError, TooLongError if no version from there on holds the bytes,
     and OutOfMemoryError.
     """
-    settings, given = _settings(version, level, rule), _copied(data)
+    _no_more("encode", "data, ", wrong, "version", "level", "rule")
+    settings, given = _settings(version, level, rule), _input(data)
     modules, symbol = (ctypes.c_uint8 * SYMBOL_MAX)(), _library.Symbol()
     raise_for(_calls.qrproved_encode(given, len(given), *settings, modules, SYMBOL_MAX, ctypes.byref(symbol)))
-    return Symbol(symbol.version, symbol.side, symbol.mask, _first(modules, symbol.side ** 2))
+    return Symbol(symbol.version, symbol.side, symbol.mask, _first(modules, symbol.side ** 2), Level(settings[1]))
 
 
-def encode_series(data: Bytes, *, version: int, level: int = Level.M, rule: int = Rule.AUTO) -> list[Symbol]:
-    """Returns the symbols of the series of some bytes, all of `version`, from 1 to COUNT_MAX of them.
+def encode_series(data: Input, *wrong: NoReturn, version: Optional[int] = None, level: Name = Level.L, rule: Name = Rule.AUTO) -> list[Symbol]:
+    """Returns the symbols of the series of a text or of some bytes, all of `version`, from 1 to COUNT_MAX of them.
 
     Bytes that fit one symbol are one plain symbol. The rest is as for encode; TooManyError is raised where encode raises
     TooLongError: if the bytes take more than COUNT_MAX symbols.
     """
-    settings, given = _settings(version, level, rule), _copied(data)
+    _no_more("encode_series", "data, ", wrong, "version", "level", "rule")
+    if version is None:
+        raise TypeError("encode_series: the version of all symbols has to be given: encode_series(data, version=5)")
+    settings, given = _settings(version, level, rule), _input(data)
     modules, series = (ctypes.c_uint8 * SERIES_MAX)(), _library.Series()
     raise_for(_calls.qrproved_encode_series(given, len(given), *settings, modules, SERIES_MAX, ctypes.byref(series)))
     area = series.side ** 2
     written = _first(modules, series.count * area)
-    return [Symbol(settings[0], series.side, None, written[k * area:(k + 1) * area]) for k in range(series.count)]
+    level_of_all = Level(settings[1])
+    return [Symbol(settings[0], series.side, None, written[k * area:(k + 1) * area], level_of_all) for k in range(series.count)]
 
 
-def read(modules: Bytes, side: int) -> Content:
+def read(modules: Union[Symbol, Bytes], side: Optional[int] = None) -> Content:
     """Returns what a symbol says. No errors are corrected: each codeword has to be as it was drawn.
 
     modules  side * side bytes, row by row: 0 is light, all others are dark; bytes past the last module are ignored
-    side     modules on a side: 21, 25, and so on to SIDE_MAX
+    side     modules on a side: 21, 25, and so on to SIDE_MAX; a Symbol has its own
 
     Raises SideError, RoomError if there are too few modules, FormatError, CheckError, SegmentsError, and OutOfMemoryError.
 
     The finder, timing and alignment patterns and the version information are not checked, so a symbol that is read here
     may not scan. mend checks each module.
     """
-    checked, given = _side(side), _copied(modules)
+    square, checked = _square(modules, side)
+    given = _copied(square)
     data, content = (ctypes.c_uint8 * BYTES_MAX)(), _library.Content()
     raise_for(_calls.qrproved_read(given, len(given), checked, data, BYTES_MAX, ctypes.byref(content)))
     return _content_of(content, data)
 
 
-def mend(modules: Bytes, side: int) -> Mended:
+def mend(modules: Union[Symbol, Bytes], side: Optional[int] = None) -> Mended:
     """Returns what a damaged symbol says, and how damaged it is.
 
     modules  side * side bytes, row by row: 0 is light, 1 is dark, 2 is not known; bytes past the last module are ignored
-    side     modules on a side: 21, 25, and so on to SIDE_MAX
+    side     modules on a side: 21, 25, and so on to SIDE_MAX; a Symbol has its own
 
     In each block at most changed_allowed codewords are mended. A codeword with a module that is not known takes half as much of
-    the correction as a wrong one, and such a module of the format information is taken as a dark one. One copy of the format information has to have at most three
-    wrong modules. No other module has to be right.
+    the correction as a wrong one. Of the 30 modules of format information any six may be wrong, or 13 not known: the number not
+    known and twice the number of wrong ones are at most 13. No other module has to be right.
 
     Raises SideError, RoomError if there are too few modules, SettingsError if one is more than 2, FormatError if both
     copies of the format information are too damaged, CheckError if a block is, SegmentsError, and OutOfMemoryError.
     """
-    checked, given = _side(side), _copied(modules)
+    square, checked = _square(modules, side)
+    given = _copied(square)
     data, mended = (ctypes.c_uint8 * BYTES_MAX)(), _library.Mended()
     raise_for(_calls.qrproved_mend(given, len(given), checked, data, BYTES_MAX, ctypes.byref(mended)))
     return Mended(_content_of(mended, data), Level(mended.level), mended.mask, mended.wrong_modules, mended.wrong_format_modules,
                   mended.changed_most, mended.changed_allowed)
 
 
-def draw(symbols: Sequence[Symbol], *, drawing: int = Drawing.UTF8, margin: int = 4) -> bytes:
+def draw(symbols: Sequence[Symbol], *wrong: NoReturn, drawing: Name = Drawing.UTF8, margin: int = 4) -> bytes:
     """Returns the drawing of symbols of one side: texts one after the other, or one document with one below the other.
 
     symbols  from 1 to COUNT_MAX
-    drawing  a Drawing, or its number
+    drawing  a Drawing, its name ('svg') or its number
     margin   light modules on each side of each symbol, from 0 to MARGIN_MAX; a scanner needs 4
 
     Raises SettingsError if a number is out of range or the sides are not the same, RoomError if a symbol has too few modules,
     and OutOfMemoryError.
     """
-    kind, light, listed = _setting("drawing", drawing, 0, 3), _setting("margin", margin, 0, MARGIN_MAX), list(symbols)
+    _no_more("draw", "symbols, ", wrong, "drawing", "margin")
+    kind, light, listed = _named("drawing", Drawing, drawing), _setting("margin", margin, 0, MARGIN_MAX), list(symbols)
     count = _setting("the number of symbols", len(listed), 1, COUNT_MAX)
     side = _setting("side", listed[0].side, 1, SIDE_MAX)
     if any(symbol.side != side for symbol in listed):

@@ -6,7 +6,7 @@ import unittest
 from xml.etree import ElementTree
 
 import qrproved
-from qrproved import Drawing, Level, Rule
+from qrproved import Drawing, Level, Rule, SettingsError
 
 # The symbol of 01234567 of version 1 and level M under mask 0.
 EIGHT_DIGITS = bytes(map(int, "".join("""
@@ -69,6 +69,47 @@ class Calls(unittest.TestCase):
             symbol = qrproved.encode(b"A", level=level)
             mended = qrproved.mend(symbol.modules, symbol.side)
             self.assertEqual((mended.level, mended.mask), (level, symbol.mask))
+
+    def test_a_text_is_encoded_as_utf8(self):
+        for text in ("Shelf 12", "Gr\u00fc\u00dfe", "\u30c6\U0001f600"):
+            symbol = qrproved.encode(text)
+            self.assertEqual(symbol, qrproved.encode(text.encode()))
+            self.assertEqual(qrproved.read(symbol).data.decode(), text)
+            series = qrproved.encode_series(text * 20, version=1, level="L")
+            self.assertEqual(b"".join(qrproved.read(it).data for it in series).decode(), text * 20)
+        with self.assertRaises(ValueError):
+            qrproved.encode("\ud800")
+
+    def test_settings_have_names(self):
+        for level in Level:
+            for name in (level.name, level.name.lower(), level.value):
+                self.assertEqual(qrproved.encode("A", level=name), qrproved.encode("A", level=level))
+        for rule in Rule:
+            for name in (rule.name, rule.name.lower(), rule.name.lower().replace("_", "-")):
+                self.assertEqual(qrproved.encode("a12345678", rule=name), qrproved.encode("a12345678", rule=rule))
+        symbol = qrproved.encode("A")
+        self.assertEqual(symbol.text(drawing="ascii"), symbol.text(drawing=Drawing.ASCII))
+        for name in ("Z", "", "L "):
+            with self.assertRaisesRegex(SettingsError, "level is 'L', 'M', 'Q' or 'H', and not "):
+                qrproved.encode("A", level=name)
+
+    def test_the_defaults_are_those_of_the_command(self):
+        symbol = qrproved.encode("A")
+        self.assertEqual((symbol.level, qrproved.mend(symbol).level, symbol.version), (Level.L, Level.L, 1))
+        self.assertEqual(symbol.text(), symbol.text(margin=4))
+        self.assertEqual({it.level for it in qrproved.encode_series("A" * 100, version=1)}, {Level.L})
+
+    def test_what_is_shown_of_a_symbol(self):
+        symbol = qrproved.encode("A", version=7, level="m")
+        self.assertEqual(repr(symbol), f"<Symbol 7-M, mask {symbol.mask}>")
+        self.assertEqual(repr(qrproved.encode_series("A", version=2, level="q")[0]), "<Symbol 2-Q>")
+        self.assertEqual(repr(qrproved.Symbol(1, 21, 0, EIGHT_DIGITS)), "<Symbol 1, mask 0>")
+        self.assertEqual(str(symbol) + "\n", symbol.text())
+
+    def test_a_symbol_is_read_with_its_own_side(self):
+        symbol = qrproved.encode("A", version=3)
+        self.assertEqual(qrproved.read(symbol), qrproved.read(symbol.modules, symbol.side))
+        self.assertEqual(qrproved.mend(symbol), qrproved.mend(symbol.modules, symbol.side))
 
     def test_a_series_is_read_and_joined(self):
         data = b"ABCDEFGH" * 6
@@ -137,6 +178,20 @@ class Refusals(unittest.TestCase):
         self.assertEqual(caught.exception.status, status)
         self.assertTrue(str(caught.exception))
 
+    def test_settings_without_a_name(self):
+        symbol, listed = qrproved.encode("A"), "encode: version, level and rule are given by name: "
+        rows = [(lambda: qrproved.encode("A", 7, "Q"), listed + "encode(data, version=7, level='Q')"),
+                (lambda: qrproved.encode("A", Level.Q), listed + "encode(data, level='Q')"),
+                (lambda: qrproved.encode("A", "q", 7, Rule.AUTO), listed + "encode(data, level='q', version=7, rule='AUTO')"),
+                (lambda: qrproved.encode_series("A", 5), "encode_series(data, version=5)"),
+                (lambda: qrproved.draw([symbol], Drawing.SVG), "draw(symbols, drawing='SVG')"),
+                (lambda: symbol.png(4), "png(scale=4)"), (lambda: symbol.svg(4), "svg(margin=4)"),
+                (lambda: symbol.save("a.png", 4), "save(path, scale=4)")]
+        for call, wanted in rows:
+            with self.assertRaises(TypeError) as caught:
+                call()
+            self.assertIn(wanted, str(caught.exception))
+
     def test_inputs(self):
         self.refused(qrproved.EmptyError, 1, qrproved.encode, b"")
         self.refused(qrproved.EmptyError, 1, qrproved.encode_series, b"", version=1)
@@ -166,18 +221,20 @@ class Refusals(unittest.TestCase):
     def test_what_is_no_number(self):
         for other in (True, 1.0, "1", None, b"1"):
             for name in ("version", "level", "rule"):
-                with self.assertRaises(TypeError):
+                kind = SettingsError if other == "1" and name != "version" else TypeError  # a name, but of none
+                with self.assertRaises(kind):
                     qrproved.encode(b"A", **{name: other})
-                with self.assertRaises(TypeError):
+                with self.assertRaises(kind):
                     qrproved.encode_series(b"A", **{"version": 1, name: other})
             for call in (qrproved.read, qrproved.mend):
                 with self.assertRaises(TypeError):
                     call(EIGHT_DIGITS, other)
 
     def test_what_is_no_bytes(self):
-        for other in ("A", 5, None, [1, 2]):
+        for other in (5, None, [1, 2]):
             with self.assertRaises(TypeError):
                 qrproved.encode(other)
+        for other in ("A", 5, None, [1, 2]):
             with self.assertRaises(TypeError):
                 qrproved.read(other, 21)
 

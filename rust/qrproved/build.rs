@@ -32,6 +32,11 @@ fn main() {
         println!("cargo:rustc-link-search=native={folder}");
     }
     println!("cargo:rustc-link-lib={kind}=qrproved");
+    // So that the tests of this crate find the shared library where it was linked. Cargo passes no such argument on to the
+    // crates that use this one: the README says what their own build scripts do.
+    if kind == "dylib" && !folder.is_empty() {
+        println!("cargo:rustc-link-arg=-Wl,-rpath,{folder}");
+    }
     println!("cargo:root={folder}");
 }
 

@@ -64,31 +64,3 @@ fn character_of(dark: bool) -> u8
 {
     if dark { b'#' } else { b' ' }
 }
-
-#[cfg(test)]
-mod tests {
-    use super::*;
-    use std::test::Fail;
-
-    // The label of `A` in version 1-L has 21 lines for 21 rows of modules, and then the line `A`. The first line begins
-    // with the seven dark modules of a finder pattern.
-    #[test]
-    fn a_letter_at_1_l(rt: HostRuntime) -> Result<(), Fail> {
-        let version = Version::new(1).ok_or("version 1")?;
-        let text = label(rt.alloc(), b"A", Level::L, version)?;
-        assert_eq!(rt; text.len(), 21 * 22 + 2);
-        assert_eq!(rt; text.get(..7), Some(&b"#######"[..]));
-        assert_eq!(rt; text.get(21 * 22..), Some(&b"A\n"[..]));
-        Ok(())
-    }
-
-    // Version 40-L contains at most 2,953 bytes (Table 7).
-    #[test]
-    fn refusals(rt: HostRuntime) -> Result<(), Fail> {
-        let fault = label(rt.alloc(), b"", Level::L, Version::FIRST);
-        assert!(rt; matches!(fault, Err(EncodeFault::Empty)), "no words");
-        let fault = label(rt.alloc(), &[b'a'; 2954], Level::L, Version::FIRST);
-        assert!(rt; matches!(fault, Err(EncodeFault::TooLong)), "2,954 bytes");
-        Ok(())
-    }
-}

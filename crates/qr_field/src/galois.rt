@@ -37,32 +37,3 @@ pub fn div(a: u8, b: u8) -> u8
     let exponent = if rest < 255 { rest } else { rest - 255 };
     power_of(exponent as u8)
 }
-
-#[cfg(test)]
-mod tests {
-    use super::*;
-
-    #[test]
-    fn products(rt: HostRuntime) {
-        let rows = [
-            ("the first product that is reduced", 0x80u8, 2u8, 0x1Du8),
-            ("two elements that are each other's inverse", 0x8E, 2, 1),
-            ("nothing times all bits", 0, 0xFF, 0),
-        ];
-        for (name, a, b, product) in rows {
-            assert_eq!(rt; mul(a, b), product, "{name}");
-        }
-    }
-
-    #[test]
-    fn quotients(rt: HostRuntime) {
-        let rows = [
-            ("one by 2", 1u8, 2u8, 0x8Eu8),
-            ("a product by its factor", 0x1D, 2, 0x80),
-            ("nothing by all bits", 0, 0xFF, 0),
-        ];
-        for (name, a, b, quotient) in rows {
-            assert_eq!(rt; div(a, b), quotient, "{name}");
-        }
-    }
-}

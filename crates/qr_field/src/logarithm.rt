@@ -61,23 +61,3 @@ pub(crate) fn logarithm(element: u8) -> u8
 {
     LOGARITHMS[usize::from(element) - 1]
 }
-
-#[cfg(test)]
-mod tests {
-    use super::*;
-
-    #[test]
-    fn first_powers(rt: HostRuntime) {
-        let first = [
-            0x01u8, 0x02, 0x04, 0x08, 0x10, 0x20, 0x40, 0x80, 0x1D, 0x3A, 0x74, 0xE8, 0xCD, 0x87,
-            0x13, 0x26,
-        ];
-        assert_eq!(rt; &POWERS[..16], &first[..], "the first sixteen powers");
-        for (exponent, power) in [(0, 0x01), (8, 0x1D), (15, 0x26), (254, 0x8E)] {
-            assert_eq!(rt; power_of(exponent), power, "exponent {exponent}");
-        }
-        for (power, exponent) in [(0x01, 0), (0x1D, 8), (0x26, 15), (0x8E, 254)] {
-            assert_eq!(rt; logarithm(power), exponent, "power {power}");
-        }
-    }
-}

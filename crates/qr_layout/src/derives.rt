@@ -1,4 +1,4 @@
-//! Compares and clones versions, levels, modules, roles, block sizes and strips. The operator `==` returns true exactly
+//! Compares and clones versions, levels, modules, roles, block sizes and strips, and clones rectangles. The operator `==` returns true exactly
 //! if its two operands are the same value. A clone is the same value as its original. A call that clones a value can
 //! fail only for lack of memory.
 
@@ -6,6 +6,7 @@ ghost use Rattle.std.specs.Prelude.{◌≡◌, ◌↔◌, IsTrue, IfOk};
 
 use crate::blocks::Blocks;
 use crate::level::Level;
+use crate::rectangles::Rectangle;
 use crate::region::Module;
 use crate::role::Role;
 use crate::strips::Strip;
@@ -92,6 +93,13 @@ pub fn blocks_clones(a: Blocks) -> Result<Blocks, AllocError>
 /// Returns a clone of the strip `a` (two neighbouring columns that are filled together); the clone and `a` are the same
 /// strip.
 pub fn strip_clones(a: Strip) -> Result<Strip, AllocError>
+    ensures { IfOk result (λ b. b ≡ a) }
+{
+    a.clone()
+}
+
+/// Returns a clone of the rectangle `a`, which has the same rows and columns.
+pub fn rectangle_clones(a: Rectangle) -> Result<Rectangle, AllocError>
     ensures { IfOk result (λ b. b ≡ a) }
 {
     a.clone()

@@ -1,6 +1,6 @@
 //! Laws about the layout of symbols, for every version, level and mask pattern. The contract of each function states a
-//! law. Only three functions of this file compute a value: `nth_place`, `first_version` and `default_module`. All other
-//! functions of this file do nothing.
+//! law. Only four functions of this file compute a value: `nth_place`, `first_version`, `default_module` and
+//! `default_rectangle`.
 
 ghost use Rattle.std.specs.Prelude.{◌≡◌, ◌<◌, ◌≤◌, ◌-◌, ◌*◌, ◌/◌, ◌⊎◌, ◌↔◌, ◌||◌, not, true, ℕ, List, ◌∷◌, ◌++◌, length, map, slice_get};
 ghost use Rattle.std.specs.List.{list_any, range_with_len};
@@ -19,11 +19,12 @@ ghost use Rattle.qr_layout.specs.Laws.{all_versions, printed_correction, printed
 
 pub use crate::derives::{
     blocks_are_equal, blocks_clones, level_clones, levels_are_equal, module_clones,
-    modules_are_equal, role_clones, roles_are_equal, strip_clones, strips_are_equal,
-    version_clones, versions_are_equal,
+    modules_are_equal, rectangle_clones, role_clones, roles_are_equal, strip_clones,
+    strips_are_equal, version_clones, versions_are_equal,
 };
 use crate::level::Level;
 use crate::order::walk;
+use crate::rectangles::Rectangle;
 use crate::region::Module;
 use crate::version::Version;
 
@@ -246,4 +247,11 @@ pub fn default_module() -> Module
     ensures { result ≡ record { row = 0; col = 0 } }
 {
     Module::default()
+}
+
+/// Returns the default rectangle, which contains no module.
+pub fn default_rectangle() -> Rectangle
+    ensures { result ≡ record { top = 0; bottom = 0; left = 0; right = 0 } }
+{
+    Rectangle::default()
 }

@@ -11,6 +11,7 @@ ghost use Rattle.qr_matrix.specs.Grid.{colour, Grid};
 ghost use Rattle.qr_matrix.specs.Difference.{difference_count};
 ghost use Rattle.qr_matrix.specs.Laws.{all_dark, all_light, chequered, ratio_in_a_row, ratio_in_a_column};
 
+pub use crate::derives::{bit_row_clones, run_clones};
 use crate::matrix::Matrix;
 use crate::runs::runs_and_squares;
 use crate::windows::window_count;

@@ -4,6 +4,7 @@
 
 mod bit_row;
 mod dark_runs;
+mod derives;
 mod difference;
 pub mod laws;
 mod matrix;

@@ -1,14 +1,16 @@
 -- How a damaged symbol is mended and read. `g` is the square of modules as it was read, and `unknown` is dark where a module
 -- was not read. `v`, `l` and `mask` are the version, the level and the mask of the symbol, `message` its data codewords, and
 -- `changed` lists for each block how many codewords were misread; erased ones do not count.
-use Rattle.std.specs.Prelude.{◌≡◌, ◌≢◌, ℕ, ◌+◌, ◌*◌, ◌≤◌, Result, Ok, Err, List}
+use Rattle.std.specs.Prelude.{◌≡◌, ◌≢◌, ℕ, ◌+◌, ◌*◌, ◌≤◌, ◌||◌, Result, Ok, Err, List}
 use Rattle.qr_layout.specs.declared.level.Level.{Level}
+use Rattle.qr_layout.specs.Format.{format_word_of}
 use Rattle.qr_bits.specs.Bits.{bits_of}
 use Rattle.qr_bits.specs.Parsing.{Content, parse}
 use Rattle.qr_bits.specs.declared.fault.ParseFault.{ParseFault}
 use Rattle.qr_bits.specs.declared.fault.ParseFault.TheVariants as unparsed
 use Rattle.qr_matrix.specs.Grid.{Grid, colour}
-use Rattle.qr_matrix.specs.Penalty.{sum_below}
+use Rattle.qr_matrix.specs.Difference.{differs}
+use Rattle.qr_matrix.specs.Penalty.{count_below, sum_below}
 use Rattle.qr_symbol.specs.declared.fault.ReadFault.{ReadFault}
 use Rattle.qr_symbol.specs.declared.fault.ReadFault.TheVariants as unread
 use Rattle.qr_symbol.specs.Symbol.{grid_of}
@@ -16,7 +18,7 @@ use Rattle.qr_symbol.specs.Interleaving.{IsInterleaved}
 use Rattle.qr_symbol.specs.Reading.{IsOfVersion, IsRead}
 use Rattle.qr_mending.specs.declared.format.FormatCopy.{FormatCopy}
 use Rattle.qr_mending.specs.declared.format.FormatCopy.TheVariants.{First, Second}
-use Rattle.qr_mending.specs.Format.{format_cost, wrong_bit, wrong_bits, IsNearFormat}
+use Rattle.qr_mending.specs.Format.{format_cost, misread_bits, unread_bits, IsNearFormat}
 use Rattle.qr_mending.specs.Message.{IsMendedIn}
 
 -- The blocks of the square can be mended to `message` with this level and mask (ISO/IEC 18004:2015, 7.5.1, 7.6, 7.7.3, 12)
@@ -61,13 +63,17 @@ pub record IsMendedAs (unknown g : Grid) (v : ℕ) (l : Level) (mask : ℕ) (out
 abbrev pub IsMendedReading : Grid → Grid → ℕ → Level → ℕ → Content → List ℕ → Type 0
 IsMendedReading unknown g v l mask content changed = IsMendedAs unknown g v l mask (Ok content) changed
 
+-- The wrong modules of a copy: not read, or misread (ISO/IEC 18004:2015, 7.9.1)
+abbrev pub wrong_bits : Grid → FormatCopy → Grid → Level → ℕ → ℕ
+wrong_bits unknown copy g l mask = unread_bits unknown copy + misread_bits unknown copy g (format_word_of l mask)
+
 -- The wrong modules among the 30 of format information (ISO/IEC 18004:2015, 7.9.1)
 abbrev pub wrong_format_modules : Grid → Grid → Level → ℕ → ℕ
 wrong_format_modules unknown g l mask = wrong_bits unknown First g l mask + wrong_bits unknown Second g l mask
 
 -- The wrong modules of `g`: not read, or of another colour than in `h` [own]
 unfoldable pub wrong_modules : Grid → Grid → Grid → ℕ
-wrong_modules unknown g h = sum_below g.side (λ r. sum_below g.side (λ c. wrong_bit (colour unknown r c) (colour g r c) (colour h r c)))
+wrong_modules unknown g h = sum_below g.side (λ r. count_below g.side (λ c. colour unknown r c || differs g h r c))
 
 -- `wrong` modules of the square are wrong beside the symbol of `message`: of the whole square, with function patterns, version
 -- information and remainder bits (ISO/IEC 18004:2015, 7.5.2, 7.6, 7.7, 7.8)

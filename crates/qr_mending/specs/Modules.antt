@@ -1,5 +1,5 @@
--- Defines what it means that few modules of a symbol are damaged. The damage is counted in modules, and not in
--- codewords.
+-- Two squares `g` and `h` of which few modules differ. `places` lists the modules of the encoding region in the order in which
+-- the codewords fill them.
 use Rattle.std.specs.Prelude.{ℕ, ◌+◌, ◌*◌, ◌<◌, ◌≤◌, ◌==◌, ◌&&◌, if◌then◌else◌, List, [], ◌∷◌, take, drop}
 use Prim.Native.Nat.{zero, suc}
 use Rattle.qr_layout.specs.declared.level.Level.{Level}
@@ -13,40 +13,31 @@ use Rattle.qr_mending.specs.declared.format.FormatCopy.TheVariants.{First, Secon
 use Rattle.qr_mending.specs.Format.{bit_difference, bit_differences, copy_bit}
 use Rattle.qr_mending.specs.Message.{tolerance_of}
 
--- `module_differences g h modules` is the number of modules in the list `modules` that have different colours in the
--- squares `g` and `h` [own].
+-- How many of the modules have different colours in the two squares [own]
 abbrev pub module_differences : Grid → Grid → List Module → ℕ
 module_differences g h [] = 0
 module_differences g h (m ∷ ms) = bit_difference (colour g m.row m.col) (colour h m.row m.col) + module_differences g h ms
 
--- `index_of t positions` is the index of the codeword position `t` in the list `positions`. If `t` is not in the list,
--- `index_of t positions` is the length of the list [own].
+-- The index of a position in a list, or the length of the list if it is not in it [own]
 abbrev pub index_of : Position → List Position → ℕ
 index_of t [] = 0
 index_of t (u ∷ us) = if (t.place == u.place) && (t.block == u.block) then 0 else index_of t us + 1
 
--- `modules_of places k` lists the eight modules that contain codeword `k` of the interleaved codewords of a symbol.
--- `places` lists all modules of the encoding region, in the order in which the bits of the codewords are placed in
--- these modules (ISO/IEC 18004:2015, 7.7.3).
+-- The eight modules of codeword `k`, in interleaved order (ISO/IEC 18004:2015, 7.7.3)
 abbrev pub modules_of : List Module → ℕ → List Module
 modules_of places k = take 8 (drop (8 * k) places)
 
--- `part_differences g h places positions first i n` counts the modules of one part of block `i` that have different
--- colours in the squares `g` and `h`. The part is the first `n` data codewords, or the first `n` error correction
--- codewords, of the block. `places` lists the modules of the encoding region, in the order in which the bits of the
--- codewords are placed in these modules. `positions` lists the positions of all data codewords, or of all error
--- correction codewords, in interleaved order. The codeword at the first item of `positions` has the index `first` among
--- all interleaved codewords of the symbol (ISO/IEC 18004:2015, 7.6, 7.7.3).
+-- How many modules of the first `n` codewords of block `i` have different colours, of data or of error correction:
+-- `positions` lists the positions of all such codewords in interleaved order, where the first has the index `first`
+-- (ISO/IEC 18004:2015, 7.6, 7.7.3)
 abbrev pub part_differences : Grid → Grid → List Module → List Position → (first i n : ℕ) → ℕ
 part_differences g h places positions first i zero = 0
 part_differences g h places positions first i (suc n) =
     module_differences g h (modules_of places (first + index_of (record { place = n; block = i }) positions))
     + part_differences g h places positions first i n
 
--- `DifferInFewModules v l g h` holds if the squares `g` and `h` of modules differ in few modules. The two squares have
--- version `v` and level `l`. At most six of the 30 modules of format information differ. In each block,
--- the number of modules that differ is at most the number of codewords that can be corrected in a block
--- (ISO/IEC 18004:2015, 7.5.1, 7.9.1).
+-- At most six of the 30 modules of format information differ, and in each block at most as many modules as codewords of it can
+-- be corrected (ISO/IEC 18004:2015, 7.5.1, 7.9.1)
 pub record DifferInFewModules (v : ℕ) (l : Level) (g h : Grid) : Type 0 where
   pub format : bit_differences 15 (copy_bit First g) (copy_bit First h) + bit_differences 15 (copy_bit Second g) (copy_bit Second h) ≤ 6
   pub places : List Module

@@ -1,14 +1,14 @@
 //! Finds the level and the mask of a damaged symbol by the two copies of its format information
 //! (ISO/IEC 18004:2015, 7.9.1 and Annex C). The square `unknown` is dark where a module of `matrix` was not read.
 
-ghost use Rattle.std.specs.Prelude.{◌≡◌, ℕ, ◌+◌, ◌*◌, ◌<◌, ◌≤◌, Some, MatchOption};
+ghost use Rattle.std.specs.Prelude.{◌≡◌, ℕ, ◌+◌, ◌*◌, ◌<◌, ◌≤◌, ◌&&◌, not, if◌then◌else◌, Some, MatchOption};
 ghost use Rattle.qr_layout.specs.declared.level.Level.{Level};
 ghost use Rattle.qr_layout.specs.Format.{format_word_of};
 ghost use Rattle.qr_layout.specs.Version.{side_of};
-ghost use Rattle.qr_matrix.specs.Penalty.{sum_below};
+ghost use Rattle.qr_matrix.specs.Penalty.{is_same};
 ghost use Rattle.qr_symbol.specs.Symbol.{word_bit};
 ghost use Rattle.qr_mending.specs.declared.format.FormatCopy.{FormatCopy};
-ghost use Rattle.qr_mending.specs.Format.{bit_cost, copy_place, copy_bit, format_cost, wrong_bit, IsNearFormat};
+ghost use Rattle.qr_mending.specs.Format.{copy_place, format_cost, misread_bits, unread_bits, IsNearFormat};
 ghost use Rattle.qr_mending.specs.Mending.{wrong_format_modules};
 
 use qr_layout::{Level, Module, Version, format_place, format_word, second_format_place};
@@ -30,7 +30,7 @@ pub(crate) enum FormatCopy {
 }
 
 impl FormatCopy {
-    // Returns the place (the row and the column) of bit `bit` in this copy of the format information.
+    // The place of bit `bit` in this copy.
     fn place(self, version: Version, bit: u8) -> Module
         requires { bit < 15 }
         ensures place { result ≡ copy_place self (side_of version) bit }
@@ -44,7 +44,7 @@ impl FormatCopy {
     }
 }
 
-// Returns whether bit `i` of `word` is 1. Bit 0 is the least significant bit.
+// Whether bit `i` of `word` is 1; bit 0 is the lowest.
 fn is_bit_set(word: u32, i: u8) -> bool
     requires { i < 32 }
     ensures { result ≡ word_bit word i }
@@ -52,29 +52,51 @@ fn is_bit_set(word: u32, i: u8) -> bool
     word >> i & 1 == 1
 }
 
-// 1 for a module that is wrong: not read, or not of the colour `wanted`.
-pub(crate) fn wrong_bit(is_unknown: bool, dark: bool, wanted: bool) -> u8
-    ensures value { result ≡ wrong_bit is_unknown dark wanted }
+// 1 for a misread module, and 0 for one that was not read or has the colour `wanted`.
+fn misread_bit(is_unknown: bool, dark: bool, wanted: bool) -> u8
+    ensures value { result ≡ (if not is_unknown && not (is_same dark wanted) then 1 else 0) }
     ensures most { result ≤ 1 }
 {
     if is_unknown {
-        return 1;
+        return 0;
     }
     u8::from(dark != wanted)
 }
 
-// 1 for a module that was not read, and 2 for a misread one.
-fn bit_cost(is_unknown: bool, dark: bool, wanted: bool) -> u8
-    ensures value { result ≡ bit_cost is_unknown dark wanted }
-    ensures most { result ≤ 2 }
-{
-    if is_unknown {
-        return 1;
-    }
-    2 * u8::from(dark != wanted)
+// How many modules of a copy were not read, and how many are misread.
+#[derive(Drop)]
+struct CopyDamage {
+    unread: u8,
+    misread: u8,
 }
 
-// The number of wrong modules of a copy, beside the format information `word`.
+// The damage of a copy, if `word` is its format information.
+fn copy_damage(
+    matrix: &Matrix,
+    unknown: &Matrix,
+    version: Version,
+    copy: FormatCopy,
+    word: u32,
+) -> CopyDamage
+    requires side { matrix.now.side ≡ side_of version }
+    requires unknown_side { unknown.now.side ≡ side_of version }
+    ensures unread { result.unread ≡ unread_bits unknown.now copy }
+    ensures misread { result.misread ≡ misread_bits unknown.now copy matrix.now word }
+    ensures few { (result.unread ≤ 15) × (result.misread ≤ 15) }
+{
+    let mut unread = 0u8;
+    let mut misread = 0u8;
+    for i in 0..FORMAT_BITS {
+        let place = copy.place(version, i);
+        let is_unknown = unknown.dark(place.row, place.col);
+        let dark = matrix.dark(place.row, place.col);
+        unread += u8::from(is_unknown);
+        misread += misread_bit(is_unknown, dark, is_bit_set(word, i));
+    }
+    CopyDamage { unread, misread }
+}
+
+// The number of wrong modules of a copy.
 fn wrong_bits(
     matrix: &Matrix,
     unknown: &Matrix,
@@ -84,36 +106,22 @@ fn wrong_bits(
 ) -> u8
     requires side { matrix.now.side ≡ side_of version }
     requires unknown_side { unknown.now.side ≡ side_of version }
-    ensures value { result
-        ≡ sum_below 15 (λ i. wrong_bit (copy_bit copy unknown.now i) (copy_bit copy matrix.now i) (word_bit word i)) }
-    ensures most { result ≤ 15 }
+    ensures value { result ≡ unread_bits unknown.now copy + misread_bits unknown.now copy matrix.now word }
+    ensures most { result ≤ 30 }
 {
-    let mut wrong = 0u8;
-    for i in 0..FORMAT_BITS {
-        let place = copy.place(version, i);
-        let is_unknown = unknown.dark(place.row, place.col);
-        let dark = matrix.dark(place.row, place.col);
-        wrong += wrong_bit(is_unknown, dark, is_bit_set(word, i));
-    }
-    wrong
+    let damage = copy_damage(matrix, unknown, version, copy, word);
+    damage.unread + damage.misread
 }
 
-// What the modules of a copy cost, beside the format information `word`.
+// The cost of a copy.
 fn copy_cost(matrix: &Matrix, unknown: &Matrix, version: Version, copy: FormatCopy, word: u32) -> u8
     requires side { matrix.now.side ≡ side_of version }
     requires unknown_side { unknown.now.side ≡ side_of version }
-    ensures value { result
-        ≡ sum_below 15 (λ i. bit_cost (copy_bit copy unknown.now i) (copy_bit copy matrix.now i) (word_bit word i)) }
-    ensures most { result ≤ 30 }
+    ensures value { result ≡ unread_bits unknown.now copy + 2 * misread_bits unknown.now copy matrix.now word }
+    ensures most { result ≤ 45 }
 {
-    let mut cost = 0u8;
-    for i in 0..FORMAT_BITS {
-        let place = copy.place(version, i);
-        let is_unknown = unknown.dark(place.row, place.col);
-        let dark = matrix.dark(place.row, place.col);
-        cost += bit_cost(is_unknown, dark, is_bit_set(word, i));
-    }
-    cost
+    let damage = copy_damage(matrix, unknown, version, copy, word);
+    damage.unread + 2 * damage.misread
 }
 
 // The number of wrong modules among the 30 modules of format information.
@@ -134,7 +142,7 @@ pub(crate) fn wrong_format_modules(
     first + wrong_bits(matrix, unknown, version, FormatCopy::Second, word)
 }
 
-// What the 30 modules of format information cost.
+// The cost of both copies.
 pub(crate) fn format_cost(
     matrix: &Matrix,
     unknown: &Matrix,

@@ -1,11 +1,10 @@
-//! States laws about the mending of damaged blocks and symbols. A damaged block or symbol can be mended to at most one
-//! result. A symbol that can be mended and read is refused only for lack of memory. Most functions of this file do
-//! nothing: the contract of such a function is the law. Each function that contains code mends one or more symbols, and
-//! its contract is a law about the result.
+//! Laws of mending: a damaged block or symbol is mended to one result at most, and refused for one fault at most. A function
+//! without code is a law of the definitions, one with code a law of its result.
 
-ghost use Rattle.std.specs.Prelude.{◌≡◌, ◌≢◌, ◌↔◌, ◌⊎◌, Err, ℕ, ◌*◌, ◌/◌, ◌<◌, ◌≤◌, false, List, length, replicate, Option, None, Some, MatchResult};
+ghost use Rattle.std.specs.Prelude.{◌≡◌, ◌≢◌, ◌↔◌, ◌⊎◌, Err, ℕ, ◌+◌, ◌*◌, ◌/◌, ◌<◌, ◌≤◌, false, List, length, replicate, Option, None, Some, MatchResult};
 ghost use Rattle.std.specs.List.{All};
 ghost use Rattle.qr_layout.specs.declared.level.Level.{Level};
+ghost use Rattle.qr_layout.specs.Format.{format_word_of};
 ghost use Rattle.qr_bits.specs.declared.modes.Rule.{Rule};
 ghost use Rattle.qr_bits.specs.Parsing.{Content};
 ghost use Rattle.qr_matrix.specs.Grid.{Grid, IsSquare, light};
@@ -16,12 +15,12 @@ ghost use Rattle.qr_symbol.specs.declared.symbol.Symbol.{Symbol};
 ghost use Rattle.qr_symbol.specs.Joining.{IsJoined};
 ghost use Rattle.qr_symbol.specs.Reading.{IsReading};
 ghost use Rattle.qr_symbol.specs.Series.{squares_of, IsSeries};
-ghost use Rattle.qr_symbol.specs.Symbol.{grid_of};
-ghost use Rattle.qr_mending.specs.Block.{IsMended};
+ghost use Rattle.qr_symbol.specs.Symbol.{grid_of, word_bit};
+ghost use Rattle.qr_mending.specs.Block.{IsBlock, IsMended};
 ghost use Rattle.qr_mending.specs.Erasures.{read_of, IsMendedWithErasures};
 ghost use Rattle.qr_mending.specs.Distance.{SymbolsLieApart};
 ghost use Rattle.qr_mending.specs.declared.format.FormatCopy.{FormatCopy};
-ghost use Rattle.qr_mending.specs.Format.{format_cost, IsNearFormat};
+ghost use Rattle.qr_mending.specs.Format.{bit_differences, format_cost, IsNearFormat};
 ghost use Rattle.qr_mending.specs.Message.{protection_of, tolerance_of, IsMendedIn};
 ghost use Rattle.qr_mending.specs.Mending.{wrong_format_modules, wrong_modules, HasFormat, HasWrongModules, HoldsDamaged, IsMendedReading, IsUnmended};
 ghost use Rattle.qr_mending.specs.Modules.{DifferInFewModules};
@@ -60,11 +59,30 @@ pub fn blocks_without_erasures_are_mended_alike()
         → IsMendedWithErasures n spare (read_of damaged (replicate k false)) mended ↔ IsMended n (spare / 2) damaged mended }
 {}
 
-/// At most one pair of level and mask is near to a given copy of the format information in a symbol. A pair of level
-/// and mask is near to a copy if the format information of the pair differs from the copy in at most three modules.
+/// A block is also one with fewer error correction codewords, if at least one is left: the generator polynomial of fewer
+/// divides that of more. So where two levels of a version have as many blocks, each block of the stronger level is one of the
+/// weaker, and only the format information says which level is meant.
+pub fn blocks_are_those_of_weaker_levels()
+    ensures { (n m : ℕ) (block : List ℕ) → 1 ≤ n → n ≤ m → length block ≤ 255 → IsBlock m block → IsBlock n block }
+{}
+
+/// The format information of two pairs of level and mask differs in at least seven of 15 bits, and no bound is better. So over
+/// both copies, whatever they show, the two cost at least 28 together: if one costs at most 13, the other costs at least 15.
+pub fn format_words_lie_apart()
+    ensures words { (l k : Level) (m n : ℕ) → m < 8 → n < 8 → ((l ≡ k) × (m ≡ n) → ⊥)
+        → 7 ≤ bit_differences 15 (word_bit (format_word_of l m)) (word_bit (format_word_of k n)) }
+    ensures least { bit_differences 15 (word_bit (format_word_of Level.L 0)) (word_bit (format_word_of Level.L 1)) ≡ 7 }
+    ensures costs { (unknown g : Grid) (l k : Level) (m n : ℕ) → m < 8 → n < 8 → ((l ≡ k) × (m ≡ n) → ⊥)
+        → 28 ≤ format_cost unknown g l m + format_cost unknown g k n }
+{}
+
+/// At most one pair of level and mask is near to a copy of the format information, so at most two are tried.
 pub fn near_format_is_one()
-    ensures { (unknown : Grid) (copy : FormatCopy) (g : Grid) (l k : Level) (m n : ℕ) → IsNearFormat unknown copy g l m
+    ensures one { (unknown : Grid) (copy : FormatCopy) (g : Grid) (l k : Level) (m n : ℕ) → IsNearFormat unknown copy g l m
         → IsNearFormat unknown copy g k n → (l ≡ k) × (m ≡ n) }
+    ensures two { (unknown g : Grid) (a b c : FormatCopy) (l k j : Level) (m n i : ℕ) → IsNearFormat unknown a g l m
+        → IsNearFormat unknown b g k n → IsNearFormat unknown c g j i
+        → ((l ≡ k) × (m ≡ n)) ⊎ (((l ≡ j) × (m ≡ i)) ⊎ ((k ≡ j) × (n ≡ i))) }
 {}
 
 /// In seven combinations of version and level, the number of codewords that can be corrected in a block agrees with

@@ -4,21 +4,21 @@
 ghost use Rattle.std.specs.Prelude.{◌≡◌, ◌<◌, ◌≤◌, length, IfErr, IfOk, Some, MatchOption, MatchResult};
 ghost use Rattle.qr_layout.specs.Blocks.{data_codewords_of};
 ghost use Rattle.qr_layout.specs.Version.{side_of, total_codewords_of};
-ghost use Rattle.qr_matrix.specs.Grid.{colour, light};
-ghost use Rattle.qr_matrix.specs.Penalty.{sum_below};
+ghost use Rattle.qr_matrix.specs.Grid.{light};
 ghost use Rattle.qr_symbol.specs.declared.fault.ReadFault.{ReadFault};
+ghost use Rattle.qr_symbol.specs.Reading.{IsOfVersion};
 ghost use Rattle.qr_mending.specs.declared.format.FormatCopy.{FormatCopy};
-ghost use Rattle.qr_mending.specs.Format.{format_cost, wrong_bit, IsNearFormat};
+ghost use Rattle.qr_mending.specs.Format.{format_cost, IsNearFormat};
 ghost use Rattle.qr_mending.specs.Mending.{wrong_format_modules, wrong_modules, DiffersFromSymbol, HasFormat, HasWrongModules, HoldsDamaged, IsMendedReading, IsOfNoUse, IsUnmended};
 ghost use Rattle.qr_mending.specs.Message.{AreMarks};
 
 use crate::format::{
-    FormatCopy, format_cost, near_format_of, near_format_of_either, wrong_bit, wrong_format_modules,
+    FormatCopy, format_cost, near_format_of, near_format_of_either, wrong_format_modules,
 };
 use crate::message::{MendedMessage, mend_message, read_marks};
 use qr_bits::{Parsed, parse};
 use qr_layout::{Level, Version};
-use qr_matrix::Matrix;
+use qr_matrix::{Matrix, differences};
 use qr_symbol::{ReadFault, draw_symbol, interleave, read_codewords};
 use std::alloc::{AllocError, Global};
 
@@ -133,35 +133,23 @@ fn mend_square(
     mend_by_either(alloc, version, matrix, unknown, &marks)
 }
 
-// The number of wrong modules in row `row`: not read, or of another colour than in `symbol`.
-fn wrong_in_row(unknown: &Matrix, matrix: &Matrix, symbol: &Matrix, row: u8) -> u32
+// The number of wrong modules beside `symbol`. Where a module was not read, the symbol is given another colour than `matrix`
+// has, so that the two differ exactly where a module is wrong.
+fn count_wrong(unknown: &Matrix, matrix: &Matrix, mut symbol: Matrix) -> u32
     requires unknown_side { unknown.now.side ≡ matrix.now.side }
-    requires side { symbol.now.side ≡ matrix.now.side }
-    requires row_in { row < matrix.now.side }
-    ensures value { result ≡ sum_below matrix.now.side
-        (λ c. wrong_bit (colour unknown.now row c) (colour matrix.now row c) (colour symbol.now row c)) }
-    ensures most { result ≤ matrix.now.side }
+    requires side { symbol.side ≡ matrix.now.side }
+    ensures { result ≡ wrong_modules unknown.now matrix.now symbol }
 {
-    let mut wrong = 0u32;
-    for col in 0..matrix.side() {
-        let is_unknown = unknown.dark(row, col);
-        let dark = matrix.dark(row, col);
-        wrong += u32::from(wrong_bit(is_unknown, dark, symbol.dark(row, col)));
-    }
-    wrong
-}
-
-// The number of wrong modules in all rows.
-fn count_wrong(unknown: &Matrix, matrix: &Matrix, symbol: &Matrix) -> u32
-    requires unknown_side { unknown.now.side ≡ matrix.now.side }
-    requires side { symbol.now.side ≡ matrix.now.side }
-    ensures { result ≡ wrong_modules unknown.now matrix.now symbol.now }
-{
-    let mut wrong = 0u32;
     for row in 0..matrix.side() {
-        wrong += wrong_in_row(unknown, matrix, symbol, row);
+        let at = usize::from(row);
+        let shown = matrix.bit_row(at);
+        let sent = symbol.bit_row(at);
+        let unread = unknown.bit_row(at);
+        let differing = shown ^ sent;
+        let wrong = unread | differing;
+        symbol.set_bit_row(row, shown ^ wrong);
     }
-    wrong
+    differences(matrix, &symbol)
 }
 
 // The number of wrong modules beside the undamaged symbol, which is drawn for it.
@@ -182,7 +170,20 @@ fn count_wrong_modules(
 {
     let codewords = interleave(alloc, version, level, message)?;
     let symbol = draw_symbol(alloc, version, level, &codewords, mask)?;
-    Ok(count_wrong(unknown, matrix, &symbol))
+    Ok(count_wrong(unknown, matrix, symbol))
+}
+
+// Why the symbol is refused that no level and mask mend.
+fn refusal(version: Version, matrix: &Matrix, unknown: &Matrix) -> ReadFault
+    requires sized { IsOfVersion matrix.now version }
+    requires unknown_side { unknown.now.side ≡ side_of version }
+    requires useless { (any : FormatCopy) → IsOfNoUse unknown.now any version matrix.now }
+    ensures { IsUnmended unknown.now matrix.now result }
+{
+    match near_format_of_either(matrix, unknown, version) {
+        Some(_) => ReadFault::Check,
+        None => ReadFault::Format,
+    }
 }
 
 /// The content of a damaged symbol after its damage was corrected, and numbers that describe the damage.
@@ -241,11 +242,8 @@ pub fn mend_symbol_without(
     let Some(version) = Version::of_side(matrix.side()) else {
         return Err(ReadFault::Side);
     };
-    let Some(_) = near_format_of_either(matrix, unknown, version) else {
-        return Err(ReadFault::Format);
-    };
     let Some(mended) = mend_square(alloc, version, matrix, unknown)? else {
-        return Err(ReadFault::Check);
+        return Err(refusal(version, matrix, unknown));
     };
     let MendedSquare {
         level,

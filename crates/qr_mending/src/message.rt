@@ -14,18 +14,12 @@ ghost use Rattle.qr_mending.specs.Message.{received, protection_of, spare_of, to
 use crate::erasures::mend_with_erasures;
 use qr_field::Divisor;
 use qr_layout::{Blocks, Level, Version, walk};
-use qr_matrix::Matrix;
+use qr_matrix::{Matrix, differences};
 use qr_symbol::{BlockSizes, ReadFault};
 use std::alloc::{AllocError, Global};
 
-// Returns a mark for each codeword of a symbol. The mark of a codeword is a byte with one bit for each of the eight
-// modules of the codeword. The bit of a module is 1 if the module is dark in the square `unknown`, which means that the
-// module was not read. So the mark of a codeword is 0 exactly if all its modules were read.
-pub(crate) fn read_marks(
-    alloc: Global,
-    version: Version,
-    unknown: &Matrix,
-) -> Result<Vec<u8>, AllocError>
+// The marks of the codewords, along the walk.
+fn walk_marks(alloc: Global, version: Version, unknown: &Matrix) -> Result<Vec<u8>, AllocError>
     requires { unknown.now.side ≡ side_of version }
     ensures marks { IfOk result (λ marks. AreMarks version unknown.now marks.items) }
     ensures many { IfOk result (λ marks. length marks.items ≡ total_codewords_of version) }
@@ -45,17 +39,33 @@ pub(crate) fn read_marks(
     Ok(marks)
 }
 
-// The codewords of a symbol, or the marks of these codewords, in the order of the blocks. The mark of a codeword shows
-// which of its modules were not read. `data` contains the data codewords or their marks. `checks` contains the error
-// correction codewords or their marks.
+// A mark for each codeword of a symbol: a byte with a bit for each of its modules, which is 1 if the module is dark in
+// `unknown`. Where no module is, there is no need to walk.
+pub(crate) fn read_marks(
+    alloc: Global,
+    version: Version,
+    unknown: &Matrix,
+) -> Result<Vec<u8>, AllocError>
+    requires { unknown.now.side ≡ side_of version }
+    ensures marks { IfOk result (λ marks. AreMarks version unknown.now marks.items) }
+    ensures many { IfOk result (λ marks. length marks.items ≡ total_codewords_of version) }
+{
+    let light = Matrix::new(alloc, unknown.side())?;
+    if differences(unknown, &light) == 0 {
+        let marks = vec![in alloc; 0u8; usize::from(version.total_codewords())]?;
+        return Ok(marks);
+    }
+    walk_marks(alloc, version, unknown)
+}
+
+// Codewords, or their marks, in the order of the blocks: those of data, and those of error correction.
 #[derive(Drop)]
 struct InBlocks {
     data: Vec<u8>,
     checks: Vec<u8>,
 }
 
-// Undoes the interleaving of the codewords of a symbol, or of the marks of these codewords. `interleaved` contains the
-// codewords or the marks in interleaved order. Returns the codewords or the marks in the order of the blocks.
+// Undoes the interleaving of codewords or of their marks.
 fn in_blocks(alloc: Global, blocks: Blocks, interleaved: &[u8]) -> Result<InBlocks, AllocError>
     requires { length interleaved.now ≡ codeword_count (data_sizes blocks) + codeword_count (correction_sizes blocks) }
     ensures { IfOk result (λ b. AreInBlocks blocks interleaved.now b.data.items b.checks.items) }
@@ -65,8 +75,7 @@ fn in_blocks(alloc: Global, blocks: Blocks, interleaved: &[u8]) -> Result<InBloc
     Ok(InBlocks { data, checks })
 }
 
-// Returns the block with index `block`: its data codewords, followed by its error correction codewords. If `parts`
-// contains marks instead of codewords, returns the marks of the codewords of the block.
+// One block, or its marks: data codewords, then error correction codewords.
 fn block_of(
     alloc: Global,
     blocks: Blocks,
@@ -82,14 +91,13 @@ fn block_of(
 {
     let data = BlockSizes::of_data(blocks).part(&parts.data, block);
     let checks = BlockSizes::of_corrections(blocks).part(&parts.checks, block);
-    let mut codewords = Vec::new(alloc);
+    let mut codewords = Vec::with_capacity(alloc, data.len() + checks.len())?;
     codewords.extend_from_slice(data)?;
     codewords.extend_from_slice(checks)?;
     Ok(codewords)
 }
 
-// Returns for each mark in `marks` whether its codeword is erased. If a mark is not 0, some module of its codeword was
-// not read, and the codeword is erased.
+// For each mark whether its codeword is erased.
 fn erased_of(alloc: Global, marks: &[u8]) -> Result<Vec<bool>, AllocError>
     ensures { IfOk result (λ erased. erased.items ≡ map (λ mark. not (mark == 0)) marks.now) }
 {
@@ -100,24 +108,22 @@ fn erased_of(alloc: Global, marks: &[u8]) -> Result<Vec<bool>, AllocError>
     Ok(erased)
 }
 
-// A mended block: its data codewords, and how many of its codewords were misread.
+// The data codewords of a mended block, and how many of its codewords were misread.
 #[derive(Drop)]
 struct MendedBlock {
     message: Vec<u8>,
     changed: usize,
 }
 
-// A mended message: the data codewords in the order of the blocks, and how many codewords of each block were misread.
+// The data codewords of a mended symbol in the order of the blocks, and how many codewords of each block were misread.
 #[derive(Drop)]
 pub(crate) struct MendedMessage {
     pub message: Vec<u8>,
     pub changed: Vec<usize>,
 }
 
-// Mends a damaged block in which some codewords are erased and other codewords may be misread. `erased` is true at the
-// index of each erased codeword. To correct an erased codeword, one error correction codeword is needed. To correct a
-// misread codeword, two error correction codewords are needed. Returns `None` if more than `spare` error correction
-// codewords are needed to mend the block.
+// Mends a block, or returns `None` if that takes more than `spare` error correction codewords: one for each erased codeword,
+// and two for each misread one.
 fn mend_block(
     divisor: &Divisor,
     spare: usize,
@@ -148,9 +154,7 @@ fn mend_block(
     })
 }
 
-// Mends all blocks of a symbol. A block can be mended if at most `spare` error correction codewords are needed to
-// correct its damage. `received` contains the codewords that were read, and `marks` contains the marks of these
-// codewords. A codeword is erased if its mark is not 0.
+// Mends all blocks, each with at most `spare` error correction codewords.
 fn mend_parts(
     alloc: Global,
     blocks: Blocks,
@@ -189,9 +193,7 @@ fn mend_parts(
     Ok(MendedMessage { message, changed })
 }
 
-// Returns the mended message of a damaged symbol. The message is the data codewords in the order of the blocks.
-// `codewords` contains the interleaved codewords that were read. `marks` contains the mark of each codeword, in the
-// order of `codewords`. A codeword is erased if its mark is not 0; any other codeword may be misread.
+// Mends all blocks of interleaved codewords.
 fn mend_blocks(
     alloc: Global,
     blocks: Blocks,
@@ -215,9 +217,8 @@ fn mend_blocks(
     mend_parts(alloc, blocks, spare, &received, &unread)
 }
 
-// Returns the number of error correction codewords of a block that are not used to correct errors (ISO/IEC 18004:2015,
-// 7.5.1, Table 9). Error correction codewords that are not used to correct errors make it less likely that a damaged
-// block is mended to a wrong block.
+// The error correction codewords of a block that only detect errors, so that fewer blocks are mended to a wrong one
+// (ISO/IEC 18004:2015, 7.5.1, Table 9).
 fn protection(version: Version, level: Level) -> u8
     ensures { result ≡ protection_of version level }
 {
@@ -229,8 +230,7 @@ fn protection(version: Version, level: Level) -> u8
     }
 }
 
-// Returns how many error correction codewords of a block may be used to correct wrong codewords. The block belongs to a
-// symbol of this version and level.
+// The error correction codewords of a block that correct errors.
 fn spare(version: Version, level: Level) -> u8
     ensures { result ≡ spare_of version level }
 {
@@ -238,19 +238,15 @@ fn spare(version: Version, level: Level) -> u8
     count.saturating_sub(protection(version, level))
 }
 
-/// Returns the largest number of wrong codewords that can be corrected in each block of a symbol of this version and
-/// level (ISO/IEC 18004:2015, 7.5.1, Table 9). The function `changed_max` returns at least 2 and at most 15. In
-/// general, `changed_max` returns half the number of error correction codewords of a block. For some levels of versions
-/// 1 to 3, `changed_max` returns less than half the number of error correction codewords of a block.
+/// Returns how many misread codewords of a block can be corrected, from 2 to 15: half the number of its error correction
+/// codewords, or less for some levels of versions 1 to 3 (ISO/IEC 18004:2015, 7.5.1, Table 9).
 pub fn changed_max(version: Version, level: Level) -> u8
     ensures { result ≡ tolerance_of version level }
 {
     spare(version, level) / 2
 }
 
-// Returns the mended message of a damaged symbol of this version and level. The message is the data codewords in the
-// order of the blocks. `codewords` contains the interleaved codewords that were read. `marks` contains the mark of each
-// codeword, in the order of `codewords`. A codeword is erased if its mark is not 0; any other codeword may be misread.
+// Mends the interleaved codewords of a symbol, whose marks are in the same order.
 pub(crate) fn mend_message(
     alloc: Global,
     version: Version,

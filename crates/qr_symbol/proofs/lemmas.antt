@@ -7,6 +7,7 @@ pub mod canvas
 pub mod choice
 pub mod version_choice
 pub mod encoding
+pub mod collecting
 pub mod reading
 pub mod series
 pub mod joining

@@ -45,6 +45,15 @@ pub record IsRead (v mask : ℕ) (g : Grid) (cw : List ℕ) : Type 0 where
   pub order : IsOrder v places
   pub bits : bits_of cw ≡ read_bits v mask g places
 
+-- `IsReadUnmasked v g cw` holds if the square of modules g of version v contains the codewords cw, and no mask pattern is
+-- undone. To read the bits of cw, the modules of the encoding region are read in the order of the standard; true is
+-- dark (ISO/IEC 18004:2015, 7.7.3).
+pub record IsReadUnmasked (v : ℕ) (g : Grid) (cw : List ℕ) : Type 0 where
+  pub bytes : All (λ x. x < 256) cw
+  pub places : List Module
+  pub order : IsOrder v places
+  pub bits : bits_of cw ≡ map (λ m. colour g m.row m.col) (take (8 * total_codewords_of v) places)
+
 -- `IsMessage v l mask g d` holds if the list d contains the data codewords in the square of modules g. The square has
 -- version v, level l and the mask pattern `mask`. The encoding region of g contains the final sequence of codewords for
 -- d (ISO/IEC 18004:2015, 7.6, 12).

@@ -3,6 +3,7 @@
 -- read the files in this folder.
 pub mod Patterns
 pub mod Drawing
+pub mod Collecting
 pub mod Canvas
 pub mod Series
 pub mod Interleaving

@@ -10,8 +10,8 @@ ghost use Rattle.qr_symbol.specs.Steps.Canvas.{HasPatterns};
 ghost use Rattle.qr_symbol.specs.Steps.Drawing.{masked_grid, plain_grid, region_grid};
 
 use crate::drawing::draw_codewords;
-use crate::mask::pattern;
-use crate::patterns::{draw_fixed, draw_format, draw_region};
+use crate::mask::set_masked;
+use crate::patterns::{draw_fixed, draw_format, region_of};
 use qr_layout::{Level, Version, format_word};
 use qr_matrix::Matrix;
 use std::alloc::{AllocError, Global};
@@ -44,8 +44,7 @@ impl Canvas {
         ensures version { IfOk result (λ c. c.version ≡ version) }
         ensures level { IfOk result (λ c. c.level ≡ level) }
     {
-        let mut region = Matrix::new(alloc, version.side())?;
-        draw_region(&mut region, version);
+        let region = region_of(alloc, version)?;
         let mut plain = Matrix::new(alloc, version.side())?;
         draw_fixed(&mut plain, version, SYMMETRIC_FORMAT);
         Ok(Canvas {
@@ -84,10 +83,7 @@ impl Canvas {
         requires square { IsSquare (side_of self.now.version) matrix.old }
         ensures { matrix.new ≡ masked_grid self.now.version self.now.level mask self.now.region self.now.plain }
     {
-        let side = self.version.side();
-        for row in 0..side {
-            matrix.set_row_masked(row, &self.plain, &self.region, pattern(mask, row));
-        }
+        set_masked(matrix, &self.plain, &self.region, mask);
         let format = u32::from(format_word(self.level, mask));
         draw_format(matrix, self.version, format);
     }

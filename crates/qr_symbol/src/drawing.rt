@@ -143,14 +143,14 @@ static SPLITS: [[u8; 256]; 2] = [
 // The right and the left column of a strip, which is two columns of the symbol that are filled together. In the
 // transposed square of modules, where rows and columns are exchanged, the two columns of a strip are two rows.
 #[derive(Clone, Copy)]
-struct Columns {
-    right: BitRow,
-    left: BitRow,
+pub(crate) struct Columns {
+    pub right: BitRow,
+    pub left: BitRow,
 }
 
 // Returns the right and the left column of a strip (two columns that are filled together). `right` is the index of the
 // right column. The square of modules `across` is transposed: its rows are the columns of the symbol.
-fn columns_of(across: &Matrix, right: u8) -> Columns
+pub(crate) fn columns_of(across: &Matrix, right: u8) -> Columns
     requires left_in { 1 ≤ right }
     requires right_in { right < across.now.side }
     ensures right { (row : ℕ) → has result.right row ≡ colour across.now right row }

@@ -35,7 +35,8 @@ ghost use Rattle.qr_symbol.specs.Laws.{all_masks, bits_down, computed_rows, firs
 
 use crate::choice::build;
 pub use crate::derives::{
-    encode_fault_clones, encode_faults_are_equal, read_fault_clones, read_faults_are_equal,
+    block_sizes_clones, encode_fault_clones, encode_faults_are_equal, read_fault_clones,
+    read_faults_are_equal,
 };
 use crate::fault::{EncodeFault, ReadFault};
 use crate::joining::read_series;
@@ -298,3 +299,17 @@ pub fn read_faults_are_numbered()
     ensures segments { (why : ParseFault) → read_fault_number (ReadFault.Segments why) ≡ 5 }
     ensures series { read_fault_number ReadFault.Series ≡ 6 }
 {}
+
+/// Returns the discriminant of `fault`: 1 for `Empty`, 2 for `TooLong`, 3 for `TooMany`, and 4 for `Memory`.
+///
+/// # Notes
+///
+/// The discriminants of `EncodeFault` stay the same in later versions of this crate.
+pub fn encode_fault_numbers(fault: EncodeFault) -> u8
+    ensures empty { fault ≡ EncodeFault.Empty → result ≡ 1 }
+    ensures too_long { fault ≡ EncodeFault.TooLong → result ≡ 2 }
+    ensures too_many { fault ≡ EncodeFault.TooMany → result ≡ 3 }
+    ensures memory { fault ≡ EncodeFault.Memory → result ≡ 4 }
+{
+    fault as u8
+}

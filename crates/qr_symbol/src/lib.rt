@@ -19,6 +19,7 @@
 
 mod canvas;
 mod choice;
+mod collecting;
 mod derives;
 mod drawing;
 mod encoding;
@@ -41,6 +42,6 @@ pub use joining::{join, read_series};
 pub use qr_bits::{INPUT_MAX, Rule};
 pub use qr_layout::{Level, Version};
 pub use qr_matrix::{Matrix, penalty};
-pub use reading::{read_codewords, read_symbol};
+pub use reading::{read_codewords, read_symbol, read_unmasked};
 pub use series::encode_series;
 pub use symbol::{Symbol, build_masked, draw_symbol};

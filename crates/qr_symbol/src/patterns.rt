@@ -2,7 +2,7 @@
 //! square in which only the encoding region (the modules that the codewords fill) is dark (ISO/IEC 18004:2015, 6.3, 7.9
 //! and 7.10).
 
-ghost use Rattle.std.specs.Prelude.{◌≡◌, ℕ, ◌%◌, ◌+◌, ◌<◌, ◌≤◌, ◌==◌, ◌&&◌, not, if◌then◌else◌, nat_le, nat_lt, false};
+ghost use Rattle.std.specs.Prelude.{◌≡◌, ℕ, ◌%◌, ◌+◌, ◌<◌, ◌≤◌, ◌==◌, ◌&&◌, not, if◌then◌else◌, nat_le, nat_lt, false, IfOk};
 ghost use Rattle.std.specs.List.{list_any, All};
 ghost use Rattle.qr_layout.specs.Version.{side_of};
 ghost use Rattle.qr_layout.specs.Alignment.{alignment_places, centres_of};
@@ -21,6 +21,7 @@ use qr_layout::{
     second_format_place,
 };
 use qr_matrix::Matrix;
+use std::alloc::{AllocError, Global};
 
 // Returns whether bit `i` of the number `word` is 1. Bit 0 is the lowest bit.
 pub(crate) fn is_bit_set(word: u32, i: u8) -> bool
@@ -241,7 +242,7 @@ pub(crate) fn draw_fixed(matrix: &mut Matrix, v: Version, format: u32)
 
 // Makes each module of the encoding region dark and all other modules light. All modules of `matrix` must be light
 // before the call.
-pub(crate) fn draw_region(matrix: &mut Matrix, v: Version)
+fn draw_region(matrix: &mut Matrix, v: Version)
     requires { matrix.old ≡ light (side_of v) }
     ensures { matrix.new ≡ region_grid v }
 {
@@ -249,4 +250,13 @@ pub(crate) fn draw_region(matrix: &mut Matrix, v: Version)
     matrix.fill(0, side, 0, side, true);
     clear_rectangles(matrix, v, fixed_rectangles(v).as_slice());
     fill_alignment(matrix, v, alignment_centres(v).as_slice(), false);
+}
+
+// Returns the square of modules in which exactly the modules of the encoding region are dark.
+pub(crate) fn region_of(alloc: Global, version: Version) -> Result<Matrix, AllocError>
+    ensures { IfOk result (λ m. m ≡ region_grid version) }
+{
+    let mut region = Matrix::new(alloc, version.side())?;
+    draw_region(&mut region, version);
+    Ok(region)
 }

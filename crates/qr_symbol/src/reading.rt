@@ -8,14 +8,16 @@ ghost use Rattle.std.specs.Bool.{Decides};
 ghost use Rattle.qr_symbol.specs.declared.fault.ReadFault.{ReadFault};
 ghost use Rattle.qr_layout.specs.declared.level.Level.{Level};
 ghost use Rattle.qr_layout.specs.Version.{side_of, total_codewords_of};
-ghost use Rattle.qr_symbol.specs.Reading.{IsFormat, IsRead, IsReading, IsUnread};
+ghost use Rattle.qr_symbol.specs.Reading.{IsFormat, IsRead, IsReading, IsReadUnmasked, IsUnread};
+ghost use Rattle.qr_symbol.specs.Steps.Drawing.{region_grid};
 
+use crate::collecting::collect_codewords;
 use crate::fault::ReadFault;
 use crate::interleaving::deinterleave;
-use crate::mask::inverts;
-use crate::patterns::{FORMAT_BITS, is_bit_set};
+use crate::mask::set_masked;
+use crate::patterns::{FORMAT_BITS, is_bit_set, region_of};
 use qr_bits::{Parsed, parse};
-use qr_layout::{Level, Version, format_place, format_word, walk};
+use qr_layout::{Level, Version, format_place, format_word};
 use qr_matrix::Matrix;
 use std::alloc::{AllocError, Global};
 
@@ -68,6 +70,39 @@ fn format_of(matrix: &Matrix) -> Option<(Level, u8)>
     None
 }
 
+// Reads the codewords from the modules of the encoding region, without undoing a mask pattern. In `region`, exactly the
+// modules of the encoding region are dark.
+fn read_plain(
+    alloc: Global,
+    version: Version,
+    matrix: &Matrix,
+    region: &Matrix,
+) -> Result<Vec<u8>, AllocError>
+    requires side { matrix.now.side ≡ side_of version }
+    requires region { region.now ≡ region_grid version }
+    ensures read { IfOk result (λ cw. IsReadUnmasked version matrix.now cw.items) }
+    ensures many { IfOk result (λ cw. length cw.items ≡ total_codewords_of version) }
+{
+    let mut across = Matrix::new(alloc, version.side())?;
+    across.set_transposed(matrix);
+    collect_codewords(alloc, version, &across, region)
+}
+
+/// Reads the codewords from the modules of the encoding region, in the order of the function `qr_layout::walk`, without
+/// undoing a mask pattern; a dark module is 1. The remainder bits are ignored (ISO/IEC 18004:2015, 7.7.3).
+pub fn read_unmasked(
+    alloc: Global,
+    version: Version,
+    matrix: &Matrix,
+) -> Result<Vec<u8>, AllocError>
+    requires { matrix.now.side ≡ side_of version }
+    ensures read { IfOk result (λ cw. IsReadUnmasked version matrix.now cw.items) }
+    ensures many { IfOk result (λ cw. length cw.items ≡ total_codewords_of version) }
+{
+    let region = region_of(alloc, version)?;
+    read_plain(alloc, version, matrix, &region)
+}
+
 /// Reads the codewords from the modules of the encoding region, in the order of the function `qr_layout::walk`, and
 /// undoes the mask pattern `mask`. The remainder bits are ignored (ISO/IEC 18004:2015, 7.7.3 and 12).
 pub fn read_codewords(
@@ -80,20 +115,11 @@ pub fn read_codewords(
     ensures read { IfOk result (λ cw. IsRead version mask matrix.now cw.items) }
     ensures many { IfOk result (λ cw. length cw.items ≡ total_codewords_of version) }
 {
-    let mut codewords = Vec::with_capacity(alloc, usize::from(version.total_codewords()))?;
-    let mut begun = 0u8;
-    let mut width = 0u8;
-    for module in walk(version) {
-        let dark = matrix.dark(module.row, module.col);
-        begun = 2 * begun + u8::from(dark != inverts(mask, module.row, module.col));
-        width += 1;
-        if width == 8 {
-            codewords.push(begun)?;
-            begun = 0;
-            width = 0;
-        }
-    }
-    Ok(codewords)
+    let region = region_of(alloc, version)?;
+    let mut plain = Matrix::new(alloc, version.side())?;
+    let mask = if mask < 8 { mask } else { 7 };
+    set_masked(&mut plain, matrix, &region, mask);
+    read_plain(alloc, version, &plain, &region)
 }
 
 /// Reads a symbol, without any correction of errors (ISO/IEC 18004:2015, 12). The number of rows of `matrix` determines

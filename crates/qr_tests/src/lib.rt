@@ -20,9 +20,13 @@ mod fault_texts;
 #[cfg(test)]
 mod faults;
 #[cfg(test)]
+mod field;
+#[cfg(test)]
 mod folding;
 #[cfg(test)]
 mod joining;
+#[cfg(test)]
+mod label;
 #[cfg(test)]
 mod layout;
 #[cfg(test)]

@@ -1,7 +1,7 @@
 //! Defines the function `qrproved_mend` for C, which reads a damaged symbol and reports its damage (ISO/IEC 18004:2015,
 //! 7.5.1, 7.9.1 and 12).
 
-ghost use Rattle.std.specs.Prelude.{◌≡◌, ◌≢◌, ◌*◌, ◌<◌, ◌≤◌, ◌==◌, ◌↔◌, ◌⊎◌, length, IfOk, MatchBool, MatchResult};
+ghost use Rattle.std.specs.Prelude.{true, ◌≡◌, ◌≢◌, ◌*◌, ◌<◌, ◌≤◌, ◌==◌, ◌↔◌, ◌⊎◌, length, IfOk, MatchBool, MatchResult};
 ghost use Rattle.std.specs.List.{All, Any};
 ghost use Rattle.qr_bits.specs.declared.fault.ParseFault.{ParseFault};
 ghost use Rattle.qr_symbol.specs.declared.fault.ReadFault.{ReadFault};
@@ -62,16 +62,30 @@ pub struct QrprovedMended {
 // The byte for a module that is not known.
 const NOT_KNOWN: u8 = 2;
 
-// Returns whether each byte of `modules` is 0, 1 or 2. The byte 0 is a light module, the byte 1 is a dark module, and
-// the byte 2 is a module that is not known.
+// Whether no byte of `modules` is more than 1. The loop does not stop at the first one, so that it takes many bytes at once.
+fn are_known(modules: &[u8]) -> bool
+    ensures { result ≡ true → All (λ b. b < 2) modules.now }
+{
+    let mut known = true;
+    for module in modules {
+        if *module >= NOT_KNOWN {
+            known = false;
+        }
+    }
+    known
+}
+
+// Whether each byte of `modules` is 0, 1 or 2.
 fn are_modules(modules: &[u8]) -> bool
     ensures { MatchBool result (All (λ b. b ≤ 2) modules.now) (Any (λ b. 2 < b) modules.now) }
 {
+    if are_known(modules) {
+        return true;
+    }
     modules.iter().all(|module| *module <= NOT_KNOWN)
 }
 
-// Returns a square with `side` rows that shows which modules are not known. A module of the returned square is dark if
-// its byte in `modules` is 2, and light otherwise.
+// The square in which exactly the modules that are not known are dark.
 fn unknown_of(alloc: Global, modules: &[u8], side: u8) -> Result<Matrix, AllocError>
     requires least { 1 ≤ side }
     requires most { side ≤ 177 }
@@ -79,6 +93,9 @@ fn unknown_of(alloc: Global, modules: &[u8], side: u8) -> Result<Matrix, AllocEr
     ensures { IfOk result (λ m. m ≡ square_of_unknown side modules.now) }
 {
     let mut unknown = Matrix::new(alloc, side)?;
+    if are_known(modules) {
+        return Ok(unknown);
+    }
     let mut start = 0;
     for row in 0..side {
         for col in 0..side {

@@ -169,11 +169,11 @@ pub struct Mended {
     pub level: Level,
     /// The mask, from 0 to 7.
     pub mask: u8,
-    /// How many modules of the whole square are not those of the symbol.
+    /// How many modules of the whole square are not those of the symbol, or not known.
     pub wrong_modules: u32,
-    /// How many of the 30 modules of format information are wrong.
+    /// How many of the 30 modules of format information are wrong or not known.
     pub wrong_format_modules: u8,
-    /// How many codewords were wrong in the block with the most of them.
+    /// How many codewords were wrong in the block with the most of them, beside those with a module that is not known.
     pub changed_most: u8,
     /// How many may be wrong in each block, from 2 to 15.
     pub changed_allowed: u8,
@@ -303,8 +303,8 @@ pub fn read(modules: &[u8], side: usize) -> Result<Content, Error> {
 }
 
 /// Reads a symbol, mends its damage, and tells how damaged it is. Each module is 0, 1, or 2 where it is not known: its codeword
-/// takes half as much of the correction as a wrong one. Bytes past the last module are
-/// ignored.
+/// takes half as much of the correction as a wrong one. Of the 30 modules of format information any six may be wrong, or 13 not
+/// known. Bytes past the last module are ignored.
 ///
 /// # Errors
 ///

@@ -12,3 +12,5 @@ pub mod FewModuleLemmas
 pub mod DistanceLemmas
 -- Bounds on the number of codewords of a block that may be changed, and that were changed.
 pub mod BoundLemmas
+-- A block with more error correction codewords is also one with fewer.
+pub mod WeakerLemmas

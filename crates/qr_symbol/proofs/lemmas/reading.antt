@@ -1,6 +1,6 @@
 -- What is read from the square of a symbol: the codeword bits, the codewords and the message.
 pub mod ReadLemmas
--- The bits that are read along the walk, and the codewords that they form.
+-- The codewords that the bits of all modules form, and the codewords of a square under a mask pattern.
 pub mod SymbolReadLemmas
 -- The format information of a square is that of at most one level and mask.
 pub mod FormatLemmas

@@ -1,14 +1,13 @@
 -- The number of wrong modules of a square, which is 0 exactly if the square is the symbol.
-use Rattle.std.proofs.Common.{◌≡◌, ℕ, zero, suc, ◌<◌, ◌+◌, Bool, true, false, cond, List, refl, sym, ◌∙◌, ap, subst, arith}
-use Rattle.std.specs.Prelude.{◌↔◌, not}
+use Rattle.std.proofs.Common.{◌≡◌, ℕ, ◌||◌, cond, List, sym, ◌∙◌, ap, subst, arith}
+use Rattle.std.specs.Prelude.{◌↔◌}
 use Rattle.qr_layout.specs.declared.level.Level.{Level}
 use Rattle.qr_layout.specs.Blocks.{blocks_of}
 use Rattle.qr_layout.specs.Version.{side_of}
 use Rattle.qr_matrix.specs.Grid.{Grid, IsSquare, colour, light, square}
-use Rattle.qr_matrix.specs.Penalty.{is_same, sum_below}
-use Rattle.qr_mending.specs.Format.{wrong_bit}
+use Rattle.qr_mending.proofs.lemmas.format.FormatLemmas.{sum-same}
 use Rattle.qr_mending.proofs.lemmas.message.LightLemmas.{colour-light}
-use Rattle.qr_matrix.specs.Difference.{difference_count}
+use Rattle.qr_matrix.specs.Difference.{difference_count, differs}
 use Rattle.qr_matrix.proofs.Facts.{colour-square, no-difference, square-same}
 use Rattle.qr_symbol.specs.Interleaving.{IsInterleaved}
 use Rattle.qr_symbol.specs.Symbol.{colour_of, grid_of}
@@ -51,26 +50,11 @@ same-square g v l mask cw whole side =
       (λ e. none.1 (λ r c p q. ap (λ (z : Grid). colour z r c) e)),
     )
 
--- equal terms have equal sums
-sum-same : (n : ℕ) (f h : ℕ → ℕ) → ((k : ℕ) → k < n → f k ≡ h k) → sum_below n f ≡ sum_below n h
-sum-same zero f h e = refl
-sum-same (suc n) f h e =
-    let here = e n (omega arith) in
-    let rest = sum-same n f h (λ k l. e k (omega arith)) in
-    omega (arith, here, rest)
-
 -- with all modules read, the wrong modules are those that differ
-wrong-read : (a b : Bool) → wrong_bit false a b ≡ cond (not (is_same a b)) 1 0
-wrong-read true true = refl
-wrong-read true false = refl
-wrong-read false true = refl
-wrong-read false false = refl
-
 wrong-light : (g h : Grid) → wrong_modules (light g.side) g h ≡ difference_count g h
 unfolding wrong_modules difference_count
 wrong-light g h =
-    sum-same g.side _ _ (λ r k. sum-same g.side _ _ (λ c l.
-    ap (λ z. wrong_bit z (colour g r c) (colour h r c)) (colour-light g.side r c) ∙ wrong-read (colour g r c) (colour h r c)))
+    sum-same g.side _ _ (λ r k. sum-same g.side _ _ (λ c l. ap (λ z. cond (z || differs g h r c) 1 0) (colour-light g.side r c)))
 
 -- no module is wrong exactly if the square is the symbol
 pub sound-is : (g : Grid) (v : ℕ) (l : Level) (mask : ℕ) (changed : List ℕ) (wrong : ℕ) → IsSquare g.side g →

@@ -1,5 +1,5 @@
 -- A square that is read without mending is read as the same content with mending, and no codeword is changed.
-use Rattle.std.proofs.Common.{◌≡◌, ℕ, zero, suc, ◌+◌, ◌*◌, ◌<◌, ◌≤◌, Bool, true, false, List, [], ◌++◌, map, take, drop, length, get_or, refl, sym, ◌∙◌, ap, subst, arith}
+use Rattle.std.proofs.Common.{◌≡◌, ℕ, zero, suc, ◌+◌, ◌*◌, ◌<◌, ◌≤◌, Bool, true, false, cond, not, ◌&&◌, List, [], ◌++◌, map, take, drop, length, get_or, refl, sym, ◌∙◌, ap, subst, arith}
 use Rattle.std.proofs.lemmas.List.{length-map, take_all, take_at, drop_at, get_or-take, get_or-drop, ext_get_or, length-replicate, get_or-replicate}
 use lib.ListN.{replicate}
 use Rattle.qr_field.specs.Polynomial.{IsCorrection}
@@ -18,8 +18,8 @@ use Rattle.qr_symbol.specs.Distance.{blocks_in}
 use Rattle.qr_symbol.specs.Reading.{IsFormat, IsRead, IsReading}
 use Rattle.qr_mending.specs.declared.format.FormatCopy.{FormatCopy}
 use Rattle.qr_mending.specs.declared.format.FormatCopy.TheVariants.{First, Second}
-use Rattle.qr_matrix.specs.Penalty.{sum_below}
-use Rattle.qr_mending.specs.Format.{bit_cost, bit_difference, bit_differences, copy_bit, copy_cost, format_cost, IsNearFormat}
+use Rattle.qr_matrix.specs.Penalty.{count_below, is_same}
+use Rattle.qr_mending.specs.Format.{bit_difference, bit_differences, copy_bit, copy_cost, IsNearFormat}
 use Rattle.qr_mending.specs.Message.{IsMendedIn}
 use Rattle.qr_mending.specs.Mending.{HasFormat, IsMendedReading}
 use Rattle.qr_symbol.proofs.Facts.{start-none, position, positions-many, check-len, checks-push, map-each, checks-one, data-sizes-whole}
@@ -154,18 +154,26 @@ bits-same (suc n) p q h =
     omega (arith, here, rest)
 
 -- with all modules read, a copy costs twice its wrong modules
-pub cost-light : (n s : ℕ) (u p q : ℕ → Bool) → ((i : ℕ) → u i ≡ false) →
-    sum_below n (λ i. bit_cost (u i) (p i) (q i)) ≡ 2 * bit_differences n p q
-cost-light zero s u p q h = refl
-cost-light (suc n) s u p q h =
-    let here : bit_cost (u n) (p n) (q n) ≡ 2 * bit_difference (p n) (q n) = ap (λ z. bit_cost z (p n) (q n)) (h n) in
-    let rest = cost-light n s u p q h in
-    omega (arith, here, rest)
+bit-is : (a b : Bool) → cond (not (is_same a b)) 1 0 ≡ bit_difference a b
+bit-is true true = refl
+bit-is true false = refl
+bit-is false true = refl
+bit-is false false = refl
+
+cost-light : (n : ℕ) (u p q : ℕ → Bool) → ((i : ℕ) → u i ≡ false) →
+    count_below n u + 2 * count_below n (λ i. not (u i) && not (is_same (p i) (q i))) ≡ 2 * bit_differences n p q
+cost-light zero u p q h = refl
+cost-light (suc n) u p q h =
+    let read : ◌≡◌ {A = ℕ} (cond (u n) 1 0) 0 = ap (λ (z : Bool). cond {A = ℕ} z 1 0) (h n) in
+    let here : cond (not (u n) && not (is_same (p n) (q n))) 1 0 ≡ bit_difference (p n) (q n) =
+    ap (λ (z : Bool). cond {A = ℕ} (not z && not (is_same (p n) (q n))) 1 0) (h n) ∙ bit-is (p n) (q n) in
+    let rest = cost-light n u p q h in
+    omega (arith, read, here, rest)
 
 pub copy-light : (s : ℕ) (copy : FormatCopy) (g : Grid) (l : Level) (mask : ℕ) →
     copy_cost (light s) copy g l mask ≡ 2 * bit_differences 15 (copy_bit copy g) (word_bit (format_word_of l mask))
 copy-light s copy g l mask =
-    cost-light 15 s (copy_bit copy (light s)) (copy_bit copy g) (word_bit (format_word_of l mask)) (λ i. colour-light s _ _)
+    cost-light 15 (copy_bit copy (light s)) (copy_bit copy g) (word_bit (format_word_of l mask)) (λ i. colour-light s _ _)
 
 -- exact format information is near
 format-near : (s : ℕ) (g : Grid) (l : Level) (mask : ℕ) → IsFormat g l mask → IsNearFormat (light s) First g l mask

@@ -1,7 +1,7 @@
 -- A square with damage is read as at most one content, and then it is not refused.
 use Rattle.std.proofs.lemmas.Bool.{cases_lt}
-use Rattle.std.proofs.Common.{◌≡◌, ◌⊎◌, ℕ, ◌+◌, ◌*◌, ◌<◌, ◌≤◌, List, refl, sym, ◌∙◌, ap, subst, inl, inr, arith}
-use Rattle.std.specs.Prelude.{Option, None, Some, Result, Ok, Err, IfOk, MatchOption}
+use Rattle.std.proofs.Common.{◌≡◌, ◌⊎◌, ℕ, ◌<◌, ◌≤◌, List, refl, sym, ◌∙◌, ap, subst, inl, inr, arith}
+use Rattle.std.specs.Prelude.{Option, Result, Ok, Err, IfOk, MatchOption}
 use Rattle.qr_layout.specs.declared.level.Level.{Level}
 use Rattle.qr_layout.proofs.Facts.{laws-of}
 use Rattle.qr_bits.specs.declared.fault.ParseFault.{ParseFault}

@@ -1,9 +1,10 @@
 -- A symbol of which all modules were read: its marks are 0, no codeword is erased, and its blocks are mended as blocks of
 -- which every codeword was read.
-use Rattle.std.proofs.Common.{◌≡◌, ◌==◌, not, Bool, true, false, ℕ, zero, suc, ◌+◌, ◌*◌, ◌/◌, ◌<◌, ◌≤◌, Some, List, [], ◌∷◌, ◌++◌, map, take, drop, length, length-drop, get_or, refl, sym, ◌∙◌, ap, subst, arith}
+use Rattle.std.proofs.Common.{◌≡◌, ◌==◌, not, Bool, false, ℕ, zero, suc, ◌*◌, ◌<◌, ◌≤◌, Some, List, [], ◌∷◌, ◌++◌, map, take, drop, length, length-drop, get_or, refl, sym, ◌∙◌, ap, subst, arith}
 use Rattle.std.specs.List.{All}
-use Rattle.std.proofs.lemmas.List.{length-map, length-take, ext_get_or}
-use Rattle.std.proofs.lemmas.List.Elements.{All-nil, All-cons}
+use Rattle.std.proofs.lemmas.List.{length-map, length-take}
+use Rattle.std.proofs.lemmas.List.Elements.{All-nil, All-cons, All-take}
+use lib.ListN.{replicate}
 use Rattle.qr_field.specs.Polynomial.{IsCorrection}
 use Rattle.qr_field.specs.Distance.{differences, erasures, errors}
 use Rattle.qr_layout.specs.declared.blocks.Blocks.{Blocks}
@@ -11,7 +12,8 @@ use Rattle.qr_layout.specs.declared.level.Level.{Level}
 use Rattle.qr_layout.specs.declared.region.Module.{Module}
 use Rattle.qr_layout.specs.Blocks.{blocks_of}
 use Rattle.qr_layout.specs.Version.{side_of, total_codewords_of}
-use Rattle.qr_layout.proofs.Facts.{order-length}
+use Rattle.qr_layout.specs.Region.{InRegion}
+use Rattle.qr_layout.proofs.Facts.{col-in, order-length, row-in}
 use Rattle.qr_bits.specs.Bits.{bits_of, field}
 use Rattle.qr_bits.proofs.Facts.{length-bits_of}
 use Rattle.std.specs.List.{range_with_len}
@@ -19,7 +21,7 @@ use Rattle.qr_matrix.specs.Grid.{Grid, colour, light, rows_of}
 use Rattle.qr_symbol.specs.Interleaving.{block_count, codeword_at, codeword_count, start_of, data_sizes, correction_sizes, part_of, Position, IsGathered}
 use Rattle.qr_symbol.specs.declared.interleaving.BlockSizes.{BlockSizes}
 use Rattle.qr_symbol.specs.Reading.{IsRead}
-use Rattle.qr_symbol.proofs.Facts.{gather-some, map-at, position-of, sizes-whole, Mem-of-Contains}
+use Rattle.qr_symbol.proofs.Facts.{gather-some, map-each, read-some, map-at, position-of, sizes-whole, Mem-of-Contains}
 use Rattle.qr_mending.specs.Erasures.{read_of}
 use Rattle.qr_mending.specs.Message.{colour_at, read_by, received, spare_of, tolerance_of, AreInBlocks, AreMarks, IsMendedBlock, IsMendedIn}
 use Rattle.qr_field.proofs.lemmas.laws.DistanceLemmas.{erasures-read, errors-read}
@@ -40,7 +42,7 @@ zeros-zero : (n : ℕ) → AreZero (zeros n)
 zeros-zero zero = tt
 zeros-zero (suc n) = (refl, zeros-zero n)
 
-length-zeros : (n : ℕ) → length (zeros n) ≡ n
+pub length-zeros : (n : ℕ) → length (zeros n) ≡ n
 length-zeros zero = refl
 length-zeros (suc n) = ap suc (length-zeros n)
 
@@ -141,6 +143,29 @@ light-marks v mask s g cw p q h =
       order = h.order;
       bits = light-same (bits_of (zeros n)) (map (colour_at (light s)) some) (bits-light n) (colours-light s some) (omega (arith, a, b, c, d, many));
     }
+
+-- the marks of a square with no dark module
+pub no-marks : (v : ℕ) (u : Grid) → 1 ≤ v → v ≤ 40 → u.side ≡ side_of v →
+    ((r c : ℕ) → r < u.side → c < u.side → colour u r c ≡ colour (light u.side) r c) → AreMarks v u (zeros (total_codewords_of v))
+no-marks v u p q e h =
+    let w = read-some v 0 u p q in
+    let m = light-marks v 0 u.side u w.0 p q w.1 in
+    let n = 8 * total_codewords_of v in
+    record {
+      bytes = m.bytes;
+      places = m.places;
+      order = m.order;
+      bits =
+          m.bits
+          ∙ map-each (InRegion v) (colour_at (light u.side)) (colour_at u) (take n m.places) (All-take (InRegion v) n m.places m.order.in_region) (λ t i.
+          let a = row-in v t i in
+          let b = col-in v t i in
+          sym (h t.row t.col (omega (arith, a, e)) (omega (arith, b, e))));
+    }
+
+pub zeros-replicate : (n : ℕ) → replicate n 0 ≡ zeros n
+zeros-replicate zero = refl
+zeros-replicate (suc n) = ap (λ (zs : List ℕ). 0 ∷ zs) (zeros-replicate n)
 
 -- ---- zeros in blocks
 

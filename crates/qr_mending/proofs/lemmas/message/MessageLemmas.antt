@@ -1,16 +1,9 @@
 -- Blocks that are mended one after another; a final sequence is a damaged form of at most one message.
-use Rattle.std.proofs.Common.{◌≡◌, ℕ, ◌+◌, ◌*◌, ◌<◌, ◌≤◌, List, [], ◌∷◌, ◌++◌, map, take, drop, length, length-append, length-drop, get_or, sym, ◌∙◌, ap, subst, inl, inr, arith}
-use Rattle.std.specs.Prelude.{Result, Err}
-use Rattle.std.proofs.lemmas.Bool.{cases_lt}
-use Rattle.std.proofs.lemmas.List.{length-take, take_all, drop_at, take-append-le, drop-append-le, length_push, get_or_append_left, get_or_push, ext_get_or}
-use Rattle.qr_field.specs.Polynomial.{IsCorrection}
-use Rattle.qr_field.specs.Distance.{differences}
-use Rattle.qr_layout.specs.declared.blocks.Blocks.{Blocks}
+use Rattle.std.proofs.Common.{◌≡◌, ℕ, ◌+◌, ◌<◌, ◌≤◌, List, ◌++◌, map, take, drop, length, length-drop, get_or, sym, ◌∙◌, ap, arith}
+use Rattle.std.proofs.lemmas.List.{length-take, take_all, drop_at, take-append-le, drop-append-le, ext_get_or}
 use Rattle.qr_symbol.specs.declared.interleaving.BlockSizes.{BlockSizes}
-use Rattle.qr_symbol.specs.Interleaving.{Position, block_count, block_len, start_of, codeword_count, data_sizes, correction_sizes, codeword_at, IsGathered, part_of}
-use Rattle.qr_mending.specs.Message.{received, IsMendedBlock, AreMended, IsMendedMessage}
-use Rattle.qr_field.proofs.Facts.{correction-one, unambiguous}
-use Rattle.qr_symbol.proofs.Facts.{parts-same, start-next, start-most, len-most, positions-one, position-of, map-at, Mem-of-Contains}
+use Rattle.qr_symbol.specs.Interleaving.{Position, block_count, block_len, start_of, codeword_count, codeword_at, IsGathered, part_of}
+use Rattle.qr_symbol.proofs.Facts.{start-next, start-most, positions-one, position-of, map-at, Mem-of-Contains}
 
 -- ---- one list of received codewords
 

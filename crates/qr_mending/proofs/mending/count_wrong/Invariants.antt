@@ -1,10 +1,12 @@
-use Rattle.std.proofs.Common.{◌≡◌, ◌≤◌, ◌*◌}
+use Rattle.std.proofs.Common.{◌≡◌, ℕ, ◌<◌, ◌≤◌, ◌||◌}
 use Rattle.qr_matrix.specs.Grid.{colour}
-use Rattle.qr_matrix.specs.Penalty.{sum_below}
-use Rattle.qr_mending.specs.Format.{wrong_bit}
+use Rattle.qr_matrix.specs.Difference.{differs}
 use Rattle.qr_mending.proofs.mending.count_wrong.Given as goal
 
+-- the rows before the current one differ where a module is wrong, and the others are those of the symbol
 abbrev pub invariant-loop-row : goal.invariant-loop-row
-invariant-loop-row l =
-    (l.wrong ≤ 177 * l.row)
-    × (l.wrong ≡ sum_below l.row (λ r. sum_below l.matrix.side (λ c. wrong_bit (colour l.unknown r c) (colour l.matrix r c) (colour l.symbol r c))))
+invariant-loop-row l = record {
+  side : l.symbol.side ≡ l.matrix.side;
+  done : (r c : ℕ) → r < l.row → c < l.matrix.side → differs l.matrix l.symbol r c ≡ (colour l.unknown r c || differs l.matrix l.fn.symbol r c);
+  rest : (r c : ℕ) → l.row ≤ r → r < l.matrix.side → c < l.matrix.side → colour l.symbol r c ≡ colour l.fn.symbol r c;
+}

@@ -8,19 +8,16 @@ use Rattle.qr_mending.proofs.mending.mend_symbol_without.Goals as goal
 pub returns-in_default-clause-mended : goal.returns-in_default-clause-mended
 returns-in_default-clause-mended c = λ v s. c.in_default.ensures v s.least s.most (c.side.ensures.value ∙ s.side)
 
-pub returns-in_default-2-clause-mended : goal.returns-in_default-2-clause-mended
-returns-in_default-2-clause-mended c =
+pub refusal-requires-clause-sized : goal.refusal-requires-clause-sized
+refusal-requires-clause-sized c =
     let found = c.in-Some.ensures in
-    let near = c.in-Some-near_format_of_either.ensures in
-    record {
-      version = c.in-Some.version;
-      sized = record { least = found.0; most = found.1; side = sym c.side.ensures.value ∙ found.2 };
-      copy = near.0;
-      level = c.in-Some-near_format_of_either.field-0.0;
-      mask = c.in-Some-near_format_of_either.field-0.1;
-      format = near.1;
-      useless = rw c.in_default-2.is at c.in_ok-mended.ensures.mended;
-    }
+    record { least = found.0; most = found.1; side = sym c.side.ensures.value ∙ found.2 }
+
+pub refusal-requires-clause-useless : goal.refusal-requires-clause-useless
+refusal-requires-clause-useless c = rw c.in_default-2.is at c.in_ok-mended.ensures.mended
+
+pub returns-in_default-2-clause-mended : goal.returns-in_default-2-clause-mended
+returns-in_default-2-clause-mended c = c.refusal.ensures
 
 pub parse-requires : goal.parse-requires
 parse-requires c =

@@ -15,7 +15,7 @@ pub kept-out : (v : ℕ) (m : Module) (ms : List Module) → is_in_region v m.ro
 kept-out v m ms e = ap (λ z. cond z (m ∷ in_region_of v ms) (in_region_of v ms)) e
 
 -- the kept places of two joined lists are those of the first list, followed by those of the second
-kept-append : (v : ℕ) (xs ys : List Module) → in_region_of v (xs ++ ys) ≡ in_region_of v xs ++ in_region_of v ys
+pub kept-append : (v : ℕ) (xs ys : List Module) → in_region_of v (xs ++ ys) ≡ in_region_of v xs ++ in_region_of v ys
 kept-append v [] ys = refl
 kept-append v (m ∷ xs) ys = ap (λ (z : List Module). cond (is_in_region v m.row m.col) (m ∷ z) z) (kept-append v xs ys) ∙ front (is_in_region v m.row m.col) m (in_region_of v xs) (in_region_of v ys)
   where

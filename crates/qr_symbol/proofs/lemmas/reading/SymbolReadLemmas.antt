@@ -1,15 +1,15 @@
--- The bits that are read along the walk, and the codewords that they form.
-use mathlib.Core.Bool.{beq}
-use Rattle.std.proofs.Common.{◌≡◌, ℕ, ◌+◌, ◌-◌, ◌*◌, ◌<◌, ◌≤◌, Bool, true, false, not, ltb, List, [], ◌∷◌, ◌++◌, map, take, drop, length, replicate, sym, ◌∙◌, ap, refl, subst, length-append, inl, inr, ◌⊎◌, arith}
+-- The codewords that the bits of all modules form, and the codewords of a square under a mask pattern.
+use Rattle.std.proofs.Common.{◌≡◌, ℕ, zero, suc, ◌+◌, ◌-◌, ◌*◌, ◌<◌, ◌≤◌, Bool, true, false, ◌&&◌, ltb, List, [], ◌∷◌, ◌++◌, map, take, drop, length, replicate, sym, ◌∙◌, ap, refl, subst, length-append, inl, inr, ◌⊎◌, arith}
 use Rattle.std.specs.List.{All}
 use Rattle.std.proofs.lemmas.List.{append-nil, length-map, length-take, map-append, take-append-drop}
 use borrow.Author.Tests.{ltb-true}
 use Rattle.qr_layout.specs.declared.region.Module.{Module}
 use Rattle.qr_layout.specs.declared.level.Level.{Level}
 use Rattle.qr_layout.specs.Blocks.{data_codewords_of}
-use Rattle.qr_layout.specs.Version.{total_codewords_of, remainder_bits_of}
+use Rattle.qr_layout.specs.Region.{is_in_region}
+use Rattle.qr_layout.specs.Version.{side_of, total_codewords_of, remainder_bits_of}
 use Rattle.qr_layout.specs.Order.{IsOrder}
-use Rattle.qr_layout.proofs.Facts.{order-length, below, below-at}
+use Rattle.qr_layout.proofs.Facts.{Mem, col-in, order-length, order-mem, row-in, below, below-at}
 use Rattle.qr_bits.specs.Bits.{field, bits_of}
 use Rattle.qr_bits.proofs.Facts.{fault-read, length-field, length-bits_of}
 use Rattle.std.specs.Prelude.{Err}
@@ -19,19 +19,16 @@ use Rattle.qr_bits.specs.declared.fault.ParseFault.TheVariants as unparsed
 use Rattle.qr_symbol.specs.Fault.{unread_for}
 use Rattle.qr_symbol.specs.declared.fault.ReadFault.{ReadFault}
 use Rattle.qr_symbol.specs.declared.fault.ReadFault.TheVariants as fault
-use Rattle.qr_matrix.specs.Grid.{Grid, colour}
+use Rattle.qr_matrix.specs.Grid.{Grid, colour, square, transposed}
+use Rattle.qr_matrix.proofs.Facts.{colour-square, colour-transposed}
 use Rattle.qr_symbol.specs.Mask.{inverts, inverted}
 use Rattle.qr_symbol.specs.Interleaving.{IsInterleaved}
-use Rattle.qr_symbol.specs.Reading.{unmasked, IsRead, IsMessage, IsFormat, IsOfVersion, IsUnread}
-use Rattle.qr_symbol.proofs.lemmas.drawing.BitLemmas.{differs-inverted}
+use Rattle.qr_symbol.specs.Steps.Collecting.{colour_across}
+use Rattle.qr_symbol.specs.Steps.Drawing.{region_grid}
+use Rattle.qr_symbol.specs.Reading.{unmasked, IsRead, IsReadUnmasked, IsMessage, IsFormat, IsOfVersion, IsUnread}
+use Rattle.qr_symbol.proofs.lemmas.drawing.DrawingLemmas.{at}
 use Rattle.qr_symbol.proofs.lemmas.interleaving.MessageLemmas.{append-front}
 use Rattle.qr_symbol.proofs.lemmas.reading.ReadLemmas.{read-one}
-
--- one more module is read
-pub bit-read : (mask : ℕ) (g : Grid) (ms : List Module) (m : Module) (dark turned : Bool) (front : List Bool) → dark ≡ colour g m.row m.col → turned ≡ inverts mask m.row m.col → front ≡ map (unmasked mask g) ms → front ++ not (beq dark turned) ∷ [] ≡ map (unmasked mask g) (ms ++ m ∷ [])
-bit-read mask g ms m dark turned front d t e =
-    let b : not (beq dark turned) ≡ unmasked mask g m = differs-inverted dark turned ∙ (ap (inverted turned) d ∙ ap (λ (z : Bool). inverted z (colour g m.row m.col)) t) in
-    ap (λ (bs : List Bool). bs ++ not (beq dark turned) ∷ []) e ∙ (ap (λ (z : Bool). map (unmasked mask g) ms ++ z ∷ []) b ∙ sym (map-append (unmasked mask g) ms (m ∷ [])))
 
 -- each of the forty versions has fewer than eight remainder bits, computed
 remainder-small : below 40 (λ i. ltb (remainder_bits_of (i + 1)) 8) ≡ true
@@ -43,38 +40,84 @@ few-left v l h =
     let e : v - 1 + 1 ≡ v = omega arith in
     ltb-true _ _ (subst (λ (k : ℕ). ltb (remainder_bits_of k) 8 ≡ true) e (below-at 40 (λ i. ltb (remainder_bits_of (i + 1)) 8) remainder-small (v - 1) (omega arith)))
 
--- if fewer than eight bits are left at the end of the walk, all codewords have been read
-pub all-read : (v mask : ℕ) (g : Grid) (ms rest : List Module) (cw : List ℕ) (width begun : ℕ) → 1 ≤ v → v ≤ 40 → rest ≡ [] → IsOrder v (ms ++ rest) → width < 8 → bits_of cw ++ field width begun ≡ map (unmasked mask g) ms → length cw ≡ total_codewords_of v
-all-read v mask g ms rest cw width begun p q e o w bits =
-    let whole : IsOrder v ms = subst (IsOrder v) (ap (λ (xs : List Module). ms ++ xs) e ∙ append-nil ms) o in
-    let many = order-length v ms p q whole in
+-- if fewer than eight bits are left after all modules, all codewords have been read
+pub all-read : (v : ℕ) (f : Module → Bool) (ms : List Module) (cw : List ℕ) (width begun : ℕ) → 1 ≤ v → v ≤ 40 → IsOrder v ms → width < 8 → bits_of cw ++ field width begun ≡ map f ms → length cw ≡ total_codewords_of v
+all-read v f ms cw width begun p q o w bits =
+    let many = order-length v ms p q o in
     let few = few-left v p q in
     let long = ap length bits in
     let a = length-append (bits_of cw) (field width begun) in
-    let b = length-map ms (unmasked mask g) in
+    let b = length-map ms f in
     let c = length-bits_of cw in
     let d = length-field width begun in
     omega arith
 
--- the codewords that have been read are those that the square contains
-pub read-whole : (v mask : ℕ) (g : Grid) (ms rest : List Module) (cw : List ℕ) (width begun : ℕ) → 1 ≤ v → v ≤ 40 → rest ≡ [] → IsOrder v (ms ++ rest) → All (λ x. x < 256) cw → width < 8 → bits_of cw ++ field width begun ≡ map (unmasked mask g) ms → IsRead v mask g cw
-read-whole v mask g ms rest cw width begun p q e o bytes w bits =
-    let whole : IsOrder v ms = subst (IsOrder v) (ap (λ (xs : List Module). ms ++ xs) e ∙ append-nil ms) o in
-    let many = order-length v ms p q whole in
-    let all = all-read v mask g ms rest cw width begun p q e o w bits in
+-- the codewords that have been read have the bits of the first modules
+pub read-whole : (v : ℕ) (f : Module → Bool) (ms : List Module) (cw : List ℕ) (width begun : ℕ) → 1 ≤ v → v ≤ 40 → IsOrder v ms → width < 8 → bits_of cw ++ field width begun ≡ map f ms → bits_of cw ≡ map f (take (8 * total_codewords_of v) ms)
+read-whole v f ms cw width begun p q o w bits =
+    let many = order-length v ms p q o in
+    let all = all-read v f ms cw width begun p q o w bits in
     let t = 8 * total_codewords_of v in
-    let f = unmasked mask g in
-    let none : t - length ms ≡ 0 = omega arith in
     let cut : map f ms ≡ map f (take t ms) ++ map f (drop t ms) = ap (map f) (sym (take-append-drop t ms)) ∙ map-append f (take t ms) (drop t ms) in
     let a = length-bits_of cw in
     let b = length-map (take t ms) f in
     let c = length-take t ms in
-    let front = append-front (bits_of cw) (map f (take t ms)) (field width begun) (map f (drop t ms)) (omega arith) (bits ∙ cut) in
+    (append-front (bits_of cw) (map f (take t ms)) (field width begun) (map f (drop t ms)) (omega arith) (bits ∙ cut)).0
+
+-- two functions with the same values at all modules of a list
+take-same : (f h : Module → Bool) (n : ℕ) (ms : List Module) → ((m : Module) → Mem m ms → f m ≡ h m) → map f (take n ms) ≡ map h (take n ms)
+take-same f h zero ms e = refl
+take-same f h (suc n) [] e = refl
+take-same f h (suc n) (m ∷ ms) e = ap (λ (z : Bool). z ∷ map f (take n ms)) (e m (inl refl)) ∙ ap (λ (z : List Bool). h m ∷ z) (take-same f h n ms (λ x k. e x (inr k)))
+
+-- two functions with the same values in the encoding region
+order-same : (v : ℕ) (f h : Module → Bool) (n : ℕ) (ms : List Module) → IsOrder v ms → ((r c : ℕ) → r < side_of v → c < side_of v → is_in_region v r c ≡ true → f (at r c) ≡ h (at r c)) → map f (take n ms) ≡ map h (take n ms)
+order-same v f h n ms o e = take-same f h n ms (λ m k. let t = order-mem v ms o m k in e m.row m.col (row-in v m t) (col-in v m t) t)
+
+-- the codewords that are read from the transposed square, strip by strip, are those of the square
+pub read-across : (v : ℕ) (g : Grid) (ms : List Module) (cw : List ℕ) (width begun : ℕ) → 1 ≤ v → v ≤ 40 → g.side ≡ side_of v → IsOrder v ms → All (λ x. x < 256) cw → width < 8 → bits_of cw ++ field width begun ≡ map (colour_across g) ms
+    → IsReadUnmasked v (transposed g) cw
+read-across v g ms cw width begun p q s o bytes w bits = record {
+  bytes = bytes;
+  places = ms;
+  order = o;
+  bits = read-whole v (colour_across g) ms cw width begun p q o w bits
+      ∙ order-same v (colour_across g) (λ m. colour (transposed g) m.row m.col) (8 * total_codewords_of v) ms o (λ r c l k t. sym (colour-transposed g r c (omega arith) (omega arith)));
+}
+
+-- squares with the same colours in the encoding region contain the same codewords
+pub read-same : (v : ℕ) (g h : Grid) (cw : List ℕ) → ((r c : ℕ) → r < side_of v → c < side_of v → is_in_region v r c ≡ true → colour g r c ≡ colour h r c) → IsReadUnmasked v g cw → IsReadUnmasked v h cw
+read-same v g h cw e w = record {
+  bytes = w.bytes;
+  places = w.places;
+  order = w.order;
+  bits = w.bits ∙ order-same v (λ m. colour g m.row m.col) (λ m. colour h m.row m.col) (8 * total_codewords_of v) w.places w.order e;
+}
+
+-- a square that is transposed twice contains the same codewords
+pub read-twice : (v : ℕ) (g : Grid) (cw : List ℕ) → g.side ≡ side_of v → IsReadUnmasked v (transposed (transposed g)) cw → IsReadUnmasked v g cw
+read-twice v g cw s w = read-same v (transposed (transposed g)) g cw (λ r c l m t. colour-transposed (transposed g) r c (omega arith) (omega arith) ∙ colour-transposed g c r (omega arith) (omega arith)) w
+
+-- the codewords of the square without its mask pattern are those of the square
+pub read-masked : (v mask n : ℕ) (g region plain : Grid) (cw : List ℕ) → 1 ≤ v → v ≤ 40 → region ≡ region_grid v → ((r c : ℕ) → inverts n r c ≡ inverts mask r c)
+    → plain ≡ square (side_of v) (λ r c. inverted (colour region r c && inverts n r c) (colour g r c)) → IsReadUnmasked v plain cw → IsRead v mask g cw
+read-masked v mask n g region plain cw p q is same e w =
+    let t = 8 * total_codewords_of v in
+    let f = unmasked mask g in
+    let ms = w.places in
+    let many = order-length v ms p q w.order in
+    let none : 0 ≡ t - length ms = omega arith in
+    let turned = λ (r c : ℕ). inverted (colour region r c && inverts n r c) (colour g r c) in
+    let one : (r c : ℕ) → r < side_of v → c < side_of v → is_in_region v r c ≡ true → colour plain r c ≡ f (at r c) = λ r c l m k.
+    let there : colour region r c ≡ true = ap (λ (z : Grid). colour z r c) is ∙ (colour-square (side_of v) (is_in_region v) r c l m ∙ k) in
+    ap (λ (z : Grid). colour z r c) e
+    ∙ (colour-square (side_of v) turned r c l m
+    ∙ (ap (λ (z : Bool). inverted (z && inverts n r c) (colour g r c)) there ∙ ap (λ (z : Bool). inverted z (colour g r c)) (same r c))) in
     record {
-      bytes = bytes;
+      bytes = w.bytes;
       places = ms;
-      order = whole;
-      bits = front.0 ∙ (sym (append-nil (map f (take t ms))) ∙ ap (λ (z : ℕ). map f (take t ms) ++ replicate z false) (sym none));
+      order = w.order;
+      bits = w.bits ∙ (order-same v (λ m. colour plain m.row m.col) f t ms w.order one ∙ (sym (append-nil (map f (take t ms))) ∙ ap (λ (z : ℕ). map f (take t ms) ++ replicate z false) none));
     }
 
 -- if the codewords are the final sequence of no message, the square is not read

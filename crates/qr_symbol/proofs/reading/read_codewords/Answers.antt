@@ -1,98 +1,46 @@
-use mathlib.Core.Bool.{beq}
-use Rattle.std.proofs.Common.{◌≡◌, ℕ, suc, ◌+◌, ◌*◌, ◌^◌, ◌<◌, not, List, [], ◌++◌, map, sym, ◌∙◌, ap, subst, arith}
-use Rattle.std.specs.List.{All}
-use Rattle.std.proofs.Math.Nat.{pow-suc}
-use Rattle.std.proofs.lemmas.List.{append-nil}
-use Rattle.std.proofs.lemmas.List.Elements.{All-push}
-use Rattle.qr_layout.specs.Order.{IsOrder}
-use Rattle.qr_bits.specs.Bits.{bits_of, field}
-use Rattle.qr_bits.proofs.Facts.{bool_byte-bit, field-more, bits_of-more}
-use Rattle.qr_symbol.specs.Reading.{unmasked}
-use Rattle.qr_symbol.proofs.lemmas.drawing.DrawingLemmas.{whole-next, whole-push, in-square}
-use Rattle.qr_symbol.proofs.lemmas.reading.SymbolReadLemmas.{bit-read, all-read, read-whole}
+use Rattle.std.proofs.Common.{◌≡◌, ℕ, ◌≤◌, false, ◌&&◌, eqb, refl, sym, ap, subst, ◌∙◌, arith}
+use Rattle.std.proofs.lemmas.Bool.Decides.{nat_tests}
+use Rattle.std.proofs.lemmas.Result.{IfOk-weaker}
+use Rattle.qr_layout.specs.Version.{side_of}
+use Rattle.qr_matrix.specs.Grid.{Grid, colour, square, IsSquare}
+use Rattle.qr_symbol.specs.Mask.{inverts, inverted}
+use Rattle.qr_symbol.specs.Reading.{IsRead, IsReadUnmasked}
+use Rattle.qr_symbol.proofs.lemmas.drawing.DrawingLemmas.{square-is}
+use Rattle.qr_symbol.proofs.lemmas.reading.SymbolReadLemmas.{read-masked}
 use Rattle.qr_symbol.proofs.reading.read_codewords.Goals as goal
+use Rattle.qr_symbol.proofs.reading.read_codewords.Goals.{then-mask-lt8, else-mask-lt8}
 
-pub loop-module-init : goal.loop-module-init
-unfolding bits_of field
-loop-module-init c =
-    let none = c.in_ok-codewords.ensures.items in
-    record {
-      can_next = tt;
-      is_finite = tt;
-      whole = subst (IsOrder c.args.version) (sym c.into_iter-module-iterator.ensures.into_iter_gives) c.walk-module-items.ensures.order;
-      narrow = omega arith;
-      small = omega arith;
-      bytes = subst (All (λ x. x < 256)) (sym none) (λ k x l. absurd (omega arith));
-      bits = ap (λ (xs : List ℕ). bits_of xs ++ []) none;
-    }
+-- each number from 7 on is the mask pattern 7
+seven-on : (mask r c : ℕ) → 7 ≤ mask → inverts 7 r c ≡ inverts mask r c
+unfolding inverts
+seven-on mask r c l =
+    let e0 : eqb mask 0 ≡ false = grind (arith, nat_tests) in
+    let e1 : eqb mask 1 ≡ false = grind (arith, nat_tests) in
+    let e2 : eqb mask 2 ≡ false = grind (arith, nat_tests) in
+    let e3 : eqb mask 3 ≡ false = grind (arith, nat_tests) in
+    let e4 : eqb mask 4 ≡ false = grind (arith, nat_tests) in
+    let e5 : eqb mask 5 ≡ false = grind (arith, nat_tests) in
+    let e6 : eqb mask 6 ≡ false = grind (arith, nat_tests) in
+    rw (e0, e1, e2, e3, e4, e5, e6) refl
 
-pub dark-dark-requires-clause-row_in : goal.dark-dark-requires-clause-row_in
-dark-dark-requires-clause-row_in c =
-    let i = c.loop-module.invariant in
-    let o = whole-next c.args.version c.loop-module.yielded c.loop-module.module-iterator c.next.new.self c.in-Some.module i.whole c.in-Some.ensures.steps in
-    let l = in-square c.args.version c.loop-module.yielded c.next.new.self c.in-Some.module o in
-    subst (λ (s : ℕ). c.in-Some.module.row < s) (sym c.requires) l.0
-
-pub dark-dark-requires-clause-col_in : goal.dark-dark-requires-clause-col_in
-dark-dark-requires-clause-col_in c =
-    let i = c.loop-module.invariant in
-    let o = whole-next c.args.version c.loop-module.yielded c.loop-module.module-iterator c.next.new.self c.in-Some.module i.whole c.in-Some.ensures.steps in
-    let l = in-square c.args.version c.loop-module.yielded c.next.new.self c.in-Some.module o in
-    subst (λ (s : ℕ). c.in-Some.module.col < s) (sym c.requires) l.1
-
-pub loop-module-preserved-then-width-eq8 : goal.loop-module-preserved-then-width-eq8
-unfolding field
-loop-module-preserved-then-width-eq8 c =
-    let i = c.loop-module.invariant in
-    let x = c.in-Some.module in
-    let cw = c.loop-module.codewords.items in
-    let n = c.loop-module.begun in
-    let bit = not (beq c.dark-dark.result c.inverts.result) in
-    let byte = 2 * n + c.from-in-loop-module.result in
-    let seven : c.loop-module.width ≡ 7 = omega (arith, c.if-width-eq8.true) in
-    let o = whole-next c.args.version c.loop-module.yielded c.loop-module.module-iterator c.next.new.self x i.whole c.in-Some.ensures.steps in
-    let begun : n < 2 ^ 7 = subst (λ (w : ℕ). n < 2 ^ w) seven i.small in
-    let d : c.from-in-loop-module.result < 2 = subst (λ (z : ℕ). z < 2) (sym c.from-in-loop-module.ensures) (bool_byte-bit bit).0 in
-    let before : bits_of cw ++ field 7 n ≡ map (unmasked c.args.mask c.args.matrix.now) c.loop-module.yielded = subst (λ (w : ℕ). bits_of cw ++ field w n ≡ map (unmasked c.args.mask c.args.matrix.now) c.loop-module.yielded) seven i.bits in
-    let now = bits_of-more cw n c.from-in-loop-module.result bit c.from-in-loop-module.ensures ∙ bit-read c.args.mask c.args.matrix.now c.loop-module.yielded x c.dark-dark.result c.inverts.result _ c.dark-dark.ensures c.inverts.ensures before in
-    record {
-      can_next = tt;
-      is_finite = tt;
-      whole = whole-push c.args.version c.loop-module.yielded c.next.new.self x o;
-      narrow = omega arith;
-      small = omega arith;
-      bytes = subst (All (λ x. x < 256)) (sym c.in_ok-push.ensures.items) (All-push (λ x. x < 256) cw byte i.bytes (omega arith));
-      bits = append-nil (bits_of c.push.new.self.items) ∙ (ap bits_of c.in_ok-push.ensures.items ∙ now);
-    }
-
-pub loop-module-preserved : goal.loop-module-preserved
-loop-module-preserved c =
-    let i = c.loop-module.invariant in
-    let x = c.in-Some.module in
-    let cw = c.loop-module.codewords.items in
-    let n = c.loop-module.begun in
-    let w = c.loop-module.width in
-    let bit = not (beq c.dark-dark.result c.inverts.result) in
-    let o = whole-next c.args.version c.loop-module.yielded c.loop-module.module-iterator c.next.new.self x i.whole c.in-Some.ensures.steps in
-    let d : c.from-in-loop-module.result < 2 = subst (λ (z : ℕ). z < 2) (sym c.from-in-loop-module.ensures) (bool_byte-bit bit).0 in
-    let one : suc w ≡ w + 1 = omega arith in
-    let two : 2 ^ (w + 1) ≡ 2 * 2 ^ w = subst (λ (k : ℕ). 2 ^ k ≡ 2 * 2 ^ w) one (omega (arith, pow-suc 2 w)) in
-    record {
-      can_next = tt;
-      is_finite = tt;
-      whole = whole-push c.args.version c.loop-module.yielded c.next.new.self x o;
-      narrow = omega (arith, c.if-width-eq8.false, i.narrow);
-      small = omega (arith, i.small, two, d);
-      bytes = i.bytes;
-      bits = field-more (bits_of cw) w n c.from-in-loop-module.result bit c.from-in-loop-module.ensures ∙ bit-read c.args.mask c.args.matrix.now c.loop-module.yielded x c.dark-dark.result c.inverts.result _ c.dark-dark.ensures c.inverts.ensures i.bits;
-    }
+pub set_masked-requires-clause-square : goal.set_masked-requires-clause-square
+set_masked-requires-clause-square c =
+    let e = c.in_ok-plain.ensures in
+    subst (λ s. IsSquare s c.in_ok-plain.plain) (sym (ap (λ (g : Grid). g.side) e)) (square-is c.side.result (λ _ _. false) c.in_ok-plain.plain e)
 
 pub returns-clause-read : goal.returns-clause-read
 returns-clause-read c =
-    let i = c.loop-module.invariant in
-    read-whole c.args.version c.args.mask c.args.matrix.now c.loop-module.yielded c.loop-module.module-iterator c.loop-module.codewords.items c.loop-module.width c.loop-module.begun (omega arith) (omega arith) c.in-None.ensures.steps.0 i.whole i.bytes i.narrow i.bits
-
-pub returns-clause-many : goal.returns-clause-many
-returns-clause-many c =
-    let i = c.loop-module.invariant in
-    all-read c.args.version c.args.mask c.args.matrix.now c.loop-module.yielded c.loop-module.module-iterator c.loop-module.codewords.items c.loop-module.width c.loop-module.begun (omega arith) (omega arith) c.in-None.ensures.steps.0 i.whole i.narrow i.bits
+    let v = c.args.version in
+    let mask = c.args.mask in
+    let n = c.if-mask-lt8.mask in
+    let g = c.args.matrix.now in
+    let region = c.in_ok-region.region in
+    let f = λ (i k : ℕ). inverted (colour region i k && inverts n i k) (colour g i k) in
+    let side : c.in_ok-plain.plain.side ≡ side_of v = ap (λ (g : Grid). g.side) c.in_ok-plain.ensures ∙ c.side.ensures.value in
+    let same : (i k : ℕ) → inverts n i k ≡ inverts mask i k = λ i k. elim c.if-mask-lt8.branch [
+      | then-mask-lt8 w ↦ ap (λ z. inverts z i k) w.mask-is
+      | else-mask-lt8 w ↦ ap (λ z. inverts z i k) w.mask-is ∙ seven-on mask i k (omega (arith, w.if-mask-lt8.false))
+    ] in
+    IfOk-weaker c.read_plain.result (λ cw. IsReadUnmasked v c.set_masked.new.matrix cw.items) (λ cw. IsRead v mask g cw.items)
+    (λ cw h. read-masked v mask n g region c.set_masked.new.matrix cw.items (omega arith) (omega arith) c.in_ok-region.ensures same (c.set_masked.ensures ∙ ap (λ s. square s f) side) h)
+    c.read_plain.ensures.read

@@ -6,10 +6,10 @@ use Rattle.qr_symbol.proofs.lemmas.canvas.CanvasLemmas.{patterns-start}
 use Rattle.qr_symbol.proofs.canvas.Canvas.new.Goals as goal
 
 pub draw_fixed-requires : goal.draw_fixed-requires
-draw_fixed-requires c = square-is (side_of c.args.version) (λ _ _. false) c.in_ok-plain.plain (c.in_ok-plain.ensures ∙ ap light c.side-2.ensures.value)
+draw_fixed-requires c = square-is (side_of c.args.version) (λ _ _. false) c.in_ok-plain.plain (c.in_ok-plain.ensures ∙ ap light c.side.ensures.value)
 
 pub invariant_of-result : goal.invariant_of-result
 invariant_of-result c = record {
-  region_is = c.draw_region.ensures;
+  region_is = c.in_ok-region.ensures;
   patterns = patterns-start c.args.version c.in_ok-plain.plain c.draw_fixed.new.matrix c.draw_fixed.ensures;
 }

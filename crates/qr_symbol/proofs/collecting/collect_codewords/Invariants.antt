@@ -1,0 +1,17 @@
+use Rattle.std.proofs.Common.{◌≡◌, ◌++◌, map}
+use Rattle.std.specs.List.{All}
+use Rattle.qr_layout.specs.Order.{IsOrder, in_region_of}
+use Rattle.qr_layout.specs.Strips.{places_of}
+use Rattle.qr_layout.specs.Version.{side_of}
+use Rattle.qr_layout.proofs.Facts.{Inside}
+use Rattle.qr_symbol.specs.Steps.Collecting.{colour_across}
+use Rattle.qr_symbol.proofs.collecting.collect_codewords.Given as goal
+
+abbrev pub invariant-loop-strip : goal.invariant-loop-strip
+invariant-loop-strip l = record {
+  can_next : (goal.iterator-loop-strip).can_next l.strip-iterator;
+  is_finite : (goal.iterator-loop-strip).is_finite l.strip-iterator;
+  inside : All (Inside l.fn.v) l.strip-iterator;
+  whole : IsOrder l.fn.v (in_region_of l.fn.v (places_of (side_of l.fn.v) (l.yielded ++ l.strip-iterator)));
+  bits : l.bits ≡ map (colour_across l.across) (in_region_of l.fn.v (places_of (side_of l.fn.v) l.yielded));
+}

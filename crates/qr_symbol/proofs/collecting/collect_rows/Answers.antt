@@ -1,0 +1,38 @@
+use Rattle.std.proofs.Common.{◌≡◌, ◌+◌, ◌-◌, ◌++◌, cond, sym, ap, ◌∙◌, arith}
+use Rattle.qr_layout.specs.Version.{side_of}
+use Rattle.qr_symbol.specs.Steps.Collecting.{bits_in_rows}
+use Rattle.qr_symbol.proofs.lemmas.collecting.CollectingLemmas.{none-read, row-read, rows-read}
+use Rattle.qr_symbol.proofs.collecting.collect_rows.Goals as goal
+use Rattle.qr_symbol.proofs.collecting.collect_rows.Goals.{then-strip, else-strip}
+
+pub loop-rank-init : goal.loop-rank-init
+loop-rank-init c =
+    let p = c.args.passed in
+    record {
+      from = omega arith;
+      bits = none-read (side_of c.args.v) c.args.strip c.args.region.now c.args.columns.now p (p - p) c.args.bits.now (omega arith);
+    }
+
+pub loop-rank-preserved : goal.loop-rank-preserved
+loop-rank-preserved c =
+    let s = side_of c.args.v in
+    let x = c.args.strip in
+    let i = c.loop-rank.invariant in
+    let k = c.loop-rank.rank in
+    let p = c.args.passed in
+    let row = c.if-strip.row in
+    let side = c.side-last.ensures.value in
+    let r : row ≡ cond x.upward (s - 1 - k) k = elim c.if-strip.branch [
+      | then-strip w ↦ w.row-is ∙ (ap (λ z. z - 1 - k) side ∙ sym (ap (λ b. cond b (s - 1 - k) k) w.if-strip.true))
+      | else-strip w ↦ w.row-is ∙ sym (ap (λ b. cond b (s - 1 - k) k) w.if-strip.false)
+    ] in
+    record {
+      from = omega (arith, i.from);
+      bits = rows-read s x c.args.region.now c.args.columns.now p (k - p) 1 k (k + 1 - p) c.args.bits.now c.loop-rank.bits c.collect_module-in-loop-rank.new.bits (omega (arith, i.from)) (omega (arith, i.from)) i.bits
+          (row-read s x c.args.region.now c.args.columns.now k row c.loop-rank.bits c.collect_module.new.bits c.collect_module-in-loop-rank.new.bits r c.in_ok-collect_module.ensures c.in_ok-collect_module-2.ensures);
+    }
+
+pub returns : goal.returns
+returns c =
+    let e : c.loop-rank.rank - c.args.passed ≡ c.args.count = omega (arith, c.loop-rank-test.false, c.loop-rank.invariant.from) in
+    c.loop-rank.invariant.bits ∙ ap (λ z. c.args.bits.now ++ bits_in_rows (side_of c.args.v) c.args.strip c.args.region.now c.args.columns.now c.args.passed z) e

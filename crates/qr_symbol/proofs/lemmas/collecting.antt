@@ -1,0 +1,4 @@
+-- The bits of a strip, row by row, are those of the strip's places in the encoding region, in their order.
+pub mod CollectingLemmas
+-- The tables that spread the four modules of a column over a byte.
+pub mod SpreadLemmas

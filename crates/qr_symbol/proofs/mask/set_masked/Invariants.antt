@@ -1,0 +1,12 @@
+use Rattle.std.proofs.Common.{◌≡◌, ◌&&◌}
+use Rattle.qr_matrix.specs.Grid.{colour}
+use Rattle.qr_matrix.proofs.Facts.{filled}
+use Rattle.qr_symbol.specs.Mask.{inverts, inverted}
+use Rattle.qr_symbol.proofs.mask.set_masked.Given as goal
+
+abbrev pub invariant-loop-row : goal.invariant-loop-row
+invariant-loop-row l = record {
+  last : l.row-end ≡ l.fn.matrix.side;
+  side : l.matrix.side ≡ l.fn.matrix.side;
+  so_far : l.matrix ≡ filled l.fn.matrix.side (λ r c. inverted (colour l.region r c && inverts l.mask r c) (colour l.plain r c)) (colour l.fn.matrix) l.row 0;
+}

@@ -1,0 +1,122 @@
+/**
+ * The calls of the module, as include/qrproved.h states them. A pointer, a length and a size is a BigInt there, and a struct lies in
+ * memory as in C. Before each call the heap is given back, so no block of an earlier call may be used.
+ */
+import { OutOfMemoryError, throwFor } from './errors.js';
+import { base64 } from './module.js';
+
+let library; // what the module exports, from the first call on
+
+function code() {
+  return Uint8Array.from(atob(base64), (character) => character.charCodeAt(0));
+}
+
+/**
+ * Compiles the module aside, for a browser that refuses to compile it at once, as older ones do: before the first call.
+ */
+export async function load() {
+  library ??= (await WebAssembly.instantiate(code(), {})).instance.exports;
+}
+
+/** Returns the address of a new buffer. */
+function take(length) {
+  const address = Number(library.heap_take(BigInt(length)));
+  if (address === 0) throw new OutOfMemoryError();
+  return address;
+}
+
+/** Returns the address of a copy of some bytes. */
+function put(bytes) {
+  const address = take(bytes.length);
+  new Uint8Array(library.memory.buffer, address, bytes.length).set(bytes);
+  return address;
+}
+
+/** Returns a copy of bytes of the memory, which may have grown and so have another buffer than before. */
+function copied(address, length) {
+  return new Uint8Array(library.memory.buffer, address, length).slice();
+}
+
+function struct(address, length) {
+  return new DataView(library.memory.buffer, address, length);
+}
+
+function call(name, ...words) {
+  return library[name](...words) & 255;
+}
+
+/** Runs a function that takes buffers and calls the module. After an error other than a refusal no part of the module is kept. */
+function run(calls) {
+  library ??= new WebAssembly.Instance(new WebAssembly.Module(code()), {}).exports;
+  library.heap_reset();
+  try {
+    return calls();
+  } catch (error) {
+    if (error.status === undefined) library = undefined;
+    throw error;
+  }
+}
+
+const SYMBOL_MAX = 31329;
+const SERIES_MAX = 501264;
+const BYTES_MAX = 7089;
+
+export function encoded(input, version, level, rule) {
+  return run(() => {
+    const from = put(input), to = take(SYMBOL_MAX), told = take(3);
+    throwFor(call('qrproved_encode', BigInt(from), BigInt(input.length), version, level, rule, BigInt(to), BigInt(SYMBOL_MAX),
+      BigInt(told)));
+    const [chosen, side, mask] = copied(told, 3);
+    return { version: chosen, side, mask, modules: copied(to, side * side) };
+  });
+}
+
+export function encodedSeries(input, version, level, rule) {
+  return run(() => {
+    const from = put(input), to = take(SERIES_MAX), told = take(2);
+    throwFor(call('qrproved_encode_series', BigInt(from), BigInt(input.length), version, level, rule, BigInt(to), BigInt(SERIES_MAX),
+      BigInt(told)));
+    const [count, side] = copied(told, 2);
+    return { side, squares: Array.from({ length: count }, (_, k) => copied(to + k * side * side, side * side)) };
+  });
+}
+
+/** Returns the fields that the structs of a symbol that was read and of one that was mended share, with the bytes. */
+function content(at, bytes, version) {
+  const [has, position, last, parity] = [1, 2, 3, 4].map((k) => at.getUint8(version + k));
+  const header = has ? { position, last, parity } : null;
+  return { bytes: copied(bytes, Number(at.getBigUint64(0, true))), version: at.getUint8(version), header };
+}
+
+export function readOf(modules, side) {
+  return run(() => {
+    const from = put(modules), to = take(BYTES_MAX), told = take(16);
+    throwFor(call('qrproved_read', BigInt(from), BigInt(modules.length), side, BigInt(to), BigInt(BYTES_MAX), BigInt(told)));
+    return content(struct(told, 16), to, 8);
+  });
+}
+
+export function mendedOf(modules, side) {
+  return run(() => {
+    const from = put(modules), to = take(BYTES_MAX), told = take(24);
+    throwFor(call('qrproved_mend', BigInt(from), BigInt(modules.length), side, BigInt(to), BigInt(BYTES_MAX), BigInt(told)));
+    const at = struct(told, 24);
+    const [level, mask, wrongFormatModules, changedMost, changedAllowed] = [17, 18, 19, 20, 21].map((k) => at.getUint8(k));
+    return { ...content(at, to, 12), wrongModules: at.getUint32(8, true), level, mask, wrongFormatModules, changedMost, changedAllowed };
+  });
+}
+
+export function drawn(modules, side, count, drawing, margin) {
+  return run(() => {
+    const from = put(modules), written = take(8);
+    const draw = (text, room) => call('qrproved_draw', BigInt(from), BigInt(modules.length), side, count, drawing, margin, BigInt(text),
+      BigInt(room), BigInt(written));
+    const length = () => Number(struct(written, 8).getBigUint64(0, true));
+    // The first call only returns the length.
+    const status = draw(0, 0);
+    if (status !== 6) throwFor(status);
+    const room = length(), text = take(room);
+    throwFor(draw(text, room));
+    return new TextDecoder().decode(copied(text, room));
+  });
+}

@@ -1,0 +1,69 @@
+/** The refusals of the library: a class for each status of a call (include/qrproved.h). */
+
+/** A refusal of the library. `status` is its number and `code` its name in C. */
+export class QRError extends Error {
+  constructor(message, status, code) {
+    super(message);
+    this.name = new.target.name;
+    this.status = status;
+    this.code = code;
+  }
+}
+
+/** The input has no byte. */
+export class EmptyError extends QRError {
+  constructor(message = 'the input is empty') { super(message, 1, 'EMPTY'); }
+}
+
+/** The input fits no version from the smallest allowed version on. */
+export class TooLongError extends QRError {
+  constructor(message = 'the input does not fit a symbol') { super(message, 2, 'TOO_LONG'); }
+}
+
+/** The input takes more than 16 symbols of the version. */
+export class TooManyError extends QRError {
+  constructor(message = 'the input takes more than 16 symbols of the version') { super(message, 3, 'TOO_MANY'); }
+}
+
+/** The engine refused memory. */
+export class OutOfMemoryError extends QRError {
+  constructor(message = 'out of memory') { super(message, 4, 'MEMORY'); }
+}
+
+/** A number is out of its range, or a module to mend is more than 2. */
+export class SettingsError extends QRError {
+  constructor(message = 'a module is more than 2') { super(message, 5, 'SETTINGS'); }
+}
+
+/** A buffer is too short. */
+export class RoomError extends QRError {
+  constructor(message = 'there are too few modules') { super(message, 6, 'ROOM'); }
+}
+
+/** No version has this side. */
+export class SideError extends QRError {
+  constructor(message = 'no version has this side') { super(message, 7, 'SIDE'); }
+}
+
+/** The format information belongs to no level and mask, or is too damaged. */
+export class FormatError extends QRError {
+  constructor(message = 'the format information cannot be read') { super(message, 8, 'FORMAT'); }
+}
+
+/** The codewords of a block do not match, or have too much damage to be mended. */
+export class CheckError extends QRError {
+  constructor(message = 'a block has wrong codewords that are not mended') { super(message, 9, 'CHECK'); }
+}
+
+/** The data codewords cannot be parsed. */
+export class SegmentsError extends QRError {
+  constructor(message = 'the data codewords cannot be parsed') { super(message, 10, 'SEGMENTS'); }
+}
+
+const CLASSES = [undefined, EmptyError, TooLongError, TooManyError, OutOfMemoryError, SettingsError, RoomError, SideError, FormatError,
+  CheckError, SegmentsError];
+
+/** Throws the error of a status, and returns for 0. */
+export function throwFor(status) {
+  if (status) throw new CLASSES[status]();
+}

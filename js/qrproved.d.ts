@@ -1,0 +1,148 @@
+/** QR Code symbols (ISO/IEC 18004:2015, QR Code Model 2) by a proved library: encode, read, mend, draw. */
+
+/** The level of error correction, by which about 7, 15, 25 or 30 % of a symbol's codewords can be restored. */
+export type Level = 'L' | 'M' | 'Q' | 'H';
+
+/**
+ * The modes that the segments of an input may have. 'auto': numeric, alphanumeric and byte mode, mixed so that the number of bits is
+ * least. 'byte': the whole input in byte mode. 'kanji': the modes of 'auto', and kanji mode for pairs of bytes that are Shift JIS
+ * characters.
+ */
+export type Mode = 'auto' | 'byte' | 'kanji';
+
+/**
+ * The type of a drawing, as the command `qrencode -t` has it. 'ASCII': two # for a dark module and two spaces for a light one.
+ * 'ASCIIi': the other way round. 'UTF8': half blocks, of which a filled half is light. 'SVG': a document, one unit for a module.
+ */
+export type Drawing = 'ASCII' | 'ASCIIi' | 'UTF8' | 'SVG';
+
+/** A string is encoded as UTF-8. */
+export type Input = string | Uint8Array;
+
+export interface Options {
+  /** 'L' unless given; small letters are taken too. */
+  level?: Level | Lowercase<Level>;
+  /** The smallest allowed version, from 1 to 40; 1 unless given. In a series the version of all symbols, which has to be given. */
+  version?: number;
+  /** 'auto' unless given. */
+  mode?: Mode;
+}
+
+/** A symbol. */
+export class QRSymbol {
+  private constructor();
+  /** From 1 to 40. */
+  readonly version: number;
+  /** Modules on a side: 17 + 4 * version. */
+  readonly side: number;
+  /** From 0 to 7; null in a series. */
+  readonly mask: number | null;
+  readonly level: Level;
+  /** side * side bytes, row by row from the top left, without a margin: 1 is dark, 0 is light. */
+  readonly modules: Uint8Array;
+  /** Returns whether a module is dark; both numbers are from 0 to side - 1, from the top left. */
+  dark(row: number, column: number): boolean;
+  /** Returns an SVG document, in which a module is one unit wide. The margin is in modules: 4 unless given, which a scanner needs. */
+  svg(options?: { margin?: number }): string;
+  /** Returns a drawing as text, of type 'UTF8' unless given. */
+  text(options?: { margin?: number; type?: Drawing }): string;
+  /** Returns a PNG image of one bit a pixel. `scale` is the number of pixels of a module on a side, from 1 to 100: 8 unless given. */
+  png(options?: { scale?: number; margin?: number }): Uint8Array;
+  /** Returns a URL that contains the image, a PNG unless the type is 'svg'. */
+  dataURL(options?: { type?: 'png' | 'svg'; scale?: number; margin?: number }): string;
+  /** Returns the drawing of type 'UTF8'. */
+  toString(): string;
+}
+
+/** What a symbol of a series says about its series. */
+export interface Header {
+  /** From 0 to 15. */
+  position: number;
+  /** The number of symbols less 1, from 0 to 15. */
+  last: number;
+  /** The exclusive or of all bytes of the input, from 0 to 255. */
+  parity: number;
+}
+
+/** What a symbol contains. */
+export class Content {
+  protected constructor();
+  readonly bytes: Uint8Array;
+  readonly version: number;
+  /** null unless it is a symbol of a series. */
+  readonly header: Header | null;
+  /** Returns the bytes as text. Throws a TypeError if they are no UTF-8. */
+  text(): string;
+}
+
+/** What a damaged symbol contains, and its damage. */
+export class Mended extends Content {
+  private constructor();
+  readonly level: Level;
+  /** From 0 to 7. */
+  readonly mask: number;
+  /** The number of modules that are wrong or not known. */
+  readonly wrongModules: number;
+  /** The number of the 30 modules of format information that are wrong or not known. */
+  readonly wrongFormatModules: number;
+  /** The number of wrong codewords in the block with the most; codewords with a module that is not known do not count. */
+  readonly changedMost: number;
+  /** The number of codewords that may be wrong in each block, from 2 to 15. */
+  readonly changedAllowed: number;
+  /** Whether every module is right. */
+  readonly isSound: boolean;
+  /** The share of its correction that the block with the most wrong codewords has spent, from 0 to 1. */
+  readonly spent: number;
+}
+
+/**
+ * Returns the symbol of an input, of the least version from `version` on that it fits. Throws EmptyError, TooLongError,
+ * SettingsError if a value is out of its range, and OutOfMemoryError.
+ */
+export function encode(input: Input, options?: Options): QRSymbol;
+
+/**
+ * Returns the symbols of a series (structured append), all of one version: from 1 to 16. An input that fits one symbol is one plain
+ * symbol. Throws as encode does, with TooManyError in place of TooLongError.
+ */
+export function encodeSeries(input: Input, options: Options & { version: number }): QRSymbol[];
+
+/**
+ * Returns what a symbol contains, whose modules are given row by row: 0 is light, any other byte is dark. Corrects no errors.
+ * Throws SideError, FormatError, CheckError, SegmentsError, and OutOfMemoryError.
+ */
+export function read(square: QRSymbol | Uint8Array): Content;
+
+/**
+ * Returns what a damaged symbol contains, and its damage. A module is 0 for light, 1 for dark, and 2 if it is not known, which
+ * spends half as much of the correction. Throws as read does, and SettingsError for another module.
+ */
+export function mend(square: QRSymbol | Uint8Array): Mended;
+
+/**
+ * Returns the drawing of symbols of one side, at most 16, byte for byte as the command `qrencode` draws them: texts one after the
+ * other, or one document with one below the other. The type is 'UTF8' and the margin 4 unless given.
+ */
+export function draw(symbols: QRSymbol | QRSymbol[], options?: { type?: Drawing; margin?: number }): string;
+
+/** Compiles the module aside, before the first call. Only browsers that refuse to compile it at the first call need it: older ones. */
+export function load(): Promise<void>;
+
+/** A refusal of the library. */
+export class QRError extends Error {
+  protected constructor();
+  /** The number of the status in C. */
+  readonly status: number;
+  /** The name of the status in C, as 'TOO_LONG'. */
+  readonly code: string;
+}
+export class EmptyError extends QRError {}
+export class TooLongError extends QRError {}
+export class TooManyError extends QRError {}
+export class OutOfMemoryError extends QRError {}
+export class SettingsError extends QRError {}
+export class RoomError extends QRError {}
+export class SideError extends QRError {}
+export class FormatError extends QRError {}
+export class CheckError extends QRError {}
+export class SegmentsError extends QRError {}

@@ -1,0 +1,166 @@
+/**
+ * QR Code symbols (ISO/IEC 18004:2015, QR Code Model 2) by the library libqrproved as WebAssembly, whose calls are proved to meet
+ * their contracts. README.md shows the calls; qrproved.d.ts describes each.
+ */
+import { drawn, encoded, encodedSeries, mendedOf, readOf } from './calls.js';
+import { SettingsError, SideError } from './errors.js';
+import { imageOf } from './png.js';
+
+export { load } from './calls.js';
+export {
+  CheckError, EmptyError, FormatError, OutOfMemoryError, QRError, RoomError, SegmentsError, SettingsError, SideError, TooLongError,
+  TooManyError,
+} from './errors.js';
+
+const LEVELS = ['L', 'M', 'Q', 'H'];
+const MODES = ['auto', 'byte', 'kanji'];
+const DRAWINGS = ['ASCII', 'ASCIIi', 'UTF8', 'SVG'];
+const SIDE_MAX = 177;
+const COUNT_MAX = 16;
+const SCALE_MAX = 100;
+
+/** Returns the options, each given or its default. An option of another name would do nothing, and so is refused. */
+function chosen(given, defaults) {
+  if (given === null || typeof given !== 'object') throw new TypeError(`options are an object, as in { ${Object.keys(defaults)[0]}: … }`);
+  for (const name of Object.keys(given)) {
+    if (!Object.hasOwn(defaults, name)) throw new TypeError(`there is no option ${name}; there are ${Object.keys(defaults).join(', ')}`);
+  }
+  return { ...defaults, ...Object.fromEntries(Object.entries(given).filter(([, value]) => value !== undefined)) };
+}
+
+function whole(name, value, least, most) {
+  if (typeof value !== 'number') throw new TypeError(`${name} is a number, and not of type ${typeof value}`);
+  if (!Number.isInteger(value) || value < least || value > most) {
+    throw new SettingsError(`${name} is a whole number from ${least} to ${most}, and not ${value}`);
+  }
+  return value;
+}
+
+/** Returns the place of a name in a list, in capitals or small letters. */
+function named(name, value, list) {
+  if (typeof value !== 'string') throw new TypeError(`${name} is a string: ${list.join(', ')}`);
+  const place = list.findIndex((it) => it.toLowerCase() === value.toLowerCase());
+  if (place < 0) throw new SettingsError(`${name} is ${list.join(', ')}, and not ${value}`);
+  return place;
+}
+
+/** Returns the bytes of an input: a string as UTF-8. */
+function bytesOf(input) {
+  if (input instanceof Uint8Array) return input;
+  if (typeof input !== 'string') throw new TypeError('the input is a string or a Uint8Array');
+  if (/\p{Surrogate}/u.test(input)) throw new TypeError('the string has half a surrogate pair, which is no character');
+  return new TextEncoder().encode(input);
+}
+
+const SETTINGS = { level: 'L', version: 1, mode: 'auto' };
+
+function settings({ level, version, mode }) {
+  return [whole('version', version, 1, 40), named('level', level, LEVELS), named('mode', mode, MODES)];
+}
+
+/** A symbol. */
+export class QRSymbol {
+  constructor({ version, side, mask, level, modules }) {
+    Object.assign(this, { version, side, mask, level, modules });
+  }
+
+  dark(row, column) {
+    whole('row', row, 0, this.side - 1);
+    whole('column', column, 0, this.side - 1);
+    return this.modules[row * this.side + column] !== 0;
+  }
+
+  svg(options = {}) {
+    return draw(this, { ...chosen(options, { margin: 4 }), type: 'SVG' });
+  }
+
+  text(options = {}) {
+    return draw(this, chosen(options, { margin: 4, type: 'UTF8' }));
+  }
+
+  png(options = {}) {
+    const { scale, margin } = chosen(options, { scale: 8, margin: 4 });
+    return imageOf(this.modules, this.side, whole('scale', scale, 1, SCALE_MAX), whole('margin', margin, 0, 100));
+  }
+
+  dataURL(options = {}) {
+    const { type, scale, margin } = chosen(options, { type: 'png', scale: 8, margin: 4 });
+    if (named('type', type, ['png', 'svg']) === 1) return `data:image/svg+xml,${encodeURIComponent(this.svg({ margin }))}`;
+    return `data:image/png;base64,${btoa(Array.from(this.png({ scale, margin }), (byte) => String.fromCharCode(byte)).join(''))}`;
+  }
+
+  toString() {
+    return this.text();
+  }
+}
+
+/** What a symbol contains. */
+export class Content {
+  constructor({ bytes, version, header }) {
+    Object.assign(this, { bytes, version, header });
+  }
+
+  text() {
+    return new TextDecoder('utf-8', { fatal: true, ignoreBOM: true }).decode(this.bytes);
+  }
+}
+
+/** What a damaged symbol contains, and its damage. */
+export class Mended extends Content {
+  constructor({ level, mask, wrongModules, wrongFormatModules, changedMost, changedAllowed, ...content }) {
+    super(content);
+    Object.assign(this, { level: LEVELS[level], mask, wrongModules, wrongFormatModules, changedMost, changedAllowed });
+  }
+
+  get isSound() {
+    return this.wrongModules === 0;
+  }
+
+  get spent() {
+    return this.changedMost / this.changedAllowed;
+  }
+}
+
+export function encode(input, options = {}) {
+  const asked = chosen(options, SETTINGS), [version, level, rule] = settings(asked);
+  return new QRSymbol({ ...encoded(bytesOf(input), version, level, rule), level: LEVELS[level] });
+}
+
+export function encodeSeries(input, options = {}) {
+  const asked = chosen(options, { ...SETTINGS, version: undefined });
+  if (asked.version === undefined) throw new TypeError('a series needs the version of its symbols, as in { version: 5 }');
+  const [version, level, rule] = settings(asked);
+  const { side, squares } = encodedSeries(bytesOf(input), version, level, rule);
+  return squares.map((modules) => new QRSymbol({ version, side, mask: null, level: LEVELS[level], modules }));
+}
+
+/** Returns the modules of a symbol or of a square, and their side. */
+function squareOf(square) {
+  const modules = square instanceof QRSymbol ? square.modules : square;
+  if (!(modules instanceof Uint8Array)) throw new TypeError('a square is a QRSymbol, or a Uint8Array of its modules, row by row');
+  const side = Math.sqrt(modules.length);
+  if (!(side >= 21 && side <= SIDE_MAX && side % 4 === 1)) {
+    throw new SideError(`a square has 21 times 21 modules, 25 times 25, and so on to 177 times 177, and not ${modules.length} in all`);
+  }
+  return [modules, side];
+}
+
+export function read(square) {
+  return new Content(readOf(...squareOf(square)));
+}
+
+export function mend(square) {
+  return new Mended(mendedOf(...squareOf(square)));
+}
+
+export function draw(symbols, options = {}) {
+  const { type, margin } = chosen(options, { type: 'UTF8', margin: 4 });
+  const list = Array.isArray(symbols) ? symbols : [symbols], drawing = named('type', type, DRAWINGS);
+  if (!list.every((it) => it instanceof QRSymbol)) throw new TypeError('what is drawn is a QRSymbol, or an array of them');
+  whole('margin', margin, 0, 100);
+  whole('the number of symbols', list.length, 1, COUNT_MAX);
+  const { side } = list[0], modules = new Uint8Array(list.length * side * side);
+  if (list.some((it) => it.side !== side)) throw new SettingsError('the symbols have one side');
+  list.forEach((it, k) => modules.set(it.modules, k * side * side));
+  return drawn(modules, side, list.length, drawing, margin);
+}

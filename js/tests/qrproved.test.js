@@ -1,0 +1,218 @@
+/** The package as it is installed: node --test, with the folder of the package in the variable QRPROVED, or out/npm/package. */
+import assert from 'node:assert/strict';
+import { execFileSync } from 'node:child_process';
+import { pathToFileURL } from 'node:url';
+import { resolve } from 'node:path';
+import { test } from 'node:test';
+import { inflateSync } from 'node:zlib';
+
+const folder = process.env.QRPROVED ?? new URL('../../out/npm/package', import.meta.url).pathname;
+const at = pathToFileURL(resolve(folder, 'qrproved.js')).href;
+const { draw, encode, encodeSeries, load, mend, read, ...errors } = await import(at);
+
+// The memory of the module, which the package keeps to itself.
+let memory;
+const { Instance } = WebAssembly;
+WebAssembly.Instance = function (...words) {
+  const instance = new Instance(...words);
+  memory = instance.exports.memory;
+  return instance;
+};
+
+// ISO/IEC 18004:2015, Annex I: 01234567 at 1-M, under mask 0.
+const EIGHT_DIGITS = Uint8Array.from(`
+111111100011101111111
+100000101110001000001
+101110100110001011101
+101110100101101011101
+101110101101101011101
+100000100001001000001
+111111101010101111111
+000000000000000000000
+101010100010100010010
+110100001011010100010
+000110111011011101110
+110011010101110110010
+001001110111011100001
+000000001010001000010
+111111100000100010001
+100000100010001001011
+101110101110101011101
+101110100101010101110
+101110101101011100101
+100000100001110111000
+111111101001011100101`.replaceAll('\n', ''), Number);
+
+const bytes = (length, start = 0) => Uint8Array.from({ length }, (_, k) => (start + k * 7) & 255);
+const inverted = (symbol, ...places) => symbol.modules.map((module, place) => (places.includes(place) ? 1 - module : module));
+
+/** Returns whether an error is of its class, with its status and its name in C. */
+const refused = (name, status, code) => (error) => [errors[name], errors.QRError, Error].every((kind) => error instanceof kind)
+  && error.name === name && error.status === status && error.code === code && error.message !== '';
+
+test('eight digits at 1-M', () => {
+  const symbol = encode('01234567', { level: 'M' });
+  assert.deepEqual([symbol.version, symbol.side, symbol.level, symbol.modules.length], [1, 21, 'M', 441]);
+  assert.equal(read(symbol).text(), '01234567');
+  assert.equal(read(EIGHT_DIGITS).text(), '01234567');
+  const mended = mend(EIGHT_DIGITS);
+  assert.deepEqual([mended.text(), mended.level, mended.mask, mended.isSound], ['01234567', 'M', 0, true]);
+  // the finder patterns, the dark module and a separator
+  for (let k = 0; k < 7; k++) assert.ok(symbol.dark(0, k) && symbol.dark(k, 0) && symbol.dark(20, k) && symbol.dark(k, 20));
+  assert.ok(symbol.dark(13, 8) && !symbol.dark(7, 7));
+});
+
+test('defaults are those of the command', () => {
+  const symbol = encode('A');
+  assert.deepEqual([symbol.level, symbol.version], ['L', 1]);
+  assert.equal(symbol.svg(), symbol.svg({ margin: 4 }));
+  assert.match(symbol.svg(), /^<\?xml version="1\.0" encoding="UTF-8"\?>\n<svg [^>]*viewBox="0 0 29 29"/);
+  assert.equal(symbol.text(), draw(symbol, { type: 'UTF8', margin: 4 }));
+  assert.equal(`${symbol}`, symbol.text());
+  assert.equal(draw(symbol), symbol.text());
+});
+
+test('inputs: strings as UTF-8, bytes as they are', () => {
+  const text = 'Zażółć ✓ 🙂';
+  assert.equal(read(encode(text)).text(), text);
+  assert.deepEqual(encode(text).modules, encode(new TextEncoder().encode(text)).modules);
+  assert.deepEqual(read(encode(bytes(256))).bytes, bytes(256));
+  assert.deepEqual(read(encode(Buffer.from('buffer'))).text(), 'buffer');
+  assert.throws(() => read(encode(Uint8Array.of(255))).text(), TypeError);
+  assert.equal(read(encode('\ufeffmarked')).text(), '\ufeffmarked');
+  const others = [undefined, null, 12, ['a'], {}, new ArrayBuffer(2), '\ud800', 'a\udc00b'];
+  for (const wrong of others) assert.throws(() => encode(wrong), TypeError);
+});
+
+test('settings', () => {
+  assert.equal(encode('a', { version: 7, level: 'h' }).version, 7);
+  assert.equal(encode('a', { version: undefined, level: undefined }).level, 'L');
+  assert.ok(encode('1'.repeat(100)).version < encode('1'.repeat(100), { mode: 'byte' }).version);
+  const kanji = Uint8Array.from({ length: 60 }, (_, k) => (k % 2 ? 0x5F : 0x93));
+  assert.ok(encode(kanji, { mode: 'kanji' }).version < encode(kanji).version);
+  for (const wrong of [{ version: 0 }, { version: 41 }, { version: 1.5 }, { version: NaN }, { level: 'X' }, { mode: 'numeric' }]) {
+    assert.throws(() => encode('a', wrong), refused('SettingsError', 5, 'SETTINGS'), JSON.stringify(wrong));
+  }
+  for (const wrong of [{ errorCorrectionLevel: 'H' }, { version: '7' }, { level: 1 }, { mode: null }, null, 'H', 7]) {
+    assert.throws(() => encode('a', wrong), TypeError, JSON.stringify(wrong));
+  }
+});
+
+test('refusals', () => {
+  assert.throws(() => encode(''), refused('EmptyError', 1, 'EMPTY'));
+  assert.throws(() => encodeSeries(new Uint8Array(0), { version: 1 }), refused('EmptyError', 1, 'EMPTY'));
+  assert.throws(() => encode('x'.repeat(3000)), refused('TooLongError', 2, 'TOO_LONG'));
+  assert.throws(() => encode('x'.repeat(200000)), refused('TooLongError', 2, 'TOO_LONG'));
+  assert.throws(() => encodeSeries('x'.repeat(300), { version: 1, level: 'H' }), refused('TooManyError', 3, 'TOO_MANY'));
+  assert.throws(() => encodeSeries('x'), TypeError);
+  for (const length of [0, 1, 440, 442, 576, 178 * 178, 181 * 181]) {
+    assert.throws(() => read(new Uint8Array(length)), refused('SideError', 7, 'SIDE'), `${length}`);
+    assert.throws(() => mend(new Uint8Array(length)), refused('SideError', 7, 'SIDE'), `${length}`);
+  }
+  assert.throws(() => read(new Uint8Array(441)), refused('FormatError', 8, 'FORMAT'));
+  assert.throws(() => mend(new Uint8Array(441).fill(2)), refused('FormatError', 8, 'FORMAT'));
+  assert.throws(() => mend(new Uint8Array(441).fill(3)), refused('SettingsError', 5, 'SETTINGS'));
+  const symbol = encode('check');
+  assert.throws(() => read(inverted(symbol, 20 * 21 + 20)), refused('CheckError', 9, 'CHECK'));
+  assert.throws(() => mend(symbol.modules.map((it, k) => (k % 21 > 8 && k > 189 ? 1 - it : it))), refused('CheckError', 9, 'CHECK'));
+  for (const wrong of [undefined, 'text', [1], new ArrayBuffer(441)]) assert.throws(() => read(wrong), TypeError);
+});
+
+test('series', () => {
+  const input = bytes(100), symbols = encodeSeries(input, { version: 2, level: 'Q' });
+  const read16 = symbols.map(read), parity = input.reduce((sum, byte) => sum ^ byte, 0);
+  assert.ok(symbols.length > 1 && symbols.every((it) => it.version === 2 && it.side === 25 && it.mask === null && it.level === 'Q'));
+  assert.deepEqual(read16.map((it) => it.header), symbols.map((_, k) => ({ position: k, last: symbols.length - 1, parity })));
+  assert.deepEqual(Uint8Array.from(read16.flatMap((it) => [...it.bytes])), input);
+  assert.equal(encodeSeries('short', { version: 2 }).length, 1);
+  assert.equal(read(encodeSeries('short', { version: 2 })[0]).header, null);
+  assert.equal(draw(symbols, { type: 'ASCII' }), symbols.map((it) => it.text({ type: 'ASCII' })).join(''));
+  assert.match(draw(symbols, { type: 'svg' }), new RegExp(`viewBox="0 0 33 ${33 * symbols.length}"`));
+  assert.throws(() => draw([...symbols, encode('a', { version: 3 })]), refused('SettingsError', 5, 'SETTINGS'));
+  assert.throws(() => draw([]), refused('SettingsError', 5, 'SETTINGS'));
+  assert.throws(() => draw(symbols[0].modules), TypeError);
+});
+
+test('mending', () => {
+  const symbol = encode('Shelf 12', { level: 'M' }), sound = mend(symbol), corner = 20 * 21 + 20;
+  assert.deepEqual([sound.text(), sound.level, sound.mask, sound.version], ['Shelf 12', 'M', symbol.mask, 1]);
+  assert.deepEqual([sound.isSound, sound.spent], [true, 0]);
+  const one = mend(inverted(symbol, corner));
+  assert.deepEqual([one.text(), one.isSound, one.wrongModules], ['Shelf 12', false, 1]);
+  assert.deepEqual([one.changedMost, one.changedAllowed, one.spent], [1, 4, 0.25]);
+  const unknown = symbol.modules.slice().fill(2, corner - 5);
+  assert.deepEqual([mend(unknown).text(), mend(unknown).wrongModules, mend(unknown).changedMost], ['Shelf 12', 6, 0]);
+  assert.equal(mend(inverted(symbol, 8)).wrongFormatModules, 1);
+});
+
+test('drawings', () => {
+  const symbol = encode('A');
+  for (const wrong of [{ margin: -1 }, { margin: 101 }, { margin: 0.5 }]) {
+    for (const call of ['svg', 'text', 'png', 'dataURL']) assert.throws(() => symbol[call](wrong), refused('SettingsError', 5, 'SETTINGS'));
+  }
+  assert.throws(() => symbol.svg({ scale: 2 }), TypeError);
+  assert.throws(() => symbol.text({ type: 'PNG' }), refused('SettingsError', 5, 'SETTINGS'));
+  assert.throws(() => symbol.png({ scale: 0 }), refused('SettingsError', 5, 'SETTINGS'));
+  assert.throws(() => symbol.dark(21, 0), refused('SettingsError', 5, 'SETTINGS'));
+  const ascii = symbol.text({ type: 'ASCII', margin: 0 }).split('\n');
+  const drawn = (row) => Array.from({ length: 21 }, (_, column) => (symbol.dark(row, column) ? '##' : '  ')).join('');
+  assert.deepEqual(ascii, [...Array.from({ length: 21 }, (_, row) => drawn(row)), '']);
+  assert.match(symbol.dataURL({ type: 'svg' }), /^data:image\/svg\+xml,%3C%3Fxml/);
+  assert.equal(decodeURIComponent(symbol.dataURL({ type: 'svg', margin: 2 }).split(',', 2)[1]), symbol.svg({ margin: 2 }));
+  assert.deepEqual(Buffer.from(symbol.dataURL().split(',')[1], 'base64'), Buffer.from(symbol.png()));
+});
+
+/** Returns the chunks of a PNG image, whose checks are compared with zlib's. */
+function chunks(png) {
+  const view = new DataView(png.buffer, png.byteOffset), found = [];
+  assert.deepEqual([...png.slice(0, 8)], [137, 80, 78, 71, 13, 10, 26, 10]);
+  for (let at = 8; at < png.length;) {
+    const length = view.getUint32(at), named = png.slice(at + 4, at + 8 + length);
+    let sum = 0xFFFFFFFF;
+    for (const byte of named) {
+      for (let bit = 0; bit < 8; bit++) sum = (sum ^ byte >> bit) & 1 ? sum >>> 1 ^ 0xEDB88320 : sum >>> 1;
+    }
+    assert.equal(view.getUint32(at + 8 + length), ~sum >>> 0, 'the check of a chunk');
+    found.push([String.fromCharCode(...named.slice(0, 4)), named.slice(4)]);
+    at += 12 + length;
+  }
+  return found;
+}
+
+test('PNG images have the modules, and lines with their filter byte', () => {
+  const cases = [[1, 1, 0], [1, 8, 4], [2, 3, 4], [5, 7, 1], [7, 16, 4], [10, 100, 0], [20, 2, 9], [40, 1, 4], [40, 5, 4], [40, 24, 100]];
+  for (const [version, scale, margin] of cases) {
+    const symbol = encode(bytes(16 * version, version), { version, level: 'L', mode: 'byte' }), { side } = symbol;
+    const [[first, head], [second, data], ...rest] = chunks(symbol.png({ scale, margin })), pixels = (side + 2 * margin) * scale;
+    assert.deepEqual([first, second, ...rest.map(([name]) => name)], ['IHDR', 'IDAT', 'IEND']);
+    assert.deepEqual([...head], [0, 0, pixels >> 8, pixels & 255, 0, 0, pixels >> 8, pixels & 255, 1, 0, 0, 0, 0]);
+    const raw = inflateSync(data), line = 1 + Math.ceil(pixels / 8);
+    assert.equal(raw.length, line * pixels, `${pixels} lines`);
+    let wrong = 0;
+    for (let row = 0; row < pixels; row++) {
+      wrong += raw[row * line] !== 0;
+      for (let column = 0; column < pixels; column += scale > 8 ? 5 : 1) {
+        const [at, across] = [row, column].map((it) => Math.floor(it / scale) - margin);
+        const isDark = at >= 0 && at < side && across >= 0 && across < side && symbol.dark(at, across);
+        wrong += (raw[row * line + 1 + (column >> 3)] >> (7 - (column & 7)) & 1) !== (isDark ? 0 : 1);
+      }
+    }
+    assert.equal(wrong, 0, `version ${version}, scale ${scale}, margin ${margin}`);
+  }
+});
+
+test('many calls take no more memory than one', () => {
+  const wanted = encode(bytes(2000));
+  assert.throws(() => encode(''), errors.EmptyError);
+  for (let k = 0; k < 3000; k++) encode(bytes(k % 50 + 1));
+  assert.deepEqual(encode(bytes(2000)), wanted);
+  assert.ok(memory.buffer.byteLength <= 16 << 20, `${memory.buffer.byteLength} bytes`);
+});
+
+test('load, before the first call and after it', async () => {
+  await load();
+  assert.equal(read(encode('loaded')).text(), 'loaded');
+  const first = `const { load, encode, read } = await import(${JSON.stringify(at)}); await load(); await load();
+    delete WebAssembly.Instance; console.log(read(encode('first')).text());`;
+  assert.equal(execFileSync(process.execPath, ['--input-type=module', '-e', first], { encoding: 'utf8' }), 'first\n');
+});

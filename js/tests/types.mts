@@ -1,0 +1,26 @@
+// What the declarations allow and refuse, for the TypeScript compiler.
+import { draw, encode, encodeSeries, load, mend, read, QRSymbol, TooLongError, QRError, type Header, type Level } from 'qrproved';
+
+await load();
+const symbol: QRSymbol = encode('a', { level: 'q', mode: 'kanji' });
+const level: Level = symbol.level;
+const series: QRSymbol[] = encodeSeries(new Uint8Array(3), { version: 3 });
+const header: Header | null = read(series[0]).header;
+const image: Uint8Array = symbol.png({ scale: 3 });
+const text: string = read(symbol).text() + mend(symbol.modules).level + draw(series, { type: 'SVG' }) + symbol.dataURL({ type: 'svg' });
+try {
+  console.log(level, header, image, text);
+} catch (error) {
+  if (error instanceof TooLongError) {
+    const refusal: QRError = error, status: number = error.status;
+    console.log(refusal.code, status);
+  }
+}
+// @ts-expect-error: a series needs its version
+encodeSeries('a', {});
+// @ts-expect-error: there is no such option
+encode('a', { errorCorrectionLevel: 'L' });
+// @ts-expect-error: there is no such level
+encode('a', { level: 'X' });
+// @ts-expect-error: only calls make symbols
+new QRSymbol();

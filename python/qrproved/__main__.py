@@ -1,0 +1,151 @@
+"""python -m qrproved: writes symbols as PNG, as SVG or as text, one or one for each line of a file, and checks drawings."""
+from __future__ import annotations
+
+import argparse
+import os
+import sys
+import time
+from typing import Optional
+
+import qrproved
+from qrproved import Error, Level, Rule
+from qrproved._batch import PART, Part, Settings, labels_of, processors, written
+
+PROGRAM = "python -m qrproved"
+SOUND, READABLE, NOT_READABLE = range(3)
+KINDS = {".png": "png", ".svg": "svg", ".txt": "utf8"}
+SUFFIXES = {"png": ".png", "svg": ".svg", **dict.fromkeys(("utf8", "ascii", "asciii"), ".txt")}
+
+
+def say(text: str) -> None:
+    print(f"qrproved: {text}", file=sys.stderr)
+
+
+def batch(given: argparse.Namespace, settings: Settings) -> int:
+    """Writes a file for each line of a file that is not empty."""
+    source = sys.stdin.buffer if given.batch == "-" else open(given.batch, "rb")
+    with source:
+        lines = [line.rstrip(b"\r") for line in source.read().split(b"\n")]
+    if lines and not lines[-1]:
+        lines.pop()
+    os.makedirs(given.output, exist_ok=True)
+    labels = labels_of(lines, given.output, SUFFIXES[settings.kind], given.names == "text")
+    parts = [Part(settings, labels[start:start + PART]) for start in range(0, len(labels), PART)]
+    start, done, faults, is_shown = time.monotonic(), 0, 0, sys.stderr.isatty()
+    for count, wrong in written(parts, given.jobs or processors()):
+        done += count
+        faults += len(wrong)
+        if is_shown:
+            print("\r\033[K" if wrong else "\r", end="", file=sys.stderr)
+        for fault in wrong:
+            say(fault)
+        if is_shown:
+            print(f"qrproved: {done:,} of {len(labels):,}", end="", file=sys.stderr, flush=True)
+    if is_shown:
+        print(f"\rqrproved: {done - faults:,} labels in {time.monotonic() - start:.1f} s", file=sys.stderr)
+    return 1 if faults else 0
+
+
+def one(given: argparse.Namespace, settings: Settings) -> int:
+    """Writes the drawing of a text, or of what standard input has."""
+    data = sys.stdin.buffer.read() if given.text is None else os.fsencode(given.text)
+    drawing = settings.drawn(data)
+    if given.output is None or given.output == "-":
+        if settings.kind == "png" and sys.stdout.isatty():
+            raise SystemExit("qrproved: a PNG picture is not written to a terminal: name a file by -o")
+        sys.stdout.buffer.write(drawing)
+        sys.stdout.buffer.flush()
+    else:
+        with open(given.output, "wb") as file:
+            file.write(drawing)
+    return 0
+
+
+def verdict(modules: bytes, side: int) -> int:
+    """Prints what a symbol contains and how much of its correction is spent."""
+    try:
+        it = qrproved.mend(modules, side)
+    except Error as fault:
+        print(f"not readable: {fault}")
+        return NOT_READABLE
+    # rounded up, so that 100 % says that all is spent
+    share = -(-100 * it.changed_most // it.changed_allowed)
+    state = "sound" if it.is_sound else f"readable, {share} % of its correction spent"
+    print(f"{state}: {it.content.version}-{it.level.name}, mask {it.mask}")
+    if it.content.header:
+        print(f"symbol {it.content.header.position + 1} of {it.content.header.last + 1} of its series")
+    try:
+        shown = it.content.data.decode()
+        if not shown.isprintable():
+            shown = ascii(shown) if "'" in shown else repr(shown)
+    except UnicodeDecodeError:
+        shown = repr(it.content.data)
+    print(f"contains {shown}")
+    return SOUND if it.is_sound else READABLE
+
+
+def check(words: list[str]) -> int:
+    """Checks the symbols of a drawing as text. The status is 0 if each is sound, 1 if each can be read, and 2 otherwise."""
+    parser = argparse.ArgumentParser(prog=f"{PROGRAM} check", description="Checks the symbols of a drawing in ASCII or in UTF8. The"
+                                     " status is 0 if each is sound, 1 if each can be read, and 2 otherwise.")
+    parser.add_argument("file", nargs="?", default="-", help="a text file with the drawing; without it, standard input")
+    given = parser.parse_args(words)
+    with sys.stdin.buffer if given.file == "-" else open(given.file, "rb") as source:
+        text = source.read()
+    try:
+        squares = qrproved.parse_drawing(text.decode())
+    except ValueError as fault:
+        print(f"not readable: {'the drawing is no UTF-8' if isinstance(fault, UnicodeDecodeError) else fault}")
+        return NOT_READABLE
+    return max(verdict(*square) for square in squares)
+
+
+def parsed(words: list[str]) -> argparse.Namespace:
+    """Returns the arguments; ends the program if they are none."""
+    parser = argparse.ArgumentParser(
+        prog=PROGRAM, description="Writes the QR Code symbol of a text as PNG, as SVG or as text.",
+        epilog=f"'{PROGRAM} check [FILE]' checks a drawing. To encode a text that begins with a hyphen, or the text 'check', write"
+        " -- before it.")
+    parser.add_argument("text", nargs="?", help="the text to encode; without it, the bytes of standard input")
+    parser.add_argument("-o", "--output", metavar="FILE", help="the file to write, .png, .svg or .txt; with --batch a folder")
+    parser.add_argument("-t", "--type", choices=sorted(SUFFIXES), type=str.lower, help="the type of the drawing, if the file does not tell")
+    parser.add_argument("-l", "--level", choices=list(Level.__members__), type=str.upper, default="L", help="the level of error correction; L")
+    parser.add_argument("-v", "--version", type=int, default=1, metavar="N", help="the least version, from 1 to 40; 1")
+    parser.add_argument("-m", "--margin", type=int, default=4, metavar="N", help="light modules on each side, from 0 to 100; 4")
+    parser.add_argument("-s", "--scale", type=int, default=8, metavar="N", help="pixels of a module of a PNG, from 1 to 100; 8")
+    parser.add_argument("-8", "--bytes", action="store_true", help="encode the whole input in byte mode")
+    parser.add_argument("-k", "--kanji", action="store_true", help="allow kanji segments too")
+    parser.add_argument("--batch", metavar="FILE", help="write a symbol for each line of a file; - is standard input")
+    parser.add_argument("--names", choices=["number", "text"], default="number", help="how --batch names files: by number")
+    parser.add_argument("--jobs", type=int, metavar="N", help="processes of --batch; one for each processor")
+    given = parser.parse_args(words)
+    if given.batch is not None and (given.output is None or given.text is not None):
+        parser.error("--batch FILE takes no text, and needs the folder of the symbols: -o FOLDER")
+    if given.type is None:
+        suffix = os.path.splitext(given.output or "")[1].lower()
+        if given.batch is None and given.output not in (None, "-") and suffix not in KINDS:
+            parser.error(f"{given.output} does not end in .png, .svg or .txt: name the type by -t")
+        given.type = "png" if given.batch is not None else KINDS.get(suffix, "utf8")
+    return given
+
+
+def main(words: Optional[list[str]] = None) -> int:
+    words = sys.argv[1:] if words is None else words
+    try:
+        if words[:1] == ["check"]:
+            return check(words[1:])
+        given = parsed(words)
+        rule = Rule.BYTES_ONLY if given.bytes else Rule.WITH_KANJI if given.kanji else Rule.AUTO
+        settings = Settings(given.type, given.version, Level[given.level], rule, given.margin, given.scale)
+        if given.batch is None:
+            return one(given, settings)
+        # so that a setting that is out of range is told once, and not for each label
+        settings.drawn(b"A")
+        return batch(given, settings)
+    except (Error, OSError) as fault:
+        say(str(fault))
+        return 1
+
+
+if __name__ == "__main__":
+    sys.exit(main())

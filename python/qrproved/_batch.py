@@ -1,0 +1,102 @@
+"""Writes a file for each of many labels, by several processes. What they are sent is in this module and not in the main one,
+which a new process does not have."""
+from __future__ import annotations
+
+import multiprocessing
+import os
+import re
+from collections.abc import Iterator
+from typing import NamedTuple
+
+import qrproved
+from qrproved import Drawing, Error
+
+DRAWINGS = {"utf8": Drawing.UTF8, "ascii": Drawing.ASCII, "asciii": Drawing.ASCII_INVERSE, "svg": Drawing.SVG}
+# A pool of processes takes a tenth of a second to start, and then each process takes so many labels at once.
+FEW, PART = 3000, 500
+NAME_MAX = 80
+
+
+class Settings(NamedTuple):
+    """What all symbols of a run have in common."""
+
+    kind: str
+    version: int
+    level: int
+    rule: int
+    margin: int
+    scale: int
+
+    def drawn(self, data: bytes) -> bytes:
+        """Returns the drawing of the symbol of some bytes."""
+        symbol = qrproved.encode(data, version=self.version, level=self.level, rule=self.rule)
+        if self.kind == "png":
+            return symbol.png(scale=self.scale, margin=self.margin)
+        return qrproved.draw([symbol], drawing=DRAWINGS[self.kind], margin=self.margin)
+
+
+class Part(NamedTuple):
+    """Some labels of a batch: the number of the line, the path of the file and the bytes of each."""
+
+    settings: Settings
+    labels: list[tuple[int, str, bytes]]
+
+
+def write(part: Part) -> tuple[int, list[str]]:
+    """Writes the labels of a part, and returns how many there were and why some could not be written."""
+    faults = []
+    for number, path, data in part.labels:
+        try:
+            drawing = part.settings.drawn(data)
+            file = os.open(path, os.O_WRONLY | os.O_CREAT | os.O_TRUNC | getattr(os, "O_BINARY", 0), 0o666)
+            try:
+                left = memoryview(drawing)
+                while left:
+                    left = left[os.write(file, left):]
+            finally:
+                os.close(file)
+        except (Error, OSError) as fault:
+            faults.append(f"line {number}: {fault}")
+    return len(part.labels), faults
+
+
+def name_of(text: bytes) -> str:
+    """Returns a name for the file of a text: its letters, digits, points and hyphens; '_' stands for all between them."""
+    name = re.sub(r"[^\w.-]+", "_", text.decode(errors="replace"))[:NAME_MAX].strip("_.")
+    return name.encode()[:3 * NAME_MAX].decode(errors="ignore") or "_"
+
+
+def labels_of(lines: list[bytes], folder: str, suffix: str, by_text: bool) -> list[tuple[int, str, bytes]]:
+    """Returns the lines that are not empty, each with its number and the path of its file. Two files never have one name, also
+    where capitals do not count."""
+    width, taken, labels = len(str(len(lines))), set(), []
+    for number, line in enumerate(lines, 1):
+        if not line:
+            continue
+        name = name_of(line) if by_text else f"{number:0{width}}"
+        if name.casefold() in taken:
+            name += f"-{number}"
+            while name.casefold() in taken:
+                name += "_"
+        taken.add(name.casefold())
+        labels.append((number, os.path.join(folder, name + suffix), line))
+    return labels
+
+
+def written(parts: list[Part], workers: int) -> Iterator[tuple[int, list[str]]]:
+    """Writes all parts, by a pool of processes if there are many."""
+    if workers > 1 and len(parts) * PART > FEW:
+        try:
+            # Not a fork: no call of the library may be made in the child of a process with threads.
+            pool = multiprocessing.get_context("spawn").Pool(min(workers, len(parts)))
+        except (ImportError, OSError):  # no semaphores here
+            pool = None
+        if pool is not None:
+            with pool:
+                yield from pool.imap_unordered(write, parts)
+            return
+    yield from map(write, parts)
+
+
+def processors() -> int:
+    return len(os.sched_getaffinity(0)) if hasattr(os, "sched_getaffinity") else os.cpu_count() or 1

@@ -1,0 +1,89 @@
+"""Finds the modules of symbols that are drawn as text, as the command draws them: by two characters a module, '##' for a dark
+one or for a light one, or by half blocks, light on a dark terminal."""
+from __future__ import annotations
+
+import textwrap
+
+# What a character of half blocks shows above and below: True is ink.
+HALVES = {" ": (False, False), "\u2580": (True, False), "\u2584": (False, True), "\u2588": (True, True)}
+FINDER = ["1111111", "1000001", "1011101", "1011101", "1011101", "1000001", "1111111"]
+SIDES = range(21, 178, 4)
+COUNT_MAX = 16
+
+Grid = list  # of rows of bools
+
+
+def _grid(text: str) -> Grid:
+    """Returns the rows of a text's modules, True for ink: all of one length."""
+    lines = textwrap.dedent(text.replace("\r\n", "\n").replace("\ufeff", "")).split("\n")
+    lines = [line.rstrip(" ") for line in lines]
+    while lines and not lines[0]:
+        lines.pop(0)
+    while lines and not lines[-1]:
+        lines.pop()
+    if not lines:
+        raise ValueError("there is no drawing")
+    width = max(map(len, lines))
+    characters = set("".join(lines))
+    if characters <= {"#", " "}:
+        width += width % 2
+        padded = [line.ljust(width) for line in lines]
+        if any(line[k] != line[k + 1] for line in padded for k in range(0, width, 2)):
+            raise ValueError("a module of the drawing is two characters that differ")
+        return [[line[k] == "#" for k in range(0, width, 2)] for line in padded]
+    if characters <= set(HALVES):
+        padded = [line.ljust(width) for line in lines]
+        return [[HALVES[it][half] for it in line] for line in padded for half in (0, 1)]
+    raise ValueError("the drawing is of other characters than '#' and spaces, or half blocks and spaces")
+
+
+def _cut(grid: Grid) -> list[tuple[int, int, int]]:
+    """Returns the least rectangle with all dark modules, cut into squares of one size with a gap of one height between them:
+    each way to do so, as a side, a count and a gap."""
+    side, height = len(grid[0]), len(grid)
+    if side not in SIDES:
+        return []
+    ways = [(side, 1, 0)] if height == side else []
+    for count in range(2, COUNT_MAX + 1):
+        gap, rest = divmod(height - count * side, count - 1)
+        if gap >= 0 and rest == 0:
+            ways.append((side, count, gap))
+    return ways
+
+
+def _strangers(rows: Grid) -> int:
+    """Counts the modules of the three finder patterns that are of another colour."""
+    last = len(rows) - 7
+    return sum(rows[top + y][left + x] != (FINDER[y][x] == "1")
+               for top, left in ((0, 0), (0, last), (last, 0)) for y in range(7) for x in range(7))
+
+
+def _box(grid: Grid) -> Grid:
+    """Returns the least rectangle with all dark modules; none if there is no dark module."""
+    rows = [y for y, row in enumerate(grid) if any(row)]
+    columns = [x for x in range(len(grid[0])) if any(row[x] for row in grid)]
+    if not rows:
+        return [[]]
+    return [row[columns[0]:columns[-1] + 1] for row in grid[rows[0]:rows[-1] + 1]]
+
+
+def parse_drawing(text: str) -> list[tuple[bytes, int]]:
+    """Returns the modules and the side of each symbol of a drawing as text, of one symbol or of a series.
+
+    text  of '##' and two spaces, either of them dark, or of half blocks. Spaces at the end of a line may be missing, and the
+          whole drawing may be indented.
+
+    Raises ValueError if it is of other characters, or has no square of a symbol: the first and the last row and column of a
+    symbol each need a dark module.
+    """
+    grid, found = _grid(text), []
+    for is_inverse in (False, True):
+        box = _box([[it != is_inverse for it in row] for row in grid])
+        for side, count, gap in _cut(box):
+            starts = [k * (side + gap) for k in range(count)]
+            squares = [box[start:start + side] for start in starts]
+            found.append((sum(map(_strangers, squares)) / count, -count, squares))
+    if not found:
+        raise ValueError("there is no square of a symbol")
+    _, _, squares = min(found, key=lambda it: it[:2])
+    return [(bytes(module for row in square for module in row), len(square)) for square in squares]

@@ -1,0 +1,87 @@
+"""python -m qrproved: what it writes, what it says, and its status."""
+import os
+import pathlib
+import subprocess
+import sys
+import tempfile
+import unittest
+
+import qrproved
+
+
+def run(*words, given=b"", status=0):
+    """Runs the command, and returns what it writes to standard output and to standard error."""
+    ran = subprocess.run([sys.executable, "-B", "-m", "qrproved", *map(str, words)], input=given, capture_output=True, timeout=120,
+                         env={**os.environ, "PYTHONIOENCODING": "utf-8"})
+    assert ran.returncode == status, (words, ran.returncode, ran.stderr[-500:])
+    return ran.stdout, ran.stderr.decode()
+
+
+class Command(unittest.TestCase):
+    def setUp(self):
+        folder = tempfile.TemporaryDirectory()
+        self.addCleanup(folder.cleanup)
+        self.room = pathlib.Path(folder.name)
+
+    def test_one_label(self):
+        symbol = qrproved.encode("Shelf 12", level="q", version=3)
+        words = ["Shelf 12", "-l", "q", "-v", "3", "-m", "2"]
+        for name, wanted in {"a.png": symbol.png(scale=5, margin=2), "a.svg": symbol.svg(margin=2), "a.txt": symbol.text(margin=2).encode()}.items():
+            self.assertEqual(run(*words, "-s", "5", "-o", self.room / name), (b"", ""))
+            self.assertEqual((self.room / name).read_bytes(), wanted)
+        self.assertEqual(run(*words)[0], symbol.text(margin=2).encode())
+        self.assertEqual(run(*words, "-t", "ASCII")[0], symbol.text(margin=2, drawing="ascii").encode())
+        self.assertEqual(run(*words, "-t", "png")[0], symbol.png(margin=2))
+
+    def test_standard_input_is_bytes(self):
+        self.assertEqual(run("-8", given=b"A\xff\n")[0], qrproved.encode(b"A\xff\n", rule="bytes_only").text().encode())
+        self.assertEqual(run("-k", given=b"\x93\x5f")[0], qrproved.encode(b"\x93\x5f", rule="with_kanji").text().encode())
+
+    def test_the_text_check(self):
+        self.assertEqual(run("--", "check")[0], qrproved.encode("check").text().encode())
+
+    def test_faults(self):
+        self.assertEqual(run(given=b"", status=1), (b"", "qrproved: the input is empty\n"))
+        self.assertIn("version is from 1 to 40", run("A", "-v", "41", status=1)[1])
+        self.assertIn("name the type by -t", run("A", "-o", self.room / "a.jpg", status=2)[1])
+        self.assertIn("-o FOLDER", run("--batch", "-", status=2)[1])
+
+    def test_a_label_for_each_line(self):
+        lines = b"Shelf 1\r\nShelf 2\n\nShelf/2\nshelf 2\n" + b"a" * 3000 + b"\nlast"
+        (self.room / "labels").write_bytes(lines)
+        out, said = run("--batch", self.room / "labels", "-o", self.room / "numbers", status=1)
+        self.assertEqual((out, said), (b"", "qrproved: line 6: the input does not fit a symbol\n"))
+        wanted = {"1.png": b"Shelf 1", "2.png": b"Shelf 2", "4.png": b"Shelf/2", "5.png": b"shelf 2", "7.png": b"last"}
+        got = {it.name: it.read_bytes() for it in (self.room / "numbers").iterdir()}
+        self.assertEqual(got, {name: qrproved.encode(data).png() for name, data in wanted.items()})
+        run("--batch", "-", "--names", "text", "-t", "svg", "-o", self.room / "texts", given=lines.replace(b"a" * 3000, b"../../x"))
+        self.assertEqual({it.name for it in (self.room / "texts").iterdir()},
+                         {"Shelf_1.svg", "Shelf_2.svg", "Shelf_2-4.svg", "shelf_2-5.svg", "x.svg", "last.svg"})
+
+    def test_many_labels_by_several_processes(self):
+        run("--batch", "-", "--jobs", "2", "-o", self.room / "many", "-s", "1", given=b"".join(b"%d\n" % k for k in range(3600)))
+        self.assertEqual(len(list((self.room / "many").iterdir())), 3600)
+        for k in (0, 499, 500, 3599):
+            self.assertEqual((self.room / f"many/{k + 1:04}.png").read_bytes(), qrproved.encode(str(k)).png(scale=1))
+
+    def test_check(self):
+        symbol = qrproved.encode("Shelf 12", level="h")
+        said = f"sound: {symbol.version}-H, mask {symbol.mask}\ncontains Shelf 12\n".encode()
+        for drawing in ("ascii", "ascii_inverse", "utf8"):
+            self.assertEqual(run("check", given=symbol.text(drawing=drawing).encode())[0], said)
+        (self.room / "a.txt").write_bytes(symbol.text().encode())
+        self.assertEqual(run("check", self.room / "a.txt")[0], said)
+        modules = bytearray(symbol.modules)  # of 2-H, whose one block can have 14 wrong codewords
+        modules[-1] ^= 1
+        damaged = qrproved.Symbol(symbol.version, symbol.side, 0, bytes(modules))
+        self.assertTrue(run("check", given=str(damaged).encode(), status=1)[0].startswith(b"readable, 8 % of its correction spent: "))
+        for k in range(len(modules) // 2, len(modules)):
+            modules[k] ^= 1
+        spoilt = qrproved.Symbol(symbol.version, symbol.side, 0, bytes(modules))
+        self.assertTrue(run("check", given=str(spoilt).encode(), status=2)[0].startswith(b"not readable: "))
+        self.assertEqual(run("check", given=b"hello", status=2)[0], b"not readable: the drawing is of other characters than '#' and spaces, or"
+                         b" half blocks and spaces\n")
+
+
+if __name__ == "__main__":
+    unittest.main()

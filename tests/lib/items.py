@@ -1,0 +1,143 @@
+"""The functions, constants and tables of a crate, as tests/wrong_bodies needs them: the lines of each, its proof's folder,
+and what it may call. Files are read as `rt fmt` lays them out."""
+import glob
+import os
+import re
+
+from kit import PARTS
+
+ITEM = re.compile(r"^( *)(?:pub(?:\([a-z]+\))? )?(?:const )?(?:unsafe )?(?:extern \"C\" )?(fn|static|const) (\w+)")
+OWNER = re.compile(r"^(?:pub(?:\([a-z]+\))? )?(impl(?:<.*?>)?(?: (\w+)(?:<.*>)? for)?|trait) (\w+)")
+TYPE = re.compile(r"^(?:pub(?:\([a-z]+\))? )?(?:struct|enum|trait) (\w+)", re.M)
+WORD = re.compile(r"((?:\b\w+(?:::<[^>]*>)?::)|\.)?\b([A-Za-z_]\w*)\b")
+
+
+class Item:
+    """A function, a constant or a table: its lines from `first` to `last`, and `head`, the line before its body."""
+
+    def __init__(self, kind, name, path, lines, owner, trait, text):
+        self.is_function, self.name, self.path, self.owner, self.trait = kind == "fn", name, path, owner, trait
+        self.first, self.head, self.last = lines
+        self.text, self.modules, self.places = text, [], []
+        self.add_module(path[len("src/"):-len(".rt")])
+
+    def add_module(self, module):
+        """Adds a module that the prover may name it by: a method is in the module of its type or in that of its own file."""
+        parts = ("" if module in ("lib", "main") else module, (self.owner or "") + (self.trait or ""), self.name)
+        self.modules = list(dict.fromkeys([*self.modules, module]))
+        self.places = list(dict.fromkeys([*self.places, "/".join(it for it in parts if it)]))
+
+    def body(self):
+        """Returns the lines after its contract, without comments."""
+        lines = self.text.split("\n")
+        if self.last > self.head:
+            lines = lines[len(lines) - 1 - (self.last - self.head) + self.is_function:]
+        return re.sub(r"//.*", "", "\n".join(lines))
+
+
+def items_in(path, text):
+    """Returns the items of one file of src/, without those of its tests."""
+    lines, owner, trait, found = text.split("#[cfg(test)]")[0].split("\n"), None, None, []
+    for i, line in enumerate(lines):
+        of = OWNER.match(line)
+        if of:
+            owner, trait = of.group(3), of.group(2)
+        elif line == "}":
+            owner = trait = None
+        item = ITEM.match(line)
+        if not item:
+            continue
+        indent, kind, name = item.groups()
+        head = i
+        if kind == "fn":
+            head = next((j for j in range(i, len(lines)) if re.search(rf"( {{}}?|;|^{indent}{{}}?)$", lines[j])), None)
+            if head is None:
+                continue
+            last = lines.index(indent + "}", head) if lines[head].endswith("{") else head
+        else:
+            last = next(j for j in range(i, len(lines)) if lines[j].endswith(";"))
+        first = i
+        while first and lines[first - 1].lstrip().startswith("#["):
+            first -= 1
+        inside = (owner, trait) if indent else (None, None)
+        found.append(Item(kind, name, path, (first, head, last), *inside, "\n".join(lines[i:last + 1])))
+    return found
+
+
+def texts_of(folder, part):
+    """Returns the texts of a part of a crate by their paths."""
+    found = {}
+    for file in sorted(glob.glob(f"{folder}/{part}/**/*", recursive=True)):
+        if os.path.isfile(file):
+            with open(file, encoding="utf-8") as it:
+                found[os.path.relpath(file, folder)] = it.read()
+    return found
+
+
+class Items:
+    """The texts of a crate, and the items of its sources."""
+
+    def __init__(self, folder):
+        self.folder = folder
+        self.texts = {part: texts_of(folder, part) for part in PARTS}
+        sources = {path: text for path, text in self.texts["src"].items() if path.endswith(".rt")}
+        self.all = [it for path, text in sources.items() for it in items_in(path, text)]
+        types = {name: path[len("src/"):-len(".rt")] for path, text in sources.items() for name in TYPE.findall(text)}
+        self.by_name = {}
+        for it in self.all:
+            if it.owner in types:
+                it.add_module(types[it.owner])
+            self.by_name.setdefault(it.name, []).append(it)
+        self.places = {place for it in self.all for place in it.places}
+        self.called = {it: self.named_by(it) for it in self.all}
+        self.reached = {}
+
+    def named_by(self, item):
+        """Returns what the body of an item may call or name, or its proof cites: a method is that of each type that has one of its name."""
+        body, found = item.body(), []
+        for before, word in WORD.findall(body):
+            of = before.rstrip(":").split("::")[0]
+            found += [it for it in self.by_name.get(word, ()) if is_meant(it, item, before, of)]
+        if re.search(r"\b(write|print|println|format|writeln)!", body):
+            found += self.by_name.get("fmt", ())
+        for path, proof in self.texts["proofs"].items():
+            if path.startswith(tuple(f"proofs/{it}/" for it in item.places)):
+                found += [it for word in re.findall(r"(\w+)\.Met\b", proof) for it in self.by_name.get(word, ())]
+        return [it for it in dict.fromkeys(found) if it is not item]
+
+    def reach(self, item):
+        """Returns all that an item may call or name, through others too, and the item."""
+        if item not in self.reached:
+            seen, left = set(), [item]
+            while left:
+                it = left.pop()
+                if it not in seen:
+                    seen.add(it)
+                    left += self.called[it]
+            self.reached[item] = seen
+        return self.reached[item]
+
+    def users(self, item):
+        """Returns the functions that name a constant or a table, also through other constants and tables."""
+        return [it for it in self.all if it.is_function and any(
+            other is item or not other.is_function and item in self.reach(other) for other in self.called[it])]
+
+    def is_of_function(self, path):
+        """Returns whether a file of proofs/ is of the proof of one function."""
+        return os.path.dirname(path)[len("proofs/"):] in self.places
+
+    def is_in_lemmas(self, name):
+        """Returns whether a definition or a lemma has this name in it, so that a change of what it names bears on more than bodies."""
+        texts = [*self.texts["specs"].items(), *(it for it in self.texts["proofs"].items() if not self.is_of_function(it[0]))]
+        return any(re.search(rf"\b{name}\b", text) for _, text in texts)
+
+
+def is_meant(named, user, before, of):
+    """Returns whether a word with what stands before it may mean the item of that name."""
+    if before == ".":
+        return named.owner is not None and named.is_function
+    if of == "Self":
+        return named.owner == user.owner
+    if of[:1].isupper():
+        return of in (named.owner, named.trait)
+    return named.owner is None

@@ -1,0 +1,61 @@
+"""What the scripts need to call the kit's compiler by themselves: where it is, the crates of the repository, and the
+words that it is told of a crate, as `rt` tells it."""
+import functools
+import glob
+import os
+import subprocess
+
+# (a script that stands in for `rt` has the kit's own in the variable RT)
+RT = os.environ.get("RT", "rt")
+KIT = os.path.dirname(subprocess.run([RT, "doc"], check=True, capture_output=True, text=True).stdout.strip())
+RATTLE = f"{KIT}/bin/rattle"
+PARTS = ("src", "specs", "proofs")
+
+
+class Repository:
+    """The crates that the file crates.txt of a folder lists."""
+
+    def __init__(self, top):
+        self.top = os.path.realpath(top)
+        with open(f"{self.top}/crates.txt", encoding="utf-8") as it:
+            rows = [line.split(":", 1) for line in it.read().splitlines() if line.strip() and not line.startswith("#")]
+        self.uses = {row[0].split()[0]: row[1].split() for row in rows}
+        self.static = {row[0].split()[0] for row in rows if "staticlib" in row[0].split()}
+
+    def folder(self, name):
+        return f"{self.top}/crates/{name}"
+
+    def rlib(self, name):
+        return f"{self.folder(name)}/out/rlib/{name}.rlib"
+
+    def below(self, name):
+        """Returns the repository's libraries that a crate uses, each once, after those that it uses."""
+        return list(dict.fromkeys(it for used in self.uses[name] if used in self.uses for it in [*self.below(used), used]))
+
+    def files(self, name):
+        """Returns the files that the proof of a crate reads."""
+        files = [it for part in PARTS for it in glob.glob(f"{self.folder(name)}/{part}/**/*", recursive=True)]
+        return sorted(it for it in files if os.path.isfile(it))
+
+    def is_built(self, name):
+        return os.path.exists(f"{self.rlib(name)}/format")
+
+    def is_left_by_ci(self, name):
+        """Returns whether the library is the one that `rt ci` left in the last run of tests/all, which wrote out/proved_by_ci as that began,
+        and no file of its crate is newer. (`rt check` leaves a stamp beside a library, and its own are those of which it knows.)"""
+        begun = f"{self.top}/out/proved_by_ci"
+        if not self.is_built(name) or not os.path.exists(begun) or os.path.exists(f"{self.folder(name)}/out/rlib/stamp"):
+            return False
+        return all(os.path.getmtime(it) <= os.path.getmtime(begun) for it in self.files(name))
+
+    @functools.cache
+    def words(self, name):
+        """Returns what the compiler is told of a crate, in its folder."""
+        root = "src/main.rt" if os.path.exists(f"{self.folder(name)}/src/main.rt") else "src/lib.rt"
+        words = ["--crate-name", name, root, *(["--crate-type", "staticlib"] if name in self.static else [])]
+        for used in ["std", *self.uses[name]]:
+            words += ["--extern", f"{used}={self.rlib(used) if used in self.uses else f'{KIT}/rlibs/{used}.rlib'}"]
+        for folder in [f"{KIT}/rlibs", *(os.path.dirname(self.rlib(it)) for it in self.below(name))]:
+            words += ["-L", f"dependency={folder}"]
+        logic = ["--antt-project", f"{KIT}/rattle/logic/antt-project.json", "--logic-built", f"{KIT}/logic_built"]
+        return [*words, *logic, "--links", f"{name}="]

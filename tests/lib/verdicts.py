@@ -1,0 +1,108 @@
+"""What a check of a crate with wrong bodies said of each of them."""
+import os
+import re
+
+# Said where a proof rests on something that is not proved, and so nothing of the function itself.
+RESTS = re.compile(r"was not admitted|is not proved\b.*\bcalls|waits for|wait for a callee")
+# Said where a proof names what a change took away, which says little of the contract.
+NAMES = re.compile(r"(?:note: )?(?:\./)?proofs/.*(has no field|is not in scope|has no `)")
+# A verdict on a function that is not only of what it calls.
+ITSELF = re.compile(r"not proved$|not proved; (?!it (calls|waits))|no proof: (?!it calls)|could not tell")
+VERDICT = re.compile(r"(fn|impl|struct|enum|trait|law|const|static) (\S+): (.*)")
+# Limits of the prover's own, which it meets wherever it checks the same.
+LIMITS = re.compile(r"antt ran out of (stack|the (steps|memory) that)|(outgrew the memory limit|stopped at the step limit) \(")
+
+
+def is_unread(line, changed):
+    """Returns whether a line says that the prover could not read a text of src/ or specs/, or a changed file."""
+    at = re.match(r"(?:\./)?(\S+?):\d+:\d+: error: (?:(`[^`]*`): )?(.*)", line)
+    if not at or at[1] not in changed and not at[1].startswith(("src/", "specs/")):
+        return False
+    text = re.sub(r"`[^`]*`", "", at[3])
+    return not at[2] or bool(re.search(r"is not in scope|has no field|is no name|operand is missing|expected the end|cannot continue", text))
+
+
+class Said:
+    """The output of a check, and its status."""
+
+    def __init__(self, status, output):
+        self.status, self.output, self.lines = status, output, output.rstrip("\n").split("\n")
+        self.verdicts = {}
+        for line in self.lines:
+            of = VERDICT.match(line)
+            if of and (of[1] == "fn" or of[2] not in self.verdicts):
+                self.verdicts[of[2]] = of[3]
+
+    def why_early(self, changed):
+        """Returns the line that says why the check ended before it judged the changed bodies, or None."""
+        bad = next((it for it in self.lines if is_unread(it, changed)), None)
+        if bad or self.status != 1 or self.lines[-1].startswith("logic=not-proved"):
+            return bad
+        return next((it for it in self.lines if re.search(r"\berror\[[\w-]+\]", it)), self.lines[-1])
+
+    def places_of_errors(self):
+        """Returns the files and lines (from 0) of src/ that have errors."""
+        return {(it[1], int(it[2]) - 1) for it in re.finditer(r"(?m)^(?:\./)?(src/\S+?):(\d+):\d+: error", self.output)}
+
+    def is_at_limit(self):
+        return self.status == 3 and bool(LIMITS.search(self.output))
+
+    def itself(self):
+        """Returns the names of what is refused, and not only since it calls what is."""
+        return [name for name, verdict in self.verdicts.items() if ITSELF.match(verdict)]
+
+
+def names_of(crate, item, verdicts):
+    """Returns the prover's names for a function of the crate and for its closures."""
+    ours = []
+    for module in item.modules:
+        module = module.replace("/mod", "").replace("/", "::")
+        start = f"{crate}::" + ("" if module in ("lib", "main") else f"{module}::")
+        if not item.owner:
+            ours += [it for it in verdicts if it == start + item.name]
+        elif item.trait:
+            ours += [it for it in verdicts if it.startswith(f"{start}{item.owner}{item.trait}") and it.endswith(f"::{item.name}")]
+        else:
+            ours += [it for it in verdicts if it == f"{start}{item.owner}::{item.name}"]
+    ours = list(dict.fromkeys(ours))
+    if len(ours) == 1:
+        closures = "++".join(ours[0].split("::")[1:])
+        ours += [it for it in verdicts if f"++{closures}+" in it or it.endswith(f"++{closures}")]
+    return ours
+
+
+def goals_refused(item, said):
+    """Returns the lines that refuse goals of a function: errors in its proof, or notes in its own lines that something is not proved."""
+    found = []
+    for line in said.lines:
+        if RESTS.search(line):
+            continue
+        at = re.match(r"note: (?:\./)?(\S+?):(\d+):\d+: (it is not proved that|`search` found no proof)", line)
+        is_here = at and at[1] == item.path and item.first <= int(at[2]) - 1 <= item.last
+        proof = re.match(r"(?:\./)?proofs/(\S+)/\w+\.antt:\d+:\d+: error: ", line)
+        if is_here or proof and proof[1] in item.places:
+            found.append(line)
+    return found
+
+
+def refusal(crate, edit, said):
+    """Returns the first function of a wrong body of which a goal is refused, with what is said of it, or None."""
+    for item in edit.touched + edit.callers:
+        lines = goals_refused(item, said)
+        for name in names_of(crate, item, said.verdicts) if lines else ():
+            verdict = said.verdicts[name]
+            if verdict != "proved" and not verdict.startswith("could not tell"):
+                first = next((it for it in lines if not NAMES.match(it)), "(only since a proof names what was taken away) " + lines[0])
+                return f"{name}: {re.split('[:;]', verdict)[0]}: {first[:160]}"
+    return None
+
+
+def refused_beside(items, group, said):
+    """Returns what is refused that no wrong body of the group touches."""
+    touched = {it for edit in group for it in edit.touched + edit.callers}
+    found = [it.places[-1] for it in items.all if it.is_function and it not in touched and goals_refused(it, said)]
+    for line in said.lines:
+        at = re.match(r"(?:\./)?((?:proofs|specs)/\S+?\.antt):\d+:\d+: error", line)
+        if at and not RESTS.search(line) and not (at[1].startswith("proofs/") and items.is_of_function(at[1])):
+            found.append(os.path.normpath(at[1]))
+    return list(dict.fromkeys(found))
