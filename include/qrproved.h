@@ -4,8 +4,8 @@
  * the contracts mean for a caller. tests/library compares this file with the exports of the library.
  *
  * A module is a byte in a buffer of the caller. The modules are in the buffer row by row, from the top left. The buffer does
- * not contain the quiet zone, which is the four light modules that a drawing needs on each side; qrproved_draw adds the
- * quiet zone. After a call the library keeps no state, no file and no lock. A call allocates memory by malloc and realloc,
+ * not contain the quiet zone, which is the four light modules that a drawing needs on each side; qrproved_draw adds a
+ * margin of the width that it is passed. After a call the library keeps no state, no file and no lock. A call allocates memory by malloc and realloc,
  * and frees all of this memory before it returns.
  *
  * At each call the caller has to meet these conditions:

@@ -1,7 +1,8 @@
 """What the scripts beside this one read of the sources: the definitions of crates/*/specs, the functions of
-crates/*/src with their contracts, and the wrong bodies of crates/*/must-fail and crates/*/wrong."""
+crates/*/src with their contracts, the wrong bodies of crates/*/must-fail and crates/*/wrong, and the documents."""
 import pathlib
 import re
+import sys
 
 TOP = pathlib.Path(__file__).resolve().parent.parent
 CRATES = TOP / "crates"
@@ -89,6 +90,24 @@ def read_edits(crate, edits):
         upto = source[:source.find(old)] + old
         items = [found.group(4) for found in map(ITEM.match, upto.split("\n")) if found]
         edits.append({"name": edit.stem, "path": path, "item": items[-1] if items else ""})
+
+
+def read_key_words(definitions):
+    """The key words of each definition's name; a name that no definition has is an error."""
+    found, names = {}, {key[2] for key in definitions}
+    for line in (TOP / "tools" / "key_words.txt").read_text("utf-8").split("\n"):
+        words, _, given = line.partition(": ")
+        for name in re.findall(r"\w+", given) if line[:1] != "#" else []:
+            if name not in names:
+                sys.exit(f"tools/key_words.txt names {name}, and no definition has this name")
+            found[name] = found.get(name, []) + [words]
+    return found
+
+
+def section_order(where):
+    """Clauses by their numbers, then annexes by their letters."""
+    clause, annex = re.match(r"[\d.]+", where), re.match(r"Annex(?:es)? (\w)", where)
+    return ([int(n) for n in clause.group(0).split(".")] if clause else [99, ord(annex.group(1))], where)
 
 
 def crates():

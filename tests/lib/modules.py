@@ -1,4 +1,4 @@
-"""The library as a WebAssembly module in Node, called as tests/libraries.py calls the library for C."""
+"""The library as a WebAssembly module in Node, called as tests/lib/libraries.py calls the library for C."""
 import ctypes
 import json
 import struct
@@ -24,7 +24,7 @@ class Remote:
     maximum of `pages`."""
 
     def __init__(self, path, pages=None):
-        words = ["node", f"{TOP}/tests/wasm_calls.mjs", path, *([str(pages)] if pages else [])]
+        words = ["node", f"{TOP}/tests/lib/wasm_calls.mjs", path, *([str(pages)] if pages else [])]
         self.node, self.left = subprocess.Popen(words, stdin=subprocess.PIPE, stdout=subprocess.PIPE), None
 
     def __getattr__(self, name):

@@ -1,5 +1,5 @@
 /**
- * Calls the WebAssembly module for tests/modules.py: node wasm_calls.mjs MODULE [PAGES], where the memory may have at most so many
+ * Calls the WebAssembly module for tests/lib/modules.py: node wasm_calls.mjs MODULE [PAGES], where the memory may have at most so many
  * pages. A request is the length of its head in four bytes, its head in JSON, and the bytes that are given to the call; the reply is
  * the status and the bytes of each buffer that the call may write to. A status of 255 says that it wrote past a buffer, and 254
  * that there is no room for the buffers.

@@ -1,11 +1,9 @@
-"""Runs programs under the allocator of tests/refusing_allocator.c, which refuses one growth of memory, and builds the program
+"""Runs programs under the allocator of tests/lib/refusing_allocator.c, which refuses one growth of memory, and builds the program
 of crates/alloc_trials."""
 import os
 import subprocess
-import sys
 
-TOP = os.path.dirname(os.path.dirname(os.path.realpath(__file__)))
-sys.path.insert(0, f"{TOP}/tests/lib")
+TOP = os.path.dirname(os.path.dirname(os.path.dirname(os.path.realpath(__file__))))
 from kit import Repository
 
 MOST = 5000  # growths: more than any call here takes
@@ -30,7 +28,7 @@ def build_trials():
 def allocator_in(room, compiler):
     """Returns the path of the allocator, compiled into a folder."""
     allocator = f"{room}/refusing_allocator.so"
-    subprocess.run([compiler, "-O2", "-shared", "-fPIC", "-o", allocator, f"{TOP}/tests/refusing_allocator.c", "-ldl"], check=True)
+    subprocess.run([compiler, "-O2", "-shared", "-fPIC", "-o", allocator, f"{TOP}/tests/lib/refusing_allocator.c", "-ldl"], check=True)
     return allocator
 
 

@@ -1,4 +1,4 @@
-"""The glue of ports/, linked with calls of it (tests/ports_calls.c), and glue of which some line is wrong."""
+"""The glue of ports/, linked with calls of it (tests/lib/ports_calls.c), and glue of which some line is wrong."""
 import glob
 import subprocess
 
@@ -21,7 +21,7 @@ WRONG = {
 def called(room, compiler, words=(), wrong=None):
     """Returns what the calls say of the glue; `words` run the program, and `wrong` is a row of WRONG."""
     old, new = WRONG.get(wrong, ("", ""))
-    sources, found = [f"{TOP}/tests/ports_calls.c"], 0
+    sources, found = [f"{TOP}/tests/lib/ports_calls.c"], 0
     for path in sorted(glob.glob(f"{TOP}/ports/*.c")):
         with open(path, encoding="utf-8") as it:
             text = it.read()

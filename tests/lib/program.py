@@ -2,5 +2,5 @@
 The variable PROGRAM names another one."""
 import os
 
-TOP = os.path.dirname(os.path.dirname(os.path.realpath(__file__)))
+TOP = os.path.dirname(os.path.dirname(os.path.dirname(os.path.realpath(__file__))))
 PROGRAM = os.path.realpath(os.environ.get("PROGRAM", f"{TOP}/out/x86-64/qrencode"))
