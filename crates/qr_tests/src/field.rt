@@ -32,8 +32,12 @@ fn first_powers(rt: HostRuntime) {
         0x01u8, 0x02, 0x04, 0x08, 0x10, 0x20, 0x40, 0x80, 0x1D, 0x3A, 0x74, 0xE8, 0xCD, 0x87, 0x13,
         0x26,
     ];
-    for (exponent, power) in (0..).zip(first) {
-        assert_eq!(rt; power_of(exponent), power, "exponent {exponent}");
+    for exponent in 0u8..16 {
+        assert_eq!(rt;
+            power_of(exponent),
+            first[usize::from(exponent)],
+            "exponent {exponent}"
+        );
     }
     assert_eq!(rt; power_of(254), 0x8E, "the inverse of 2");
 }
